@@ -1,0 +1,74 @@
+-- What a history says of one object: its state, how many swaps it went through, and how it is kept.
+use Rattle.std.specs.Prelude.{◌≡◌, ℕ, ◌+◌, Bool, true, false, ◌&&◌, ◌==◌, if◌then◌else◌, List, ◌∷◌, ◌++◌, length, filter, map, fold, count_by}
+use Rattle.k42_kinds.specs.declared.operation.KindName.{KindName}
+use Rattle.k42_kinds.specs.declared.operation.LayoutName.{LayoutName}
+use Rattle.k42_kinds.specs.declared.states.AnyState.{AnyState}
+use Rattle.k42_kinds.specs.declared.states.AnyState.TheVariants as states
+use Rattle.k42_kinds.specs.declared.entry.Act.{Act}
+use Rattle.k42_kinds.specs.declared.entry.Act.TheVariants.{Call, Swap, Destroy}
+use Rattle.k42_kinds.specs.declared.entry.Answer.{Answer}
+use Rattle.k42_kinds.specs.declared.entry.Answer.TheVariants.{Replied, Swapped, Busy, Spent, Gone, Abandoned}
+use Rattle.k42_kinds.specs.declared.entry.Entry.{Entry}
+use Rattle.k42_kinds.specs.Objects.{empty_state, state_after}
+
+-- A history is a list of entries, the first of them first. It is numbered where each entry's stamp is one more than
+-- the number of entries before it.
+abbrev pub IsNumbered : List Entry → Type 0
+IsNumbered history = (before : List Entry) (entry : Entry) (after : List Entry) → history ≡ before ++ entry ∷ after → entry.stamp ≡ length before + 1
+
+-- whether the swap or destroy was carried out
+abbrev pub is_done : Answer → Bool
+is_done (Swapped number) = true
+is_done _ = false
+
+-- The state of an object after one of its entries: a call steps it, a destroy that was carried out ends it, and
+-- everything else leaves it.
+abbrev pub state_after_act : AnyState → Act → Answer → AnyState
+state_after_act state (Call op) answer = state_after state op
+state_after_act state (Swap layout) answer = state
+state_after_act state Destroy answer = if is_done answer then states.Dead else state
+
+-- an entry moves its own object alone
+abbrev pub moved_by : ℕ → AnyState → Entry → AnyState
+moved_by object state entry = if entry.object == object then state_after_act state entry.act entry.answer else state
+
+-- the state of the object, which is of this kind, after the history
+abbrev pub state_of : KindName → ℕ → List Entry → AnyState
+state_of kind object history = fold (moved_by object) (empty_state kind) history
+
+-- whether the entry is a swap or destroy of the object that was carried out
+abbrev pub is_done_on : ℕ → Entry → Bool
+is_done_on object entry = (entry.object == object) && is_done entry.answer
+
+-- how many swaps and destroys of the object were carried out
+abbrev pub number_of : ℕ → List Entry → ℕ
+number_of object history = count_by (is_done_on object) history
+
+-- how an object is kept: in a live layout, or dead
+pub data Implementation : Type 0 where
+  Live : LayoutName → Implementation
+  Dead : Implementation
+
+-- the implementation that an act asks for
+abbrev pub implementation_after : Implementation → Act → Implementation
+implementation_after now (Call op) = now
+implementation_after now (Swap layout) = Live layout
+implementation_after now Destroy = Dead
+
+-- the object's implementation is what the last of its swaps and destroys asked for, else the declared layout
+abbrev pub implementation_of : LayoutName → ℕ → List Entry → Implementation
+implementation_of declared object history = fold (λ now entry. if is_done_on object entry then implementation_after now entry.act else now) (Live declared) history
+
+-- the entries of one caller, in their order
+abbrev pub entries_of : ℕ → List Entry → List Entry
+entries_of caller history = filter (λ entry. entry.caller == caller) history
+
+-- an entry without its stamp
+abbrev pub unstamped : Entry → Entry
+unstamped entry = record entry { stamp = 0 }
+
+-- The entries of the caller are, but for their stamps, those of the list, each once and in its order, and their
+-- indexes count from 0.
+pub record IsInOrder (history : List Entry) (caller : ℕ) (list : List Entry) : Type 0 where
+  pub same : map unstamped (entries_of caller history) ≡ map unstamped list
+  pub counted : (before : List Entry) (entry : Entry) (after : List Entry) → list ≡ before ++ entry ∷ after → entry.index ≡ length before

@@ -1,0 +1,57 @@
+use crate::operation::{LayoutName, Op, Reply};
+
+/// What a caller asked of an object: an operation, another implementation, or its end.
+#[derive(Clone, Copy, Debug, PartialEq, Eq)]
+pub enum Act {
+    Call(Op),
+    Swap(LayoutName),
+    Destroy,
+}
+
+/// How an act was answered. The number of `Swapped`, `Busy` and `Abandoned` counts the swaps and
+/// destroys of the object from 1.
+#[derive(Clone, Copy, Debug, PartialEq, Eq)]
+pub enum Answer {
+    /// What the object replied to a call.
+    Replied(Reply),
+    /// The swap or destroy was carried out, as number so many of its object.
+    Swapped(u32),
+    /// Another caller's swap of this number was under way.
+    Busy(u32),
+    /// The object's incarnations were used up.
+    Spent,
+    /// The object was dead.
+    Gone,
+    /// The swap was begun under this number and given up for want of memory.
+    Abandoned(u32),
+}
+
+/// One line of a history: who did what to which object, and how it was answered.
+#[derive(Clone, Copy, Debug, PartialEq, Eq)]
+pub struct Entry {
+    /// Its place in the order of all entries, from 1.
+    pub stamp: u64,
+    /// Who called, counted from 0.
+    pub caller: u32,
+    /// The number of this entry among its caller's, from 0.
+    pub index: u32,
+    /// Which object, counted from 0.
+    pub object: u32,
+    /// In which implementation of the object it was answered, counted from 0.
+    pub incarnation: u32,
+    /// The first cell at which it was drawn, 0 where it was drawn alone.
+    pub cell: u32,
+    pub act: Act,
+    pub answer: Answer,
+    /// The caller's processor.
+    pub proc: u32,
+    /// The generation of the caller's activity; `None` for swaps and destroys.
+    pub generation: Option<u32>,
+}
+
+/// Which cells of a row an operation needs.
+#[derive(Clone, Copy, Debug, PartialEq, Eq)]
+pub enum Reach {
+    One(u32),
+    All,
+}

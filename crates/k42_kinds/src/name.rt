@@ -1,0 +1,140 @@
+ghost use Rattle.std.specs.Prelude.{◌≡◌, ◌↔◌, IsTrue, IsSome, IfSome, Some, nat_eq, refl};
+ghost use Rattle.std.specs.List.{list_all};
+ghost use Rattle.std.specs.Ordering.{nat_cmp};
+ghost use Rattle.std.specs.Cmp.{partial_equiv_from_equiv};
+ghost use Rattle.std.specs.Cmp.Lexicographic.{pointwise, slice_cmp, nat_list_eq_equiv, nat_list_cmp_total, texts_po, texts_ties};
+ghost use Rattle.std.specs.Cmp.Rules.{hashing};
+ghost use Rattle.std.specs.Hash as fed;
+ghost use Rattle.std.proofs.Common.{rules};
+ghost use Rattle.k42_kinds.specs.Words.{is_name, continues_name};
+
+use std::cmp::Ordering;
+use std::hash::{Hash, Hasher};
+use std::marker::Model;
+
+/// The most bytes that a name has.
+pub const NAME_BYTES: usize = 16;
+
+/// The name of an object, of a worker, or a key of a directory: 1 to 16 bytes, a lowercase letter
+/// first, then lowercase letters, digits and `_`. Names are ordered as their bytes are.
+#[derive(Clone, Copy, Debug)]
+pub struct Name {
+    bytes: [u8; NAME_BYTES],
+    len: usize,
+}
+
+impl Model for Name {
+    ghost use Rattle.std.specs.Prelude.{ℕ, List, take};
+
+    ghost Value = { List ℕ };
+
+    ghost use Rattle.k42_kinds.specs.Padded.{IsPadded, padded, padded_back};
+
+    ghost view = { λ name. take name.len name.bytes };
+
+    ghost invariant = { λ name. IsPadded 16 name.len name.bytes };
+
+    ghost inverse = { λ bytes. record { bytes = (padded 16 bytes).cells; len = (padded 16 bytes).len } };
+
+    ghost inverse_ok = { λ name whole i. record {
+      bytes = (padded_back 16 name.len name.bytes whole i).cells;
+      len = (padded_back 16 name.len name.bytes whole i).len;
+    } };
+}
+
+impl Name {
+    /// The name that the bytes spell, if they spell one.
+    pub fn of(bytes: &[u8]) -> Option<Name>
+        ensures spelled { IsSome result ↔ IsTrue (is_name bytes.now) }
+        ensures value { IfSome result (λ name. name ≡ bytes.now) }
+    {
+        if !spells_name(bytes) {
+            return None;
+        }
+        let mut cells = [0; NAME_BYTES];
+        cells[..bytes.len()].copy_from_slice(bytes);
+        Some(Name {
+            bytes: cells,
+            len: bytes.len(),
+        })
+    }
+
+    /// Its bytes.
+    pub fn bytes(&self) -> &[u8]
+        ensures { result.now ≡ self.now }
+    {
+        &self.bytes[..self.len]
+    }
+}
+
+impl PartialEq for Name {
+    ghost eq = { pointwise nat_eq };
+
+    ghost laws = { partial_equiv_from_equiv nat_list_eq_equiv };
+
+    fn eq(&self, other: &Self) -> bool {
+        self.bytes() == other.bytes()
+    }
+}
+
+impl Eq for Name {
+    ghost laws = { nat_list_eq_equiv };
+}
+
+impl PartialOrd for Name {
+    ghost partial_cmp = { λ a b. Some (slice_cmp nat_cmp a b) };
+
+    ghost laws = { texts_po };
+
+    fn partial_cmp(&self, other: &Self) -> Option<Ordering> {
+        Some(self.cmp(other))
+    }
+}
+
+impl Ord for Name {
+    ghost cmp = { slice_cmp nat_cmp };
+
+    ghost total = { nat_list_cmp_total };
+
+    ghost matches_partial_cmp = { λ a b. refl };
+
+    ghost matches_eq = { texts_ties };
+
+    fn cmp(&self, other: &Self) -> Ordering {
+        self.bytes().cmp(other.bytes())
+    }
+}
+
+impl Hash for Name {
+    ghost hash_input = { fed.slice fed.u8 };
+
+    ghost respects_eq = { Prim.search (hashing, rules) };
+
+    fn hash<H: Hasher>(&self, state: &mut H) {
+        self.bytes().hash(state);
+    }
+}
+
+/// Whether a name may go on with this byte.
+fn continues(byte: u8) -> bool
+    ensures { result ≡ continues_name byte }
+{
+    byte.is_ascii_lowercase() || byte.is_ascii_digit() || byte == b'_'
+}
+
+fn all_continue(bytes: &[u8]) -> bool
+    ensures { result ≡ list_all continues_name bytes.now }
+{
+    bytes.iter().all(|&byte| continues(byte))
+}
+
+fn spells_name(bytes: &[u8]) -> bool
+    ensures { result ≡ is_name bytes.now }
+{
+    match bytes {
+        [] => false,
+        [first, rest @ ..] => {
+            bytes.len() <= NAME_BYTES && first.is_ascii_lowercase() && all_continue(rest)
+        }
+    }
+}

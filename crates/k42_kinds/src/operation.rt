@@ -1,0 +1,59 @@
+ghost use Rattle.std.specs.Prelude.{◌≡◌};
+ghost use Rattle.k42_kinds.specs.Operations.{kind_of_op};
+
+use crate::name::Name;
+use crate::text::Text;
+
+/// The three kinds of object.
+#[derive(Clone, Copy, Debug, PartialEq, Eq)]
+pub enum KindName {
+    Counter,
+    Directory,
+    Pages,
+}
+
+/// How an object is kept: by one representative for all processors, or by one for each.
+#[derive(Clone, Copy, Debug, PartialEq, Eq)]
+pub enum LayoutName {
+    Shared,
+    Spread,
+}
+
+/// An operation of an object, with its arguments. A page is numbered from 0 to 1,023.
+#[derive(Clone, Copy, Debug, PartialEq, Eq)]
+pub enum Op {
+    Add(u32),
+    Get,
+    Drain,
+    Bind(Name, u64),
+    Find(Name),
+    Unbind(Name),
+    Size,
+    Write(u16, Text),
+    Read(u16),
+    Dirty,
+    Clean,
+}
+
+/// What an operation is answered with.
+#[derive(Clone, Copy, Debug, PartialEq, Eq)]
+pub enum Reply {
+    Done,
+    Taken,
+    None,
+    Number(u64),
+    Text(Text),
+    Zero,
+    Gone,
+}
+
+/// The kind to which the operation belongs.
+pub fn kind_of(op: &Op) -> KindName
+    ensures { result ≡ kind_of_op op.now }
+{
+    match op {
+        Op::Add(_) | Op::Get | Op::Drain => KindName::Counter,
+        Op::Bind(_, _) | Op::Find(_) | Op::Unbind(_) | Op::Size => KindName::Directory,
+        Op::Write(_, _) | Op::Read(_) | Op::Dirty | Op::Clean => KindName::Pages,
+    }
+}
