@@ -1,0 +1,7 @@
+-- The words of the causes.
+use Rattle.std.specs.Prelude.{ℕ, List, codes}
+use Rattle.script_text.specs.declared.fault.ScriptCause.{ScriptCause}
+use Rattle.script_text.specs.declared.fault.ScriptCause.TheVariants.{NotYet}
+
+abbrev pub cause_word : ScriptCause → List ℕ
+cause_word NotYet = codes "NotYet"

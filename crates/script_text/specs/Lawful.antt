@@ -1,0 +1,54 @@
+-- Which histories a script may have.
+use Rattle.std.specs.Prelude.{◌≡◌, ℕ, ◌+◌, ◌<◌, ◌≤◌, List, [], ◌∷◌, ◌++◌, length, map, sum_by, All, Option, Some, slice_get}
+use Rattle.k42_kinds.specs.declared.operation.KindName.{KindName}
+use Rattle.k42_kinds.specs.declared.entry.Act.{Act}
+use Rattle.k42_kinds.specs.declared.entry.Act.TheVariants.{Call, Swap, Destroy}
+use Rattle.k42_kinds.specs.declared.entry.Answer.{Answer}
+use Rattle.k42_kinds.specs.declared.entry.Answer.TheVariants.{Abandoned}
+use Rattle.k42_kinds.specs.declared.entry.Entry.{Entry}
+use Rattle.k42_kinds.specs.Operations.{kind_of_op}
+use Rattle.k42_kinds.specs.Histories.{entries_of}
+use Rattle.k42_kinds.specs.Legal.{IsLegalHistory}
+use Rattle.script_text.specs.declared.script.CallLine.{CallLine}
+use Rattle.script_text.specs.declared.script.Item.{Item}
+use Rattle.script_text.specs.declared.script.Item.TheVariants.{Begin, End, Line}
+use Rattle.script_text.specs.declared.script.Script.{Script}
+use Rattle.script_text.specs.declared.script.WorkerLines.{WorkerLines}
+
+-- the kinds of a script's objects
+abbrev pub kinds_of : Script → List KindName
+kinds_of script = map (λ object. object.kind) script.objects
+
+-- the lines among a worker's items that ask something of an object
+abbrev pub call_lines : List Item → List CallLine
+call_lines [] = []
+call_lines (Begin ∷ items) = call_lines items
+call_lines (End ∷ items) = call_lines items
+call_lines (Line line ∷ items) = line ∷ call_lines items
+
+-- what was asked of which object, and at which place among the caller's entries
+pub record Deed : Type 0 where
+  pub index : ℕ
+  pub object : ℕ
+  pub act : Act
+
+abbrev pub deed_of : Entry → Deed
+deed_of entry = record { index = entry.index; object = entry.object; act = entry.act }
+
+-- what the lines ask, counted on from this place
+abbrev pub deeds_from : ℕ → List CallLine → List Deed
+deeds_from index [] = []
+deeds_from index (line ∷ lines) = record { index = index; object = line.object; act = line.act } ∷ deeds_from (index + 1) lines
+
+-- a swap that was given up stands in no script's history
+abbrev pub IsCarriedThrough : Answer → Type 0
+IsCarriedThrough (Abandoned number) = ⊥
+IsCarriedThrough _ = Unit {0}
+
+-- A history is lawful for a script where it is a legal history of the script's objects in which each worker does what
+-- its lines ask, each once and in their order, and nobody else does anything.
+pub record IsLawful (script : Script) (history : List Entry) : Type 0 where
+  pub legal : IsLegalHistory (kinds_of script) history
+  pub in_order : (number : ℕ) (worker : WorkerLines) → slice_get script.workers number ≡ Some worker → map deed_of (entries_of number history) ≡ deeds_from 0 (call_lines worker.items)
+  pub no_stranger : All (λ entry. entry.caller < length script.workers) history
+  pub carried_through : All (λ entry. IsCarriedThrough entry.answer) history

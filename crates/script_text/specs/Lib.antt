@@ -1,0 +1,9 @@
+pub mod Causes
+pub mod Lines
+pub mod Tokens
+pub mod Numbers
+pub mod Forms
+pub mod Language
+pub mod Outcome
+pub mod Lawful
+pub mod Sound

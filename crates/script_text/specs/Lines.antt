@@ -1,0 +1,36 @@
+-- The lines of a text.
+use Rattle.std.specs.Prelude.{ℕ, ◌+◌, Bool, not, ◌&&◌, ◌||◌, ◌==◌, nat_lt, nat_le, if◌then◌else◌, List, [], ◌∷◌, length, sum_by, take_while}
+use Rattle.std.specs.List.{list_all}
+
+abbrev pub line_feed : ℕ
+line_feed = 10
+
+-- a byte more at the front of the first line
+abbrev pub onto_first_line : ℕ → List (List ℕ) → List (List ℕ)
+onto_first_line byte [] = (byte ∷ []) ∷ []
+onto_first_line byte (line ∷ lines) = (byte ∷ line) ∷ lines
+
+-- The lines of a text, each with its line feed. A last piece without one is a line too.
+abbrev pub lines_of : List ℕ → List (List ℕ)
+lines_of [] = []
+lines_of (byte ∷ bytes) = if byte == line_feed then (byte ∷ []) ∷ lines_of bytes else onto_first_line byte (lines_of bytes)
+
+-- what stands on a line, without its line feed
+abbrev pub text_of : List ℕ → List ℕ
+text_of line = take_while (λ byte. not (byte == line_feed)) line
+
+-- a byte from the space to the tilde
+abbrev pub is_printable : ℕ → Bool
+is_printable byte = nat_le 32 byte && nat_le byte 126
+
+-- every byte of the line may stand in a script
+abbrev pub is_printable_line : List ℕ → Bool
+is_printable_line line = list_all is_printable (text_of line)
+
+-- how many bytes the lines have
+abbrev pub byte_count : List (List ℕ) → ℕ
+byte_count lines = sum_by length lines
+
+-- whether the line behind these holds the byte of this number, counted from 1
+abbrev pub holds_byte : ℕ → List (List ℕ) → List ℕ → Bool
+holds_byte number before line = nat_lt (byte_count before) number && nat_le number (byte_count before + length line)

@@ -1,0 +1,22 @@
+-- Numbers: decimal digits without a leading zero, where `0` itself is a number.
+use Rattle.std.specs.Prelude.{ℕ, ◌^◌, Bool, false, not, ◌&&◌, ◌==◌, nat_lt, nat_le, if◌then◌else◌, List, [], ◌∷◌, Option, Some, None}
+use Rattle.std.specs.Option.{option_and_then}
+use Rattle.std.specs.Str.{all_ascii_digits}
+use Rattle.std.specs.Str.Parse.{digits_value}
+
+abbrev pub is_number : List ℕ → Bool
+is_number [] = false
+is_number (digit ∷ []) = all_ascii_digits (digit ∷ [])
+is_number (first ∷ second ∷ rest) = not (first == 48) && all_ascii_digits (first ∷ second ∷ rest)
+
+-- the number that the bytes spell
+abbrev pub number_of : List ℕ → Option ℕ
+number_of bytes = if is_number bytes then Some (digits_value 10 bytes) else None
+
+-- the number, where it is in a range
+abbrev pub number_within : ℕ → ℕ → List ℕ → Option ℕ
+number_within low high bytes = option_and_then (λ number. if nat_le low number && nat_le number high then Some number else None) (number_of bytes)
+
+-- the number, where it is below a bound
+abbrev pub number_below : ℕ → List ℕ → Option ℕ
+number_below bound bytes = option_and_then (λ number. if nat_lt number bound then Some number else None) (number_of bytes)

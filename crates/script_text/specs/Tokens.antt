@@ -1,0 +1,25 @@
+-- The tokens of a line.
+use Rattle.std.specs.Prelude.{ℕ, Bool, true, false, not, ◌==◌, List, [], ◌∷◌, filter, length}
+use Rattle.std.specs.List.{slice_split}
+use Rattle.script_text.specs.Lines.{text_of}
+
+abbrev pub is_space : ℕ → Bool
+is_space byte = byte == 32
+
+-- the pieces between spaces, but for the empty ones
+abbrev pub tokens_of : List ℕ → List (List ℕ)
+tokens_of text = filter (λ piece. not (length piece == 0)) (slice_split is_space text)
+
+-- a token that begins with `#`
+abbrev pub is_remark : List ℕ → Bool
+is_remark [] = false
+is_remark (byte ∷ bytes) = byte == 35
+
+-- a line that says nothing: it has no token, or its first begins with `#`
+abbrev pub says_nothing : List (List ℕ) → Bool
+says_nothing [] = true
+says_nothing (token ∷ tokens) = is_remark token
+
+-- the tokens of a line
+abbrev pub tokens_on : List ℕ → List (List ℕ)
+tokens_on line = tokens_of (text_of line)

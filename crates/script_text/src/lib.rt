@@ -1,0 +1,8 @@
+//! Scripts: what the workers of a run do to its objects, as text and as a value.
+#![tactic(auto)]
+
+mod fault;
+mod script;
+
+pub use fault::{ParseEnd, ScriptCause, ScriptFault};
+pub use script::{CallLine, Item, ObjectLine, Script, WorkerLines};
