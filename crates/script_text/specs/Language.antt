@@ -58,8 +58,8 @@ spelled (procs ∷ object ∷ []) =
     option_and_then (λ number. option_map (λ declared. one_object number declared []) (object_on object.tokens)) (procs_on procs.tokens)
 spelled (procs ∷ object ∷ worker ∷ calls) =
     option_and_then (λ number. option_and_then (λ declared. option_and_then (λ caller.
-        if nat_le (length calls) call_limit then option_map (λ items. one_object number declared (one_worker caller items ∷ [])) (items_of declared.name calls) else None)
-        (worker_on number worker.tokens)) (object_on object.tokens)) (procs_on procs.tokens)
+    if nat_le (length calls) call_limit then option_map (λ items. one_object number declared (one_worker caller items ∷ [])) (items_of declared.name calls) else None)
+    (worker_on number worker.tokens)) (object_on object.tokens)) (procs_on procs.tokens)
 
 -- A line offends, after lines that do not, where it holds the first byte that is too many, has a byte that may not
 -- stand in a script, or says what makes these lines no script.

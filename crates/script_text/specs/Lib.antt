@@ -7,3 +7,5 @@ pub mod Language
 pub mod Outcome
 pub mod Lawful
 pub mod Sound
+pub mod Cuts
+pub mod Words

@@ -1,5 +1,5 @@
 -- The lines of a text.
-use Rattle.std.specs.Prelude.{ℕ, ◌+◌, Bool, not, ◌&&◌, ◌||◌, ◌==◌, nat_lt, nat_le, if◌then◌else◌, List, [], ◌∷◌, length, sum_by, take_while}
+use Rattle.std.specs.Prelude.{ℕ, ◌+◌, Bool, ◌&&◌, ◌==◌, nat_lt, nat_le, if◌then◌else◌, List, [], ◌∷◌, length, sum_by}
 use Rattle.std.specs.List.{list_all}
 
 abbrev pub line_feed : ℕ
@@ -17,7 +17,8 @@ lines_of (byte ∷ bytes) = if byte == line_feed then (byte ∷ []) ∷ lines_of
 
 -- what stands on a line, without its line feed
 abbrev pub text_of : List ℕ → List ℕ
-text_of line = take_while (λ byte. not (byte == line_feed)) line
+text_of [] = []
+text_of (byte ∷ bytes) = if byte == line_feed then [] else byte ∷ text_of bytes
 
 -- a byte from the space to the tilde
 abbrev pub is_printable : ℕ → Bool

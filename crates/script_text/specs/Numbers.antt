@@ -1,13 +1,14 @@
 -- Numbers: decimal digits without a leading zero, where `0` itself is a number.
 use Rattle.std.specs.Prelude.{ℕ, ◌^◌, Bool, false, not, ◌&&◌, ◌==◌, nat_lt, nat_le, if◌then◌else◌, List, [], ◌∷◌, Option, Some, None}
 use Rattle.std.specs.Option.{option_and_then}
-use Rattle.std.specs.Str.{all_ascii_digits}
+use Rattle.std.specs.List.{list_all}
+use Rattle.k42_kinds.specs.Words.{is_digit}
 use Rattle.std.specs.Str.Parse.{digits_value}
 
 abbrev pub is_number : List ℕ → Bool
 is_number [] = false
-is_number (digit ∷ []) = all_ascii_digits (digit ∷ [])
-is_number (first ∷ second ∷ rest) = not (first == 48) && all_ascii_digits (first ∷ second ∷ rest)
+is_number (digit ∷ []) = list_all is_digit (digit ∷ [])
+is_number (first ∷ second ∷ rest) = not (first == 48) && list_all is_digit (first ∷ second ∷ rest)
 
 -- the number that the bytes spell
 abbrev pub number_of : List ℕ → Option ℕ

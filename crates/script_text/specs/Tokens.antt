@@ -1,14 +1,19 @@
 -- The tokens of a line.
-use Rattle.std.specs.Prelude.{ℕ, Bool, true, false, not, ◌==◌, List, [], ◌∷◌, filter, length}
+use Rattle.std.specs.Prelude.{ℕ, Bool, true, false, ◌==◌, List, [], ◌∷◌, filter}
 use Rattle.std.specs.List.{slice_split}
 use Rattle.script_text.specs.Lines.{text_of}
 
 abbrev pub is_space : ℕ → Bool
 is_space byte = byte == 32
 
--- the pieces between spaces, but for the empty ones
+-- a piece with a byte in it
+abbrev pub has_bytes : List ℕ → Bool
+has_bytes [] = false
+has_bytes (byte ∷ bytes) = true
+
+-- the pieces between spaces that have bytes
 abbrev pub tokens_of : List ℕ → List (List ℕ)
-tokens_of text = filter (λ piece. not (length piece == 0)) (slice_split is_space text)
+tokens_of text = filter has_bytes (slice_split is_space text)
 
 -- a token that begins with `#`
 abbrev pub is_remark : List ℕ → Bool

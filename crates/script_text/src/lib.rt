@@ -2,7 +2,10 @@
 #![tactic(auto)]
 
 mod fault;
+mod lines;
+mod numbers;
 mod script;
+mod tokens;
 
 pub use fault::{ParseEnd, ScriptCause, ScriptFault};
 pub use script::{CallLine, Item, ObjectLine, Script, WorkerLines};
