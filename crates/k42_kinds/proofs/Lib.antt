@@ -1,1 +1,3 @@
 pub mod PaddedFront
+pub mod Splits
+pub mod LegalHistories
