@@ -1,17 +1,17 @@
 -- How a history is shown to be legal: entry by entry from the front, and by one more entry at its end.
-use Rattle.std.proofs.Common.{◌≡◌, ℕ, ◌+◌, ◌≤◌, List, [], ◌∷◌, ◌++◌, length, slice_get, All, Any, Some, refl, sym, subst, arith}
+use Rattle.std.proofs.Common.{◌≡◌, ℕ, ◌+◌, ◌≤◌, List, [], ◌∷◌, ◌++◌, length, slice_get, All, Some, refl, subst}
 use Rattle.std.proofs.lemmas.List.{append_assoc}
-use Rattle.std.proofs.lemmas.List.Elements.{All-push, All-contains, Contains-append_right, Contains-push, Contains-append_left}
-use Rattle.std.proofs.lemmas.List.Quantifiers.{Any-push}
+use Rattle.std.proofs.lemmas.List.Elements.{All-push}
 use Rattle.std.proofs.lemmas.Option.{same_Some}
 use Rattle.k42_kinds.specs.declared.operation.KindName.{KindName}
+use Rattle.k42_kinds.specs.declared.operation.LayoutName.{LayoutName}
 use Rattle.k42_kinds.specs.declared.entry.Act.{Act}
 use Rattle.k42_kinds.specs.declared.entry.Act.TheVariants.{Call, Swap, Destroy}
 use Rattle.k42_kinds.specs.declared.entry.Answer.{Answer}
 use Rattle.k42_kinds.specs.declared.entry.Answer.TheVariants.{Replied, Swapped, Busy, Spent, Gone, Abandoned}
 use Rattle.k42_kinds.specs.declared.entry.Entry.{Entry}
-use Rattle.k42_kinds.specs.Legal.{IsLegalHistory, IsLegalAmong, IsLegal, IsLegalAct, IsLegalEnd, IsOwn, IsRival, IsTimely}
-use Rattle.k42_kinds.proofs.Splits.{EachSplit, EachBehind, each_split, each_split-push, All-at_split, Any-append_left}
+use Rattle.k42_kinds.specs.Legal.{IsLegalHistory, IsLegalAmong, IsLegal, IsLegalAct, IsLegalEnd, IsLegalRefusal, IsOwn, IsRival, IsTimely}
+use Rattle.k42_kinds.proofs.Splits.{EachBehind, each_split, each_split-push, All-at_split, Any-append_left}
 
 -- each stamp is one more than the number of entries before it
 abbrev pub AreNumbered : List Entry → List Entry → Type 0
@@ -71,10 +71,19 @@ pub legal-push : (kinds : List KindName) (history : List Entry) (last : Entry) �
 legal-push kinds history last legal next here allowed = record {
   numbered = each_split-push (λ before entry after. entry.stamp ≡ length before + 1) history last legal.numbered next;
   legal = each_split-push (IsLegalAmong kinds) history last (λ before entry after e.
-    let was = legal.legal before entry after e in
-    record {
-      kind = was.kind;
-      declared = was.declared;
-      legal = act-push was.kind before entry after last entry.act (All-at_split (AllowsLater last) history allowed before entry after e) was.legal;
-    }) here;
+      let was = legal.legal before entry after e in
+      record {
+        kind = was.kind;
+        declared = was.declared;
+        legal = act-push was.kind before entry after last entry.act (All-at_split (AllowsLater last) history allowed before entry after e) was.legal;
+      }) here;
 }
+
+-- a history is not legal if one of its entries is not
+pub illegal_at : (kinds : List KindName) (kind : KindName) (before : List Entry) (entry : Entry) (after : List Entry) → slice_get kinds entry.object ≡ Some kind → (IsLegal kind before entry after → ⊥) → IsLegalHistory kinds (before ++ entry ∷ after) → ⊥
+illegal_at kinds kind before entry after declared illegal history = illegal (legal_at_kind kinds kind before entry after declared (history.legal before entry after refl))
+
+-- what a refused swap has, seen from its entry
+pub refusal_of_swap : (kind : KindName) (before : List Entry) (entry : Entry) (after : List Entry) (layout : LayoutName) (number : ℕ) → entry.act ≡ Swap layout → entry.answer ≡ Busy number → IsLegal kind before entry after → IsLegalRefusal before entry after number
+refusal_of_swap kind before entry after layout number act answer legal =
+    subst (λ (a : Answer). IsLegalEnd kind before entry after a) answer (subst (λ (a : Act). IsLegalAct kind before entry after a) act legal)

@@ -1,5 +1,7 @@
 -- What holds at each place of a list, told from the front and at one more at its end.
 use Rattle.std.proofs.Common.{◌≡◌, List, [], ◌∷◌, ◌++◌, length, ◌⊎◌, inl, inr, refl, ◌∙◌, All, Any, arith}
+use Rattle.std.specs.List.{AllByRecursion}
+use Rattle.std.proofs.lemmas.List.Elements.{All-from_recursion}
 use Rattle.std.proofs.lemmas.List.{append-nil, append_assoc, length-append, get_or_at, get_or_append_left}
 
 -- P holds of each element between those before it and those after it
@@ -72,3 +74,7 @@ All-at_split P xs all before x after e =
 -- an element of which P holds stays in a longer list
 pub Any-append_left : {X : Type 0} (P : X → Type 0) (xs ys : List X) → Any P xs → Any P (xs ++ ys)
 Any-append_left P xs ys any = (any.0, any.1, omega (arith, any.2, length-append xs ys), get_or_append_left xs ys any.1 any.0 any.2 ∙ any.3, any.4)
+
+-- where P holds of no element, there is none of which it holds
+pub none-Any : {X : Type 0} (P : X → Type 0) (xs : List X) → AllByRecursion (λ x. P x → ⊥) xs → Any P xs → ⊥
+none-Any P xs none any = All-from_recursion (λ x. P x → ⊥) xs none any.0 any.1 any.2 (rw any.3 any.4)
