@@ -13,6 +13,7 @@ abbrev pub EachBehind : {X : Type 0} → (List X → X → List X → Type 0) �
 EachBehind P front [] = Unit {0}
 EachBehind P front (x ∷ xs) = P front x xs × EachBehind P (front ++ x ∷ []) xs
 
+-- equal lists have equal heads and equal tails
 pub record Heads {X : Type 0} (x y : X) (xs ys : List X) : Type 0 where
   pub head : x ≡ y
   pub tail : xs ≡ ys
@@ -20,21 +21,24 @@ pub record Heads {X : Type 0} (x y : X) (xs ys : List X) : Type 0 where
 pub heads : {X : Type 0} (x y : X) (xs ys : List X) → x ∷ xs ≡ y ∷ ys → Heads x y xs ys
 heads x y xs ys e = record { head = cc; tail = cc }
 
+-- an empty list has no split
 pub no_split : {X : Type 0} (before : List X) (x : X) (after : List X) → [] ≡ before ++ x ∷ after → ⊥
 no_split [] x after e = cc
 no_split (b ∷ before) x after e = cc
 
--- the split is at the last element, or within the list before it
+-- the split is at the last element
 pub record IsLastSplit {X : Type 0} (xs : List X) (x : X) (before : List X) (y : X) (after : List X) : Type 0 where
   pub front : before ≡ xs
   pub last : y ≡ x
   pub end : after ≡ []
 
+-- the split is within the list before the last element
 pub record IsInnerSplit {X : Type 0} (xs : List X) (x : X) (before : List X) (y : X) (after : List X) : Type 0 where
   pub rest : List X
   pub end : after ≡ rest ++ x ∷ []
   pub within : xs ≡ before ++ y ∷ rest
 
+-- a split of a list and one more element is one of the two
 pub split-push : {X : Type 0} (xs : List X) (x : X) (before : List X) (y : X) (after : List X) → xs ++ x ∷ [] ≡ before ++ y ∷ after → IsLastSplit xs x before y after ⊎ IsInnerSplit xs x before y after
 split-push [] x [] y after e = inl (record { front = refl; last = cc; end = cc })
 split-push [] x (b ∷ before) y after e = absurd (no_split before y after (heads x b [] (before ++ y ∷ after) e).tail)
