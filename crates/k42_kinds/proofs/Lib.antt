@@ -1,1 +1,7 @@
 pub mod PaddedFront
+pub mod Splits
+pub mod LegalHistories
+pub mod LongerHistories
+pub mod ExampleLines
+pub mod AcceptedHistories
+pub mod RefusedHistories
