@@ -1,3 +1,4 @@
 pub mod LineCuts
 pub mod TokenCuts
 pub mod NumberSteps
+pub mod Readings

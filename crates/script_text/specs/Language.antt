@@ -3,11 +3,12 @@ use Rattle.std.specs.Prelude.{◌≡◌, ℕ, ◌+◌, Bool, true, false, not, �
 use Rattle.std.specs.Option.{option_and_then, ok_or}
 use Rattle.k42_kinds.specs.declared.operation.Op.{Op}
 use Rattle.k42_kinds.specs.declared.entry.Act.TheVariants.{Call}
-use Rattle.script_text.specs.Lines.{lines_of, is_printable_line, holds_byte}
-use Rattle.script_text.specs.Tokens.{tokens_on, says_nothing}
-use Rattle.script_text.specs.Forms.{Worker, procs_on, object_on, worker_on, call_on}
+use Rattle.script_text.specs.Lines.{lines_of, text_of, is_printable_text, holds_byte}
+use Rattle.script_text.specs.Tokens.{tokens_of, says_nothing}
+use Rattle.script_text.specs.Forms.{procs_on, object_on, worker_on, call_on}
 use Rattle.script_text.specs.declared.script.Script.{Script}
 use Rattle.script_text.specs.declared.script.ObjectLine.{ObjectLine}
+use Rattle.script_text.specs.declared.script.WorkerHead.{WorkerHead}
 use Rattle.script_text.specs.declared.script.WorkerLines.{WorkerLines}
 use Rattle.script_text.specs.declared.script.Item.{Item}
 use Rattle.script_text.specs.declared.script.Item.TheVariants.{Line}
@@ -28,14 +29,14 @@ pub record Said : Type 0 where
   pub line : ℕ
   pub tokens : List (List ℕ)
 
--- what a line says, if it says something
-abbrev pub said_on : ℕ → List ℕ → List Said
-said_on number line = if says_nothing (tokens_on line) then [] else record { line = number; tokens = tokens_on line } ∷ []
+-- what a line of this text says, if it says something
+abbrev pub said_by : ℕ → List ℕ → List Said
+said_by number text = if says_nothing (tokens_of text) then [] else record { line = number; tokens = tokens_of text } ∷ []
 
 -- what the lines say, of which the first has this number
 abbrev pub said_from : ℕ → List (List ℕ) → List Said
 said_from number [] = []
-said_from number (line ∷ lines) = said_on number line ++ said_from (number + 1) lines
+said_from number (line ∷ lines) = said_by number (text_of line) ++ said_from (number + 1) lines
 
 -- the items that the call lines of the only object spell
 abbrev pub items_of : List ℕ → List Said → Option (List Item)
@@ -43,7 +44,7 @@ items_of object [] = Some []
 items_of object (said ∷ rest) =
     option_and_then (λ op. option_map (λ items. Line (record { line = said.line; object = 0; act = Call op }) ∷ items) (items_of object rest)) (call_on object said.tokens)
 
-abbrev pub one_worker : Worker → List Item → WorkerLines
+abbrev pub one_worker : WorkerHead → List Item → WorkerLines
 one_worker worker items = record { name = worker.name; proc = worker.proc; items = items }
 
 abbrev pub one_object : ℕ → ObjectLine → List WorkerLines → Script
@@ -64,7 +65,7 @@ spelled (procs ∷ object ∷ worker ∷ calls) =
 -- A line offends, after lines that do not, where it holds the first byte that is too many, has a byte that may not
 -- stand in a script, or says what makes these lines no script.
 abbrev pub offends : List (List ℕ) → List ℕ → Bool
-offends before line = (holds_byte byte_limit before line || not (is_printable_line line)) || not (is_some (spelled (said_from 1 (before ++ line ∷ []))))
+offends before line = (holds_byte byte_limit before line || not (is_printable_text (text_of line))) || not (is_some (spelled (said_from 1 (before ++ line ∷ []))))
 
 -- the cause for which the line is refused, if it is
 abbrev pub cause_of : List (List ℕ) → List ℕ → Option ScriptCause

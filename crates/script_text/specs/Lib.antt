@@ -9,3 +9,4 @@ pub mod Lawful
 pub mod Sound
 pub mod Cuts
 pub mod Words
+pub mod Reading

@@ -24,9 +24,9 @@ text_of (byte ∷ bytes) = if byte == line_feed then [] else byte ∷ text_of by
 abbrev pub is_printable : ℕ → Bool
 is_printable byte = nat_le 32 byte && nat_le byte 126
 
--- every byte of the line may stand in a script
-abbrev pub is_printable_line : List ℕ → Bool
-is_printable_line line = list_all is_printable (text_of line)
+-- every byte may stand in a script
+abbrev pub is_printable_text : List ℕ → Bool
+is_printable_text text = list_all is_printable text
 
 -- how many bytes the lines have
 abbrev pub byte_count : List (List ℕ) → ℕ

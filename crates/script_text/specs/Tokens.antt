@@ -1,7 +1,6 @@
 -- The tokens of a line.
 use Rattle.std.specs.Prelude.{ℕ, Bool, true, false, ◌==◌, List, [], ◌∷◌, filter}
 use Rattle.std.specs.List.{slice_split}
-use Rattle.script_text.specs.Lines.{text_of}
 
 abbrev pub is_space : ℕ → Bool
 is_space byte = byte == 32
@@ -24,7 +23,3 @@ is_remark (byte ∷ bytes) = byte == 35
 abbrev pub says_nothing : List (List ℕ) → Bool
 says_nothing [] = true
 says_nothing (token ∷ tokens) = is_remark token
-
--- the tokens of a line
-abbrev pub tokens_on : List ℕ → List (List ℕ)
-tokens_on line = tokens_of (text_of line)

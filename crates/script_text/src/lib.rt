@@ -2,10 +2,12 @@
 #![tactic(auto)]
 
 mod fault;
+mod forms;
 mod lines;
 mod numbers;
+mod reading;
 mod script;
 mod tokens;
 
 pub use fault::{ParseEnd, ScriptCause, ScriptFault};
-pub use script::{CallLine, Item, ObjectLine, Script, WorkerLines};
+pub use script::{CallLine, Item, ObjectLine, Script, WorkerHead, WorkerLines};

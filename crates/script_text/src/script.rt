@@ -27,6 +27,14 @@ pub struct ObjectLine {
     pub layout: LayoutName,
 }
 
+/// A worker as its line declares it.
+#[derive(Clone, Copy, Debug, PartialEq, Eq)]
+pub struct WorkerHead {
+    pub name: Name,
+    /// Its processor, from 0.
+    pub proc: u32,
+}
+
 /// A worker, with its lines in their order.
 #[derive(Debug, Drop)]
 pub struct WorkerLines {

@@ -6,6 +6,7 @@ ghost use Rattle.script_text.specs.Words.{IsWords, with_token};
 const SPACE: u8 = b' ';
 
 /// The tokens of a line, of which no form has more than four.
+#[derive(Clone, Copy)]
 pub enum Words<'a> {
     None,
     One(&'a [u8]),
