@@ -2,3 +2,6 @@ pub mod LineCuts
 pub mod TokenCuts
 pub mod NumberSteps
 pub mod Readings
+pub mod Underway
+pub mod SoundScripts
+pub mod Truncated

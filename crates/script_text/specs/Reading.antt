@@ -5,9 +5,11 @@ use Rattle.k42_kinds.specs.declared.entry.Act.TheVariants.{Call}
 use Rattle.k42_memory.specs.declared.Memory.{Memory}
 use Rattle.script_text.specs.Lines.{is_printable_text}
 use Rattle.script_text.specs.Forms.{procs_on, object_on, worker_on, call_on}
-use Rattle.script_text.specs.Language.{Said, said_by, spelled, items_of, call_limit}
+use Rattle.script_text.specs.Language.{Said, said_by, spelled, items_of, one_worker, call_limit}
 use Rattle.script_text.specs.declared.script.ObjectLine.{ObjectLine}
 use Rattle.script_text.specs.declared.script.WorkerHead.{WorkerHead}
+use Rattle.script_text.specs.declared.script.Script.{Script}
+use Rattle.script_text.specs.declared.script.WorkerLines.{WorkerLines}
 use Rattle.script_text.specs.declared.script.Item.{Item}
 use Rattle.script_text.specs.declared.script.Item.TheVariants.{Line}
 use Rattle.script_text.specs.declared.reading.Reading.{Reading}
@@ -80,3 +82,15 @@ abbrev pub Takes : List Said → ℕ → List ℕ → Result Bool Memory → Rea
 Takes said number text (Ok taken) new =
     ((is_printable_text text && is_some (spelled (said ++ said_by number text))) ≡ taken) × (taken ≡ true → Shows (said ++ said_by number text) new)
 Takes said number text (Err memory) new = Unit {0}
+
+abbrev pub objects_so_far : Option ObjectLine → List ObjectLine
+objects_so_far None = []
+objects_so_far (Some object) = object ∷ []
+
+abbrev pub workers_so_far : Option WorkerHead → List Item → List WorkerLines
+workers_so_far None items = []
+workers_so_far (Some worker) items = one_worker worker items ∷ []
+
+-- the script that ends here
+abbrev pub script_so_far : Reading → Script
+script_so_far r = record { procs = r.procs; objects = objects_so_far r.object; workers = workers_so_far r.worker r.items }

@@ -5,9 +5,11 @@ mod fault;
 mod forms;
 mod lines;
 mod numbers;
+mod parsing;
 mod reading;
 mod script;
 mod tokens;
 
 pub use fault::{ParseEnd, ScriptCause, ScriptFault};
+pub use parsing::parse;
 pub use script::{CallLine, Item, ObjectLine, Script, WorkerHead, WorkerLines};

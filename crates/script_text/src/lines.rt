@@ -6,6 +6,7 @@ ghost use Rattle.script_text.specs.Cuts.{CutsLine};
 const LINE_FEED: u8 = b'\n';
 
 /// The first line of a text, and what stands after it.
+#[derive(Clone, Copy)]
 pub struct Cut<'a> {
     /// What stands on the line, without its line feed.
     pub text: &'a [u8],

@@ -4,7 +4,7 @@ ghost use Rattle.script_text.specs.Forms as forms;
 
 use crate::forms::{call_on, object_on, procs_on, worker_on};
 use crate::lines::is_printable_text;
-use crate::script::{CallLine, Item, ObjectLine, WorkerHead};
+use crate::script::{CallLine, Item, ObjectLine, Script, WorkerHead, WorkerLines};
 use crate::tokens::is_skipped;
 use k42_items::Items;
 use k42_kinds::{Act, Name, Op};
@@ -24,9 +24,9 @@ pub struct Reading {
 }
 
 impl Reading {
-    ghost use Rattle.std.specs.Prelude.{ℕ, List, [], IsTrue};
+    ghost use Rattle.std.specs.Prelude.{ℕ, List, [], IsTrue, IfOk};
     ghost use Rattle.script_text.specs.Language.{Said};
-    ghost use Rattle.script_text.specs.Reading.{Shows, Says, Takes, Places, PlacesCall};
+    ghost use Rattle.script_text.specs.Reading.{Shows, Says, Takes, Places, PlacesCall, script_so_far};
 
     /// No line was read.
     pub fn new(alloc: Global) -> Reading
@@ -38,6 +38,31 @@ impl Reading {
             worker: None,
             items: Items::new(alloc),
         }
+    }
+
+    /// The script that the lines are.
+    pub fn into_script(self, alloc: Global) -> Result<Script, Memory>
+        ensures { IfOk result (λ script. script ≡ script_so_far self) }
+    {
+        let Reading {
+            procs,
+            object,
+            worker,
+            items,
+        } = self;
+        let mut objects = Items::new(alloc);
+        if let Some(object) = object {
+            objects.push(object)?;
+        }
+        let mut workers = Items::new(alloc);
+        if let Some(WorkerHead { name, proc }) = worker {
+            workers.push(WorkerLines { name, proc, items })?;
+        }
+        Ok(Script {
+            procs,
+            objects,
+            workers,
+        })
     }
 
     /// Reads a line, and answers whether it may stand there.
