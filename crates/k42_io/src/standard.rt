@@ -1,11 +1,21 @@
-ghost use Rattle.std.specs.Prelude.{◌≡◌};
+ghost use Rattle.std.specs.Prelude.{◌≡◌, ◌+◌, ◌-◌, ◌^◌, ◌<◌, length, IfOk, OnOk, OnErr};
+ghost use Rattle.std.specs.Io.{ReadsAtMost, WritesAtMost};
 
 use crate::sink::Sink;
 use crate::source::{Failed, Source};
 use std::io::{Read, Stdin, Stdout, Write};
 use std::marker::Model;
 
-/// Standard input. It tells no bytes.
+/// Counts one more fault.
+fn counted(faults: &mut u64) -> Failed
+    requires { faults.old < 2 ^ 64 - 1 }
+    ensures { faults.new ≡ faults.old + 1 }
+{
+    *faults += 1;
+    Failed
+}
+
+/// Standard input. It tells no bytes, and contracts see its count of faults.
 #[derive(Drop)]
 pub struct InputSource {
     input: Stdin,
@@ -35,18 +45,20 @@ impl Source for InputSource {
 
     ghost faults = { λ count. count };
 
-    fn read(&mut self, buf: &mut [u8]) -> Result<usize, Failed> {
+    fn read(&mut self, buf: &mut [u8]) -> Result<usize, Failed>
+        requires { self.old < 2 ^ 64 - 1 }
+        ensures bound { ReadsAtMost result buf.new }
+        ensures failed { OnErr result (self.new ≡ self.old + 1) }
+        ensures quiet { OnOk result (self.new ≡ self.old) }
+    {
         match self.input.read(buf) {
             Ok(count) => Ok(count),
-            Err(_) => {
-                self.faults += 1;
-                Err(Failed)
-            }
+            Err(_) => Err(counted(&mut self.faults)),
         }
     }
 }
 
-/// Standard output. It tells no bytes.
+/// Standard output. It tells no bytes, and contracts see its count of faults.
 #[derive(Drop)]
 pub struct OutputSink {
     output: Stdout,
@@ -76,23 +88,29 @@ impl Sink for OutputSink {
 
     ghost faults = { λ count. count };
 
-    fn write(&mut self, piece: &[u8]) -> Result<usize, Failed> {
+    fn write(&mut self, piece: &[u8]) -> Result<usize, Failed>
+        requires { self.old < 2 ^ 64 - 1 }
+        ensures bound { WritesAtMost result piece.now }
+        ensures progress { 0 < length piece.now → IfOk result (λ n. 0 < n) }
+        ensures failed { OnErr result (self.new ≡ self.old + 1) }
+        ensures quiet { OnOk result (self.new ≡ self.old) }
+    {
         match self.output.write(piece) {
-            Ok(count) if count > 0 || piece.is_empty() => Ok(count),
-            _ => {
-                self.faults += 1;
-                Err(Failed)
-            }
+            // A device that takes nothing of a piece would be asked for ever.
+            Ok(0) if !piece.is_empty() => Err(counted(&mut self.faults)),
+            Ok(count) => Ok(count),
+            Err(_) => Err(counted(&mut self.faults)),
         }
     }
 
-    fn flush(&mut self) -> Result<(), Failed> {
+    fn flush(&mut self) -> Result<(), Failed>
+        requires { self.old < 2 ^ 64 - 1 }
+        ensures failed { OnErr result (self.new ≡ self.old + 1) }
+        ensures quiet { OnOk result (self.new ≡ self.old) }
+    {
         match self.output.flush() {
             Ok(()) => Ok(()),
-            Err(_) => {
-                self.faults += 1;
-                Err(Failed)
-            }
+            Err(_) => Err(counted(&mut self.faults)),
         }
     }
 }
