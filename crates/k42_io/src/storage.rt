@@ -38,6 +38,7 @@ impl Storage {
     }
 
     /// Stores what there is room for, and counts the rest.
+    #[tactic(auto, using(crate::proofs::Rooms::take_room))]
     pub fn store(&mut self, bytes: &[u8])
         ensures next { self.new ≡ after_store self.old bytes.now }
         ensures tells { Grows (told self.old) (told self.new) bytes.now }
