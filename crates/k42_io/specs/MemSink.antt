@@ -10,7 +10,8 @@ pub record Intake : Type 0 where
 
 -- before the first write
 abbrev pub new_intake : ℕ → ℕ → List ℕ → Intake
-new_intake room piece failing = record { shelf = empty_shelf room; piece = piece; writes = new_calls failing }
+new_intake room piece failing =
+    record { shelf = empty_shelf room; piece = piece; writes = new_calls failing }
 
 -- after a write that took these bytes
 abbrev pub after_write : Intake → List ℕ → Intake

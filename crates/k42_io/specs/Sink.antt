@@ -14,4 +14,5 @@ Stays old new = IfSome new (λ now. old ≡ Some now)
 
 -- a write of the piece appended the first n bytes at `Ok(n)`, and nothing at `Err`
 abbrev pub WriteGrows : {E : Type 0} → Option (List ℕ) → Option (List ℕ) → Result ℕ E → List ℕ → Type 0
-WriteGrows old new r piece = MatchResult r (λ n. Grows old new (take n piece)) (λ _. Stays old new)
+WriteGrows old new r piece =
+    MatchResult r (λ n. Grows old new (take n piece)) (λ _. Stays old new)

@@ -10,10 +10,13 @@ pub record Shelf : Type 0 where
 abbrev pub empty_shelf : ℕ → Shelf
 empty_shelf room = record { room = room; stored = []; written = 0 }
 
--- after these bytes: the first that were written are stored, and the count stands still at the end of its type
+-- after more bytes: the first of all are stored, and the count stands still at the end of its type
 abbrev pub after_store : Shelf → List ℕ → Shelf
 after_store shelf bytes =
-    record shelf { stored = take shelf.room (shelf.stored ++ bytes); written = min (shelf.written + length bytes) (2 ^ 64 - 1) }
+    record shelf {
+      stored = take shelf.room (shelf.stored ++ bytes);
+      written = min (shelf.written + length bytes) (2 ^ 64 - 1);
+    }
 
 -- the bytes written, which are told while there is room for all of them
 abbrev pub told : Shelf → Option (List ℕ)

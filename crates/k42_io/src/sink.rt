@@ -6,7 +6,7 @@ use crate::source::Failed;
 
 /// Where bytes go to.
 pub trait Sink {
-    /// The bytes taken so far, where the sink tells them. It may stop telling, and then tells no more.
+    /// The bytes taken so far, where the sink tells them. Once it stops, it tells no more.
     ghost taken: { Self → Option (List ℕ) };
 
     /// The count of faults. It never falls.
