@@ -1,1 +1,2 @@
 pub mod PaddedFront
+pub mod SeenMaps
