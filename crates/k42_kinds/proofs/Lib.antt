@@ -1,2 +1,4 @@
 pub mod PaddedFront
 pub mod SeenMaps
+pub mod FiniteMaps
+pub mod ObjectLaws

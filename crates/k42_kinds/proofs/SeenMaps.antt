@@ -22,7 +22,7 @@ empty_list (x ∷ xs) e = absurd (omega arith)
 
 module _ {K X : Type 0} (R : K → K → Ordering) where
   -- a search of a finite map's entries is a tree's look-up
-  find-lookup : (es : List (K × X)) (q : K) → find R q es ≡ lookup (is_at (R q)) es
+  pub find-lookup : (es : List (K × X)) (q : K) → find R q es ≡ lookup (is_at (R q)) es
   find-lookup [] q = refl
   find-lookup (e ∷ es) q = ap (cond (is_at (R q) e.0) (Some e.1)) (find-lookup es q)
 
@@ -39,7 +39,7 @@ module _ {K X : Type 0} (R : K → K → Ordering) where
   put_first e [] all = refl
   put_first e (f ∷ fs) all = ap (λ r. by_order r (e ∷ f ∷ fs) ((f.0, e.1) ∷ fs) (f ∷ put R e.0 e.1 fs)) all.0
 
-  entries-empty : entries (empty {X = X} {R = R}) ≡ []
+  pub entries-empty : entries (empty {X = X} {R = R}) ≡ []
   entries-empty = empty_list _ (sym (len-entries empty) ∙ len-empty R X)
 
 module _ {K X : Type 0} {R : K → K → Ordering} (total : IsTotalOrder R) where

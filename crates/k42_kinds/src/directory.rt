@@ -6,7 +6,7 @@ use crate::name::Name;
 use crate::operation::{Op, Reply};
 use k42_memory::Memory;
 use std::alloc::Global;
-use std::collections::BTreeMap;
+use std::collections::{BTreeMap, btree_map};
 use std::marker::Model;
 
 /// What a directory binds, seen as a finite map from names to numbers.
@@ -37,6 +37,13 @@ impl DirectoryState {
         DirectoryState {
             bound: BTreeMap::new(alloc),
         }
+    }
+
+    /// The names and their numbers, in the order of the names.
+    pub fn iter(&self) -> btree_map::Iter<'_, Name, u64>
+        ensures { result ≡ map.entries self.now }
+    {
+        self.bound.iter()
     }
 
     /// How many names are bound.

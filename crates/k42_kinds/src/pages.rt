@@ -7,7 +7,7 @@ use crate::operation::{Op, Reply};
 use crate::page::Page;
 use k42_memory::Memory;
 use std::alloc::Global;
-use std::collections::BTreeMap;
+use std::collections::{BTreeMap, btree_map};
 use std::marker::Model;
 
 /// Which pages were written, seen as a finite map from page numbers to text and mark.
@@ -38,6 +38,13 @@ impl PagesState {
         PagesState {
             written: BTreeMap::new(alloc),
         }
+    }
+
+    /// The pages that were written, in the order of their numbers.
+    pub fn iter(&self) -> btree_map::Iter<'_, u16, Page>
+        ensures { result ≡ map.entries self.now }
+    {
+        self.written.iter()
     }
 
     /// The page, where it was written.

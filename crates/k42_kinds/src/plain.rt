@@ -45,3 +45,6 @@ impl Kind for Plain {
         }
     }
 }
+
+#[cfg(test)]
+mod tests;
