@@ -60,10 +60,12 @@ impl DirectoryState {
         self.bound.get(name).copied()
     }
 
-    /// Binds the name to the number, in place of what it was bound to.
+    /// Binds the name to the number, in place of what it was bound to. Only a name that was unbound
+    /// needs memory.
     pub fn insert(&mut self, name: &Name, number: u64) -> Result<(), Memory>
         ensures ok { OnOk result (self.new ≡ map.insert self.old name.now number) }
         ensures memory { OnErr result (self.new ≡ self.old) }
+        ensures needed { OnErr result (map.get self.old name.now ≡ None) }
     {
         self.bound.insert(*name, number)?;
         Ok(())
@@ -105,5 +107,23 @@ pub(crate) fn step_directory(names: &mut DirectoryState, op: &Op) -> Result<Repl
         Op::Unbind(name) => Ok(reply_with(names.remove(name))),
         Op::Size => Ok(Reply::Number(names.size() as u64)),
         _ => Ok(Reply::Gone),
+    }
+}
+
+#[cfg(test)]
+mod tests {
+    use super::*;
+    use std::test::Fail;
+
+    #[test]
+    fn a_directory_shows_names_in_the_order_of_their_bytes(rt: HostRuntime) -> Result<(), Fail> {
+        let texts: [&[u8]; 4] = [b"b", b"a_", b"aa", b"a"];
+        let mut places = DirectoryState::new(rt.alloc());
+        for (place, bytes) in texts.iter().enumerate() {
+            places.insert(&Name::of(bytes).ok_or("no name")?, place as u64)?;
+        }
+        let in_order: [u64; 4] = [3, 1, 2, 0];
+        assert!(rt; places.iter().map(|(_, place)| *place).eq(in_order));
+        Ok(())
     }
 }

@@ -142,7 +142,6 @@ fn spells_name(bytes: &[u8]) -> bool
 #[cfg(test)]
 mod tests {
     use super::*;
-    use std::collections::BTreeMap;
     use std::test::Fail;
 
     #[test]
@@ -173,22 +172,6 @@ mod tests {
                 "{low:?} and {high:?}"
             );
         }
-        Ok(())
-    }
-
-    #[test]
-    fn a_map_keeps_names_in_their_order(rt: HostRuntime) -> Result<(), Fail> {
-        let texts: [&[u8]; 4] = [b"b", b"a_", b"aa", b"a"];
-        let mut places = BTreeMap::new(rt.alloc());
-        for (place, bytes) in texts.iter().enumerate() {
-            places.insert(Name::of(bytes).ok_or("no name")?, place)?;
-        }
-        let in_order: [usize; 4] = [3, 1, 2, 0];
-        assert!(rt; places.values().copied().eq(in_order));
-        assert_eq!(rt;
-            places.get(&Name::of(b"aa").ok_or("no name")?).copied(),
-            Some(2)
-        );
         Ok(())
     }
 }

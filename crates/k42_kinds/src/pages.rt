@@ -54,10 +54,12 @@ impl PagesState {
         self.written.get(&number).copied()
     }
 
-    /// Puts the page in place of what was written there.
+    /// Puts the page in place of what was written there. Only a page that was never written needs
+    /// memory.
     pub fn insert(&mut self, number: u16, page: &Page) -> Result<(), Memory>
         ensures ok { OnOk result (self.new ≡ map.insert self.old number page.now) }
         ensures memory { OnErr result (self.new ≡ self.old) }
+        ensures needed { OnErr result (map.get self.old number ≡ None) }
     {
         self.written.insert(number, *page)?;
         Ok(())
@@ -113,5 +115,27 @@ pub(crate) fn step_pages(pages: &mut PagesState, op: &Op) -> Result<Reply, Memor
             Ok(Reply::Number(dirty))
         }
         _ => Ok(Reply::Gone),
+    }
+}
+
+#[cfg(test)]
+mod tests {
+    use super::*;
+    use crate::text::Text;
+    use std::test::Fail;
+
+    #[test]
+    fn pages_show_in_the_order_of_their_numbers(rt: HostRuntime) -> Result<(), Fail> {
+        let text = Text::of(b"hi").ok_or("no text")?;
+        let dirty = true;
+        let page = Page { text, dirty };
+        let mut pages = PagesState::new(rt.alloc());
+        for number in [1023, 5, 0] {
+            pages.insert(number, &page)?;
+        }
+        let in_order: [u16; 3] = [0, 5, 1023];
+        assert!(rt; pages.iter().map(|(number, _)| *number).eq(in_order));
+        assert_eq!(rt; pages.dirty(), 3);
+        Ok(())
     }
 }
