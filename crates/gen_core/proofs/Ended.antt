@@ -1,0 +1,2 @@
+-- Quiet means ended.
+use Rattle.std.proofs.Common.{◌≡◌}

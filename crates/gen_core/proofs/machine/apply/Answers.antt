@@ -1,0 +1,6 @@
+use Rattle.gen_core.proofs.Ranges.{IsSound-after}
+use Rattle.gen_core.proofs.machine.apply.Goals as goal
+
+pub returns-clause-sound : goal.returns-clause-sound
+returns-clause-sound c =
+    IsSound-after _ _ c.args.event.now c.step.result c.step.ensures.possible c.step.ensures.effect c.step.ensures.stays c.requires.sound c.requires.in_range

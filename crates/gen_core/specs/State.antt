@@ -1,0 +1,21 @@
+-- Reading and changing one place of a state, and the state that was just made.
+use Rattle.std.specs.Prelude.{ℕ, ◌≡◌, List, [], Option, None, slice_index_or, slice_set}
+use Rattle.gen_core.specs.declared.state.GenProc.{GenProc}
+use Rattle.gen_core.specs.declared.state.GraceAt.TheVariants.{Idle}
+use Rattle.gen_core.specs.Plain.{Caller, Generations}
+
+-- a processor that nobody has entered
+abbrev pub fresh_proc : GenProc
+fresh_proc = record { generation = 0; entered = 0; exits_even = 0; exits_odd = 0 }
+
+abbrev pub proc_at : Generations → ℕ → GenProc
+proc_at s p = slice_index_or s.procs p fresh_proc
+
+abbrev pub caller_at : Generations → ℕ → Caller
+caller_at s c = slice_index_or s.callers c (record { proc = 0; active = None; grace = Idle; coming = None; waits = [] })
+
+abbrev pub put_proc : Generations → ℕ → GenProc → Generations
+put_proc s p k = record s { procs = slice_set s.procs p k }
+
+abbrev pub put_caller : Generations → ℕ → Caller → Generations
+put_caller s c x = record s { callers = slice_set s.callers c x }
