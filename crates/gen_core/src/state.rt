@@ -1,8 +1,10 @@
-ghost use Rattle.std.specs.Prelude.{◌≡◌, ℕ, ◌-◌, ◌^◌, ◌<◌, ◌≤◌, nat_lt, length, slice_set};
+ghost use Rattle.std.specs.Prelude.{◌≡◌, ℕ, ◌-◌, ◌^◌, ◌<◌, ◌≤◌, nat_lt, length, slice_set, IfOk};
 ghost use Rattle.std.specs.List.{list_all};
-ghost use Rattle.gen_core.specs.State.{proc_at, caller_at, put_proc, put_caller};
+ghost use Rattle.gen_core.specs.State.{proc_at, caller_at, put_proc, put_caller, fresh, IsPlan};
 ghost use Rattle.gen_core.specs.Events.{exits_of, other_exits, exit_counted, is_free, after_flip, after_look};
 
+use k42_memory::Memory;
+use std::alloc::Global;
 use std::marker::Model;
 
 /// One processor: its generation, and how often it was entered and left.
@@ -126,6 +128,34 @@ impl GenCaller {
 }
 
 impl GenState {
+    /// A state in which nobody has entered. The callers are given by their processors.
+    pub fn new(alloc: Global, procs: u32, callers: Vec<u32>) -> Result<GenState, Memory>
+        requires { IsPlan procs callers.items }
+        ensures { IfOk result (λ s. s ≡ fresh procs callers.items) }
+    {
+        let processor = GenProc {
+            generation: 0,
+            entered: 0,
+            exits_even: 0,
+            exits_odd: 0,
+        };
+        let mut list = Vec::with_capacity(alloc, callers.len())?;
+        for proc in &callers {
+            list.push(GenCaller {
+                proc: *proc,
+                active: None,
+                grace: GraceAt::Idle,
+                coming: None,
+                waits: vec![in alloc; 0; procs as usize]?,
+            })?;
+        }
+        Ok(GenState {
+            procs: vec![in alloc; processor; procs as usize]?,
+            callers: list,
+            role: None,
+        })
+    }
+
     pub(crate) fn processor(&self, p: usize) -> GenProc
         requires { p < length self.now.procs }
         ensures { result ≡ proc_at self.now p }
