@@ -5,4 +5,6 @@ pub mod Activities
 pub mod Graces
 pub mod Courses
 pub mod Ranges
+pub mod Fresh
+pub mod Alone
 pub mod Ended

@@ -1,5 +1,5 @@
 -- Lists place by place, after one place is updated, and counts over them.
-use Rattle.std.proofs.Common.{◌≡◌, ℕ, zero, suc, ◌+◌, ◌<◌, ◌≢◌, ◌⊎◌, Bool, true, false, cond, List, [], ◌∷◌, length, set, Some, None, sym, refl, ap, subst, inl, inr, ⊎_elim, arith}
+use Rattle.std.proofs.Common.{◌≡◌, ℕ, zero, suc, ◌+◌, ◌<◌, ◌≢◌, ◌⊎◌, Bool, true, false, cond, List, [], ◌∷◌, length, map, replicate, set, Some, None, sym, refl, ap, subst, inl, inr, ⊎_elim, arith}
 use Rattle.std.specs.List.{slice_get, count_by, list_all}
 use Rattle.std.proofs.lemmas.Bool.{and_parts}
 use Rattle.std.proofs.lemmas.Option.{same_Some, slice_get_within, get_or_from_slice_get}
@@ -45,6 +45,16 @@ module _ {A : Type 0} where
   EachPlace-list_all p [] all i x e = absurd (cc)
   EachPlace-list_all p (y ∷ ys) all zero x e = rw (← (same_Some y x e)) (and_parts (p y) (list_all p ys) all).0
   EachPlace-list_all p (y ∷ ys) all (suc i) x e = EachPlace-list_all p ys (and_parts (p y) (list_all p ys) all).1 i x e
+
+  pub EachPlace-replicate : (P : ℕ → A → Type 0) (n : ℕ) (a : A) → ((i : ℕ) → P i a) → EachPlace P (replicate n a)
+  EachPlace-replicate P zero a each i x e = absurd (cc)
+  EachPlace-replicate P (suc n) a each zero x e = subst (λ b. P 0 b) (same_Some a x e) (each 0)
+  EachPlace-replicate P (suc n) a each (suc i) x e = EachPlace-replicate (λ j b. P (suc j) b) n a (λ j. each (suc j)) i x e
+
+  pub EachPlace-map : {B : Type 0} (P : ℕ → A → Type 0) (f : B → A) (l : List B) → EachPlace (λ i b. P i (f b)) l → EachPlace P (map f l)
+  EachPlace-map P f [] each i x e = absurd (cc)
+  EachPlace-map P f (b ∷ bs) each zero x e = subst (λ a. P 0 a) (same_Some (f b) x e) (each 0 b refl)
+  EachPlace-map P f (b ∷ bs) each (suc i) x e = EachPlace-map (λ j a. P (suc j) a) f bs (λ j b' e'. each (suc j) b' e') i x e
 
   -- how many elements pass a test, before and after one of them changes
   pub count_by-set : (p : A → Bool) (l : List A) (i : ℕ) (x y : A) → slice_get l i ≡ Some x

@@ -1,6 +1,7 @@
 ghost use Rattle.std.specs.Prelude.{◌≡◌, ℕ, ◌-◌, ◌^◌, ◌<◌, ◌≤◌, nat_lt, length, slice_set, IfOk};
 ghost use Rattle.std.specs.List.{list_all};
 ghost use Rattle.gen_core.specs.State.{proc_at, caller_at, put_proc, put_caller, fresh, IsPlan};
+ghost use Rattle.gen_core.specs.Sound.{IsSound};
 ghost use Rattle.gen_core.specs.Events.{exits_of, other_exits, exit_counted, is_free, after_flip, after_look};
 
 use k42_memory::Memory;
@@ -131,7 +132,8 @@ impl GenState {
     /// A state in which nobody has entered. The callers are given by their processors.
     pub fn new(alloc: Global, procs: u32, callers: Vec<u32>) -> Result<GenState, Memory>
         requires { IsPlan procs callers.items }
-        ensures { IfOk result (λ s. s ≡ fresh procs callers.items) }
+        ensures new { IfOk result (λ s. s ≡ fresh procs callers.items) }
+        ensures sound { IfOk result IsSound }
     {
         let processor = GenProc {
             generation: 0,
