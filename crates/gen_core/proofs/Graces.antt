@@ -23,7 +23,7 @@ holds_alone : (holder : Option ℕ) (c i : ℕ) → holds_role holder c ≡ true
 holds_alone None c i holds other = refl
 holds_alone (Some holder) c i holds other = grind (arith, nat_tests)
 
-idle_stage : (course : Course) (stage : GraceAt) → StageFits course stage → course.holder ≡ None → stage ≡ Idle
+pub idle_stage : (course : Course) (stage : GraceAt) → StageFits course stage → course.holder ≡ None → stage ≡ Idle
 idle_stage course Idle fits none = refl
 idle_stage course (Flipping p) fits none = absurd (rw none at fits.0)
 idle_stage course (Looking p) fits none = absurd (rw none at fits.0)

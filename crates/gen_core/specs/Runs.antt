@@ -1,11 +1,12 @@
--- Lists of events from a state.
-use Rattle.std.specs.Prelude.{ℕ, ◌≡◌, ◌<◌, ◌≤◌, if◌then◌else◌, List, [], ◌∷◌, ◌++◌, Some, None, length, IsTrue, IsSome}
+-- Lists of events from a state, and what is true after each.
+use Rattle.std.specs.Prelude.{ℕ, ◌≡◌, ◌≢◌, ◌+◌, ◌<◌, Bool, not, ◌&&◌, if◌then◌else◌, List, [], ◌∷◌, ◌++◌, Some, None, length, slice_index, IsTrue, IsSome}
 use Rattle.gen_core.specs.declared.event.GenEvent.{GenEvent}
-use Rattle.gen_core.specs.declared.event.GenEvent.TheVariants.{Enter, Leave, TakeRole, GiveRole}
-use Rattle.gen_core.specs.declared.state.GraceAt.TheVariants.{Quiet}
+use Rattle.gen_core.specs.declared.event.GenEvent.TheVariants.{Leave, TakeRole, GiveRole}
+use Rattle.gen_core.specs.declared.state.GraceAt.TheVariants.{Idle, Quiet}
 use Rattle.gen_core.specs.Plain.{Generations}
-use Rattle.gen_core.specs.State.{caller_at}
-use Rattle.gen_core.specs.Events.{is_possible, effect, caller_of}
+use Rattle.gen_core.specs.State.{proc_at, caller_at, fresh, IsPlan}
+use Rattle.gen_core.specs.Events.{is_even, exits_of, is_possible, effect, caller_of}
+use Rattle.gen_core.specs.Sound.{is_flipped, is_passed, active_in}
 
 -- the state after an event; one that is not possible changes nothing
 abbrev pub happens : Generations → GenEvent → Generations
@@ -21,6 +22,15 @@ abbrev pub AreInRange : ℕ → List GenEvent → Type 0
 AreInRange callers [] = Unit {0}
 AreInRange callers (event ∷ events) = (caller_of event < callers) × AreInRange callers events
 
+-- a list of events leads to s from a new state
+pub record IsReached (s : Generations) : Type 0 where
+  pub procs : ℕ
+  pub callers : List ℕ
+  pub events : List GenEvent
+  pub plan : IsPlan procs callers
+  pub in_range : AreInRange (length callers) events
+  pub result : s ≡ run events (fresh procs callers)
+
 -- the event stands among the events that come from s, and was possible where it stands
 pub record Occurs (event : GenEvent) (events : List GenEvent) (s : Generations) : Type 0 where
   pub before : List GenEvent
@@ -28,20 +38,41 @@ pub record Occurs (event : GenEvent) (events : List GenEvent) (s : Generations) 
   pub split : events ≡ before ++ event ∷ after
   pub possible : IsTrue (is_possible (run before s) event)
 
+-- the caller may take the role, and finds it free
+pub record FindsRoleFree (s : Generations) (c : ℕ) : Type 0 where
+  pub possible : IsTrue (is_possible s (TakeRole c))
+  pub free : s.role ≡ None
+
 abbrev pub IsActive : Generations → ℕ → Type 0
 IsActive s c = IsSome (caller_at s c).active
 
 abbrev pub IsQuiet : Generations → ℕ → Type 0
 IsQuiet s c = (caller_at s c).grace ≡ Quiet
 
--- the event by which the caller takes the role finds it free
-pub record FindsRoleFree (s : Generations) (c : ℕ) : Type 0 where
-  pub possible : IsTrue (is_possible s (TakeRole c))
-  pub free : s.role ≡ None
+-- at s the holder takes the role, and does not give it back among the events that follow, after which it is quiet
+pub record IsQuietGrace (s : Generations) (events : List GenEvent) (holder : ℕ) : Type 0 where
+  pub takes : FindsRoleFree s holder
+  pub keeps : ¬ Occurs (GiveRole holder) events (happens s (TakeRole holder))
+  pub quiet : IsQuiet (run events (happens s (TakeRole holder))) holder
 
--- a caller that was active when the holder took the role has left before that grace is quiet: the events between
--- do not give the role back, the holder is quiet after them, and the caller's leave is among them
-abbrev pub HasLeftWhenQuiet : Generations → List GenEvent → ℕ → ℕ → Type 0
-HasLeftWhenQuiet s between holder caller =
-    FindsRoleFree s holder → IsActive s caller → ¬ (Occurs (GiveRole holder) between (happens s (TakeRole holder)))
-    → IsQuiet (run between (happens s (TakeRole holder))) holder → Occurs (Leave caller) between (happens s (TakeRole holder))
+-- the caller leaves among the events that follow the taking of the role
+abbrev pub HasLeft : Generations → List GenEvent → ℕ → ℕ → Type 0
+HasLeft s events holder caller = Occurs (Leave caller) events (happens s (TakeRole holder))
+
+-- what the holder of the role has seen of a processor
+abbrev pub holder_flipped : Generations → ℕ → ℕ → Bool
+holder_flipped s holder p = is_flipped (caller_at s holder).grace p && not (is_passed (caller_at s holder).grace p)
+
+-- the holder is the one caller with a grace under way, and it is in no activity
+pub record HasOneHolder (s : Generations) : Type 0 where
+  pub holder : (c : ℕ) → c < length s.callers → (caller_at s c).grace ≢ Idle → s.role ≡ Some c
+  pub under_way : (c : ℕ) → s.role ≡ Some c → ((caller_at s c).grace ≢ Idle) × ((caller_at s c).active ≡ None)
+
+-- the entries of a generation are its exits and the callers active in it: of the present generation on each processor,
+-- and of the former one on each that the holder has flipped and not passed
+pub record CountsAgree (s : Generations) : Type 0 where
+  pub present : (p : ℕ) → p < length s.procs
+    → (proc_at s p).entered ≡ exits_of (proc_at s p) (is_even (proc_at s p).generation) + active_in s.callers p (proc_at s p).generation
+  pub former : (p holder generation : ℕ) → p < length s.procs → s.role ≡ Some holder → IsTrue (holder_flipped s holder p)
+    → generation + 1 ≡ (proc_at s p).generation
+    → slice_index (caller_at s holder).waits p ≡ exits_of (proc_at s p) (is_even generation) + active_in s.callers p generation
