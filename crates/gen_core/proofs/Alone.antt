@@ -1,12 +1,12 @@
 -- What an event leaves alone, for those who cite an event and not its parts.
-use Rattle.std.proofs.Common.{◌≡◌, ℕ, ◌<◌, ◌≢◌, ◌∙◌, Bool, true, false, cond, Option, Some, None, length, set, length-set, sym, refl, ap}
+use Rattle.std.proofs.Common.{◌≡◌, ℕ, ◌<◌, ◌≢◌, ◌∙◌, Bool, true, false, cond, Option, Some, None, length, set, length-set, refl, ap}
 use Rattle.std.specs.List.{slice_get}
 use Rattle.std.proofs.lemmas.List.{get_or-set_same}
 use Rattle.gen_core.specs.declared.event.GenEvent.{GenEvent}
 use Rattle.gen_core.specs.declared.event.GenEvent.TheVariants.{Enter, Leave, TakeRole, LookAhead, Flip, Look, GiveRole}
 use Rattle.gen_core.specs.declared.state.GenProc.{GenProc}
 use Rattle.gen_core.specs.Plain.{Caller, Generations}
-use Rattle.gen_core.specs.State.{proc_at, caller_at, put_proc, put_caller}
+use Rattle.gen_core.specs.State.{caller_at, put_caller}
 use Rattle.gen_core.specs.Events.{place_of, caller_entered, proc_entered, caller_left, proc_left, role_taken, looked_ahead, caller_flipped, proc_flipped, caller_passed, role_given, is_drained, home_of, turn_of, taken, is_possible, effect, caller_of}
 use Rattle.gen_core.specs.Runs.{happens}
 use Rattle.gen_core.proofs.Places.{slice_get-set_else}
@@ -77,7 +77,7 @@ only_caller s (LookAhead c) there =
     one_caller s c (looked_ahead (caller_at s c) (turn_of s c)) there refl (place_of (caller_at s c).grace) s.role
 only_caller s (Flip c) there =
     with_proc s c (caller_flipped (caller_at s c) (turn_of s c) (length s.procs)) there refl (place_of (caller_at s c).grace)
-      (proc_flipped (turn_of s c) (caller_at s c).coming)
+    (proc_flipped (turn_of s c) (caller_at s c).coming)
 only_caller s (Look c) there = looked_only s c (place_of (caller_at s c).grace) there (is_drained (caller_at s c) (turn_of s c))
 only_caller s (GiveRole c) there = one_caller s c (role_given (caller_at s c)) there refl 0 None
 

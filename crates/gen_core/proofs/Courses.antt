@@ -1,19 +1,16 @@
 -- Each event, and each list of events, keeps every fact.
-use Rattle.std.proofs.Common.{◌≡◌, ℕ, ◌+◌, ◌-◌, ◌^◌, ◌<◌, ◌≢◌, ◌∙◌, Bool, true, false, cond, eqb, ltb, List, [], ◌∷◌, Option, Some, None, length, set, length-set, sym, refl, ap, arith}
+use Rattle.std.proofs.Common.{◌≡◌, ℕ, ◌+◌, ◌-◌, ◌^◌, ◌<◌, Bool, true, false, cond, Option, Some, None, length, refl}
 use Rattle.std.specs.List.{slice_get, slice_index}
 use Rattle.std.proofs.lemmas.Option.{slice_get-get_or}
 use Rattle.std.proofs.lemmas.Bool.{and_parts, ltb-true, eqb-true}
 use Rattle.gen_core.specs.declared.event.GenEvent.{GenEvent}
 use Rattle.gen_core.specs.declared.event.GenEvent.TheVariants.{Enter, Leave, TakeRole, LookAhead, Flip, Look, GiveRole}
-use Rattle.gen_core.specs.declared.state.GenProc.{GenProc}
 use Rattle.gen_core.specs.declared.state.GraceAt.{GraceAt}
 use Rattle.gen_core.specs.declared.state.GraceAt.TheVariants.{Idle, Flipping, Looking, Quiet}
 use Rattle.gen_core.specs.Plain.{Caller, Generations}
-use Rattle.gen_core.specs.State.{fresh_proc, proc_at, caller_at, put_proc, put_caller}
-use Rattle.gen_core.specs.Events.{is_even, exits_of, other_exits, is_idle, is_flipping, is_looking, is_quiet, place_of, can_leave, is_drained, caller_left, proc_left, exit_counted, role_taken, looked_ahead, caller_flipped, caller_passed, role_given, home_of, turn_of, taken, is_possible, effect, caller_of}
-use Rattle.gen_core.specs.Sound.{Course, StageFits, IsHolder, IsInCourse}
-use Rattle.gen_core.specs.Runs.{happens, run, AreInRange}
-use Rattle.gen_core.proofs.Places.{slice_get-set_else}
+use Rattle.gen_core.specs.State.{fresh_proc, caller_at, put_proc, put_caller}
+use Rattle.gen_core.specs.Events.{is_even, other_exits, is_idle, is_looking, place_of, can_leave, is_drained, caller_left, proc_left, exit_counted, role_taken, looked_ahead, caller_flipped, caller_passed, role_given, home_of, turn_of, taken, is_possible, effect, caller_of}
+use Rattle.gen_core.specs.Sound.{Course, StageFits, IsInCourse}
 use Rattle.gen_core.proofs.Stages.{from_is_idle, from_is_flipping, from_is_looking, from_is_quiet, from_is_none, from_is_some, exit_is_counted}
 use Rattle.gen_core.proofs.Frames.{steered, holder_from_grace}
 use Rattle.gen_core.proofs.Activities.{keeps_entered, keeps_left}
@@ -69,7 +66,7 @@ module _ (course : Course) (s : Generations) (h : IsInCourse course s) (c : ℕ)
   keeps_leave None e possible = cc
   keeps_leave (Some own) e possible =
       keeps_left course s h c (caller_at s c) at_caller (home_of s c) at_home own e (exit_counted (home_of s c) (is_even own))
-        (exit_is_counted (home_of s c) (is_even own))
+      (exit_is_counted (home_of s c) (is_even own))
 
   keeps_take : (role : Option ℕ) → s.role ≡ role → is_possible s (TakeRole c) ≡ true → IsInCourse (course_taken course c (caller_at s c) role) (taken s c role)
   keeps_take None free possible =
@@ -83,7 +80,7 @@ module _ (course : Course) (s : Generations) (h : IsInCourse course s) (c : ℕ)
   keeps_look true drained looking =
       let grace = from_is_looking (caller_at s c).grace looking in
       keeps_passed course s h c (caller_at s c) at_caller (place_of (caller_at s c).grace) (turn_of s c) (at_turn (λ idle. absurd (cc)))
-        grace (eqb-true (other_exits (turn_of s c)) (slice_index (caller_at s c).waits (place_of (caller_at s c).grace)) drained)
+      grace (eqb-true (other_exits (turn_of s c)) (slice_index (caller_at s c).waits (place_of (caller_at s c).grace)) drained)
   keeps_look false drained looking = h
 
 -- a possible event keeps every fact
@@ -94,7 +91,7 @@ keeps_effect course s (Enter c) h there possible =
     let parts = and_parts _ _ possible in
     let alone = and_parts (is_idle x.grace) _ parts.0 in
     keeps_entered course s h c x (at_caller course s h c there) (home_of s c) (at_home course s h c there)
-      (from_is_idle x.grace alone.0) (from_is_none x.active alone.1) (ltb-true (home_of s c).entered (2 ^ 32 - 1) parts.1)
+    (from_is_idle x.grace alone.0) (from_is_none x.active alone.1) (ltb-true (home_of s c).entered (2 ^ 32 - 1) parts.1)
 keeps_effect course s (Leave c) h there possible = keeps_leave course s h c there (caller_at s c).active refl possible
 keeps_effect course s (TakeRole c) h there possible = keeps_take course s h c there s.role refl possible
 keeps_effect course s (LookAhead c) h there possible =
@@ -107,7 +104,7 @@ keeps_effect course s (Flip c) h there possible =
     let grace = from_is_flipping x.grace parts.0 in
     let known = from_is_some x.coming parts.1 in
     keeps_flipped course s h c x (at_caller course s h c there) (place_of x.grace) (turn_of s c) (at_turn course s h c there (λ idle. absurd (cc)))
-      grace known.0 known.1
+    grace known.0 known.1
 keeps_effect course s (Look c) h there possible = keeps_look course s h c there (is_drained (caller_at s c) (turn_of s c)) refl possible
 keeps_effect course s (GiveRole c) h there possible =
     keeps_given course s h c (caller_at s c) (at_caller course s h c there) (from_is_quiet (caller_at s c).grace possible)

@@ -1,26 +1,24 @@
 -- What is true after every list of events: the facts are kept, the counts agree, and quiet means ended.
-use Rattle.std.proofs.Common.{◌≡◌, ℕ, zero, suc, ◌+◌, ◌<◌, ◌≢◌, ◌⊎◌, ◌∙◌, Bool, true, false, not, ◌&&◌, cond, eqb, List, [], ◌∷◌, ◌++◌, Option, Some, None, length, set, length-set, sym, refl, ap, subst, inl, inr, ⊎_elim, arith}
-use Rattle.std.specs.Option.{is_none}
-use Rattle.std.specs.Bool.{MatchBool}
-use Rattle.std.specs.List.{slice_get, slice_index}
+use Rattle.std.proofs.Common.{◌≡◌, ℕ, ◌+◌, ◌<◌, ◌≢◌, ◌⊎◌, ◌∙◌, Bool, true, false, cond, List, [], ◌∷◌, Option, Some, None, length, length-set, sym, refl, ap, subst, inl, inr, ⊎_elim, arith}
+use Rattle.std.specs.List.{slice_get}
 use Rattle.std.proofs.lemmas.List.{get_or-set_same, get_or-set_other, length-map}
 use Rattle.std.proofs.lemmas.Option.{same_Some, slice_get-get_or, get_or_from_slice_get}
-use Rattle.std.proofs.lemmas.Bool.{MatchBool-at_true, MatchBool-at_false, and_parts, not-true, cases_eq, eqb-true, eq-eqb}
+use Rattle.std.proofs.lemmas.Bool.{MatchBool-at_true, and_parts, not-true, cases_eq, eqb-true, eq-eqb}
 use Rattle.gen_core.specs.declared.event.GenEvent.{GenEvent}
 use Rattle.gen_core.specs.declared.event.GenEvent.TheVariants.{Enter, Leave, TakeRole, LookAhead, Flip, Look, GiveRole}
 use Rattle.gen_core.specs.declared.state.GraceAt.{GraceAt}
 use Rattle.gen_core.specs.declared.state.GraceAt.TheVariants.{Idle, Flipping, Looking, Quiet}
-use Rattle.gen_core.specs.Plain.{Caller, Generations}
-use Rattle.gen_core.specs.State.{proc_at, caller_at, put_caller, fresh, IsPlan}
-use Rattle.gen_core.specs.Events.{is_even, exits_of, is_idle, is_drained, caller_passed, looked_ahead, caller_flipped, role_taken, role_given, home_of, turn_of, taken, is_possible, effect, caller_of}
-use Rattle.gen_core.specs.Sound.{Course, is_flipped, is_passed, holds_role, active_in, StageFits, IsHolder, IsNoHolder, IsOfStep, IsInCourse, IsSound, generation_of}
-use Rattle.gen_core.specs.Runs.{happens, run, AreInRange, IsReached, Occurs, FindsRoleFree, IsActive, IsQuiet, IsQuietGrace, HasLeft, holder_flipped, HasOneHolder, CountsAgree}
+use Rattle.gen_core.specs.Plain.{Generations}
+use Rattle.gen_core.specs.State.{proc_at, caller_at, put_caller, fresh}
+use Rattle.gen_core.specs.Events.{is_idle, is_drained, caller_passed, looked_ahead, caller_flipped, role_taken, role_given, turn_of, taken, is_possible, effect, caller_of}
+use Rattle.gen_core.specs.Sound.{Course, is_flipped, is_passed, holds_role, StageFits, IsHolder, IsNoHolder, IsInCourse, IsSound}
+use Rattle.gen_core.specs.Runs.{happens, run, AreInRange, IsReached, Occurs, FindsRoleFree, IsActive, IsQuiet, IsQuietGrace, HasLeft, HasOneHolder, CountsAgree}
 use Rattle.gen_core.proofs.Stages.{from_is_quiet, from_is_none, from_is_some}
-use Rattle.gen_core.proofs.Frames.{steered, holder_from_grace}
-use Rattle.gen_core.proofs.Courses.{course_taken, course_looked, course_after, at_caller, proc_there, at_home, keeps_effect}
+use Rattle.gen_core.proofs.Frames.{holder_from_grace}
+use Rattle.gen_core.proofs.Courses.{course_taken, course_looked, course_after, at_caller, keeps_effect}
 use Rattle.gen_core.proofs.Graces.{idle_stage}
 use Rattle.gen_core.proofs.Fresh.{IsSound-fresh}
-use Rattle.gen_core.proofs.Alone.{ChangesOnly, only_caller, happens_only}
+use Rattle.gen_core.proofs.Alone.{only_caller, happens_only}
 
 -- lists of events
 
@@ -34,12 +32,12 @@ pub IsSound-run : (events : List GenEvent) (s : Generations) → IsSound s → A
 IsSound-run [] s sound in_range = sound
 IsSound-run (event ∷ events) s sound in_range =
     IsSound-run events (happens s event) (IsSound-happens s event sound in_range.0)
-      (rw (happens_only s event in_range.0).many_callers in_range.1)
+    (rw (happens_only s event in_range.0).many_callers in_range.1)
 
 pub reached_sound : (s : Generations) → IsReached s → IsSound s
 reached_sound s reached =
     rw reached.result (IsSound-run reached.events (fresh reached.procs reached.callers) (IsSound-fresh reached.procs reached.callers reached.plan)
-      (rw length-map reached.in_range))
+    (rw length-map reached.in_range))
 
 -- the facts in plain words
 
@@ -66,12 +64,12 @@ one_holder s sound =
     let h = sound.in_course in
     record {
       holder = λ c there busy.
-        h.role ∙ holds_from course.holder c (holder_from_grace course s h c (caller_at s c) (at_caller course s h c there) busy).0;
+          h.role ∙ holds_from course.holder c (holder_from_grace course s h c (caller_at s c) (at_caller course s h c there) busy).0;
       under_way = λ c held.
-        let fits = role_there course course.stage c h.stage (sym h.role ∙ held) in
-        let there : c < length s.callers = rw h.many_callers fits.0 in
-        let holder = holder_from_role course s c h held there in
-        ((λ idle. fits.1 (sym holder.grace ∙ idle)), holder.inactive);
+          let fits = role_there course course.stage c h.stage (sym h.role ∙ held) in
+          let there : c < length s.callers = rw h.many_callers fits.0 in
+          let holder = holder_from_role course s c h held there in
+          ((λ idle. fits.1 (sym holder.grace ∙ idle)), holder.inactive);
     }
 
 pub counts_agree : (s : Generations) → IsSound s → CountsAgree s
@@ -81,15 +79,15 @@ counts_agree s sound =
     record {
       present = λ p there. (h.counted_generations p (proc_at s p) (slice_get-get_or s.procs p _ there)).present;
       former = λ p holder generation there held seen before.
-        let at_p : slice_get s.procs p ≡ Some (proc_at s p) = slice_get-get_or s.procs p _ there in
-        let fits = role_there course course.stage holder h.stage (sym h.role ∙ held) in
-        let known = holder_from_role course s holder h held (rw h.many_callers fits.0) in
-        let parts = and_parts _ _ seen in
-        let flipped : is_flipped course.stage p ≡ true = rw (← (known.grace)) parts.0 in
-        let passed : is_passed course.stage p ≡ false = rw (← (known.grace)) (not-true (is_passed (caller_at s holder).grace p) parts.1) in
-        let in_step : (proc_at s p).generation ≡ course.base + 1 = rw flipped at (h.generations_in_step p (proc_at s p) at_p) in
-        let former : generation ≡ course.base = omega (arith, before, in_step) in
-        rw (known.waits, former) ((h.counted_generations p (proc_at s p) at_p).former flipped passed);
+          let at_p : slice_get s.procs p ≡ Some (proc_at s p) = slice_get-get_or s.procs p _ there in
+          let fits = role_there course course.stage holder h.stage (sym h.role ∙ held) in
+          let known = holder_from_role course s holder h held (rw h.many_callers fits.0) in
+          let parts = and_parts _ _ seen in
+          let flipped : is_flipped course.stage p ≡ true = rw (← (known.grace)) parts.0 in
+          let passed : is_passed course.stage p ≡ false = rw (← (known.grace)) (not-true (is_passed (caller_at s holder).grace p) parts.1) in
+          let in_step : (proc_at s p).generation ≡ course.base + 1 = rw flipped at (h.generations_in_step p (proc_at s p) at_p) in
+          let former : generation ≡ course.base = omega (arith, before, in_step) in
+          rw (known.waits, former) ((h.counted_generations p (proc_at s p) at_p).former flipped passed);
     }
 
 -- quiet means ended
@@ -157,7 +155,7 @@ older_or_left holder caller s event older there keeps = by_test (is_possible s e
   stays : is_possible s event ≡ true → (caller_at (effect s event) caller).active ≡ Some older.course.base → IsOlder holder caller (effect s event)
   stays possible active =
       let next = ⊎_elim (λ given. absurd (keeps possible given)) (λ same. same)
-        (same_grace older.course s older.in_course holder older.held event there possible) in
+      (same_grace older.course s older.in_course holder older.held event there possible) in
       record {
         course = course_after older.course s event;
         in_course = keeps_effect older.course s event older.in_course there possible;
@@ -170,17 +168,17 @@ older_or_left holder caller s event older there keeps = by_test (is_possible s e
   by_test false possible = inr older
   by_test true possible =
       ⊎_elim
-        (λ (same : caller ≡ caller_of event).
-          let own : (caller_at s (caller_of event)).active ≡ Some older.course.base = rw same at older.active in
-          ⊎_elim
-            (λ (leaves : event ≡ Leave (caller_of event)). inl (rw same leaves, refl))
-            (λ (active : (caller_at (effect s event) (caller_of event)).active ≡ Some older.course.base). inr (stays possible (rw same active)))
-            (own_active s older.course.base event there possible own))
-        (λ (other : caller ≢ caller_of event).
-          let before = at_caller older.course s older.in_course caller older.there in
-          let after = (only_caller s event there).other_callers caller other ∙ before in
-          inr (stays possible (rw (get_or_from_slice_get (effect s event).callers caller (caller_at s caller) _ after) older.active)))
-        (cases_eq caller (caller_of event))
+      (λ (same : caller ≡ caller_of event).
+      let own : (caller_at s (caller_of event)).active ≡ Some older.course.base = rw same at older.active in
+      ⊎_elim
+      (λ (leaves : event ≡ Leave (caller_of event)). inl (rw same leaves, refl))
+      (λ (active : (caller_at (effect s event) (caller_of event)).active ≡ Some older.course.base). inr (stays possible (rw same active)))
+      (own_active s older.course.base event there possible own))
+      (λ (other : caller ≢ caller_of event).
+      let before = at_caller older.course s older.in_course caller older.there in
+      let after = (only_caller s event there).other_callers caller other ∙ before in
+      inr (stays possible (rw (get_or_from_slice_get (effect s event).callers caller (caller_at s caller) _ after) older.active)))
+      (cases_eq caller (caller_of event))
 
 -- once the holder is quiet, nobody is active in the generation in which its grace began
 none_older : (holder caller : ℕ) (s : Generations) → IsOlder holder caller s → IsQuiet s holder → ⊥
@@ -191,7 +189,7 @@ none_older holder caller s older quiet =
     let known = holder_from_role course s holder h (h.role ∙ older.held) (rw h.many_callers fits.0) in
     let stage : course.stage ≡ Quiet = sym known.grace ∙ quiet in
     let step : course.base ≡ course.base + 1 =
-      rw stage at (h.activities_in_step caller (caller_at s caller) (at_caller course s h caller older.there) course.base older.active) in
+    rw stage at (h.activities_in_step caller (caller_at s caller) (at_caller course s h caller older.there) course.base older.active) in
     omega arith
 
 ended : (holder caller : ℕ) (events : List GenEvent) (s : Generations) → IsOlder holder caller s → AreInRange (length s.callers) events
@@ -199,50 +197,50 @@ ended : (holder caller : ℕ) (events : List GenEvent) (s : Generations) → IsO
 ended holder caller [] s older in_range keeps quiet = absurd (none_older holder caller s older quiet)
 ended holder caller (event ∷ events) s older in_range keeps quiet =
     ⊎_elim
-      (λ (left : (event ≡ Leave caller) × (is_possible s event ≡ true)).
-        subst (λ e. Occurs e (event ∷ events) s) left.0 (occurs_here event events s left.1))
-      (λ (still : IsOlder holder caller (happens s event)).
-        occurs_later (Leave caller) event events s
-          (ended holder caller events (happens s event) still (rw (happens_only s event in_range.0).many_callers in_range.1)
-            (λ given. keeps (occurs_later (GiveRole holder) event events s given)) quiet))
-      (older_or_left holder caller s event older in_range.0
-        (λ possible e. keeps (subst (λ ev. Occurs ev (event ∷ events) s) e (occurs_here event events s possible))))
+    (λ (left : (event ≡ Leave caller) × (is_possible s event ≡ true)).
+    subst (λ e. Occurs e (event ∷ events) s) left.0 (occurs_here event events s left.1))
+    (λ (still : IsOlder holder caller (happens s event)).
+    occurs_later (Leave caller) event events s
+    (ended holder caller events (happens s event) still (rw (happens_only s event in_range.0).many_callers in_range.1)
+    (λ given. keeps (occurs_later (GiveRole holder) event events s given)) quiet))
+    (older_or_left holder caller s event older in_range.0
+    (λ possible e. keeps (subst (λ ev. Occurs ev (event ∷ events) s) e (occurs_here event events s possible))))
 
 -- as the role is taken, each caller that is active is older
 taken_older : (s : Generations) (holder caller : ℕ) → IsSound s → FindsRoleFree s holder → holder < length s.callers → caller < length s.callers
     → IsActive s caller → IsOlder holder caller (happens s (TakeRole holder))
 taken_older s holder caller sound takes there there' active =
     by_test (is_possible s (TakeRole holder)) s.role takes.possible takes.free
-      (keeps_effect sound.course s (TakeRole holder) sound.in_course there takes.possible) where
-  own : (generation : ℕ) × ((caller_at s caller).active ≡ Some generation)
-  own = from_is_some (caller_at s caller).active active
+    (keeps_effect sound.course s (TakeRole holder) sound.in_course there takes.possible) where
+      own : (generation : ℕ) × ((caller_at s caller).active ≡ Some generation)
+      own = from_is_some (caller_at s caller).active active
 
-  inactive : (caller_at s holder).active ≡ None
-  inactive = from_is_none (caller_at s holder).active (and_parts (is_idle (caller_at s holder).grace) _ (and_parts _ _ takes.possible).0).1
+      inactive : (caller_at s holder).active ≡ None
+      inactive = from_is_none (caller_at s holder).active (and_parts (is_idle (caller_at s holder).grace) _ (and_parts _ _ takes.possible).0).1
 
-  apart : caller ≢ holder
-  apart same = let was = own.1 in let now : (caller_at s caller).active ≡ None = rw same inactive in cc
+      apart : caller ≢ holder
+      apart same = let was = own.1 in let now : (caller_at s caller).active ≡ None = rw same inactive in cc
 
-  of_base : own.0 ≡ sound.course.base
-  of_base =
-      let idle : sound.course.stage ≡ Idle = idle_stage sound.course sound.course.stage sound.in_course.stage (sym sound.in_course.role ∙ takes.free) in
-      rw idle at (sound.in_course.activities_in_step caller (caller_at s caller) (at_caller sound.course s sound.in_course caller there') own.0 own.1)
+      of_base : own.0 ≡ sound.course.base
+      of_base =
+          let idle : sound.course.stage ≡ Idle = idle_stage sound.course sound.course.stage sound.in_course.stage (sym sound.in_course.role ∙ takes.free) in
+          rw idle at (sound.in_course.activities_in_step caller (caller_at s caller) (at_caller sound.course s sound.in_course caller there') own.0 own.1)
 
-  by_test : (b : Bool) (role : Option ℕ) → b ≡ true → role ≡ None → IsInCourse (course_taken sound.course holder (caller_at s holder) role) (taken s holder role)
-      → IsOlder holder caller (cond b (taken s holder role) s)
-  by_test false role possible free kept = cc
-  by_test true (Some other) possible free kept = cc
-  by_test true None possible free kept = record {
-    course = course_taken sound.course holder (caller_at s holder) None;
-    in_course = kept;
-    held = refl;
-    there = rw length-set there';
-    active = rw (get_or-set_other s.callers holder caller (role_taken (caller_at s holder)) _ apart, own.1, of_base) refl;
-  }
+      by_test : (b : Bool) (role : Option ℕ) → b ≡ true → role ≡ None → IsInCourse (course_taken sound.course holder (caller_at s holder) role) (taken s holder role)
+          → IsOlder holder caller (cond b (taken s holder role) s)
+      by_test false role possible free kept = cc
+      by_test true (Some other) possible free kept = cc
+      by_test true None possible free kept = record {
+        course = course_taken sound.course holder (caller_at s holder) None;
+        in_course = kept;
+        held = refl;
+        there = rw length-set there';
+        active = rw (get_or-set_other s.callers holder caller (role_taken (caller_at s holder)) _ apart, own.1, of_base) refl;
+      }
 
 -- where the holder of the role is quiet, each caller that was active when it took the role has left
 pub quiet_means_ended : (s : Generations) (events : List GenEvent) (holder caller : ℕ) → IsSound s → AreInRange (length s.callers) events
     → holder < length s.callers → caller < length s.callers → IsActive s caller → IsQuietGrace s events holder → HasLeft s events holder caller
 quiet_means_ended s events holder caller sound in_range there there' active grace =
     ended holder caller events (happens s (TakeRole holder)) (taken_older s holder caller sound grace.takes there there' active)
-      (rw (happens_only s (TakeRole holder) there).many_callers in_range) grace.keeps grace.quiet
+    (rw (happens_only s (TakeRole holder) there).many_callers in_range) grace.keeps grace.quiet

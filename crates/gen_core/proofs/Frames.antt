@@ -1,15 +1,14 @@
 -- What an event leaves alone: one lemma for a caller that enters or leaves, one for the holder of the role.
-use Rattle.std.proofs.Common.{◌≡◌, ℕ, ◌+◌, ◌^◌, ◌<◌, ◌≢◌, ◌∙◌, Bool, true, false, List, Option, Some, None, length, set, length-set, sym, refl, ap, subst, arith}
-use Rattle.std.specs.List.{slice_get, slice_index}
-use Rattle.std.proofs.lemmas.Bool.{MatchBool-at_true, MatchBool-at_false, cases_Bool}
+use Rattle.std.proofs.Common.{◌≡◌, ℕ, ◌≢◌, ◌∙◌, Bool, true, false, List, Option, Some, None, length, set, length-set, sym, refl, arith}
+use Rattle.std.specs.List.{slice_get}
+use Rattle.std.proofs.lemmas.Bool.{MatchBool-at_true, MatchBool-at_false}
 use Rattle.std.proofs.lemmas.Bool.Decides.{nat_tests}
 use Rattle.gen_core.specs.declared.state.GenProc.{GenProc}
 use Rattle.gen_core.specs.declared.state.GraceAt.{GraceAt}
 use Rattle.gen_core.specs.declared.state.GraceAt.TheVariants.{Idle, Flipping, Looking, Quiet}
 use Rattle.gen_core.specs.Plain.{Caller, Generations}
 use Rattle.gen_core.specs.Places.{EachPlace}
-use Rattle.gen_core.specs.Events.{is_even, exits_of, other_exits}
-use Rattle.gen_core.specs.Sound.{Course, is_flipped, is_passed, is_next, holds_role, is_in, is_active_in, active_in, IsWithinLimits, IsPlaced, StageFits, IsHolder, IsNoHolder, IsHolderOrIdle, IsComing, generation_of, IsInStep, IsOfStep, IsActiveInStep, IsCounted, FitsFields, IsInCourse}
+use Rattle.gen_core.specs.Sound.{Course, holds_role, is_active_in, active_in, IsPlaced, StageFits, IsHolder, IsNoHolder, IsHolderOrIdle, IsComing, IsInStep, IsActiveInStep, IsCounted, FitsFields, IsInCourse}
 use Rattle.gen_core.proofs.Places.{EachPlace-set, EachPlace-set_else, EachPlace-then, count_by-set_same}
 
 -- a caller whose activity alone changes
@@ -94,21 +93,21 @@ module _ (course : Course) (s : Generations) (h : IsInCourse course s) (c : ℕ)
         (record { proc = (h.placed c x at_c).proc; waits = (h.placed c x at_c).waits });
     one_role_holder = EachPlace-set (IsHolderOrIdle course) s.callers c (with_active x active) h.one_role_holder
         (let old : IsNoHolder x = MatchBool-at_false (IsHolder course x) (IsNoHolder x) no_holder (h.one_role_holder c x at_c) in
-         rw no_holder (record { grace = old.grace; coming = old.coming }));
+        rw no_holder (record { grace = old.grace; coming = old.coming }));
     known_ahead = EachPlace-set (IsComing course) s.procs x.proc l h.known_ahead coming;
     generations_in_step = EachPlace-set (IsInStep course) s.procs x.proc l h.generations_in_step in_step;
     activities_in_step = EachPlace-set (IsActiveInStep course) s.callers c (with_active x active) h.activities_in_step active_in_step;
     counted_generations = EachPlace-set_else (IsCounted course s.callers) (IsCounted course (set s.callers c (with_active x active)))
         s.procs x.proc l h.counted_generations counted
         (λ q k other at_q old. IsCounted-same course s.callers (set s.callers c (with_active x active)) q k
-          (λ generation. active_in_else s.callers c x active q generation at_c other) old);
+        (λ generation. active_in_else s.callers c x active q generation at_c other) old);
     no_count_passes_its_field = EachPlace-set FitsFields s.procs x.proc l h.no_count_passes_its_field fits;
   }
 
   -- one caller, in no activity, changes its grace, and the course with it
   pub keeps_grace : (base : ℕ) (holder role : Option ℕ) (grace : GraceAt) (coming : Option ℕ) (waits : List ℕ) (procs : List GenProc)
       → let next : Course = steered course base holder (with_grace x grace coming waits) in
-        role ≡ holder → length procs ≡ course.procs → length waits ≡ course.procs → StageFits next grace → x.active ≡ None
+      role ≡ holder → length procs ≡ course.procs → length waits ≡ course.procs → StageFits next grace → x.active ≡ None
       → IsHolderOrIdle next c (with_grace x grace coming waits)
       → ((i : ℕ) → i ≢ c → (holds_role course.holder i ≡ false) × (holds_role holder i ≡ false))
       → EachPlace (IsComing next) procs → EachPlace (IsInStep next) procs
@@ -134,6 +133,6 @@ module _ (course : Course) (s : Generations) (h : IsInCourse course s) (c : ℕ)
             (λ generation active. absurd (cc));
         counted_generations = EachPlace-then (IsCounted next s.callers) (IsCounted next (set s.callers c y)) procs counted
             (λ q k at_q old. IsCounted-same next s.callers (set s.callers c y) q k
-              (λ generation. active_in_grace s.callers c x grace coming waits q generation at_c) old);
+            (λ generation. active_in_grace s.callers c x grace coming waits q generation at_c) old);
         no_count_passes_its_field = fits;
       }

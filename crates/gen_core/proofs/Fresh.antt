@@ -1,13 +1,9 @@
 -- A new state meets every fact.
-use Rattle.std.proofs.Common.{◌≡◌, ℕ, zero, suc, ◌+◌, ◌<◌, ◌∙◌, Bool, true, false, List, [], ◌∷◌, Option, Some, None, length, map, replicate, sym, refl, ap, arith}
-use Rattle.std.specs.List.{slice_get}
+use Rattle.std.proofs.Common.{◌≡◌, ℕ, false, List, [], None, length, map, refl, arith}
 use Rattle.std.proofs.lemmas.List.{length-map, length-replicate}
-use Rattle.std.proofs.lemmas.Option.{same_Some}
 use Rattle.std.proofs.lemmas.Bool.{and_right}
 use Rattle.gen_core.specs.declared.state.GraceAt.TheVariants.{Idle}
-use Rattle.gen_core.specs.declared.state.GenProc.{GenProc}
-use Rattle.gen_core.specs.Plain.{Caller, Generations}
-use Rattle.gen_core.specs.Places.{EachPlace}
+use Rattle.gen_core.specs.Plain.{Generations}
 use Rattle.gen_core.specs.State.{fresh_proc, fresh_caller, fresh, IsPlan}
 use Rattle.gen_core.specs.Sound.{Course, is_active_in, active_in, IsPlaced, IsHolderOrIdle, IsComing, IsInStep, IsActiveInStep, IsCounted, FitsFields, IsInCourse, IsSound}
 use Rattle.gen_core.proofs.Places.{EachPlace-map, EachPlace-replicate, count_by_none}
@@ -20,7 +16,7 @@ fresh_course procs callers = record { procs = procs; callers = length callers; b
 nobody_active : (procs : ℕ) (callers : List ℕ) (p generation : ℕ) → active_in (map (fresh_caller procs) callers) p generation ≡ 0
 nobody_active procs callers p generation =
     count_by_none (is_active_in p generation) (map (fresh_caller procs) callers)
-      (EachPlace-map (λ i x. is_active_in p generation x ≡ false) (fresh_caller procs) callers (λ i q at_i. and_right _ false refl))
+    (EachPlace-map (λ i x. is_active_in p generation x ≡ false) (fresh_caller procs) callers (λ i q at_i. and_right _ false refl))
 
 pub fresh_in_course : (procs : ℕ) (callers : List ℕ) → IsPlan procs callers → IsInCourse (fresh_course procs callers) (fresh procs callers)
 fresh_in_course procs callers plan =

@@ -1,16 +1,16 @@
 -- What the code of an event needs: that places are there, and that numbers fit.
-use Rattle.std.proofs.Common.{◌≡◌, ℕ, ◌+◌, ◌^◌, ◌<◌, ◌≤◌, ◌∙◌, Bool, true, false, not, Option, Some, None, length, sym, refl, eq-eqb, arith}
+use Rattle.std.proofs.Common.{◌≡◌, ℕ, ◌+◌, ◌^◌, ◌<◌, ◌≤◌, ◌∙◌, Bool, true, false, not, Some, length, sym, refl, eq-eqb, arith}
 use Rattle.std.specs.Bool.{OnTrue, OnFalse}
 use Rattle.std.proofs.lemmas.Bool.{le-ltb}
 use Rattle.gen_core.specs.declared.event.GenEvent.{GenEvent}
-use Rattle.gen_core.specs.declared.state.GraceAt.{GraceAt}
-use Rattle.gen_core.specs.declared.state.GraceAt.TheVariants.{Idle, Flipping, Looking, Quiet}
-use Rattle.gen_core.specs.Plain.{Caller, Generations}
+use Rattle.gen_core.specs.declared.state.GraceAt.TheVariants.{Flipping, Looking}
+use Rattle.gen_core.specs.Plain.{Generations}
 use Rattle.gen_core.specs.State.{proc_at, caller_at}
-use Rattle.gen_core.specs.Events.{is_even, is_possible, effect, caller_of, turn_of}
-use Rattle.gen_core.specs.Sound.{Course, is_flipped, IsHolder, IsInCourse, IsSound}
+use Rattle.gen_core.specs.Events.{is_even, is_possible, effect, caller_of}
+use Rattle.gen_core.specs.Sound.{IsSound}
 use Rattle.gen_core.proofs.Stages.{exits_fit}
 use Rattle.gen_core.proofs.Frames.{holder_from_grace}
+use Rattle.gen_core.proofs.Alone.{ChangesOnly, ChangesOnly-refl, proc_of, only_caller}
 use Rattle.gen_core.proofs.Courses.{at_caller, proc_there, place_there, at_turn, course_after, keeps_effect}
 
 module _ (s : Generations) (c : ℕ) (sound : IsSound s) (there : c < length s.callers) where
@@ -48,10 +48,11 @@ module _ (s : Generations) (c : ℕ) (sound : IsSound s) (there : c < length s.c
         let at_p = rw grace at (at_turn sound.course s sound.in_course c there (λ idle. absurd (cc))) in
         let holder = (holder_from_grace sound.course s sound.in_course c (caller_at s c) (at_caller sound.course s sound.in_course c there) (λ idle. absurd (cc))).1 in
         rw (sound.in_course.known_ahead p (proc_at s p) at_p (rw at_stage (eq-eqb p p refl)) exits (sym holder.coming ∙ known))
-          (exits_fit p (proc_at s p) (not (is_even (proc_at s p).generation)) (sound.in_course.no_count_passes_its_field p (proc_at s p) at_p))
+        (exits_fit p (proc_at s p) (not (is_even (proc_at s p).generation)) (sound.in_course.no_count_passes_its_field p (proc_at s p) at_p))
 
 -- what the code of a flip and of a look cites
 pub ruleset flipping = (flipping_there, few_procs, length-waits, next_fits, coming_fits)
+
 pub ruleset looking = (looking_there, few_procs, length-waits)
 
 -- an event that answered b keeps every fact
@@ -60,3 +61,9 @@ pub IsSound-after : (s t : Generations) (event : GenEvent) (b : Bool) → b ≡ 
 IsSound-after s t event true possible moved stays sound there =
     rw moved (record { course = course_after sound.course s event; in_course = keeps_effect sound.course s event sound.in_course there (sym possible) })
 IsSound-after s t event false possible moved stays sound there = rw stays sound
+
+-- nor does it change more than its caller and one processor
+pub ChangesOnly-after : (s t : Generations) (event : GenEvent) (b : Bool) → OnTrue b (t ≡ effect s event) → OnFalse b (t ≡ s)
+    → caller_of event < length s.callers → ChangesOnly s t (caller_of event) (proc_of s event)
+ChangesOnly-after s t event true moved stays there = rw moved (only_caller s event there)
+ChangesOnly-after s t event false moved stays there = rw stays (ChangesOnly-refl s (caller_of event) (proc_of s event))

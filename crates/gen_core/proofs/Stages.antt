@@ -1,13 +1,12 @@
 -- Parities, exits by parity, and which processors a grace has flipped and passed.
-use Rattle.std.proofs.Common.{◌≡◌, ℕ, ◌+◌, ◌-◌, ◌%◌, ◌^◌, ◌<◌, ◌≢◌, ◌⊎◌, Bool, true, false, not, cond, ltb, eqb, Option, Some, None, sym, refl, ap, subst, inl, inr, arith}
+use Rattle.std.proofs.Common.{◌≡◌, ℕ, ◌+◌, ◌^◌, ◌<◌, ◌≢◌, Bool, true, false, not, cond, ltb, Option, Some, None, refl, arith}
 use Rattle.std.specs.Option.{is_some, is_none}
-use Rattle.std.proofs.lemmas.Bool.{cases_Bool}
 use Rattle.std.proofs.lemmas.Bool.Decides.{nat_tests}
 use Rattle.gen_core.specs.declared.state.GenProc.{GenProc}
 use Rattle.gen_core.specs.declared.state.GraceAt.{GraceAt}
 use Rattle.gen_core.specs.declared.state.GraceAt.TheVariants.{Idle, Flipping, Looking, Quiet}
-use Rattle.gen_core.specs.Events.{is_even, exits_of, other_exits, exit_counted, is_idle, is_flipping, is_looking, is_quiet, place_of, after_flip, after_look}
-use Rattle.gen_core.specs.Sound.{is_flipped, is_passed, IsOfStep, FitsFields}
+use Rattle.gen_core.specs.Events.{is_even, exits_of, exit_counted, is_idle, is_flipping, is_looking, is_quiet, place_of, after_flip, after_look}
+use Rattle.gen_core.specs.Sound.{is_flipped, is_passed, FitsFields}
 
 pub is_even-next : (n : ℕ) → is_even (n + 1) ≡ not (is_even n)
 is_even-next n = grind (arith, nat_tests)

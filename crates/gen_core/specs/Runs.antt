@@ -72,7 +72,7 @@ pub record HasOneHolder (s : Generations) : Type 0 where
 -- and of the former one on each that the holder has flipped and not passed
 pub record CountsAgree (s : Generations) : Type 0 where
   pub present : (p : ℕ) → p < length s.procs
-    → (proc_at s p).entered ≡ exits_of (proc_at s p) (is_even (proc_at s p).generation) + active_in s.callers p (proc_at s p).generation
+      → (proc_at s p).entered ≡ exits_of (proc_at s p) (is_even (proc_at s p).generation) + active_in s.callers p (proc_at s p).generation
   pub former : (p holder generation : ℕ) → p < length s.procs → s.role ≡ Some holder → IsTrue (holder_flipped s holder p)
-    → generation + 1 ≡ (proc_at s p).generation
-    → slice_index (caller_at s holder).waits p ≡ exits_of (proc_at s p) (is_even generation) + active_in s.callers p generation
+      → generation + 1 ≡ (proc_at s p).generation
+      → slice_index (caller_at s holder).waits p ≡ exits_of (proc_at s p) (is_even generation) + active_in s.callers p generation

@@ -1,5 +1,5 @@
 -- What stays true in every state that events reach from a new one.
-use Rattle.std.specs.Prelude.{ℕ, ◌≡◌, ◌+◌, ◌-◌, ◌^◌, ◌<◌, ◌≤◌, ◌⊎◌, Bool, true, false, ◌&&◌, ◌==◌, nat_lt, List, Option, Some, None, IsSomeAnd, length, slice_index, count_by}
+use Rattle.std.specs.Prelude.{ℕ, ◌≡◌, ◌+◌, ◌^◌, ◌<◌, ◌≤◌, ◌⊎◌, Bool, true, false, ◌&&◌, ◌==◌, nat_lt, List, Option, Some, None, IsSomeAnd, length, slice_index, count_by}
 use Rattle.std.specs.Bool.{MatchBool}
 use Rattle.gen_core.specs.declared.state.GenProc.{GenProc}
 use Rattle.gen_core.specs.declared.state.GraceAt.{GraceAt}
@@ -116,7 +116,7 @@ IsActiveInStep course c x =
 pub record IsCounted (course : Course) (callers : List Caller) (p : ℕ) (k : GenProc) : Type 0 where
   pub present : k.entered ≡ exits_of k (is_even k.generation) + active_in callers p k.generation
   pub former : is_flipped course.stage p ≡ true → is_passed course.stage p ≡ false
-    → slice_index course.waits p ≡ exits_of k (is_even course.base) + active_in callers p course.base
+      → slice_index course.waits p ≡ exits_of k (is_even course.base) + active_in callers p course.base
   pub noted : is_flipped course.stage p ≡ true → is_passed course.stage p ≡ false → slice_index course.waits p < 2 ^ 32
 
 pub record FitsFields (p : ℕ) (k : GenProc) : Type 0 where

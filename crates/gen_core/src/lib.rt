@@ -2,9 +2,14 @@
 #![tactic(auto)]
 
 mod event;
+mod laws;
 mod machine;
 mod state;
 
 pub use event::GenEvent;
+pub use laws::{counts_agree, one_holder, quiet_means_ended, stays_sound};
 pub use machine::apply;
 pub use state::{GenCaller, GenProc, GenState, GraceAt};
+
+#[cfg(test)]
+mod tests;

@@ -22,7 +22,13 @@ fn enter(state: &mut GenState, c: usize) -> bool
         return false;
     }
     state.set_active(c, Some(proc.generation));
-    state.set_processor(p, GenProc { entered: proc.entered + 1, ..proc });
+    state.set_processor(
+        p,
+        GenProc {
+            entered: proc.entered + 1,
+            ..proc
+        },
+    );
     true
 }
 
@@ -104,7 +110,11 @@ fn flip(state: &mut GenState, c: usize) -> bool
     let proc = state.processor(p as usize);
     let grace = GraceAt::after_flip(p, state.processors());
     state.set_flipped(c, p as usize, proc.entered, grace);
-    let flipped = GenProc { generation: proc.generation + 1, entered: coming as u32, ..proc };
+    let flipped = GenProc {
+        generation: proc.generation + 1,
+        entered: coming as u32,
+        ..proc
+    };
     state.set_processor(p as usize, flipped);
     true
 }
@@ -170,6 +180,8 @@ pub fn apply(state: &mut GenState, event: &GenEvent) -> bool
     ensures effect { OnTrue result (state.new ≡ effect state.old event.now) }
     ensures stays { OnFalse result (state.new ≡ state.old) }
     ensures sound { IsSound state.new }
+    ensures callers { length state.new.callers ≡ length state.old.callers }
+    ensures procs { length state.new.procs ≡ length state.old.procs }
 {
     step(state, event)
 }

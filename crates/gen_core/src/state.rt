@@ -69,7 +69,11 @@ impl GenProc {
     pub(crate) fn exits(&self, even: bool) -> u64
         ensures { result ≡ exits_of self.now even }
     {
-        if even { self.exits_even } else { self.exits_odd }
+        if even {
+            self.exits_even
+        } else {
+            self.exits_odd
+        }
     }
 
     /// The exits of the parity that the processor's generation has not.
@@ -84,9 +88,15 @@ impl GenProc {
         ensures { result ≡ exit_counted self.now even }
     {
         if even {
-            GenProc { exits_even: self.exits_even + 1, ..*self }
+            GenProc {
+                exits_even: self.exits_even + 1,
+                ..*self
+            }
         } else {
-            GenProc { exits_odd: self.exits_odd + 1, ..*self }
+            GenProc {
+                exits_odd: self.exits_odd + 1,
+                ..*self
+            }
         }
     }
 }
@@ -194,9 +204,7 @@ impl GenState {
 
     pub(crate) fn set_active(&mut self, c: usize, active: Option<u32>)
         requires { c < length self.old.callers }
-        ensures {
-            self.new ≡ put_caller self.old c (record (caller_at self.old c) { active = active })
-        }
+        ensures { self.new ≡ put_caller self.old c (record (caller_at self.old c) { active = active }) }
     {
         let caller = &mut self.callers[c];
         caller.active = active;
@@ -204,9 +212,7 @@ impl GenState {
 
     pub(crate) fn set_grace(&mut self, c: usize, grace: GraceAt)
         requires { c < length self.old.callers }
-        ensures {
-            self.new ≡ put_caller self.old c (record (caller_at self.old c) { grace = grace })
-        }
+        ensures { self.new ≡ put_caller self.old c (record (caller_at self.old c) { grace = grace }) }
     {
         let caller = &mut self.callers[c];
         caller.grace = grace;
@@ -214,9 +220,7 @@ impl GenState {
 
     pub(crate) fn set_coming(&mut self, c: usize, coming: u64)
         requires { c < length self.old.callers }
-        ensures {
-            self.new ≡ put_caller self.old c (record (caller_at self.old c) { coming = Some coming })
-        }
+        ensures { self.new ≡ put_caller self.old c (record (caller_at self.old c) { coming = Some coming }) }
     {
         let caller = &mut self.callers[c];
         caller.coming = Some(coming);
@@ -226,13 +230,11 @@ impl GenState {
     pub(crate) fn set_flipped(&mut self, c: usize, p: usize, entered: u32, grace: GraceAt)
         requires there { c < length self.old.callers }
         requires noted { p < length (caller_at self.old c).waits }
-        ensures {
-            self.new ≡ put_caller self.old c (record (caller_at self.old c) {
-                waits = slice_set (caller_at self.old c).waits p entered;
-                coming = None;
-                grace = grace;
-            })
-        }
+        ensures { self.new ≡ put_caller self.old c (record (caller_at self.old c) {
+          waits = slice_set (caller_at self.old c).waits p entered;
+          coming = None;
+          grace = grace;
+        }) }
     {
         let caller = &mut self.callers[c];
         caller.waits[p] = entered;

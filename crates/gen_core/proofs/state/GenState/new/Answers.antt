@@ -1,4 +1,4 @@
-use Rattle.std.proofs.Common.{arith, rules}
+use Rattle.std.proofs.Common.{arith}
 use Rattle.std.proofs.lemmas.Grind.{common_steps}
 use Rattle.gen_core.proofs.Fresh.{IsSound-is_fresh}
 use Rattle.gen_core.proofs.state.GenState.new.Goals as goal

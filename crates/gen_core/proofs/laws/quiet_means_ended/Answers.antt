@@ -1,0 +1,6 @@
+use Rattle.gen_core.proofs.Ended.{reached_sound, quiet_means_ended}
+use Rattle.gen_core.proofs.laws.quiet_means_ended.Goals as goal
+
+pub returns : goal.returns
+returns c = λ s events holder caller reached in_range there there' active grace.
+    quiet_means_ended s events holder caller (reached_sound s reached) in_range there there' active grace
