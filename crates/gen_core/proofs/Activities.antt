@@ -16,19 +16,23 @@ use Rattle.gen_core.proofs.Frames.{with_active, no_holder_active, no_holder_idle
 
 -- the counts of a caller's own processor, as it enters and as it leaves
 module _ (callers : List Caller) (c : ℕ) (x : Caller) (at_c : slice_get callers c ≡ Some x) (own : ℕ) where
-  pub active_in_more : x.active ≡ None → active_in (set callers c (with_active x (Some own))) x.proc own ≡ active_in callers x.proc own + 1
+  pub active_in_more : x.active ≡ None
+      → active_in (set callers c (with_active x (Some own))) x.proc own ≡ active_in callers x.proc own + 1
   active_in_more inactive =
       count_by-set_more (is_active_in x.proc own) callers c x (with_active x (Some own)) at_c (rw inactive (grind (arith, nat_tests))) (grind (arith, nat_tests))
 
-  pub active_in_more_else : (g : ℕ) → x.active ≡ None → g ≢ own → active_in (set callers c (with_active x (Some own))) x.proc g ≡ active_in callers x.proc g
+  pub active_in_more_else : (g : ℕ) → x.active ≡ None → g ≢ own
+      → active_in (set callers c (with_active x (Some own))) x.proc g ≡ active_in callers x.proc g
   active_in_more_else g inactive other =
       count_by-set_same (is_active_in x.proc g) callers c x (with_active x (Some own)) at_c (rw inactive (grind (arith, nat_tests)))
 
-  pub active_in_less : x.active ≡ Some own → active_in (set callers c (with_active x None)) x.proc own + 1 ≡ active_in callers x.proc own
+  pub active_in_less : x.active ≡ Some own
+      → active_in (set callers c (with_active x None)) x.proc own + 1 ≡ active_in callers x.proc own
   active_in_less active =
       count_by-set_less (is_active_in x.proc own) callers c x (with_active x None) at_c (rw active (grind (arith, nat_tests))) (grind (arith, nat_tests))
 
-  pub active_in_less_else : (g : ℕ) → x.active ≡ Some own → g ≢ own → active_in (set callers c (with_active x None)) x.proc g ≡ active_in callers x.proc g
+  pub active_in_less_else : (g : ℕ) → x.active ≡ Some own → g ≢ own
+      → active_in (set callers c (with_active x None)) x.proc g ≡ active_in callers x.proc g
   active_in_less_else g active other =
       count_by-set_same (is_active_in x.proc g) callers c x (with_active x None) at_c (rw active (grind (arith, nat_tests)))
 
@@ -37,13 +41,15 @@ module _ (callers : List Caller) (c : ℕ) (x : Caller) (at_c : slice_get caller
   active_in_some active = count_by_some (is_active_in x.proc own) callers c x at_c (rw active (grind (arith, nat_tests)))
 
 -- an activity in the present generation is in step
-pub IsOfStep_present : (base generation : ℕ) (flipped passed : Bool) → generation ≡ generation_of base flipped → IsOfStep base flipped passed generation
+pub IsOfStep_present : (base generation : ℕ) (flipped passed : Bool) → generation ≡ generation_of base flipped
+    → IsOfStep base flipped passed generation
 IsOfStep_present base generation false passed e = e
 IsOfStep_present base generation true false e = inr e
 IsOfStep_present base generation true true e = e
 
 -- an activity is of the present generation, or of the former one of a processor that was flipped and not passed
-pub present_or_former : (base present own : ℕ) (flipped passed : Bool) → present ≡ generation_of base flipped → IsOfStep base flipped passed own
+pub present_or_former : (base present own : ℕ) (flipped passed : Bool) → present ≡ generation_of base flipped
+    → IsOfStep base flipped passed own
     → (own ≡ present) ⊎ ((own ≡ base) × (present ≡ base + 1) × (flipped ≡ true) × (passed ≡ false))
 present_or_former base present own false passed e step = inl (step ∙ sym e)
 present_or_former base present own true false e step = ⊎_elim (λ former. inr (former, e, refl, refl)) (λ now. inl (now ∙ sym e)) step
@@ -104,7 +110,8 @@ module _ (course : Course) (s : Generations) (h : IsInCourse course s) (c : ℕ)
         let noted = old.noted former.2 former.3 in omega (arith, some, counted, noted))
         own_step
 
-    pub keeps_left : (l : GenProc) → CountsExit (is_even own) k l → IsInCourse course (put_proc (put_caller s c (caller_left x)) x.proc l)
+    pub keeps_left : (l : GenProc) → CountsExit (is_even own) k l
+        → IsInCourse course (put_proc (put_caller s c (caller_left x)) x.proc l)
     keeps_left l exit =
         let in_step = h.generations_in_step x.proc k at_p in
         let old = h.counted_generations x.proc k at_p in

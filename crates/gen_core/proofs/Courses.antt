@@ -36,7 +36,8 @@ course_after course s (Look c) = course_looked course (caller_at s c) (length s.
 course_after course s (GiveRole c) = steered course (course.base + 1) None (role_given (caller_at s c))
 
 -- the processor at which a grace is, is there
-stage_place : (course : Course) (stage : GraceAt) → StageFits course stage → 0 < course.procs → place_of stage < course.procs
+stage_place : (course : Course) (stage : GraceAt) → StageFits course stage → 0 < course.procs
+    → place_of stage < course.procs
 stage_place course Idle fits some = some
 stage_place course (Flipping p) fits some = fits.1
 stage_place course (Looking p) fits some = fits.1
@@ -58,7 +59,8 @@ module _ (course : Course) (s : Generations) (h : IsInCourse course s) (c : ℕ)
       let holder = (holder_from_grace course s h c (caller_at s c) at_caller busy).1 in
       rw (h.many_procs, holder.grace) (stage_place course course.stage h.stage h.limits.some_procs)
 
-  pub at_turn : ((caller_at s c).grace ≡ Idle → ⊥) → slice_get s.procs (place_of (caller_at s c).grace) ≡ Some (turn_of s c)
+  pub at_turn : ((caller_at s c).grace ≡ Idle → ⊥)
+      → slice_get s.procs (place_of (caller_at s c).grace) ≡ Some (turn_of s c)
   at_turn busy = slice_get-get_or s.procs (place_of (caller_at s c).grace) fresh_proc (place_there busy)
 
   keeps_leave : (active : Option ℕ) → (caller_at s c).active ≡ active → can_leave active (home_of s c) ≡ true
@@ -68,14 +70,16 @@ module _ (course : Course) (s : Generations) (h : IsInCourse course s) (c : ℕ)
       keeps_left course s h c (caller_at s c) at_caller (home_of s c) at_home own e (exit_counted (home_of s c) (is_even own))
       (exit_is_counted (home_of s c) (is_even own))
 
-  keeps_take : (role : Option ℕ) → s.role ≡ role → is_possible s (TakeRole c) ≡ true → IsInCourse (course_taken course c (caller_at s c) role) (taken s c role)
+  keeps_take : (role : Option ℕ) → s.role ≡ role → is_possible s (TakeRole c) ≡ true
+      → IsInCourse (course_taken course c (caller_at s c) role) (taken s c role)
   keeps_take None free possible =
       let parts = and_parts _ _ possible in
       let alone = and_parts (is_idle (caller_at s c).grace) _ parts.0 in
       keeps_taken course s h c (caller_at s c) at_caller free (from_is_idle (caller_at s c).grace alone.0) (from_is_none (caller_at s c).active alone.1) parts.1
   keeps_take (Some holder) held possible = h
 
-  keeps_look : (drained : Bool) → is_drained (caller_at s c) (turn_of s c) ≡ drained → is_looking (caller_at s c).grace ≡ true
+  keeps_look : (drained : Bool) → is_drained (caller_at s c) (turn_of s c) ≡ drained
+      → is_looking (caller_at s c).grace ≡ true
       → IsInCourse (course_looked course (caller_at s c) (length s.procs) drained) (cond drained (put_caller s c (caller_passed (caller_at s c) (length s.procs))) s)
   keeps_look true drained looking =
       let grace = from_is_looking (caller_at s c).grace looking in
@@ -84,7 +88,8 @@ module _ (course : Course) (s : Generations) (h : IsInCourse course s) (c : ℕ)
   keeps_look false drained looking = h
 
 -- a possible event keeps every fact
-pub keeps_effect : (course : Course) (s : Generations) (event : GenEvent) → IsInCourse course s → caller_of event < length s.callers → is_possible s event ≡ true
+pub keeps_effect : (course : Course) (s : Generations) (event : GenEvent) → IsInCourse course s
+    → caller_of event < length s.callers → is_possible s event ≡ true
     → IsInCourse (course_after course s event) (effect s event)
 keeps_effect course s (Enter c) h there possible =
     let x : Caller = caller_at s c in

@@ -1,107 +1,36 @@
--- What is true after every list of events: the facts are kept, the counts agree, and quiet means ended.
+-- A caller that was active when the role was taken has left before that grace is quiet.
 use Rattle.std.proofs.Common.{◌≡◌, ℕ, ◌+◌, ◌<◌, ◌≢◌, ◌⊎◌, ◌∙◌, Bool, true, false, cond, List, [], ◌∷◌, Option, Some, None, length, length-set, sym, refl, ap, subst, inl, inr, ⊎_elim, arith}
-use Rattle.std.specs.List.{slice_get}
-use Rattle.std.proofs.lemmas.List.{get_or-set_same, get_or-set_other, length-map}
-use Rattle.std.proofs.lemmas.Option.{same_Some, slice_get-get_or, get_or_from_slice_get}
-use Rattle.std.proofs.lemmas.Bool.{MatchBool-at_true, and_parts, not-true, cases_eq, eqb-true, eq-eqb}
+use Rattle.std.proofs.lemmas.List.{get_or-set_same, get_or-set_other}
+use Rattle.std.proofs.lemmas.Option.{same_Some, get_or_from_slice_get}
+use Rattle.std.proofs.lemmas.Bool.{and_parts, cases_eq}
 use Rattle.gen_core.specs.declared.event.GenEvent.{GenEvent}
 use Rattle.gen_core.specs.declared.event.GenEvent.TheVariants.{Enter, Leave, TakeRole, LookAhead, Flip, Look, GiveRole}
-use Rattle.gen_core.specs.declared.state.GraceAt.{GraceAt}
-use Rattle.gen_core.specs.declared.state.GraceAt.TheVariants.{Idle, Flipping, Looking, Quiet}
+use Rattle.gen_core.specs.declared.state.GraceAt.TheVariants.{Idle, Quiet}
 use Rattle.gen_core.specs.Plain.{Generations}
-use Rattle.gen_core.specs.State.{proc_at, caller_at, put_caller, fresh}
+use Rattle.gen_core.specs.State.{caller_at, put_caller}
 use Rattle.gen_core.specs.Events.{is_idle, is_drained, caller_passed, looked_ahead, caller_flipped, role_taken, role_given, turn_of, taken, is_possible, effect, caller_of}
-use Rattle.gen_core.specs.Sound.{Course, is_flipped, is_passed, holds_role, StageFits, IsHolder, IsNoHolder, IsInCourse, IsSound}
-use Rattle.gen_core.specs.Runs.{happens, run, AreInRange, IsReached, Occurs, FindsRoleFree, IsActive, IsQuiet, IsQuietGrace, HasLeft, HasOneHolder, CountsAgree}
+use Rattle.gen_core.specs.Sound.{Course, IsInCourse, IsSound}
+use Rattle.gen_core.specs.Runs.{happens, run, AreInRange, Occurs, FindsRoleFree, IsActive, IsQuiet, IsQuietGrace, HasLeft}
 use Rattle.gen_core.proofs.Stages.{from_is_quiet, from_is_none, from_is_some}
 use Rattle.gen_core.proofs.Frames.{holder_from_grace}
 use Rattle.gen_core.proofs.Courses.{course_taken, course_looked, course_after, at_caller, keeps_effect}
 use Rattle.gen_core.proofs.Graces.{idle_stage}
-use Rattle.gen_core.proofs.Fresh.{IsSound-fresh}
 use Rattle.gen_core.proofs.Alone.{only_caller, happens_only}
+use Rattle.gen_core.proofs.Reached.{holds_from, holder_from_role, role_there}
 
--- lists of events
-
-IsSound-happens : (s : Generations) (event : GenEvent) → IsSound s → caller_of event < length s.callers → IsSound (happens s event)
-IsSound-happens s event sound there = by_test (is_possible s event) refl where
-  by_test : (b : Bool) → is_possible s event ≡ b → IsSound (cond b (effect s event) s)
-  by_test true possible = record { course = course_after sound.course s event; in_course = keeps_effect sound.course s event sound.in_course there possible }
-  by_test false possible = sound
-
-pub IsSound-run : (events : List GenEvent) (s : Generations) → IsSound s → AreInRange (length s.callers) events → IsSound (run events s)
-IsSound-run [] s sound in_range = sound
-IsSound-run (event ∷ events) s sound in_range =
-    IsSound-run events (happens s event) (IsSound-happens s event sound in_range.0)
-    (rw (happens_only s event in_range.0).many_callers in_range.1)
-
-pub reached_sound : (s : Generations) → IsReached s → IsSound s
-reached_sound s reached =
-    rw reached.result (IsSound-run reached.events (fresh reached.procs reached.callers) (IsSound-fresh reached.procs reached.callers reached.plan)
-    (rw length-map reached.in_range))
-
--- the facts in plain words
-
-holds_from : (holder : Option ℕ) (c : ℕ) → holds_role holder c ≡ true → holder ≡ Some c
-holds_from None c holds = cc
-holds_from (Some h) c holds = ap (λ n. Some n) (eqb-true h c holds)
-
--- the holder of the role, from the role
-holder_from_role : (course : Course) (s : Generations) (c : ℕ) → IsInCourse course s → s.role ≡ Some c → c < length s.callers → IsHolder course (caller_at s c)
-holder_from_role course s c h held there =
-    let holder : course.holder ≡ Some c = sym h.role ∙ held in
-    let holds : holds_role course.holder c ≡ true = rw holder (eq-eqb c c refl) in
-    MatchBool-at_true (IsHolder course (caller_at s c)) (IsNoHolder (caller_at s c)) holds (h.one_role_holder c (caller_at s c) (at_caller course s h c there))
-
-role_there : (course : Course) (stage : GraceAt) (c : ℕ) → StageFits course stage → course.holder ≡ Some c → (c < course.callers) × (stage ≢ Idle)
-role_there course Idle c fits held = absurd (let none = fits.0 in cc)
-role_there course (Flipping p) c fits held = (rw held at fits.0, (λ e. cc))
-role_there course (Looking p) c fits held = (rw held at fits.0, (λ e. cc))
-role_there course Quiet c fits held = (rw held at fits.0, (λ e. cc))
-
-pub one_holder : (s : Generations) → IsSound s → HasOneHolder s
-one_holder s sound =
-    let course : Course = sound.course in
-    let h = sound.in_course in
-    record {
-      holder = λ c there busy.
-          h.role ∙ holds_from course.holder c (holder_from_grace course s h c (caller_at s c) (at_caller course s h c there) busy).0;
-      under_way = λ c held.
-          let fits = role_there course course.stage c h.stage (sym h.role ∙ held) in
-          let there : c < length s.callers = rw h.many_callers fits.0 in
-          let holder = holder_from_role course s c h held there in
-          ((λ idle. fits.1 (sym holder.grace ∙ idle)), holder.inactive);
-    }
-
-pub counts_agree : (s : Generations) → IsSound s → CountsAgree s
-counts_agree s sound =
-    let course : Course = sound.course in
-    let h = sound.in_course in
-    record {
-      present = λ p there. (h.counted_generations p (proc_at s p) (slice_get-get_or s.procs p _ there)).present;
-      former = λ p holder generation there held seen before.
-          let at_p : slice_get s.procs p ≡ Some (proc_at s p) = slice_get-get_or s.procs p _ there in
-          let fits = role_there course course.stage holder h.stage (sym h.role ∙ held) in
-          let known = holder_from_role course s holder h held (rw h.many_callers fits.0) in
-          let parts = and_parts _ _ seen in
-          let flipped : is_flipped course.stage p ≡ true = rw (← (known.grace)) parts.0 in
-          let passed : is_passed course.stage p ≡ false = rw (← (known.grace)) (not-true (is_passed (caller_at s holder).grace p) parts.1) in
-          let in_step : (proc_at s p).generation ≡ course.base + 1 = rw flipped at (h.generations_in_step p (proc_at s p) at_p) in
-          let former : generation ≡ course.base = omega (arith, before, in_step) in
-          rw (known.waits, former) ((h.counted_generations p (proc_at s p) at_p).former flipped passed);
-    }
-
--- quiet means ended
-
-occurs_here : (event : GenEvent) (events : List GenEvent) (s : Generations) → is_possible s event ≡ true → Occurs event (event ∷ events) s
+occurs_here : (event : GenEvent) (events : List GenEvent) (s : Generations) → is_possible s event ≡ true
+    → Occurs event (event ∷ events) s
 occurs_here event events s possible = record { before = []; after = events; split = refl; possible = possible }
 
-occurs_later : (event first : GenEvent) (events : List GenEvent) (s : Generations) → Occurs event events (happens s first) → Occurs event (first ∷ events) s
+occurs_later : (event first : GenEvent) (events : List GenEvent) (s : Generations)
+    → Occurs event events (happens s first) → Occurs event (first ∷ events) s
 occurs_later event first events s later =
     record { before = first ∷ later.before; after = later.after; split = ap (λ l. first ∷ l) later.split; possible = later.possible }
 
 -- the event's own caller, where it was active, leaves by the event or stays active
 module _ (s : Generations) (generation : ℕ) where
-  own_active : (event : GenEvent) → caller_of event < length s.callers → is_possible s event ≡ true → (caller_at s (caller_of event)).active ≡ Some generation
+  own_active : (event : GenEvent) → caller_of event < length s.callers → is_possible s event ≡ true
+      → (caller_at s (caller_of event)).active ≡ Some generation
       → (event ≡ Leave (caller_of event)) ⊎ ((caller_at (effect s event) (caller_of event)).active ≡ Some generation)
   own_active (Enter c) there possible active =
       let none = from_is_none (caller_at s c).active (and_parts (is_idle (caller_at s c).grace) _ (and_parts _ _ possible).0).1 in absurd (cc)
@@ -112,7 +41,8 @@ module _ (s : Generations) (generation : ℕ) where
   own_active (Flip c) there possible active =
       inr (rw (get_or-set_same s.callers c (caller_flipped (caller_at s c) (turn_of s c) (length s.procs)) _ there) active)
   own_active (Look c) there possible active = inr (by_test (is_drained (caller_at s c) (turn_of s c))) where
-    by_test : (drained : Bool) → (caller_at (cond drained (put_caller s c (caller_passed (caller_at s c) (length s.procs))) s) c).active ≡ Some generation
+    by_test : (drained : Bool)
+        → (caller_at (cond drained (put_caller s c (caller_passed (caller_at s c) (length s.procs))) s) c).active ≡ Some generation
     by_test true = rw (get_or-set_same s.callers c (caller_passed (caller_at s c) (length s.procs)) _ there) active
     by_test false = active
   own_active (GiveRole c) there possible active = inr (rw (get_or-set_same s.callers c (role_given (caller_at s c)) _ there) active)
@@ -129,7 +59,8 @@ module _ (course : Course) (s : Generations) (h : IsInCourse course s) (holder :
   same_grace (LookAhead c) there possible = inr (refl, held)
   same_grace (Flip c) there possible = inr (refl, held)
   same_grace (Look c) there possible = inr (by_test (is_drained (caller_at s c) (turn_of s c))) where
-    by_test : (drained : Bool) → ((course_looked course (caller_at s c) (length s.procs) drained).base ≡ course.base)
+    by_test : (drained : Bool)
+        → ((course_looked course (caller_at s c) (length s.procs) drained).base ≡ course.base)
         × ((course_looked course (caller_at s c) (length s.procs) drained).holder ≡ Some holder)
     by_test true = (refl, held)
     by_test false = (refl, held)
@@ -148,11 +79,13 @@ record IsOlder (holder caller : ℕ) (s : Generations) : Type 0 where
   active : (caller_at s caller).active ≡ Some course.base
 
 -- an event that does not give the role back ends the caller's activity, or leaves it older
-older_or_left : (holder caller : ℕ) (s : Generations) (event : GenEvent) → IsOlder holder caller s → caller_of event < length s.callers
+older_or_left : (holder caller : ℕ) (s : Generations) (event : GenEvent) → IsOlder holder caller s
+    → caller_of event < length s.callers
     → (is_possible s event ≡ true → event ≢ GiveRole holder)
     → ((event ≡ Leave caller) × (is_possible s event ≡ true)) ⊎ IsOlder holder caller (happens s event)
 older_or_left holder caller s event older there keeps = by_test (is_possible s event) refl where
-  stays : is_possible s event ≡ true → (caller_at (effect s event) caller).active ≡ Some older.course.base → IsOlder holder caller (effect s event)
+  stays : is_possible s event ≡ true → (caller_at (effect s event) caller).active ≡ Some older.course.base
+      → IsOlder holder caller (effect s event)
   stays possible active =
       let next = ⊎_elim (λ given. absurd (keeps possible given)) (λ same. same)
       (same_grace older.course s older.in_course holder older.held event there possible) in
@@ -164,7 +97,8 @@ older_or_left holder caller s event older there keeps = by_test (is_possible s e
         active = rw next.0 active;
       }
 
-  by_test : (b : Bool) → is_possible s event ≡ b → ((event ≡ Leave caller) × (b ≡ true)) ⊎ IsOlder holder caller (cond b (effect s event) s)
+  by_test : (b : Bool) → is_possible s event ≡ b
+      → ((event ≡ Leave caller) × (b ≡ true)) ⊎ IsOlder holder caller (cond b (effect s event) s)
   by_test false possible = inr older
   by_test true possible =
       ⊎_elim
@@ -192,7 +126,8 @@ none_older holder caller s older quiet =
     rw stage at (h.activities_in_step caller (caller_at s caller) (at_caller course s h caller older.there) course.base older.active) in
     omega arith
 
-ended : (holder caller : ℕ) (events : List GenEvent) (s : Generations) → IsOlder holder caller s → AreInRange (length s.callers) events
+ended : (holder caller : ℕ) (events : List GenEvent) (s : Generations) → IsOlder holder caller s
+    → AreInRange (length s.callers) events
     → ¬ Occurs (GiveRole holder) events s → IsQuiet (run events s) holder → Occurs (Leave caller) events s
 ended holder caller [] s older in_range keeps quiet = absurd (none_older holder caller s older quiet)
 ended holder caller (event ∷ events) s older in_range keeps quiet =
@@ -207,7 +142,8 @@ ended holder caller (event ∷ events) s older in_range keeps quiet =
     (λ possible e. keeps (subst (λ ev. Occurs ev (event ∷ events) s) e (occurs_here event events s possible))))
 
 -- as the role is taken, each caller that is active is older
-taken_older : (s : Generations) (holder caller : ℕ) → IsSound s → FindsRoleFree s holder → holder < length s.callers → caller < length s.callers
+taken_older : (s : Generations) (holder caller : ℕ) → IsSound s → FindsRoleFree s holder
+    → holder < length s.callers → caller < length s.callers
     → IsActive s caller → IsOlder holder caller (happens s (TakeRole holder))
 taken_older s holder caller sound takes there there' active =
     by_test (is_possible s (TakeRole holder)) s.role takes.possible takes.free
@@ -226,7 +162,8 @@ taken_older s holder caller sound takes there there' active =
           let idle : sound.course.stage ≡ Idle = idle_stage sound.course sound.course.stage sound.in_course.stage (sym sound.in_course.role ∙ takes.free) in
           rw idle at (sound.in_course.activities_in_step caller (caller_at s caller) (at_caller sound.course s sound.in_course caller there') own.0 own.1)
 
-      by_test : (b : Bool) (role : Option ℕ) → b ≡ true → role ≡ None → IsInCourse (course_taken sound.course holder (caller_at s holder) role) (taken s holder role)
+      by_test : (b : Bool) (role : Option ℕ) → b ≡ true → role ≡ None
+          → IsInCourse (course_taken sound.course holder (caller_at s holder) role) (taken s holder role)
           → IsOlder holder caller (cond b (taken s holder role) s)
       by_test false role possible free kept = cc
       by_test true (Some other) possible free kept = cc
@@ -239,8 +176,10 @@ taken_older s holder caller sound takes there there' active =
       }
 
 -- where the holder of the role is quiet, each caller that was active when it took the role has left
-pub quiet_means_ended : (s : Generations) (events : List GenEvent) (holder caller : ℕ) → IsSound s → AreInRange (length s.callers) events
-    → holder < length s.callers → caller < length s.callers → IsActive s caller → IsQuietGrace s events holder → HasLeft s events holder caller
+pub quiet_means_ended : (s : Generations) (events : List GenEvent) (holder caller : ℕ) → IsSound s
+    → AreInRange (length s.callers) events
+    → holder < length s.callers → caller < length s.callers → IsActive s caller → IsQuietGrace s events holder
+    → HasLeft s events holder caller
 quiet_means_ended s events holder caller sound in_range there there' active grace =
     ended holder caller events (happens s (TakeRole holder)) (taken_older s holder caller sound grace.takes there there' active)
     (rw (happens_only s (TakeRole holder) there).many_callers in_range) grace.keeps grace.quiet

@@ -24,7 +24,8 @@ abbrev pub steered : Course → ℕ → Option ℕ → Caller → Course
 steered course base holder y = record course { base = base; holder = holder; stage = y.grace; waits = y.waits; coming = y.coming }
 
 -- counts of other processors do not see a caller that moves on its own
-pub active_in_else : (callers : List Caller) (c : ℕ) (x : Caller) (active : Option ℕ) (q generation : ℕ) → slice_get callers c ≡ Some x → q ≢ x.proc
+pub active_in_else : (callers : List Caller) (c : ℕ) (x : Caller) (active : Option ℕ) (q generation : ℕ)
+    → slice_get callers c ≡ Some x → q ≢ x.proc
     → active_in (set callers c (with_active x active)) q generation ≡ active_in callers q generation
 active_in_else callers c x active q generation e other =
     count_by-set_same (is_active_in q generation) callers c x (with_active x active) e (grind (arith, nat_tests))
@@ -37,7 +38,8 @@ active_in_grace callers c x grace coming waits q generation e =
 
 -- a processor stays counted where the counts of active callers do
 pub IsCounted-same : (course : Course) (callers callers' : List Caller) (q : ℕ) (k : GenProc)
-    → ((generation : ℕ) → active_in callers' q generation ≡ active_in callers q generation) → IsCounted course callers q k → IsCounted course callers' q k
+    → ((generation : ℕ) → active_in callers' q generation ≡ active_in callers q generation)
+    → IsCounted course callers q k → IsCounted course callers' q k
 IsCounted-same course callers callers' q k same counted = record {
   present = rw (same k.generation) counted.present;
   former = λ flipped passed. rw (same course.base) (counted.former flipped passed);
@@ -80,7 +82,8 @@ module _ (course : Course) (s : Generations) (h : IsInCourse course s) (c : ℕ)
 
   -- one caller changes its activity, and its processor with it
   pub keeps_activity : (active : Option ℕ) (l : GenProc) → holds_role course.holder c ≡ false
-      → IsComing course x.proc l → IsInStep course x.proc l → FitsFields x.proc l → IsActiveInStep course c (with_active x active)
+      → IsComing course x.proc l → IsInStep course x.proc l → FitsFields x.proc l
+      → IsActiveInStep course c (with_active x active)
       → IsCounted course (set s.callers c (with_active x active)) x.proc l
       → IsInCourse course (record s { procs = set s.procs x.proc l; callers = set s.callers c (with_active x active) })
   keeps_activity active l no_holder coming in_step fits active_in_step counted = record {

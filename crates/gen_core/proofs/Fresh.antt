@@ -13,12 +13,14 @@ abbrev pub fresh_course : ℕ → List ℕ → Course
 fresh_course procs callers = record { procs = procs; callers = length callers; base = 0; holder = None; stage = Idle; waits = []; coming = None }
 
 -- nobody is active
-nobody_active : (procs : ℕ) (callers : List ℕ) (p generation : ℕ) → active_in (map (fresh_caller procs) callers) p generation ≡ 0
+nobody_active : (procs : ℕ) (callers : List ℕ) (p generation : ℕ)
+    → active_in (map (fresh_caller procs) callers) p generation ≡ 0
 nobody_active procs callers p generation =
     count_by_none (is_active_in p generation) (map (fresh_caller procs) callers)
     (EachPlace-map (λ i x. is_active_in p generation x ≡ false) (fresh_caller procs) callers (λ i q at_i. and_right _ false refl))
 
-pub fresh_in_course : (procs : ℕ) (callers : List ℕ) → IsPlan procs callers → IsInCourse (fresh_course procs callers) (fresh procs callers)
+pub fresh_in_course : (procs : ℕ) (callers : List ℕ) → IsPlan procs callers
+    → IsInCourse (fresh_course procs callers) (fresh procs callers)
 fresh_in_course procs callers plan =
     let course : Course = fresh_course procs callers in
     record {
@@ -46,5 +48,6 @@ fresh_in_course procs callers plan =
 pub IsSound-fresh : (procs : ℕ) (callers : List ℕ) → IsPlan procs callers → IsSound (fresh procs callers)
 IsSound-fresh procs callers plan = record { course = fresh_course procs callers; in_course = fresh_in_course procs callers plan }
 
-pub IsSound-is_fresh : (s : Generations) (procs : ℕ) (callers : List ℕ) → IsPlan procs callers → s ≡ fresh procs callers → IsSound s
+pub IsSound-is_fresh : (s : Generations) (procs : ℕ) (callers : List ℕ) → IsPlan procs callers
+    → s ≡ fresh procs callers → IsSound s
 IsSound-is_fresh s procs callers plan e = rw e (IsSound-fresh procs callers plan)

@@ -37,7 +37,8 @@ first_proc : (procs : List GenProc) → 0 < length procs → slice_get procs 0 �
 first_proc procs some = slice_get-get_or procs 0 fresh_proc some
 
 module _ (course : Course) (s : Generations) (h : IsInCourse course s) (c : ℕ) (x : Caller) (at_c : slice_get s.callers c ≡ Some x) where
-  pub keeps_taken : s.role ≡ None → x.grace ≡ Idle → x.active ≡ None → list_all (λ k. ltb k.generation (2 ^ 32 - 1)) s.procs ≡ true
+  pub keeps_taken : s.role ≡ None → x.grace ≡ Idle → x.active ≡ None
+      → list_all (λ k. ltb k.generation (2 ^ 32 - 1)) s.procs ≡ true
       → IsInCourse (steered course course.base (Some c) (role_taken x)) (record (put_caller s c (role_taken x)) { role = Some c })
   keeps_taken free idle inactive room =
       let none : course.holder ≡ None = sym h.role ∙ free in
@@ -111,26 +112,31 @@ module _ (course : Course) (s : Generations) (h : IsInCourse course s) (c : ℕ)
 
 -- a grace that has flipped or passed one more processor fits
 
-StageFits-after_flip : (course : Course) (p : ℕ) (b : Bool) → ltb (p + 1) course.procs ≡ b → IsSomeAnd course.holder (λ i. i < course.callers) → p < course.procs
+StageFits-after_flip : (course : Course) (p : ℕ) (b : Bool) → ltb (p + 1) course.procs ≡ b
+    → IsSomeAnd course.holder (λ i. i < course.callers) → p < course.procs
     → course.base + 1 < 2 ^ 32 → course.coming ≡ None → StageFits course (cond b (Flipping (p + 1)) (Looking 0))
 StageFits-after_flip course p true more holder there room unknown = (holder, ltb-true (p + 1) course.procs more, room)
 StageFits-after_flip course p false last holder there room unknown = (holder, omega arith, unknown)
 
-StageFits-after_look : (course : Course) (p : ℕ) (b : Bool) → ltb (p + 1) course.procs ≡ b → IsSomeAnd course.holder (λ i. i < course.callers)
+StageFits-after_look : (course : Course) (p : ℕ) (b : Bool) → ltb (p + 1) course.procs ≡ b
+    → IsSomeAnd course.holder (λ i. i < course.callers)
     → course.coming ≡ None → StageFits course (cond b (Looking (p + 1)) Quiet)
 StageFits-after_look course p true more holder unknown = (holder, ltb-true (p + 1) course.procs more, unknown)
 StageFits-after_look course p false last holder unknown = (holder, unknown)
 
 -- where p is not flipped, nobody is active there in a later generation
 
-is_in_later : (active : Option ℕ) (base : ℕ) → ((g : ℕ) → active ≡ Some g → g ≡ base) → is_in active (base + 1) ≡ false
+is_in_later : (active : Option ℕ) (base : ℕ) → ((g : ℕ) → active ≡ Some g → g ≡ base)
+    → is_in active (base + 1) ≡ false
 is_in_later None base own = refl
 is_in_later (Some g) base own = let e = own g refl in grind (arith, nat_tests)
 
-nobody_later : (course : Course) (callers : List Caller) (p : ℕ) → EachPlace (IsActiveInStep course) callers → is_flipped course.stage p ≡ false
+nobody_later : (course : Course) (callers : List Caller) (p : ℕ) → EachPlace (IsActiveInStep course) callers
+    → is_flipped course.stage p ≡ false
     → active_in callers p (course.base + 1) ≡ 0
 nobody_later course callers p in_step unflipped = count_by_none (is_active_in p (course.base + 1)) callers (λ i z at_i. at_proc z (in_step i z at_i) (cases_Bool (eqb z.proc p))) where
-  at_proc : (z : Caller) → ((g : ℕ) → z.active ≡ Some g → IsOfStep course.base (is_flipped course.stage z.proc) (is_passed course.stage z.proc) g)
+  at_proc : (z : Caller)
+      → ((g : ℕ) → z.active ≡ Some g → IsOfStep course.base (is_flipped course.stage z.proc) (is_passed course.stage z.proc) g)
       → (eqb z.proc p ≡ true) ⊎ (eqb z.proc p ≡ false) → is_active_in p (course.base + 1) z ≡ false
   at_proc z step (inl here) =
       let same : z.proc ≡ p = eqb-true z.proc p here in
@@ -265,6 +271,7 @@ module _ (course : Course) (s : Generations) (h : IsInCourse course s) (c : ℕ)
       }))
       h.no_count_passes_its_field
     where
-      left_behind : (z : Caller) (generation : ℕ) → z.active ≡ Some generation → z.proc ≡ p → generation ≡ course.base → is_active_in p course.base z ≡ false → ⊥
+      left_behind : (z : Caller) (generation : ℕ) → z.active ≡ Some generation → z.proc ≡ p
+          → generation ≡ course.base → is_active_in p course.base z ≡ false → ⊥
       left_behind z generation active here was fails =
           let passes : is_active_in p course.base z ≡ true = rw (active, here, was) (grind (arith, nat_tests)) in cc

@@ -7,4 +7,5 @@ pub mod Courses
 pub mod Ranges
 pub mod Fresh
 pub mod Alone
+pub mod Reached
 pub mod Ended

@@ -20,7 +20,8 @@ module _ {A : Type 0} where
   slice_get-set_else (x ∷ xs) (suc i) (suc j) a n = slice_get-set_else xs i j a (λ e. n (ap suc e))
 
   -- an element of an updated list is the new one at its place, or an old one at another
-  pub at_set : (l : List A) (i j : ℕ) (a b : A) → slice_get (set l i a) j ≡ Some b → ((j ≡ i) × (a ≡ b)) ⊎ ((j ≢ i) × (slice_get l j ≡ Some b))
+  pub at_set : (l : List A) (i j : ℕ) (a b : A) → slice_get (set l i a) j ≡ Some b
+      → ((j ≡ i) × (a ≡ b)) ⊎ ((j ≢ i) × (slice_get l j ≡ Some b))
   at_set [] i j a b e = absurd (cc)
   at_set (x ∷ xs) zero zero a b e = inl (refl, same_Some a b e)
   at_set (x ∷ xs) zero (suc j) a b e = inr ((λ h. omega arith), e)
@@ -35,10 +36,12 @@ module _ {A : Type 0} where
       ⊎_elim (λ t. subst (λ m. Q m x) (sym t.0) (subst (λ b. Q i b) t.1 here)) (λ t. others j x t.0 t.1 (each j x t.1)) (at_set l i j a x e)
 
   -- the frame: a fact of each place is kept where the new element has it
-  pub EachPlace-set : (P : ℕ → A → Type 0) (l : List A) (i : ℕ) (a : A) → EachPlace P l → P i a → EachPlace P (set l i a)
+  pub EachPlace-set : (P : ℕ → A → Type 0) (l : List A) (i : ℕ) (a : A) → EachPlace P l → P i a
+      → EachPlace P (set l i a)
   EachPlace-set P l i a each here = EachPlace-set_else P P l i a each here (λ j x n e p. p)
 
-  pub EachPlace-then : (P Q : ℕ → A → Type 0) (l : List A) → EachPlace P l → ((j : ℕ) (x : A) → slice_get l j ≡ Some x → P j x → Q j x) → EachPlace Q l
+  pub EachPlace-then : (P Q : ℕ → A → Type 0) (l : List A) → EachPlace P l
+      → ((j : ℕ) (x : A) → slice_get l j ≡ Some x → P j x → Q j x) → EachPlace Q l
   EachPlace-then P Q l each then j x e = then j x e (each j x e)
 
   pub EachPlace-list_all : (p : A → Bool) (l : List A) → list_all p l ≡ true → EachPlace (λ i x. p x ≡ true) l
@@ -51,7 +54,8 @@ module _ {A : Type 0} where
   EachPlace-replicate P (suc n) a each zero x e = subst (λ b. P 0 b) (same_Some a x e) (each 0)
   EachPlace-replicate P (suc n) a each (suc i) x e = EachPlace-replicate (λ j b. P (suc j) b) n a (λ j. each (suc j)) i x e
 
-  pub EachPlace-map : {B : Type 0} (P : ℕ → A → Type 0) (f : B → A) (l : List B) → EachPlace (λ i b. P i (f b)) l → EachPlace P (map f l)
+  pub EachPlace-map : {B : Type 0} (P : ℕ → A → Type 0) (f : B → A) (l : List B)
+      → EachPlace (λ i b. P i (f b)) l → EachPlace P (map f l)
   EachPlace-map P f [] each i x e = absurd (cc)
   EachPlace-map P f (b ∷ bs) each zero x e = subst (λ a. P 0 a) (same_Some (f b) x e) (each 0 b refl)
   EachPlace-map P f (b ∷ bs) each (suc i) x e = EachPlace-map (λ j a. P (suc j) a) f bs (λ j b' e'. each (suc j) b' e') i x e
@@ -62,19 +66,23 @@ module _ {A : Type 0} where
   count_by-set p l i x y e =
       rw (← (get_or_from_slice_get l i x y e)) (sum_by-set (λ z. cond (p z) 1 0) l i y y (slice_get_within l i x e))
 
-  pub count_by-set_same : (p : A → Bool) (l : List A) (i : ℕ) (x y : A) → slice_get l i ≡ Some x → p y ≡ p x → count_by p (set l i y) ≡ count_by p l
+  pub count_by-set_same : (p : A → Bool) (l : List A) (i : ℕ) (x y : A) → slice_get l i ≡ Some x → p y ≡ p x
+      → count_by p (set l i y) ≡ count_by p l
   count_by-set_same p l i x y e same = grind (arith, count_by-set p l i x y e)
 
-  pub count_by-set_more : (p : A → Bool) (l : List A) (i : ℕ) (x y : A) → slice_get l i ≡ Some x → p x ≡ false → p y ≡ true
+  pub count_by-set_more : (p : A → Bool) (l : List A) (i : ℕ) (x y : A) → slice_get l i ≡ Some x → p x ≡ false
+      → p y ≡ true
       → count_by p (set l i y) ≡ count_by p l + 1
   count_by-set_more p l i x y e old new = grind (arith, count_by-set p l i x y e)
 
-  pub count_by-set_less : (p : A → Bool) (l : List A) (i : ℕ) (x y : A) → slice_get l i ≡ Some x → p x ≡ true → p y ≡ false
+  pub count_by-set_less : (p : A → Bool) (l : List A) (i : ℕ) (x y : A) → slice_get l i ≡ Some x → p x ≡ true
+      → p y ≡ false
       → count_by p (set l i y) + 1 ≡ count_by p l
   count_by-set_less p l i x y e old new = grind (arith, count_by-set p l i x y e)
 
   -- one element that passes is counted
-  pub count_by_some : (p : A → Bool) (l : List A) (i : ℕ) (x : A) → slice_get l i ≡ Some x → p x ≡ true → 0 < count_by p l
+  pub count_by_some : (p : A → Bool) (l : List A) (i : ℕ) (x : A) → slice_get l i ≡ Some x → p x ≡ true
+      → 0 < count_by p l
   count_by_some p l i x e passes =
       grind (arith, get_or_from_slice_get l i x x e, get_or-le-sum_by (λ z. cond (p z) 1 0) l i x (slice_get_within l i x e))
 
@@ -85,6 +93,7 @@ module _ {A : Type 0} where
 
   pub count_by_zero : (p : A → Bool) (l : List A) → count_by p l ≡ 0 → EachPlace (λ i x. p x ≡ false) l
   count_by_zero p l zero_is i x e = elim_passes p l i x zero_is e (p x) refl where
-    elim_passes : (p : A → Bool) (l : List A) (i : ℕ) (x : A) → count_by p l ≡ 0 → slice_get l i ≡ Some x → (b : Bool) → p x ≡ b → b ≡ false
+    elim_passes : (p : A → Bool) (l : List A) (i : ℕ) (x : A) → count_by p l ≡ 0 → slice_get l i ≡ Some x
+        → (b : Bool) → p x ≡ b → b ≡ false
     elim_passes p l i x zero_is e true passes = absurd (omega (arith, count_by_some p l i x e passes))
     elim_passes p l i x zero_is e false fails = refl

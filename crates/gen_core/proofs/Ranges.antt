@@ -7,7 +7,7 @@ use Rattle.gen_core.specs.declared.state.GraceAt.TheVariants.{Flipping, Looking}
 use Rattle.gen_core.specs.Plain.{Generations}
 use Rattle.gen_core.specs.State.{proc_at, caller_at}
 use Rattle.gen_core.specs.Events.{is_even, is_possible, effect, caller_of}
-use Rattle.gen_core.specs.Sound.{IsSound}
+use Rattle.gen_core.specs.Sound.{IsHolder, IsSound}
 use Rattle.gen_core.proofs.Stages.{exits_fit}
 use Rattle.gen_core.proofs.Frames.{holder_from_grace}
 use Rattle.gen_core.proofs.Alone.{ChangesOnly, ChangesOnly-refl, proc_of, only_caller}
@@ -31,8 +31,13 @@ module _ (s : Generations) (c : ℕ) (sound : IsSound s) (there : c < length s.c
   looking_there p grace = rw grace at (place_there sound.course s sound.in_course c there (λ idle. absurd (cc)))
 
   module _ (p : ℕ) (grace : (caller_at s c).grace ≡ Flipping p) where
+    holder : IsHolder sound.course (caller_at s c)
+    holder =
+        (holder_from_grace sound.course s sound.in_course c (caller_at s c) (at_caller sound.course s sound.in_course c there)
+        (λ idle. absurd (cc))).1
+
     at_stage : sound.course.stage ≡ Flipping p
-    at_stage = sym (holder_from_grace sound.course s sound.in_course c (caller_at s c) (at_caller sound.course s sound.in_course c there) (λ idle. absurd (cc))).1.grace ∙ grace
+    at_stage = sym holder.grace ∙ grace
 
     -- the next generation of the processor to be flipped fits its field
     pub next_fits : (proc_at s p).generation + 1 < 2 ^ 32
@@ -46,7 +51,6 @@ module _ (s : Generations) (c : ℕ) (sound : IsSound s) (there : c < length s.c
     pub coming_fits : (exits : ℕ) → (caller_at s c).coming ≡ Some exits → exits < 2 ^ 32
     coming_fits exits known =
         let at_p = rw grace at (at_turn sound.course s sound.in_course c there (λ idle. absurd (cc))) in
-        let holder = (holder_from_grace sound.course s sound.in_course c (caller_at s c) (at_caller sound.course s sound.in_course c there) (λ idle. absurd (cc))).1 in
         rw (sound.in_course.known_ahead p (proc_at s p) at_p (rw at_stage (eq-eqb p p refl)) exits (sym holder.coming ∙ known))
         (exits_fit p (proc_at s p) (not (is_even (proc_at s p).generation)) (sound.in_course.no_count_passes_its_field p (proc_at s p) at_p))
 
@@ -56,14 +60,16 @@ pub ruleset flipping = (flipping_there, few_procs, length-waits, next_fits, comi
 pub ruleset looking = (looking_there, few_procs, length-waits)
 
 -- an event that answered b keeps every fact
-pub IsSound-after : (s t : Generations) (event : GenEvent) (b : Bool) → b ≡ is_possible s event → OnTrue b (t ≡ effect s event) → OnFalse b (t ≡ s)
+pub IsSound-after : (s t : Generations) (event : GenEvent) (b : Bool) → b ≡ is_possible s event
+    → OnTrue b (t ≡ effect s event) → OnFalse b (t ≡ s)
     → IsSound s → caller_of event < length s.callers → IsSound t
 IsSound-after s t event true possible moved stays sound there =
     rw moved (record { course = course_after sound.course s event; in_course = keeps_effect sound.course s event sound.in_course there (sym possible) })
 IsSound-after s t event false possible moved stays sound there = rw stays sound
 
 -- nor does it change more than its caller and one processor
-pub ChangesOnly-after : (s t : Generations) (event : GenEvent) (b : Bool) → OnTrue b (t ≡ effect s event) → OnFalse b (t ≡ s)
+pub ChangesOnly-after : (s t : Generations) (event : GenEvent) (b : Bool) → OnTrue b (t ≡ effect s event)
+    → OnFalse b (t ≡ s)
     → caller_of event < length s.callers → ChangesOnly s t (caller_of event) (proc_of s event)
 ChangesOnly-after s t event true moved stays there = rw moved (only_caller s event there)
 ChangesOnly-after s t event false moved stays there = rw stays (ChangesOnly-refl s (caller_of event) (proc_of s event))

@@ -92,6 +92,7 @@ exits_fit p k true fits = fits.exits_even
 exits_fit p k false fits = fits.exits_odd
 
 -- both exits fit where those of each parity do
-pub exits_fit_both : (k : GenProc) (even : Bool) → exits_of k even < 2 ^ 32 → exits_of k (not even) < 2 ^ 32 → (k.exits_even < 2 ^ 32) × (k.exits_odd < 2 ^ 32)
+pub exits_fit_both : (k : GenProc) (even : Bool) → exits_of k even < 2 ^ 32 → exits_of k (not even) < 2 ^ 32
+    → (k.exits_even < 2 ^ 32) × (k.exits_odd < 2 ^ 32)
 exits_fit_both k true own other = (own, other)
 exits_fit_both k false own other = (other, own)

@@ -122,21 +122,31 @@ abbrev pub turn_of : Generations → ℕ → GenProc
 turn_of s c = proc_at s (place_of (caller_at s c).grace)
 
 abbrev pub entered : Generations → ℕ → Generations
-entered s c = put_proc (put_caller s c (caller_entered (caller_at s c) (home_of s c))) (caller_at s c).proc (proc_entered (home_of s c))
+entered s c =
+    let x = caller_at s c in
+    let k = home_of s c in
+    put_proc (put_caller s c (caller_entered x k)) x.proc (proc_entered k)
 
 abbrev pub left : Generations → ℕ → Generations
-left s c = put_proc (put_caller s c (caller_left (caller_at s c))) (caller_at s c).proc (proc_left (home_of s c) (caller_at s c).active)
+left s c =
+    let x = caller_at s c in
+    put_proc (put_caller s c (caller_left x)) x.proc (proc_left (home_of s c) x.active)
 
+-- the role is taken where it is free
 abbrev pub taken : Generations → ℕ → Option ℕ → Generations
 taken s c None = record (put_caller s c (role_taken (caller_at s c))) { role = Some c }
 taken s c (Some holder) = s
 
 abbrev pub flipped : Generations → ℕ → Generations
-flipped s c = put_proc (put_caller s c (caller_flipped (caller_at s c) (turn_of s c) (length s.procs)))
-    (place_of (caller_at s c).grace) (proc_flipped (turn_of s c) (caller_at s c).coming)
+flipped s c =
+    let x = caller_at s c in
+    let k = turn_of s c in
+    put_proc (put_caller s c (caller_flipped x k (length s.procs))) (place_of x.grace) (proc_flipped k x.coming)
 
 abbrev pub looked : Generations → ℕ → Generations
-looked s c = if is_drained (caller_at s c) (turn_of s c) then put_caller s c (caller_passed (caller_at s c) (length s.procs)) else s
+looked s c =
+    let x = caller_at s c in
+    if is_drained x (turn_of s c) then put_caller s c (caller_passed x (length s.procs)) else s
 
 abbrev pub given : Generations → ℕ → Generations
 given s c = record (put_caller s c (role_given (caller_at s c))) { role = None }

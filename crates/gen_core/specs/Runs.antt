@@ -1,5 +1,5 @@
 -- Lists of events from a state, and what is true after each.
-use Rattle.std.specs.Prelude.{ℕ, ◌≡◌, ◌≢◌, ◌+◌, ◌<◌, Bool, not, ◌&&◌, if◌then◌else◌, List, [], ◌∷◌, ◌++◌, Some, None, length, slice_index, IsTrue, IsSome}
+use Rattle.std.specs.Prelude.{ℕ, ◌≡◌, ◌≢◌, ◌+◌, ◌<◌, if◌then◌else◌, List, [], ◌∷◌, ◌++◌, Some, None, length, slice_index, IsTrue, IsFalse, IsSome}
 use Rattle.gen_core.specs.declared.event.GenEvent.{GenEvent}
 use Rattle.gen_core.specs.declared.event.GenEvent.TheVariants.{Leave, TakeRole, GiveRole}
 use Rattle.gen_core.specs.declared.state.GraceAt.TheVariants.{Idle, Quiet}
@@ -49,7 +49,7 @@ IsActive s c = IsSome (caller_at s c).active
 abbrev pub IsQuiet : Generations → ℕ → Type 0
 IsQuiet s c = (caller_at s c).grace ≡ Quiet
 
--- at s the holder takes the role, and does not give it back among the events that follow, after which it is quiet
+-- at s the holder takes the role, does not give it back by the events that follow, and is quiet after them
 pub record IsQuietGrace (s : Generations) (events : List GenEvent) (holder : ℕ) : Type 0 where
   pub takes : FindsRoleFree s holder
   pub keeps : ¬ Occurs (GiveRole holder) events (happens s (TakeRole holder))
@@ -59,20 +59,26 @@ pub record IsQuietGrace (s : Generations) (events : List GenEvent) (holder : ℕ
 abbrev pub HasLeft : Generations → List GenEvent → ℕ → ℕ → Type 0
 HasLeft s events holder caller = Occurs (Leave caller) events (happens s (TakeRole holder))
 
--- what the holder of the role has seen of a processor
-abbrev pub holder_flipped : Generations → ℕ → ℕ → Bool
-holder_flipped s holder p = is_flipped (caller_at s holder).grace p && not (is_passed (caller_at s holder).grace p)
-
 -- the holder is the one caller with a grace under way, and it is in no activity
 pub record HasOneHolder (s : Generations) : Type 0 where
   pub holder : (c : ℕ) → c < length s.callers → (caller_at s c).grace ≢ Idle → s.role ≡ Some c
-  pub under_way : (c : ℕ) → s.role ≡ Some c → ((caller_at s c).grace ≢ Idle) × ((caller_at s c).active ≡ None)
+  pub under_way : (c : ℕ) → s.role ≡ Some c → (caller_at s c).grace ≢ Idle
+  pub inactive : (c : ℕ) → s.role ≡ Some c → (caller_at s c).active ≡ None
 
--- the entries of a generation are its exits and the callers active in it: of the present generation on each processor,
--- and of the former one on each that the holder has flipped and not passed
+-- so many entries of a generation are the exits of its parity and the callers active in it
+abbrev pub EntriesAre : Generations → ℕ → ℕ → ℕ → Type 0
+EntriesAre s p generation entries =
+    entries ≡ exits_of (proc_at s p) (is_even generation) + active_in s.callers p generation
+
+-- the holder's grace has flipped processor p and not passed it
+abbrev pub WaitsFor : Generations → ℕ → ℕ → Type 0
+WaitsFor s holder p =
+    let grace = (caller_at s holder).grace in
+    (s.role ≡ Some holder) × IsTrue (is_flipped grace p) × IsFalse (is_passed grace p)
+
+-- the counts of each processor agree for its present generation, and for its former one where the holder waits for it
 pub record CountsAgree (s : Generations) : Type 0 where
-  pub present : (p : ℕ) → p < length s.procs
-      → (proc_at s p).entered ≡ exits_of (proc_at s p) (is_even (proc_at s p).generation) + active_in s.callers p (proc_at s p).generation
-  pub former : (p holder generation : ℕ) → p < length s.procs → s.role ≡ Some holder → IsTrue (holder_flipped s holder p)
+  pub present : (p : ℕ) → p < length s.procs → EntriesAre s p (proc_at s p).generation (proc_at s p).entered
+  pub former : (p holder generation : ℕ) → p < length s.procs → WaitsFor s holder p
       → generation + 1 ≡ (proc_at s p).generation
-      → slice_index (caller_at s holder).waits p ≡ exits_of (proc_at s p) (is_even generation) + active_in s.callers p generation
+      → EntriesAre s p generation (slice_index (caller_at s holder).waits p)

@@ -67,12 +67,16 @@ pub record IsPlaced (procs : ℕ) (c : ℕ) (x : Caller) : Type 0 where
   pub proc : x.proc < procs
   pub waits : length x.waits ≡ procs
 
--- the role is held while a grace is under way, and only while it flips is an exit count known ahead
+-- one of the callers holds the role
+abbrev pub HasHolder : Course → Type 0
+HasHolder course = IsSomeAnd course.holder (λ c. c < course.callers)
+
+-- the role is held while a grace is under way, and an exit count is known ahead only while it flips
 abbrev pub StageFits : Course → GraceAt → Type 0
 StageFits course Idle = (course.holder ≡ None) × (course.coming ≡ None)
-StageFits course (Flipping p) = IsSomeAnd course.holder (λ h. h < course.callers) × (p < course.procs) × (course.base + 1 < 2 ^ 32)
-StageFits course (Looking p) = IsSomeAnd course.holder (λ h. h < course.callers) × (p < course.procs) × (course.coming ≡ None)
-StageFits course Quiet = IsSomeAnd course.holder (λ h. h < course.callers) × (course.coming ≡ None)
+StageFits course (Flipping p) = HasHolder course × (p < course.procs) × (course.base + 1 < 2 ^ 32)
+StageFits course (Looking p) = HasHolder course × (p < course.procs) × (course.coming ≡ None)
+StageFits course Quiet = HasHolder course × (course.coming ≡ None)
 
 -- the holder of the role is in no activity
 pub record IsHolder (course : Course) (x : Caller) : Type 0 where
@@ -91,7 +95,8 @@ IsHolderOrIdle course c x = MatchBool (holds_role course.holder c) (IsHolder cou
 
 -- the exits known ahead are those that the next generation of the next processor counts on from
 abbrev pub IsComing : Course → ℕ → GenProc → Type 0
-IsComing course p k = is_next course.stage p ≡ true → (exits : ℕ) → course.coming ≡ Some exits → exits ≡ other_exits k
+IsComing course p k =
+    is_next course.stage p ≡ true → (exits : ℕ) → course.coming ≡ Some exits → exits ≡ other_exits k
 
 -- the flipped processors are one generation ahead
 abbrev pub generation_of : ℕ → Bool → ℕ
@@ -112,19 +117,23 @@ IsActiveInStep course c x =
     (generation : ℕ) → x.active ≡ Some generation
     → IsOfStep course.base (is_flipped course.stage x.proc) (is_passed course.stage x.proc) generation
 
--- the entries are the exits and the callers still active, in the present generation and, until it was passed, in the former one
+-- the entries are the exits and the callers still active, in the present generation and, where the grace
+-- has flipped the processor and not passed it, in the former one
 pub record IsCounted (course : Course) (callers : List Caller) (p : ℕ) (k : GenProc) : Type 0 where
   pub present : k.entered ≡ exits_of k (is_even k.generation) + active_in callers p k.generation
   pub former : is_flipped course.stage p ≡ true → is_passed course.stage p ≡ false
       → slice_index course.waits p ≡ exits_of k (is_even course.base) + active_in callers p course.base
-  pub noted : is_flipped course.stage p ≡ true → is_passed course.stage p ≡ false → slice_index course.waits p < 2 ^ 32
+  pub noted : is_flipped course.stage p ≡ true → is_passed course.stage p ≡ false
+      → slice_index course.waits p < 2 ^ 32
 
+-- the counts of exits pass 32 bits as little as those of entries
 pub record FitsFields (p : ℕ) (k : GenProc) : Type 0 where
   pub generation : k.generation < 2 ^ 32
   pub entered : k.entered < 2 ^ 32
   pub exits_even : k.exits_even < 2 ^ 32
   pub exits_odd : k.exits_odd < 2 ^ 32
 
+-- every fact, of the lists place by place
 pub record IsInCourse (course : Course) (s : Generations) : Type 0 where
   pub limits : IsWithinLimits course.procs course.callers
   pub many_procs : length s.procs ≡ course.procs
@@ -139,7 +148,7 @@ pub record IsInCourse (course : Course) (s : Generations) : Type 0 where
   pub counted_generations : EachPlace (IsCounted course s.callers) s.procs
   pub no_count_passes_its_field : EachPlace FitsFields s.procs
 
--- some course fits the state
+-- a state that meets every fact, with the course that shows it
 pub record IsSound (s : Generations) : Type 0 where
   pub course : Course
   pub in_course : IsInCourse course s

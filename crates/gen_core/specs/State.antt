@@ -13,7 +13,8 @@ abbrev pub proc_at : Generations → ℕ → GenProc
 proc_at s p = slice_index_or s.procs p fresh_proc
 
 abbrev pub caller_at : Generations → ℕ → Caller
-caller_at s c = slice_index_or s.callers c (record { proc = 0; active = None; grace = Idle; coming = None; waits = [] })
+caller_at s c =
+    slice_index_or s.callers c (record { proc = 0; active = None; grace = Idle; coming = None; waits = [] })
 
 abbrev pub put_proc : Generations → ℕ → GenProc → Generations
 put_proc s p k = record s { procs = slice_set s.procs p k }
@@ -21,13 +22,21 @@ put_proc s p k = record s { procs = slice_set s.procs p k }
 abbrev pub put_caller : Generations → ℕ → Caller → Generations
 put_caller s c x = record s { callers = slice_set s.callers c x }
 
+-- what becomes of one caller
+abbrev pub change_caller : Generations → ℕ → (Caller → Caller) → Generations
+change_caller s c changed = put_caller s c (changed (caller_at s c))
+
 -- a caller of the processor that waits for nothing
 abbrev pub fresh_caller : ℕ → ℕ → Caller
 fresh_caller procs p = record { proc = p; active = None; grace = Idle; coming = None; waits = replicate procs 0 }
 
 -- so many processors, and a caller on each that is named
 abbrev pub fresh : ℕ → List ℕ → Generations
-fresh procs callers = record { procs = replicate procs fresh_proc; callers = map (fresh_caller procs) callers; role = None }
+fresh procs callers = record {
+  procs = replicate procs fresh_proc;
+  callers = map (fresh_caller procs) callers;
+  role = None;
+}
 
 -- one to eight processors, one to sixteen callers, each on a processor that is there
 pub record IsPlan (procs : ℕ) (callers : List ℕ) : Type 0 where

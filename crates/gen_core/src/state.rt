@@ -1,6 +1,6 @@
 ghost use Rattle.std.specs.Prelude.{◌≡◌, ℕ, ◌-◌, ◌^◌, ◌<◌, ◌≤◌, nat_lt, length, slice_set, IfOk};
 ghost use Rattle.std.specs.List.{list_all};
-ghost use Rattle.gen_core.specs.State.{proc_at, caller_at, put_proc, put_caller, fresh, IsPlan};
+ghost use Rattle.gen_core.specs.State.{proc_at, caller_at, put_proc, change_caller, fresh, IsPlan};
 ghost use Rattle.gen_core.specs.Sound.{IsSound};
 ghost use Rattle.gen_core.specs.Events.{exits_of, other_exits, exit_counted, is_free, after_flip, after_look};
 
@@ -28,8 +28,10 @@ pub enum GraceAt {
     Quiet,
 }
 
+/// One caller, with its activity and its grace period.
 #[derive(Debug, Drop)]
 pub struct GenCaller {
+    /// The processor of its activities.
     pub proc: u32,
     /// The generation of its activity.
     pub active: Option<u32>,
@@ -45,9 +47,16 @@ impl Model for GenCaller {
 
     ghost Value = { Caller };
 
-    ghost view = { λ c. record { proc = c.proc; active = c.active; grace = c.grace; coming = c.coming; waits = c.waits.items } };
+    ghost view = { λ c. record {
+      proc = c.proc;
+      active = c.active;
+      grace = c.grace;
+      coming = c.coming;
+      waits = c.waits.items;
+    } };
 }
 
+/// One to eight processors and one to sixteen callers, each named by its place.
 #[derive(Debug, Drop)]
 pub struct GenState {
     pub procs: Vec<GenProc>,
@@ -83,6 +92,7 @@ impl GenProc {
         self.exits(self.generation % 2 != 0)
     }
 
+    /// With one more exit of an activity whose generation is even, or odd.
     pub(crate) fn with_exit(&self, even: bool) -> GenProc
         requires { exits_of self.now even < 2 ^ 64 - 1 }
         ensures { result ≡ exit_counted self.now even }
@@ -204,7 +214,7 @@ impl GenState {
 
     pub(crate) fn set_active(&mut self, c: usize, active: Option<u32>)
         requires { c < length self.old.callers }
-        ensures { self.new ≡ put_caller self.old c (record (caller_at self.old c) { active = active }) }
+        ensures { self.new ≡ change_caller self.old c (λ x. record x { active = active }) }
     {
         let caller = &mut self.callers[c];
         caller.active = active;
@@ -212,7 +222,7 @@ impl GenState {
 
     pub(crate) fn set_grace(&mut self, c: usize, grace: GraceAt)
         requires { c < length self.old.callers }
-        ensures { self.new ≡ put_caller self.old c (record (caller_at self.old c) { grace = grace }) }
+        ensures { self.new ≡ change_caller self.old c (λ x. record x { grace = grace }) }
     {
         let caller = &mut self.callers[c];
         caller.grace = grace;
@@ -220,7 +230,7 @@ impl GenState {
 
     pub(crate) fn set_coming(&mut self, c: usize, coming: u64)
         requires { c < length self.old.callers }
-        ensures { self.new ≡ put_caller self.old c (record (caller_at self.old c) { coming = Some coming }) }
+        ensures { self.new ≡ change_caller self.old c (λ x. record x { coming = Some coming }) }
     {
         let caller = &mut self.callers[c];
         caller.coming = Some(coming);
@@ -230,8 +240,8 @@ impl GenState {
     pub(crate) fn set_flipped(&mut self, c: usize, p: usize, entered: u32, grace: GraceAt)
         requires there { c < length self.old.callers }
         requires noted { p < length (caller_at self.old c).waits }
-        ensures { self.new ≡ put_caller self.old c (record (caller_at self.old c) {
-          waits = slice_set (caller_at self.old c).waits p entered;
+        ensures { self.new ≡ change_caller self.old c (λ x. record x {
+          waits = slice_set x.waits p entered;
           coming = None;
           grace = grace;
         }) }

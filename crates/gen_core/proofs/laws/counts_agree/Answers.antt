@@ -1,4 +1,4 @@
-use Rattle.gen_core.proofs.Ended.{reached_sound, counts_agree}
+use Rattle.gen_core.proofs.Reached.{reached_sound, counts_agree}
 use Rattle.gen_core.proofs.laws.counts_agree.Goals as goal
 
 pub returns : goal.returns

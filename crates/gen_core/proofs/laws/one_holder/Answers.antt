@@ -1,4 +1,4 @@
-use Rattle.gen_core.proofs.Ended.{reached_sound, one_holder}
+use Rattle.gen_core.proofs.Reached.{reached_sound, one_holder}
 use Rattle.gen_core.proofs.laws.one_holder.Goals as goal
 
 pub returns : goal.returns

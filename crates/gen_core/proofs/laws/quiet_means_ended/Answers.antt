@@ -1,4 +1,5 @@
-use Rattle.gen_core.proofs.Ended.{reached_sound, quiet_means_ended}
+use Rattle.gen_core.proofs.Reached.{reached_sound}
+use Rattle.gen_core.proofs.Ended.{quiet_means_ended}
 use Rattle.gen_core.proofs.laws.quiet_means_ended.Goals as goal
 
 pub returns : goal.returns

@@ -1,4 +1,4 @@
-use Rattle.gen_core.proofs.Ended.{reached_sound}
+use Rattle.gen_core.proofs.Reached.{reached_sound}
 use Rattle.gen_core.proofs.laws.stays_sound.Goals as goal
 
 pub returns : goal.returns
