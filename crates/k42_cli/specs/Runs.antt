@@ -1,7 +1,7 @@
 -- A run on one thread, line by line.
 use Rattle.std.specs.Prelude.{◌≡◌, ℕ, ◌+◌, ◌<◌, ◌≤◌, List, [], ◌∷◌, ◌++◌, length, map, All, Option, Some, None, slice_get, slice_set}
 use Rattle.k42_kinds.specs.Histories.{state_of, number_of}
-use Rattle.k42_kinds.specs.Legal.{IsLegalHistory}
+use Rattle.k42_kinds.specs.Legal.{IsLegalHistory, last_incarnation}
 use Rattle.k42_kinds.specs.declared.operation.KindName.{KindName}
 use Rattle.k42_kinds.specs.declared.entry.Answer.{Answer}
 use Rattle.k42_kinds.specs.declared.entry.Answer.TheVariants.{Busy, Abandoned}
@@ -29,6 +29,7 @@ pub record IsKept (kinds : List KindName) (history : List Entry) (number : ℕ) 
   pub kind : slice_get kinds number ≡ Some object.plain.kind
   pub state : object.state ≡ state_of object.plain.kind number history
   pub swaps : object.number ≡ number_of number history
+  pub bounded : object.number ≤ last_incarnation
 
 -- nobody was refused for another's sake
 abbrev pub IsUnrefused : Answer → Type 0
@@ -37,11 +38,11 @@ IsUnrefused (Abandoned number) = ⊥
 IsUnrefused _ = Unit {0}
 
 -- What was done so far is a legal history, and the objects are as it says.
-pub record IsRunning (kinds : List KindName) (run : Run) : Type 0 where
-  pub legal : IsLegalHistory kinds run.entries.items
-  pub unrefused : All (λ entry. IsUnrefused entry.answer) run.entries.items
-  pub size : length run.objects.items ≡ length kinds
-  pub kept : (number : ℕ) (object : Object) → slice_get run.objects.items number ≡ Some object → IsKept kinds run.entries.items number object
+pub record IsRunning (kinds : List KindName) (history : List Entry) (objects : List Object) : Type 0 where
+  pub legal : IsLegalHistory kinds history
+  pub unrefused : All (λ entry. IsUnrefused entry.answer) history
+  pub size : length objects ≡ length kinds
+  pub kept : (number : ℕ) (object : Object) → slice_get objects number ≡ Some object → IsKept kinds history number object
 
 -- the caller has done what its lines ask, each once and in their order
 pub record HasDone (old : Run) (caller : ℕ) (lines : List CallLine) (new : Run) : Type 0 where

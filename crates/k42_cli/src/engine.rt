@@ -1,4 +1,4 @@
-ghost use Rattle.std.specs.Prelude.{◌≡◌, ◌<◌, ◌≤◌, [], length, All, Some, IfOk, OnOk, vec_len, slice_get};
+ghost use Rattle.std.specs.Prelude.{◌≡◌, ◌<◌, ◌≤◌, [], length, map, All, Some, IfOk, OnOk, vec_len, slice_get};
 ghost use Rattle.k42_kinds.specs.Histories.{entries_of};
 ghost use Rattle.script_text.specs.Sound.{IsSound, IsSoundLine};
 ghost use Rattle.script_text.specs.Lawful.{IsLawful, kinds_of, call_lines};
@@ -31,6 +31,23 @@ pub struct Caller {
 impl Run {
     ghost use Rattle.k42_cli.specs.Runs.{Records, IsRunning, HasDone};
 
+    /// Nothing was done yet.
+    fn new(alloc: Global, declared: &[ObjectLine]) -> Result<Run, Memory>
+        ensures fresh { IfOk result (λ run. run.entries.items ≡ []) }
+        ensures running { IfOk result (λ run. IsRunning (map (λ object. object.kind) declared.now) [] run.objects.items) }
+    {
+        let mut objects = Vec::new(alloc);
+        for object in declared {
+            let plain = Plain { kind: object.kind };
+            objects.push(Object::new(alloc, plain))?;
+        }
+        Ok(Run {
+            objects,
+            entries: Vec::new(alloc),
+            swaps: 0,
+        })
+    }
+
     /// Carries one line out, as the caller's entry of this index.
     fn answer(
         &mut self,
@@ -54,4 +71,50 @@ impl Run {
         let object = &mut self.objects[line.object as usize];
         object.record(alloc, &asked, line, &mut self.entries)
     }
+
+    /// Carries out the caller's lines in their order.
+    fn work<G: Gate>(
+        &mut self,
+        alloc: Global,
+        script: &Script,
+        caller: Caller,
+        items: &[Item],
+        gate: &G,
+    ) -> Result<(), Memory>
+        requires running { IsRunning (kinds_of script.now) self.old.entries.items self.old.objects.items }
+        requires sound { All (IsSoundLine script.now) (call_lines items.now) }
+        requires few { length (call_lines items.now) ≤ 65536 }
+        ensures running { OnOk result (IsRunning (kinds_of script.now) self.new.entries.items self.new.objects.items) }
+        ensures done { OnOk result (HasDone self.old caller.number (call_lines items.now) self.new) }
+    {
+        let mut index = 0;
+        for item in items {
+            if let Item::Line(line) = item {
+                gate.at(caller.number, line.line, true);
+                self.answer(alloc, caller, index, line)?;
+                gate.at(caller.number, line.line, false);
+                index += 1;
+            }
+        }
+        Ok(())
+    }
+}
+
+/// Runs the workers one after the other, in the order of the script, and gives the history.
+pub fn run_alone<G: Gate>(alloc: Global, script: &Script, gate: &G) -> Result<Vec<Entry>, Memory>
+    requires { IsSound script.now }
+    ensures { IfOk result (λ history. IsLawful script.now history.items) }
+{
+    let mut run = Run::new(alloc, script.objects.as_slice())?;
+    let mut number = 0;
+    for worker in script.workers.as_slice() {
+        let caller = Caller {
+            number,
+            proc: worker.proc,
+        };
+        run.work(alloc, script, caller, worker.items.as_slice(), gate)?;
+        number += 1;
+    }
+    let Run { entries, .. } = run;
+    Ok(entries)
 }

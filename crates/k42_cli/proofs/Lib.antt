@@ -1,0 +1,4 @@
+pub mod Running
+pub mod Working
+pub mod Fresh
+pub mod Crew
