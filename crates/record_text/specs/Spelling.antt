@@ -1,12 +1,12 @@
 -- Which records have a text.
-use Rattle.std.specs.Prelude.{◌≡◌, ℕ, ◌<◌, ◌≤◌, ◌⊎◌, List, length, All, Option, Some, IsSome, IsNone, IsSomeAnd, slice_get}
+use Rattle.std.specs.Prelude.{◌≡◌, ℕ, ◌<◌, ◌≤◌, ◌⊎◌, length, All, Option, Some, IsSome, IsNone, MatchOption, slice_get}
 use Rattle.k42_kinds.specs.declared.operation.KindName.{KindName}
 use Rattle.k42_kinds.specs.declared.operation.Op.{Op}
 use Rattle.k42_kinds.specs.declared.operation.Op.TheVariants.{Write, Read}
 use Rattle.k42_kinds.specs.declared.entry.Act.{Act}
 use Rattle.k42_kinds.specs.declared.entry.Act.TheVariants.{Call, Swap, Destroy}
 use Rattle.k42_kinds.specs.declared.entry.Answer.{Answer}
-use Rattle.k42_kinds.specs.declared.entry.Answer.TheVariants.{Replied, Swapped, Busy, Spent, Gone, Abandoned}
+use Rattle.k42_kinds.specs.declared.entry.Answer.TheVariants.{Replied, Swapped, Busy, Spent, Gone}
 use Rattle.k42_kinds.specs.Operations.{kind_of_op}
 use Rattle.script_text.specs.Lawful.{kinds_of}
 use Rattle.script_text.specs.declared.script.Script.{Script}
@@ -63,11 +63,11 @@ HasGeneration (Call op) generation = IsSome generation
 HasGeneration (Swap layout) generation = IsNone generation
 HasGeneration Destroy generation = IsNone generation
 
--- version 1 tells nothing besides of a line, version 2 its processor and generation
+-- version 1 tells nothing besides of a line, version 2 its processor and its generation
 pub record IsOfVersion (version : ℕ) (line : RecordLine) : Type 0 where
-  pub first : version ≡ 1 → IsNone line.extra
-  pub second : version ≡ 2 → IsSomeAnd line.extra (λ extra. HasGeneration line.act extra.generation)
+  pub told : MatchOption line.extra (version ≡ 1) (λ extra. (version ≡ 2) × HasGeneration line.act extra.generation)
 
+-- a record is of one of two versions
 abbrev pub IsVersion : ℕ → Type 0
 IsVersion version = (version ≡ 1) ⊎ (version ≡ 2)
 
