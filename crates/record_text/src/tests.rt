@@ -101,13 +101,13 @@ fn entries_of(alloc: Global, told: &[Told]) -> Result<Vec<Entry>, Fail> {
     Ok(entries)
 }
 
-fn expect_text(
+fn text_of(
     rt: &impl Abort,
     alloc: Global,
     case: &Case,
     lines: &[Line],
     told: &[Told],
-) -> Result<(), Fail> {
+) -> Result<Vec<u8>, Fail> {
     let script = script_of(alloc, case, lines)?;
     let entries = entries_of(alloc, told)?;
     let version = case.version;
@@ -119,7 +119,17 @@ fn expect_text(
     );
     let lines = lines_of(alloc, &script, &entries, version)?;
     assert!(rt; has_text(&script, &lines), "{}", case.shows);
-    let text = print(alloc, &script, &lines)?;
+    Ok(print(alloc, &script, &lines)?)
+}
+
+fn expect_text(
+    rt: &impl Abort,
+    alloc: Global,
+    case: &Case,
+    lines: &[Line],
+    told: &[Told],
+) -> Result<(), Fail> {
+    let text = text_of(rt, alloc, case, lines, told)?;
     assert_eq!(rt; text.as_slice(), case.text, "{}", case.shows);
     Ok(())
 }
@@ -478,4 +488,26 @@ fn calls_of_pages(rt: HostRuntime) -> Result<(), Fail> {
             reply(0, 5, acts[5].2, Reply::Number(0), 0),
         ],
     )
+}
+
+#[test]
+fn a_record_of_65536_lines(rt: HostRuntime) -> Result<(), Fail> {
+    let alloc = rt.alloc();
+    let mut lines = Vec::new(alloc);
+    let mut entries = Vec::new(alloc);
+    for i in 0u32..65536 {
+        lines.push((0, i + 4, add(7)))?;
+        entries.push(reply(0, i, add(7), Reply::Done, 0))?;
+    }
+    let case = Case {
+        shows: "many lines",
+        object: b"hits",
+        kind: KindName::Counter,
+        workers: b"a",
+        version: 2,
+        text: b"65536 a 65539 hits add 7 = ok @0 p0 g0\nend 65536\n",
+    };
+    let text = text_of(&rt, alloc, &case, lines.as_slice(), entries.as_slice())?;
+    assert!(rt; text.as_slice().ends_with(case.text));
+    Ok(())
 }
