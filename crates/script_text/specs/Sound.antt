@@ -41,5 +41,7 @@ pub record IsSoundWorker (script : Script) (worker : WorkerLines) : Type 0 where
 pub record IsSound (script : Script) : Type 0 where
   pub some_processor : 1 ≤ script.procs
   pub processors : script.procs ≤ 8
+  pub objects : length script.objects ≤ 16
+  pub callers : length script.workers ≤ 16
   pub workers : All (IsSoundWorker script) script.workers
   pub few : sum_by (λ worker. length (call_lines worker.items)) script.workers ≤ 65536
