@@ -1,6 +1,7 @@
 //! What `lines_of` and `print` require, tested.
 ghost use Rattle.std.specs.Prelude.{◌≡◌, All, IsTrue, IfOk};
-ghost use Rattle.record_text.specs.Spelling.{NamesPage, IsActOn, Ends, HasSpelling, HasGeneration, IsOfVersion, IsVersion, HasText};
+ghost use Rattle.record_text.specs.Spelling.{Ends, HasSpelling, HasGeneration, IsOfVersion, IsVersion, HasText};
+ghost use Rattle.script_text.specs.Sound.{NamesPage, IsActOn};
 ghost use Rattle.record_text.specs.Histories.{HasLine};
 ghost use Rattle.record_text.specs.LineNumbers.{HasNumber};
 
