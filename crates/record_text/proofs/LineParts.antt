@@ -1,6 +1,5 @@
 -- The line of an entry, put part by part.
 use Rattle.std.proofs.Common.{◌≡◌, ℕ, List, [], ◌∷◌, ◌++◌, refl, sym, ap, ◌∙◌}
-use Rattle.std.specs.List.{flat_map}
 use Rattle.std.proofs.lemmas.List.{append_assoc}
 use Rattle.record_text.specs.Tokens.{space, line_feed, behind_spaces, line_with}
 
@@ -24,5 +23,6 @@ line_of_parts before stamp worker number equals mark act answer extra =
       more before stamp (worker ∷ number ∷ [] ++ act) (equals ∷ []),
       more before stamp (worker ∷ number ∷ [] ++ act ++ equals ∷ []) answer,
       more before stamp (worker ∷ number ∷ [] ++ act ++ equals ∷ [] ++ answer) (mark ∷ []),
-      more before stamp (worker ∷ number ∷ [] ++ act ++ equals ∷ [] ++ answer ++ mark ∷ []) extra)
+      more before stamp (worker ∷ number ∷ [] ++ act ++ equals ∷ [] ++ answer ++ mark ∷ []) extra,
+    )
     (append_assoc before (stamp ++ behind_spaces (worker ∷ number ∷ [] ++ act ++ equals ∷ [] ++ answer ++ mark ∷ [] ++ extra)) (line_feed ∷ []))

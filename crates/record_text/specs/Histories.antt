@@ -1,5 +1,5 @@
 -- The record of a history, and so its text.
-use Rattle.std.specs.Prelude.{◌≡◌, ℕ, ◌<◌, ◌==◌, if◌then◌else◌, List, [], length, map, Option, Some, None, slice_get}
+use Rattle.std.specs.Prelude.{ℕ, ◌<◌, ◌==◌, if◌then◌else◌, List, [], length, map, Option, Some, None, slice_get}
 use Rattle.std.specs.Option.{option_map_or}
 use Rattle.k42_kinds.specs.declared.entry.Entry.{Entry}
 use Rattle.script_text.specs.Lawful.{call_lines}

@@ -1,5 +1,5 @@
 -- The numbers of the lines that ask something.
-use Rattle.std.specs.Prelude.{ℕ, ◌<◌, List, [], length, map, slice_index, slice_index_or}
+use Rattle.std.specs.Prelude.{ℕ, ◌<◌, List, [], length, map, slice_index_or}
 use Rattle.script_text.specs.Lawful.{call_lines}
 use Rattle.script_text.specs.declared.script.Item.{Item}
 use Rattle.script_text.specs.declared.script.Script.{Script}

@@ -1,33 +1,15 @@
 -- Which records have a text.
-use Rattle.std.specs.Prelude.{◌≡◌, ℕ, ◌<◌, ◌≤◌, ◌⊎◌, List, length, All, Option, Some, IsSome, IsNone, IsSomeAnd, slice_get}
+use Rattle.std.specs.Prelude.{◌≡◌, ℕ, ◌<◌, ◌≤◌, ◌⊎◌, length, All, Option, Some, IsSome, IsNone, MatchOption, slice_get}
 use Rattle.k42_kinds.specs.declared.operation.KindName.{KindName}
-use Rattle.k42_kinds.specs.declared.operation.Op.{Op}
-use Rattle.k42_kinds.specs.declared.operation.Op.TheVariants.{Write, Read}
 use Rattle.k42_kinds.specs.declared.entry.Act.{Act}
 use Rattle.k42_kinds.specs.declared.entry.Act.TheVariants.{Call, Swap, Destroy}
 use Rattle.k42_kinds.specs.declared.entry.Answer.{Answer}
-use Rattle.k42_kinds.specs.declared.entry.Answer.TheVariants.{Replied, Swapped, Busy, Spent, Gone, Abandoned}
-use Rattle.k42_kinds.specs.Operations.{kind_of_op}
+use Rattle.k42_kinds.specs.declared.entry.Answer.TheVariants.{Replied, Swapped, Busy, Spent, Gone}
 use Rattle.script_text.specs.Lawful.{kinds_of}
+use Rattle.script_text.specs.Sound.{IsActOn}
 use Rattle.script_text.specs.declared.script.Script.{Script}
 use Rattle.record_text.specs.declared.record.RecordLine.{RecordLine}
 use Rattle.record_text.specs.declared.record.Record.{Record}
-
--- how many pages an object of that kind has
-abbrev pub page_count : ℕ
-page_count = 1024
-
--- the page that an operation names, if it names one, is there
-abbrev pub NamesPage : Op → Type 0
-NamesPage (Write page text) = page < page_count
-NamesPage (Read page) = page < page_count
-NamesPage _ = Unit {0}
-
--- the act may be asked of an object of this kind: an operation of its kind, or a swap or destroy of any
-abbrev pub IsActOn : KindName → Act → Type 0
-IsActOn kind (Call op) = (kind_of_op op ≡ kind) × NamesPage op
-IsActOn kind (Swap layout) = Unit {0}
-IsActOn kind Destroy = Unit {0}
 
 -- how a call may be answered
 abbrev pub EndsCall : Answer → Type 0
@@ -63,11 +45,11 @@ HasGeneration (Call op) generation = IsSome generation
 HasGeneration (Swap layout) generation = IsNone generation
 HasGeneration Destroy generation = IsNone generation
 
--- version 1 tells nothing besides of a line, version 2 its processor and generation
+-- version 1 tells nothing besides of a line, version 2 its processor and its generation
 pub record IsOfVersion (version : ℕ) (line : RecordLine) : Type 0 where
-  pub first : version ≡ 1 → IsNone line.extra
-  pub second : version ≡ 2 → IsSomeAnd line.extra (λ extra. HasGeneration line.act extra.generation)
+  pub told : MatchOption line.extra (version ≡ 1) (λ extra. (version ≡ 2) × HasGeneration line.act extra.generation)
 
+-- a record is of one of two versions
 abbrev pub IsVersion : ℕ → Type 0
 IsVersion version = (version ≡ 1) ⊎ (version ≡ 2)
 

@@ -11,3 +11,6 @@ mod tokens;
 pub use history::lines_of;
 pub use printing::print;
 pub use record::{Extra, Record, RecordLine};
+
+#[cfg(test)]
+mod tests;

@@ -1,5 +1,4 @@
 use Rattle.std.proofs.Common.{◌<◌, length, arith}
-use Rattle.record_text.specs.Histories.{HasLine, line_of}
 use Rattle.record_text.proofs.LineLookups.{lines-more}
 use Rattle.record_text.proofs.history.lines_of.Goals as goal
 
