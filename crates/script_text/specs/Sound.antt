@@ -27,6 +27,7 @@ pub record IsSoundWorker (script : Script) (worker : WorkerLines) : Type 0 where
   pub processor : worker.proc < script.procs
   pub lines : All (IsSoundLine script) (call_lines worker.items)
 
+-- A script has 1 to 8 processors, sound workers, and no more than 65,536 lines that ask something.
 pub record IsSound (script : Script) : Type 0 where
   pub some_processor : 1 ≤ script.procs
   pub processors : script.procs ≤ 8

@@ -59,7 +59,8 @@ fn refused(line: u32) -> ParseEnd
 
 /// The script of all lines that were read, of which there are so many.
 fn finish(alloc: Global, reading: Reading, lines: u32) -> Result<Script, ParseEnd>
-    ensures { (before : List (List ℕ)) → length before ≡ lines → Shows (said_from 1 before) reading →
+    ensures { (before : List (List ℕ)) → length before ≡ lines →
+        Shows (said_from 1 before) reading →
         Answers (script_at_end before (said_from 1 before)) result }
 {
     if reading.procs == 0 {
