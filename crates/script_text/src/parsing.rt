@@ -68,3 +68,6 @@ fn finish(alloc: Global, reading: Reading, lines: u32) -> Result<Script, ParseEn
     }
     Ok(reading.into_script(alloc)?)
 }
+
+#[cfg(test)]
+mod tests;
