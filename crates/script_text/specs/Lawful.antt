@@ -42,10 +42,10 @@ deeds_from index [] = []
 deeds_from index (line ∷ lines) =
     record { index = index; object = line.object; act = line.act } ∷ deeds_from (index + 1) lines
 
--- a swap that was given up stands in no script's history
-abbrev pub IsCarriedThrough : Answer → Type 0
-IsCarriedThrough (Abandoned number) = ⊥
-IsCarriedThrough _ = Unit {0}
+-- the answer is not that of a swap that was given up
+abbrev pub IsNotGivenUp : Answer → Type 0
+IsNotGivenUp (Abandoned number) = ⊥
+IsNotGivenUp _ = Unit {0}
 
 -- The worker of this number does what its lines ask, each once and in their order.
 abbrev pub DoesItsLines : List Entry → ℕ → WorkerLines → Type 0
@@ -53,10 +53,10 @@ DoesItsLines history number worker =
     map deed_of (entries_of number history) ≡ deeds_from 0 (call_lines worker.items)
 
 -- A history is lawful for a script where it is a legal history of the script's objects in which
--- each worker does what its lines ask, and nobody else does anything.
+-- each worker does what its lines ask, nobody else does anything, and no swap was given up.
 pub record IsLawful (script : Script) (history : List Entry) : Type 0 where
   pub legal : IsLegalHistory (kinds_of script) history
   pub in_order : (number : ℕ) (worker : WorkerLines) → slice_get script.workers number ≡ Some worker
       → DoesItsLines history number worker
   pub no_stranger : All (λ entry. entry.caller < length script.workers) history
-  pub carried_through : All (λ entry. IsCarriedThrough entry.answer) history
+  pub none_given_up : All (λ entry. IsNotGivenUp entry.answer) history
