@@ -10,7 +10,7 @@ use Rattle.k42_kinds.specs.declared.entry.Act.TheVariants.{Call, Swap, Destroy}
 use Rattle.k42_kinds.specs.declared.entry.Answer.{Answer}
 use Rattle.k42_kinds.specs.declared.entry.Answer.TheVariants.{Replied, Swapped, Busy, Spent, Gone, Abandoned}
 use Rattle.k42_kinds.specs.declared.entry.Entry.{Entry}
-use Rattle.k42_kinds.specs.Legal.{IsLegalHistory, IsLegalAmong, IsLegal, IsLegalAct, IsLegalEnd, IsLegalRefusal, IsOwn, IsRival, IsTimely}
+use Rattle.k42_kinds.specs.Legal.{IsLegalHistory, IsLegalAmong, IsLegal, IsLegalAct, IsLegalAnswer, IsLegalRefusal, IsOwn, IsRival, IsTimely}
 use Rattle.k42_kinds.proofs.Splits.{EachBehind, each_split, each_split-push, All-at_split, Any-append_left}
 
 -- each stamp is one more than the number of entries before it
@@ -49,7 +49,7 @@ module _ (kind : KindName) (before : List Entry) (entry : Entry) (after : List E
     later = All-push (λ other. IsOwn entry other → number ≤ other.incarnation + 1) after last timely.later allowed;
   }
 
-  end-push : (answer : Answer) → (IsOwn entry last → refused_for answer ≤ last.incarnation + 1) → IsLegalEnd kind before entry after answer → IsLegalEnd kind before entry (after ++ last ∷ []) answer
+  end-push : (answer : Answer) → (IsOwn entry last → refused_for answer ≤ last.incarnation + 1) → IsLegalAnswer kind before entry after answer → IsLegalAnswer kind before entry (after ++ last ∷ []) answer
   end-push (Swapped number) allowed legal = legal
   end-push Spent allowed legal = legal
   end-push Gone allowed legal = legal
@@ -86,4 +86,4 @@ illegal_at kinds kind before entry after declared illegal history = illegal (leg
 -- what a refused swap has, seen from its entry
 pub refusal_of_swap : (kind : KindName) (before : List Entry) (entry : Entry) (after : List Entry) (layout : LayoutName) (number : ℕ) → entry.act ≡ Swap layout → entry.answer ≡ Busy number → IsLegal kind before entry after → IsLegalRefusal before entry after number
 refusal_of_swap kind before entry after layout number act answer legal =
-    subst (λ (a : Answer). IsLegalEnd kind before entry after a) answer (subst (λ (a : Act). IsLegalAct kind before entry after a) act legal)
+    subst (λ (a : Answer). IsLegalAnswer kind before entry after a) answer (subst (λ (a : Act). IsLegalAct kind before entry after a) act legal)

@@ -5,3 +5,6 @@ pub mod LongerHistories
 pub mod ExampleLines
 pub mod AcceptedHistories
 pub mod RefusedHistories
+pub mod SeenMaps
+pub mod FiniteMaps
+pub mod ObjectLaws

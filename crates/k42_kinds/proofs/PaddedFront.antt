@@ -1,5 +1,5 @@
 -- Bytes that are copied to the front of zeros.
-use Rattle.std.proofs.Common.{◌≡◌, ℕ, ◌-◌, ◌≤◌, List, ◌++◌, length, drop, refl, arith}
+use Rattle.std.proofs.Common.{◌≡◌, ℕ, ◌≤◌, List, ◌++◌, length, drop, refl, arith}
 use Rattle.std.specs.Prelude.{replicate}
 use Rattle.std.proofs.lemmas.List.{drop_at, drop-replicate, length-append, length-drop, length-replicate}
 use Rattle.k42_kinds.specs.Padded.{IsPadded}

@@ -1,5 +1,6 @@
 -- What a history says of one object: its state, how many swaps it went through, and how it is kept.
-use Rattle.std.specs.Prelude.{◌≡◌, ℕ, ◌+◌, Bool, true, false, ◌&&◌, ◌==◌, if◌then◌else◌, List, ◌∷◌, ◌++◌, length, filter, map, fold, count_by}
+use Rattle.std.specs.Prelude.{◌≡◌, ℕ, ◌+◌, ◌-◌, Bool, true, false, ◌&&◌, ◌==◌, if◌then◌else◌, List, ◌∷◌, ◌++◌, length, filter, map, fold, count_by, Option, Some, None, slice_index_or}
+use Rattle.std.specs.List.{filter_map}
 use Rattle.k42_kinds.specs.declared.operation.KindName.{KindName}
 use Rattle.k42_kinds.specs.declared.operation.LayoutName.{LayoutName}
 use Rattle.k42_kinds.specs.declared.states.AnyState.{AnyState}
@@ -17,16 +18,16 @@ abbrev pub IsNumbered : List Entry → Type 0
 IsNumbered history = (before : List Entry) (entry : Entry) (after : List Entry) → history ≡ before ++ entry ∷ after → entry.stamp ≡ length before + 1
 
 -- whether the swap or destroy was carried out
-abbrev pub is_done : Answer → Bool
-is_done (Swapped number) = true
-is_done _ = false
+abbrev pub is_carried_out : Answer → Bool
+is_carried_out (Swapped number) = true
+is_carried_out _ = false
 
 -- The state of an object after one of its entries: a call steps it, a destroy that was carried out ends it, and
 -- everything else leaves it.
 abbrev pub state_after_act : AnyState → Act → Answer → AnyState
 state_after_act state (Call op) answer = state_after state op
 state_after_act state (Swap layout) answer = state
-state_after_act state Destroy answer = if is_done answer then states.Dead else state
+state_after_act state Destroy answer = if is_carried_out answer then states.Dead else state
 
 -- an entry moves its own object alone
 abbrev pub moved_by : ℕ → AnyState → Entry → AnyState
@@ -37,27 +38,31 @@ abbrev pub state_of : KindName → ℕ → List Entry → AnyState
 state_of kind object history = fold (moved_by object) (empty_state kind) history
 
 -- whether the entry is a swap or destroy of the object that was carried out
-abbrev pub is_done_on : ℕ → Entry → Bool
-is_done_on object entry = (entry.object == object) && is_done entry.answer
+abbrev pub is_carried_out_on : ℕ → Entry → Bool
+is_carried_out_on object entry = (entry.object == object) && is_carried_out entry.answer
 
 -- how many swaps and destroys of the object were carried out
 abbrev pub number_of : ℕ → List Entry → ℕ
-number_of object history = count_by (is_done_on object) history
+number_of object history = count_by (is_carried_out_on object) history
 
 -- how an object is kept: in a live layout, or dead
 pub data Implementation : Type 0 where
   Live : LayoutName → Implementation
   Dead : Implementation
 
--- the implementation that an act asks for
-abbrev pub implementation_after : Implementation → Act → Implementation
-implementation_after now (Call op) = now
-implementation_after now (Swap layout) = Live layout
-implementation_after now Destroy = Dead
+-- the implementation that an act asks for; a call asks for none
+abbrev pub asked_for : Act → Option Implementation
+asked_for (Call op) = None
+asked_for (Swap layout) = Some (Live layout)
+asked_for Destroy = Some Dead
 
--- the object's implementation is what the last of its swaps and destroys asked for, else the declared layout
+-- what the swaps and destroys of the object that were carried out asked for, in their order
+abbrev pub implementations_of : ℕ → List Entry → List Implementation
+implementations_of object history = filter_map (λ entry. asked_for entry.act) (filter (is_carried_out_on object) history)
+
+-- the object is kept as the last of them asked, and as it was declared where there is none
 abbrev pub implementation_of : LayoutName → ℕ → List Entry → Implementation
-implementation_of declared object history = fold (λ now entry. if is_done_on object entry then implementation_after now entry.act else now) (Live declared) history
+implementation_of declared object history = let all = implementations_of object history in slice_index_or all (length all - 1) (Live declared)
 
 -- the entries of one caller, in their order
 abbrev pub entries_of : ℕ → List Entry → List Entry

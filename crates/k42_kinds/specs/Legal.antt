@@ -23,6 +23,7 @@ pub record IsLegalCall (kind : KindName) (before : List Entry) (entry : Entry) (
   pub replied : entry.answer ≡ Replied (reply_of (state_of kind entry.object before) op)
   pub incarnation : entry.incarnation ≡ number_of entry.object before
 
+-- the object is not dead
 abbrev pub IsAlive : KindName → ℕ → List Entry → Type 0
 IsAlive kind object before = state_of kind object before ≢ states.Dead
 
@@ -50,9 +51,9 @@ pub record IsOwn (entry other : Entry) : Type 0 where
   pub object : other.object ≡ entry.object
 
 -- the number of a swap that was carried out, and 0 for any other answer
-abbrev pub done_number : Answer → ℕ
-done_number (Swapped number) = number
-done_number _ = 0
+abbrev pub number_carried_out : Answer → ℕ
+number_carried_out (Swapped number) = number
+number_carried_out _ = 0
 
 -- whether the answer tells of a swap of this number that was carried out or given up
 abbrev pub Settles : ℕ → Answer → Type 0
@@ -66,11 +67,16 @@ pub record IsRival (entry : Entry) (number : ℕ) (other : Entry) : Type 0 where
   pub object : other.object ≡ entry.object
   pub settles : Settles number other.answer
 
--- Nothing that its caller had seen of the object before it is past this number, and nothing that it sees later is
--- from before the implementation which that swap was to end.
+-- an earlier entry of the same caller is not past the swap of this number
+pub record IsNotPast (number : ℕ) (other : Entry) : Type 0 where
+  pub incarnation : other.incarnation ≤ number
+  pub carried_out : number_carried_out other.answer ≤ number
+
+-- Nothing that its caller had seen of the object before it is past the swap of this number, and nothing that it sees
+-- later is from before the incarnation that this swap was to end.
 pub record IsTimely (before : List Entry) (entry : Entry) (after : List Entry) (number : ℕ) : Type 0 where
   pub incarnation : entry.incarnation + 1 ≡ number
-  pub earlier : All (λ other. IsOwn entry other → (other.incarnation ≤ number) × (done_number other.answer ≤ number)) before
+  pub earlier : All (λ other. IsOwn entry other → IsNotPast number other) before
   pub later : All (λ other. IsOwn entry other → number ≤ other.incarnation + 1) after
 
 -- A swap or destroy is refused for another swap's sake where that swap stands anywhere in the history, before or
@@ -80,18 +86,19 @@ pub record IsLegalRefusal (before : List Entry) (entry : Entry) (after : List En
   pub rival : Any (IsRival entry number) (before ++ after)
 
 -- how a swap or destroy may be answered
-abbrev pub IsLegalEnd : KindName → List Entry → Entry → List Entry → Answer → Type 0
-IsLegalEnd kind before entry after (Swapped number) = IsLegalSwap kind before entry number
-IsLegalEnd kind before entry after Spent = IsLegallySpent kind before entry
-IsLegalEnd kind before entry after Gone = IsLegallyGone kind before entry
-IsLegalEnd kind before entry after (Busy number) = IsLegalRefusal before entry after number
-IsLegalEnd kind before entry after (Abandoned number) = IsTimely before entry after number
-IsLegalEnd kind before entry after (Replied reply) = ⊥
+abbrev pub IsLegalAnswer : KindName → List Entry → Entry → List Entry → Answer → Type 0
+IsLegalAnswer kind before entry after (Swapped number) = IsLegalSwap kind before entry number
+IsLegalAnswer kind before entry after Spent = IsLegallySpent kind before entry
+IsLegalAnswer kind before entry after Gone = IsLegallyGone kind before entry
+IsLegalAnswer kind before entry after (Busy number) = IsLegalRefusal before entry after number
+IsLegalAnswer kind before entry after (Abandoned number) = IsTimely before entry after number
+IsLegalAnswer kind before entry after (Replied reply) = ⊥
 
+-- how an act may be answered: a call by a reply, a swap or destroy by the rules above
 abbrev pub IsLegalAct : KindName → List Entry → Entry → List Entry → Act → Type 0
 IsLegalAct kind before entry after (Call op) = IsLegalCall kind before entry op
-IsLegalAct kind before entry after (Swap layout) = IsLegalEnd kind before entry after entry.answer
-IsLegalAct kind before entry after Destroy = IsLegalEnd kind before entry after entry.answer
+IsLegalAct kind before entry after (Swap layout) = IsLegalAnswer kind before entry after entry.answer
+IsLegalAct kind before entry after Destroy = IsLegalAnswer kind before entry after entry.answer
 
 -- an entry is legal between the entries before it and those after it, by its act and its answer
 abbrev pub IsLegal : KindName → List Entry → Entry → List Entry → Type 0

@@ -1,5 +1,5 @@
 -- Which operation belongs to which kind of object.
-use Rattle.std.specs.Prelude.{Bool, true, false, ◌&&◌}
+use Rattle.std.specs.Prelude.{Bool, true, false}
 use Rattle.k42_kinds.specs.declared.operation.KindName.{KindName}
 use Rattle.k42_kinds.specs.declared.operation.KindName.TheVariants as kinds
 use Rattle.k42_kinds.specs.declared.operation.Op.{Op}
@@ -28,7 +28,3 @@ same_kind _ _ = false
 -- an object takes the operations of its kind
 abbrev pub takes_operation : KindName → Op → Bool
 takes_operation kind op = same_kind (kind_of_op op) kind
-
--- counters are the kind that the plain object serves
-abbrev pub plain_takes : KindName → Op → Bool
-plain_takes kind op = takes_operation kind op && same_kind kind kinds.Counter

@@ -1,5 +1,5 @@
 -- Pages: which were written, with what text, and which of them are dirty.
-use Rattle.std.specs.Prelude.{ℕ, Bool, true, false, List, map, length, count_by, refl, Option, Some, None}
+use Rattle.std.specs.Prelude.{ℕ, Bool, true, false, List, map, count_by, refl}
 use Rattle.std.specs.Coded.{Coded, code_by, coded×, coded_ℕ, coded_list, coded_bool}
 use Rattle.std.specs.FinMap as finite
 use Rattle.std.specs.FinMap.{FinMap}

@@ -29,7 +29,7 @@ pub enum Answer {
 /// One line of a history: who did what to which object, and how it was answered.
 #[derive(Clone, Copy, Debug, PartialEq, Eq)]
 pub struct Entry {
-    /// Its place in the order of all entries, from 1.
+    /// Where it stands in the order of entries. In a whole history it is its place, from 1.
     pub stamp: u64,
     /// Who called, counted from 0.
     pub caller: u32,
@@ -37,9 +37,11 @@ pub struct Entry {
     pub index: u32,
     /// Which object, counted from 0.
     pub object: u32,
-    /// In which implementation of the object it was answered, counted from 0.
+    /// How many swaps and destroys of the object were carried out before it; where another's swap
+    /// refused it, before that one.
     pub incarnation: u32,
-    /// The first cell at which it was drawn, 0 where it was drawn alone.
+    /// The number of the first cell, a place for a representative, that its stamp was drawn at; 0
+    /// where it was drawn at none.
     pub cell: u32,
     pub act: Act,
     pub answer: Answer,

@@ -1,20 +1,25 @@
 //! The objects of one thread, their operations and replies, and what a lawful history of them is.
 #![tactic(auto)]
 
+mod counter;
+mod directory;
 mod entry;
 mod kind;
 mod name;
 mod operation;
 mod page;
+mod pages;
 mod plain;
 mod states;
 mod text;
 
+pub use directory::DirectoryState;
 pub use entry::{Act, Answer, Entry, Reach};
 pub use kind::Kind;
 pub use name::Name;
 pub use operation::{KindName, LayoutName, Op, Reply, kind_of};
 pub use page::Page;
+pub use pages::PagesState;
 pub use plain::Plain;
-pub use states::{AnyState, DirectoryState, PagesState};
+pub use states::AnyState;
 pub use text::Text;

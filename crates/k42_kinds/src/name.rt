@@ -138,3 +138,40 @@ fn spells_name(bytes: &[u8]) -> bool
         }
     }
 }
+
+#[cfg(test)]
+mod tests {
+    use super::*;
+    use std::test::Fail;
+
+    #[test]
+    fn a_name_has_1_to_16_bytes_and_begins_with_a_letter(rt: HostRuntime) {
+        let names: [&[u8]; 4] = [b"a", b"z_9", b"procs", b"abcdefghijklmnop"];
+        for bytes in names {
+            assert!(rt; Name::of(bytes).is_some(), "{bytes:?}");
+        }
+        let others: [&[u8]; 7] = [b"", b"9a", b"_a", b"A", b"aB", b"a b", b"abcdefghijklmnopq"];
+        for bytes in others {
+            assert!(rt; Name::of(bytes).is_none(), "{bytes:?}");
+        }
+    }
+
+    #[test]
+    fn names_are_ordered_by_their_bytes(rt: HostRuntime) -> Result<(), Fail> {
+        let pairs: [(&[u8], &[u8]); 4] = [
+            (b"a", b"ab"),
+            (b"a9", b"a_"),
+            (b"a_", b"aa"),
+            (b"az", b"b"),
+        ];
+        for (low, high) in pairs {
+            let low = Name::of(low).ok_or("no name")?;
+            let high = Name::of(high).ok_or("no name")?;
+            assert!(rt;
+                low < high && low == low && low != high,
+                "{low:?} and {high:?}"
+            );
+        }
+        Ok(())
+    }
+}

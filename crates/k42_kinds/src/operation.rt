@@ -19,7 +19,7 @@ pub enum LayoutName {
     Spread,
 }
 
-/// An operation of an object, with its arguments. A page is numbered from 0 to 1,023.
+/// An operation of an object, with its arguments. A script numbers pages from 0 to 1,023.
 #[derive(Clone, Copy, Debug, PartialEq, Eq)]
 pub enum Op {
     Add(u32),

@@ -1,10 +1,13 @@
 ghost use Rattle.std.specs.Prelude.{◌≡◌};
-ghost use Rattle.k42_kinds.specs.Objects.{empty_state, state_after, reply_of, counter_after, counter_reply};
-ghost use Rattle.k42_kinds.specs.Operations.{plain_takes};
+ghost use Rattle.k42_kinds.specs.Objects.{empty_state, state_after, reply_of};
+ghost use Rattle.k42_kinds.specs.Operations.{takes_operation};
 
+use crate::counter::step_counter;
+use crate::directory::{DirectoryState, step_directory};
 use crate::kind::Kind;
 use crate::operation::{KindName, Op, Reply};
-use crate::states::{AnyState, DirectoryState, PagesState};
+use crate::pages::{PagesState, step_pages};
+use crate::states::AnyState;
 use k42_memory::Memory;
 use std::alloc::Global;
 
@@ -19,7 +22,7 @@ impl Kind for Plain {
 
     ghost start = { λ plain. empty_state plain.kind };
 
-    ghost takes = { λ plain. plain_takes plain.kind };
+    ghost takes = { λ plain. takes_operation plain.kind };
 
     ghost after = { λ plain. state_after };
 
@@ -36,27 +39,12 @@ impl Kind for Plain {
     fn step(&self, _alloc: Global, state: &mut AnyState, op: &Op) -> Result<Reply, Memory> {
         match state {
             AnyState::Counter(value) => Ok(step_counter(value, op)),
-            AnyState::Directory(_) | AnyState::Pages(_) | AnyState::Dead => Ok(Reply::Gone),
+            AnyState::Directory(names) => step_directory(names, op),
+            AnyState::Pages(pages) => step_pages(pages, op),
+            AnyState::Dead => Ok(Reply::Gone),
         }
     }
 }
 
-/// One operation of a counter. Another kind's operation leaves it.
-fn step_counter(value: &mut u64, op: &Op) -> Reply
-    ensures replied { result ≡ counter_reply value.old op.now }
-    ensures moved { value.new ≡ counter_after value.old op.now }
-{
-    match op {
-        Op::Add(amount) => {
-            *value = value.wrapping_add(u64::from(*amount));
-            Reply::Done
-        }
-        Op::Get => Reply::Number(*value),
-        Op::Drain => {
-            let drained = *value;
-            *value = 0;
-            Reply::Number(drained)
-        }
-        _ => Reply::Gone,
-    }
-}
+#[cfg(test)]
+mod tests;

@@ -9,7 +9,7 @@ use Rattle.std.proofs.lemmas.Option.{same_Some, option_and_then_some, cond_some}
 use Rattle.std.proofs.lemmas.List.Elements.{All-nil, All-from_recursion}
 use Rattle.k42_kinds.specs.declared.operation.KindName.TheVariants.{Counter}
 use Rattle.k42_kinds.specs.declared.operation.Op.{Op}
-use Rattle.k42_kinds.specs.declared.operation.Op.TheVariants.{Add, Get, Drain}
+use Rattle.k42_kinds.specs.declared.operation.Op.TheVariants.{Add, Get, Drain, Bind, Find, Unbind, Size, Write, Read, Dirty, Clean}
 use Rattle.k42_kinds.specs.declared.entry.Act.TheVariants.{Call}
 use Rattle.k42_kinds.specs.Operations.{kind_of_op}
 use Rattle.script_text.specs.Numbers.{number_of, number_within, number_below}
@@ -17,7 +17,7 @@ use Rattle.script_text.specs.Forms.{procs_on, free_name, shared_counter, object_
 use Rattle.script_text.specs.Language.{Said, said_from, spelled, items_of, call_limit, cause_of, last_number, script_at_end, unless_refused, fault_at, read_on, parsed, one_object, one_worker}
 use Rattle.script_text.specs.Lawful.{kinds_of, call_lines}
 use Rattle.script_text.specs.Lines.{lines_of}
-use Rattle.script_text.specs.Sound.{IsCallOf, IsSoundLine, IsSoundWorker, IsSound}
+use Rattle.script_text.specs.Sound.{NamesPage, IsActOn, IsSoundLine, IsSoundWorker, IsSound}
 use Rattle.script_text.specs.Outcome.{Answers}
 use Rattle.script_text.specs.declared.fault.ParseEnd.{ParseEnd}
 use Rattle.script_text.specs.declared.fault.ScriptCause.{ScriptCause}
@@ -100,15 +100,29 @@ ok_or_ok : (o : Option Script) (fault : ScriptFault) (script : Script) → ok_or
 ok_or_ok None fault script e = err-ok fault script e
 ok_or_ok (Some found) fault script e = cc
 
+-- an operation of a counter names no page
+asked_of_counter : (op : Op) → kind_of_op op ≡ Counter → IsActOn Counter (Call op)
+asked_of_counter (Add amount) own = (own, tt)
+asked_of_counter Get own = (own, tt)
+asked_of_counter Drain own = (own, tt)
+asked_of_counter (Bind key number) own = cc
+asked_of_counter (Find key) own = cc
+asked_of_counter (Unbind key) own = cc
+asked_of_counter Size own = cc
+asked_of_counter (Write page text) own = cc
+asked_of_counter (Read page) own = cc
+asked_of_counter Dirty own = cc
+asked_of_counter Clean own = cc
+
 -- each item is a call of the only object, by an operation of a counter
-items_of-lines : (P : CallLine → Type 0) → ((line : ℕ) (op : Op) → kind_of_op op ≡ Counter → P (record { line = line; object = 0; act = Call op })) → (object : List ℕ) (calls : List Said) (items : List Item)
+items_of-lines : (P : CallLine → Type 0) → ((line : ℕ) (op : Op) → IsActOn Counter (Call op) → P (record { line = line; object = 0; act = Call op })) → (object : List ℕ) (calls : List Said) (items : List Item)
     → items_of object calls ≡ Some items → AllByRecursion P (call_lines items) × (length (call_lines items) ≡ length calls)
 items_of-lines P each object [] items e = subst (λ (found : List Item). AllByRecursion P (call_lines found) × (length (call_lines found) ≡ 0)) (same_Some [] items e) (tt, refl)
 items_of-lines P each object (said ∷ calls) items e =
     option_and_then_some (λ op. option_map (λ behind. Line (record { line = said.line; object = 0; act = Call op }) ∷ behind) (items_of object calls)) (call_on object said.tokens) items e (λ op on found.
     map_some (λ behind. Line (record { line = said.line; object = 0; act = Call op }) ∷ behind) (items_of object calls) items found (λ behind spelled_behind same.
     let rest = items_of-lines P each object calls behind spelled_behind in
-    subst (λ (all : List Item). AllByRecursion P (call_lines all) × (length (call_lines all) ≡ length (said ∷ calls))) same ((each said.line op (call_on-kind object said.tokens op on), rest.0), ap suc rest.1)))
+    subst (λ (all : List Item). AllByRecursion P (call_lines all) × (length (call_lines all) ≡ length (said ∷ calls))) same ((each said.line op (asked_of_counter op (call_on-kind object said.tokens op on)), rest.0), ap suc rest.1)))
 
 no_workers : (procs : ℕ) (objects : List ObjectLine) → (1 ≤ procs) × (procs ≤ 8) → IsSound (record { procs = procs; objects = objects; workers = [] })
 no_workers procs objects range = record {
@@ -122,7 +136,7 @@ one_sound : (procs : ℕ) (object : ObjectLine) (worker : WorkerHead) (calls : L
     → items_of object.name calls ≡ Some items → IsSound (one_object procs object (one_worker worker items ∷ []))
 one_sound procs object worker calls items range kind proc few e =
     let script : Script = one_object procs object (one_worker worker items ∷ []) in
-    let lines = items_of-lines (IsSoundLine script) (λ line op own. record { kind = Counter; declared = ap Some kind; call = own }) object.name calls items e in
+    let lines = items_of-lines (IsSoundLine script) (λ line op own. record { kind = Counter; declared = ap Some kind; asked = own }) object.name calls items e in
     record {
       some_processor = range.0;
       processors = range.1;

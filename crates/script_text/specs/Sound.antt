@@ -1,26 +1,37 @@
--- What is true of every script that can be read.
+-- What is true of every script that can be read: it can be run, and its records can be written.
 use Rattle.std.specs.Prelude.{◌≡◌, ℕ, ◌<◌, ◌≤◌, List, length, sum_by, All, Some, slice_get}
 use Rattle.k42_kinds.specs.declared.entry.Act.{Act}
 use Rattle.k42_kinds.specs.declared.entry.Act.TheVariants.{Call, Swap, Destroy}
 use Rattle.k42_kinds.specs.declared.operation.KindName.{KindName}
-use Rattle.k42_kinds.specs.declared.operation.KindName.TheVariants.{Counter}
+use Rattle.k42_kinds.specs.declared.operation.Op.{Op}
+use Rattle.k42_kinds.specs.declared.operation.Op.TheVariants.{Write, Read}
 use Rattle.k42_kinds.specs.Operations.{kind_of_op}
 use Rattle.script_text.specs.Lawful.{kinds_of, call_lines}
 use Rattle.script_text.specs.declared.script.CallLine.{CallLine}
 use Rattle.script_text.specs.declared.script.Script.{Script}
 use Rattle.script_text.specs.declared.script.WorkerLines.{WorkerLines}
 
--- the act is a call of an operation of this kind
-abbrev pub IsCallOf : KindName → Act → Type 0
-IsCallOf kind (Call op) = kind_of_op op ≡ kind
-IsCallOf kind (Swap layout) = ⊥
-IsCallOf kind Destroy = ⊥
+-- how many pages an object has
+abbrev pub page_count : ℕ
+page_count = 1024
 
--- the line calls a declared object, by an operation of its kind
+-- the page that an operation names, if it names one, is there
+abbrev pub NamesPage : Op → Type 0
+NamesPage (Write page text) = page < page_count
+NamesPage (Read page) = page < page_count
+NamesPage _ = Unit {0}
+
+-- the act may be asked of an object of this kind: an operation of its kind, or a swap or destroy of any
+abbrev pub IsActOn : KindName → Act → Type 0
+IsActOn kind (Call op) = (kind_of_op op ≡ kind) × NamesPage op
+IsActOn kind (Swap layout) = Unit {0}
+IsActOn kind Destroy = Unit {0}
+
+-- the line asks of a declared object what may be asked of it
 pub record IsSoundLine (script : Script) (line : CallLine) : Type 0 where
   pub kind : KindName
   pub declared : slice_get (kinds_of script) line.object ≡ Some kind
-  pub call : IsCallOf kind line.act
+  pub asked : IsActOn kind line.act
 
 -- A worker runs on one of the processors, and each of its lines is sound.
 pub record IsSoundWorker (script : Script) (worker : WorkerLines) : Type 0 where

@@ -1,4 +1,4 @@
-ghost use Rattle.std.specs.Prelude.{◌≡◌, ℕ, List, IfOk, length, take};
+ghost use Rattle.std.specs.Prelude.{◌≡◌, ◌<◌, ℕ, List, IfOk, OnOk, length, take};
 ghost use Rattle.script_text.specs.Language.{parsed, byte_limit, fault_at, said_from, script_at_end};
 ghost use Rattle.script_text.specs.Reading.{Shows};
 ghost use Rattle.script_text.specs.Outcome.{Answers};
@@ -21,6 +21,8 @@ const SCRIPT_BYTES: usize = 1_048_576;
 pub fn parse(alloc: Global, bytes: &[u8]) -> Result<Script, ParseEnd>
     ensures answer { Answers (parsed bytes.now) result }
     ensures sound { IfOk result IsSound }
+    ensures short { OnOk result (length bytes.now < byte_limit) }
+
     // What stands past the byte that is one too many makes no difference.
     ensures enough { parsed (take byte_limit bytes.now) ≡ parsed bytes.now }
 {
@@ -29,7 +31,8 @@ pub fn parse(alloc: Global, bytes: &[u8]) -> Result<Script, ParseEnd>
 
 /// Reads one line after the other.
 fn read_lines(alloc: Global, bytes: &[u8]) -> Result<Script, ParseEnd>
-    ensures { Answers (parsed bytes.now) result }
+    ensures answer { Answers (parsed bytes.now) result }
+    ensures short { OnOk result (length bytes.now < byte_limit) }
 {
     let mut reading = Reading::new(alloc);
     let mut rest = bytes;

@@ -13,8 +13,8 @@ loop-rest-preserved c =
     underway_on c.args.bytes.now c.loop-rest.rest.now cut.result.text.now cut.result.rest.now c.loop-rest.line c.loop-rest.reading u cut.ensures c.in_ok-take.field-0 c.take.new.self c.if-not-branch.false short
     (c.in_ok-take.ensures (said_from 1 u.before) u.shows)
 
-pub returns-then-not-branch : goal.returns-then-not-branch
-returns-then-not-branch c =
+pub returns-then-not-branch-clause-answer : goal.returns-then-not-branch-clause-answer
+returns-then-not-branch-clause-answer c =
     let u = c.loop-rest.invariant in
     let cut = c.next_line-cut in
     let short : length c.args.bytes.now - length cut.result.rest.now < byte_limit = omega (arith, c.if-bytes-rest-gt-SCRIPT_BYTES.false) in

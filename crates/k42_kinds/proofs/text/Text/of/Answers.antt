@@ -1,6 +1,5 @@
 use Rattle.std.proofs.Common.{◌≤◌, length, arith}
 use Rattle.std.proofs.lemmas.Bool.Decides.{nat_tests}
-use Rattle.k42_kinds.specs.Words.{is_text}
 use Rattle.k42_kinds.proofs.PaddedFront.{padded_front}
 use Rattle.k42_kinds.proofs.text.Text.of.Goals as goal
 

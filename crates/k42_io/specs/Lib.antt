@@ -1,0 +1,6 @@
+pub mod MemSink
+pub mod MemSource
+pub mod Schedule
+pub mod Sink
+pub mod Source
+pub mod Storage

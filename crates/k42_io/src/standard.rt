@@ -1,0 +1,116 @@
+ghost use Rattle.std.specs.Prelude.{◌≡◌, ◌+◌, ◌-◌, ◌^◌, ◌<◌, length, IfOk, OnOk, OnErr};
+ghost use Rattle.std.specs.Io.{ReadsAtMost, WritesAtMost};
+
+use crate::sink::Sink;
+use crate::source::{Failed, Source};
+use std::io::{Read, Stdin, Stdout, Write};
+use std::marker::Model;
+
+/// Counts one more fault.
+fn counted(faults: &mut u64) -> Failed
+    requires { faults.old < 2 ^ 64 - 1 }
+    ensures { faults.new ≡ faults.old + 1 }
+{
+    *faults += 1;
+    Failed
+}
+
+/// Standard input. It tells no bytes, and contracts see its count of faults.
+#[derive(Drop)]
+pub struct InputSource {
+    input: Stdin,
+    faults: u64,
+}
+
+impl Model for InputSource {
+    ghost use Rattle.std.specs.Prelude.{ℕ};
+
+    ghost Value = { ℕ };
+
+    ghost view = { λ s. s.faults };
+}
+
+impl InputSource {
+    pub fn new(input: Stdin) -> Self
+        ensures { result ≡ 0 }
+    {
+        InputSource { input, faults: 0 }
+    }
+}
+
+impl Source for InputSource {
+    ghost use Rattle.std.specs.Prelude.{None};
+
+    ghost left = { λ _. None };
+
+    ghost faults = { λ count. count };
+
+    fn read(&mut self, buf: &mut [u8]) -> Result<usize, Failed>
+        requires { self.old < 2 ^ 64 - 1 }
+        ensures bound { ReadsAtMost result buf.new }
+        ensures failed { OnErr result (self.new ≡ self.old + 1) }
+        ensures quiet { OnOk result (self.new ≡ self.old) }
+    {
+        match self.input.read(buf) {
+            Ok(count) => Ok(count),
+            Err(_) => Err(counted(&mut self.faults)),
+        }
+    }
+}
+
+/// Standard output. It tells no bytes, and contracts see its count of faults.
+#[derive(Drop)]
+pub struct OutputSink {
+    output: Stdout,
+    faults: u64,
+}
+
+impl Model for OutputSink {
+    ghost use Rattle.std.specs.Prelude.{ℕ};
+
+    ghost Value = { ℕ };
+
+    ghost view = { λ s. s.faults };
+}
+
+impl OutputSink {
+    pub fn new(output: Stdout) -> Self
+        ensures { result ≡ 0 }
+    {
+        OutputSink { output, faults: 0 }
+    }
+}
+
+impl Sink for OutputSink {
+    ghost use Rattle.std.specs.Prelude.{None};
+
+    ghost taken = { λ _. None };
+
+    ghost faults = { λ count. count };
+
+    fn write(&mut self, piece: &[u8]) -> Result<usize, Failed>
+        requires { self.old < 2 ^ 64 - 1 }
+        ensures bound { WritesAtMost result piece.now }
+        ensures progress { 0 < length piece.now → IfOk result (λ n. 0 < n) }
+        ensures failed { OnErr result (self.new ≡ self.old + 1) }
+        ensures quiet { OnOk result (self.new ≡ self.old) }
+    {
+        match self.output.write(piece) {
+            // A device that takes nothing of a piece would be asked for ever.
+            Ok(0) if !piece.is_empty() => Err(counted(&mut self.faults)),
+            Ok(count) => Ok(count),
+            Err(_) => Err(counted(&mut self.faults)),
+        }
+    }
+
+    fn flush(&mut self) -> Result<(), Failed>
+        requires { self.old < 2 ^ 64 - 1 }
+        ensures failed { OnErr result (self.new ≡ self.old + 1) }
+        ensures quiet { OnOk result (self.new ≡ self.old) }
+    {
+        match self.output.flush() {
+            Ok(()) => Ok(()),
+            Err(_) => Err(counted(&mut self.faults)),
+        }
+    }
+}

@@ -1,0 +1,3 @@
+pub mod LineLookups
+pub mod Digits
+pub mod LineParts

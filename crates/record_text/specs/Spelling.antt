@@ -1,0 +1,78 @@
+-- Which records have a text.
+use Rattle.std.specs.Prelude.{◌≡◌, ℕ, ◌<◌, ◌≤◌, ◌⊎◌, List, length, All, Option, Some, IsSome, IsNone, IsSomeAnd, slice_get}
+use Rattle.k42_kinds.specs.declared.operation.KindName.{KindName}
+use Rattle.k42_kinds.specs.declared.operation.Op.{Op}
+use Rattle.k42_kinds.specs.declared.operation.Op.TheVariants.{Write, Read}
+use Rattle.k42_kinds.specs.declared.entry.Act.{Act}
+use Rattle.k42_kinds.specs.declared.entry.Act.TheVariants.{Call, Swap, Destroy}
+use Rattle.k42_kinds.specs.declared.entry.Answer.{Answer}
+use Rattle.k42_kinds.specs.declared.entry.Answer.TheVariants.{Replied, Swapped, Busy, Spent, Gone, Abandoned}
+use Rattle.k42_kinds.specs.Operations.{kind_of_op}
+use Rattle.script_text.specs.Lawful.{kinds_of}
+use Rattle.script_text.specs.declared.script.Script.{Script}
+use Rattle.record_text.specs.declared.record.RecordLine.{RecordLine}
+use Rattle.record_text.specs.declared.record.Record.{Record}
+
+-- how many pages an object of that kind has
+abbrev pub page_count : ℕ
+page_count = 1024
+
+-- the page that an operation names, if it names one, is there
+abbrev pub NamesPage : Op → Type 0
+NamesPage (Write page text) = page < page_count
+NamesPage (Read page) = page < page_count
+NamesPage _ = Unit {0}
+
+-- the act may be asked of an object of this kind: an operation of its kind, or a swap or destroy of any
+abbrev pub IsActOn : KindName → Act → Type 0
+IsActOn kind (Call op) = (kind_of_op op ≡ kind) × NamesPage op
+IsActOn kind (Swap layout) = Unit {0}
+IsActOn kind Destroy = Unit {0}
+
+-- how a call may be answered
+abbrev pub EndsCall : Answer → Type 0
+EndsCall (Replied reply) = Unit {0}
+EndsCall _ = ⊥
+
+-- how a swap or destroy may be answered: one that is under way has a number from 1
+abbrev pub EndsSwap : Answer → Type 0
+EndsSwap (Swapped number) = Unit {0}
+EndsSwap (Busy number) = 1 ≤ number
+EndsSwap Spent = Unit {0}
+EndsSwap Gone = Unit {0}
+EndsSwap _ = ⊥
+
+-- the answer is one of the act, and none of an act that was given up
+abbrev pub Ends : Act → Answer → Type 0
+Ends (Call op) answer = EndsCall answer
+Ends (Swap layout) answer = EndsSwap answer
+Ends Destroy answer = EndsSwap answer
+
+-- a line has a spelling where its worker and its object are in the script, its act may be asked of that object, and
+-- its answer is one of the act
+pub record HasSpelling (script : Script) (line : RecordLine) : Type 0 where
+  pub by_worker : line.worker < length script.workers
+  pub kind : KindName
+  pub of_object : slice_get (kinds_of script) line.object ≡ Some kind
+  pub asked : IsActOn kind line.act
+  pub answered : Ends line.act line.answer
+
+-- a call has a generation, and a swap or destroy has none
+abbrev pub HasGeneration : Act → Option ℕ → Type 0
+HasGeneration (Call op) generation = IsSome generation
+HasGeneration (Swap layout) generation = IsNone generation
+HasGeneration Destroy generation = IsNone generation
+
+-- version 1 tells nothing besides of a line, version 2 its processor and generation
+pub record IsOfVersion (version : ℕ) (line : RecordLine) : Type 0 where
+  pub first : version ≡ 1 → IsNone line.extra
+  pub second : version ≡ 2 → IsSomeAnd line.extra (λ extra. HasGeneration line.act extra.generation)
+
+abbrev pub IsVersion : ℕ → Type 0
+IsVersion version = (version ≡ 1) ⊎ (version ≡ 2)
+
+-- a record has a text where its version is one of the two, and each line has a spelling and is of that version
+pub record HasText (script : Script) (written : Record) : Type 0 where
+  pub version : IsVersion written.version
+  pub spelled : All (HasSpelling script) written.lines
+  pub told : All (IsOfVersion written.version) written.lines
