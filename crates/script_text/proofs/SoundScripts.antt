@@ -124,10 +124,12 @@ items_of-lines P each object (said ∷ calls) items e =
     let rest = items_of-lines P each object calls behind spelled_behind in
     subst (λ (all : List Item). AllByRecursion P (call_lines all) × (length (call_lines all) ≡ length (said ∷ calls))) same ((each said.line op (asked_of_counter op (call_on-kind object said.tokens op on)), rest.0), ap suc rest.1)))
 
-no_workers : (procs : ℕ) (objects : List ObjectLine) → (1 ≤ procs) × (procs ≤ 8) → IsSound (record { procs = procs; objects = objects; workers = [] })
-no_workers procs objects range = record {
+no_workers : (procs : ℕ) (objects : List ObjectLine) → (1 ≤ procs) × (procs ≤ 8) → length objects ≤ 16 → IsSound (record { procs = procs; objects = objects; workers = [] })
+no_workers procs objects range few = record {
   some_processor = range.0;
   processors = range.1;
+  objects = few;
+  callers = omega arith;
   workers = All-nil (IsSoundWorker (record { procs = procs; objects = objects; workers = [] }));
   few = omega arith;
 }
@@ -140,16 +142,18 @@ one_sound procs object worker calls items range kind proc few e =
     record {
       some_processor = range.0;
       processors = range.1;
+      objects = omega arith;
+      callers = omega arith;
       workers = All-from_recursion (IsSoundWorker script) script.workers (record { processor = proc; lines = All-from_recursion (IsSoundLine script) (call_lines items) lines.0 }, tt);
       few = omega (arith, lines.1, few);
     }
 
 sound_spelled : (first : Said) (rest : List Said) (script : Script) → spelled (first ∷ rest) ≡ Some script → IsSound script
 sound_spelled first [] script e = map_some (λ number. record { procs = number; objects = []; workers = [] }) (procs_on first.tokens) script e
-    (λ number on same. subst IsSound same (no_workers number [] (procs_on-range first.tokens number on)))
+    (λ number on same. subst IsSound same (no_workers number [] (procs_on-range first.tokens number on) (omega arith)))
 sound_spelled first (second ∷ []) script e =
     option_and_then_some (λ number. option_map (λ declared. one_object number declared []) (object_on second.tokens)) (procs_on first.tokens) script e (λ number on found.
-    map_some (λ declared. one_object number declared []) (object_on second.tokens) script found (λ declared on_object same. subst IsSound same (no_workers number (declared ∷ []) (procs_on-range first.tokens number on))))
+    map_some (λ declared. one_object number declared []) (object_on second.tokens) script found (λ declared on_object same. subst IsSound same (no_workers number (declared ∷ []) (procs_on-range first.tokens number on) (omega arith))))
 sound_spelled first (second ∷ third ∷ calls) script e =
     option_and_then_some (λ number. with_object number) (procs_on first.tokens) script e (λ number on found.
     option_and_then_some (λ declared. with_worker number declared) (object_on second.tokens) script found (λ declared on_object placed.
