@@ -1,9 +1,9 @@
 -- A script is read up to its first line that offends.
-use Rattle.std.proofs.Common.{◌≡◌, ℕ, ◌+◌, Bool, true, false, List, [], ◌∷◌, ◌++◌, length, refl, sym, ap, ◌∙◌, subst}
+use Rattle.std.proofs.Common.{◌≡◌, ℕ, ◌+◌, true, false, List, [], ◌∷◌, ◌++◌, length, refl, sym, ap, ◌∙◌, subst}
 use Rattle.std.specs.Prelude.{Err}
 use Rattle.std.proofs.lemmas.List.{append_assoc, append-nil}
 use Rattle.script_text.specs.Lines.{lines_of}
-use Rattle.script_text.specs.Language.{offends, NoneOffends, fault_at, said_from, script_at_end, unless_refused, read_on, parsed}
+use Rattle.script_text.specs.Language.{offends, NoneOffends, fault_at, said_from, script_at_end, read_on, parsed}
 use Rattle.script_text.specs.declared.fault.ScriptCause.TheVariants.{NotYet}
 
 -- none of the lines offends, read after these

@@ -1,5 +1,5 @@
 -- The first line ends with the first line feed.
-use Rattle.std.proofs.Common.{◌≡◌, ◌≢◌, ℕ, zero, suc, ◌+◌, ◌<◌, ◌≤◌, not, List, [], ◌∷◌, ◌++◌, length, get_or, take, drop, take_while, refl, sym, ap, ◌∙◌, cond, true, false, eq-eqb, ne_eqb, eqb, arith}
+use Rattle.std.proofs.Common.{◌≡◌, ◌≢◌, ℕ, zero, suc, ◌<◌, ◌≤◌, List, [], ◌∷◌, length, get_or, take, drop, refl, sym, ap, ◌∙◌, cond, true, false, eq-eqb, ne_eqb, eqb, arith}
 use Rattle.std.specs.List.{concat}
 use Rattle.std.proofs.lemmas.List.{take-append-drop, length-take}
 use Rattle.script_text.specs.Lines.{lines_of, onto_first_line, text_of}

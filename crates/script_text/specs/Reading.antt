@@ -1,10 +1,10 @@
 -- What a reader of lines keeps of those that it has read.
-use Rattle.std.specs.Prelude.{◌≡◌, ℕ, ◌<◌, ◌≤◌, Bool, true, false, ◌&&◌, ◌==◌, if◌then◌else◌, List, [], ◌∷◌, ◌++◌, length, Option, Some, None, is_some, Result, Ok, Err, OnOk}
+use Rattle.std.specs.Prelude.{◌≡◌, ℕ, ◌<◌, ◌≤◌, Bool, true, false, ◌&&◌, List, [], ◌∷◌, ◌++◌, length, Option, Some, None, is_some, Result, Ok, Err}
 use Rattle.k42_kinds.specs.declared.operation.Op.{Op}
 use Rattle.k42_kinds.specs.declared.entry.Act.TheVariants.{Call}
 use Rattle.k42_memory.specs.declared.Memory.{Memory}
 use Rattle.script_text.specs.Lines.{is_printable_text}
-use Rattle.script_text.specs.Forms.{procs_on, object_on, worker_on, call_on}
+use Rattle.script_text.specs.Forms.{procs_on, object_on, worker_on}
 use Rattle.script_text.specs.Language.{Said, said_by, spelled, items_of, one_worker, call_limit}
 use Rattle.script_text.specs.declared.script.ObjectLine.{ObjectLine}
 use Rattle.script_text.specs.declared.script.WorkerHead.{WorkerHead}
