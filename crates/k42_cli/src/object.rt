@@ -1,8 +1,10 @@
-ghost use Rattle.std.specs.Prelude.{◌≡◌, ◌<◌, IsTrue, IfOk, OnErr};
+ghost use Rattle.std.specs.Prelude.{◌≡◌, ◌<◌, IsTrue, [], ◌∷◌, ◌++◌, IfOk, OnOk, OnErr};
 ghost use Rattle.k42_kinds.specs.Operations.{takes_operation};
 
-use k42_kinds::{Act, Answer, AnyState, Kind, Op, Plain};
+use crate::asked::{Asked, generation_of};
+use k42_kinds::{Act, Answer, AnyState, Entry, Kind, Op, Plain};
 use k42_memory::Memory;
+use script_text::CallLine;
 use std::alloc::Global;
 
 /// The number of an object's last incarnation.
@@ -18,7 +20,8 @@ pub struct Object {
 }
 
 impl Object {
-    ghost use Rattle.k42_cli.specs.Objects.{Starts, Answers, CanTake};
+    ghost use Rattle.k42_cli.specs.Objects.{Starts, Answers, CanTake, swap_answer, object_after, entry_of};
+    ghost use Rattle.k42_kinds.specs.declared.operation.LayoutName.{LayoutName};
 
     pub fn new(alloc: Global, plain: Plain) -> Object
         ensures { Starts plain result }
@@ -41,5 +44,89 @@ impl Object {
             Act::Swap(_) => Ok(self.swap()),
             Act::Destroy => Ok(self.destroy()),
         }
+    }
+
+    /// Answers a line, and adds its entry.
+    pub fn record(
+        &mut self,
+        alloc: Global,
+        asked: &Asked,
+        line: &CallLine,
+        entries: &mut Vec<Entry>,
+    ) -> Result<(), Memory>
+        requires { CanTake self.old line.now.act }
+        ensures entered { OnOk result (entries.new.items ≡ entries.old.items ++ entry_of self.old asked.now line.now ∷ []) }
+        ensures moved { OnOk result (self.new ≡ object_after self.old line.now.act) }
+    {
+        // The kit proves no `?` here that keeps an entry.
+        match self.entry(alloc, asked, line) {
+            Ok(entry) => entry.push_onto(entries),
+            Err(memory) => Err(memory),
+        }
+    }
+
+    /// Answers a line, and gives its entry.
+    fn entry(&mut self, alloc: Global, asked: &Asked, line: &CallLine) -> Result<Entry, Memory>
+        requires { CanTake self.old line.now.act }
+        ensures entry { IfOk result (λ entry. entry ≡ entry_of self.old asked.now line.now) }
+        ensures moved { OnOk result (self.new ≡ object_after self.old line.now.act) }
+    {
+        let incarnation = self.number;
+        let answer = self.answer(alloc, &line.act)?;
+        Ok(Entry {
+            stamp: asked.stamp,
+            caller: asked.caller,
+            index: asked.index,
+            object: line.object,
+            incarnation,
+            cell: 0,
+            act: line.act,
+            answer,
+            proc: asked.proc,
+            generation: generation_of(&line.act, asked.swaps),
+        })
+    }
+
+    fn call(&mut self, alloc: Global, op: &Op) -> Result<Answer, Memory>
+        requires { IsTrue (takes_operation self.old.plain.kind op.now) }
+        ensures ok { IfOk result (λ answer. Answers self.old (Act.Call op.now) answer self.new) }
+        ensures memory { OnErr result (self.new ≡ self.old) }
+    {
+        let reply = self.plain.step(alloc, &mut self.state, op)?;
+        Ok(Answer::Replied(reply))
+    }
+
+    /// What a swap or destroy is answered.
+    fn swap_answer(&self) -> Answer
+        ensures { result ≡ swap_answer self.now.state self.now.number }
+    {
+        if matches!(self.state, AnyState::Dead) {
+            return Answer::Gone;
+        }
+        if self.number >= LAST_INCARNATION {
+            return Answer::Spent;
+        }
+        Answer::Swapped(self.number + 1)
+    }
+
+    fn swap(&mut self) -> Answer
+        ensures { (layout : LayoutName) → Answers self.old (Act.Swap layout) result self.new }
+    {
+        let answer = self.swap_answer();
+        if let Answer::Swapped(number) = answer {
+            self.number = number;
+        }
+        answer
+    }
+
+    fn destroy(&mut self) -> Answer
+        ensures { Answers self.old Act.Destroy result self.new }
+    {
+        let answer = self.swap_answer();
+        if let Answer::Swapped(number) = answer {
+            self.number = number;
+            self.state = AnyState::Dead;
+        }
+        answer
     }
 }

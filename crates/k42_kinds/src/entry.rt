@@ -1,4 +1,7 @@
+ghost use Rattle.std.specs.Prelude.{◌≡◌, [], ◌∷◌, ◌++◌, OnOk, OnErr};
+
 use crate::operation::{LayoutName, Op, Reply};
+use k42_memory::Memory;
 
 /// What a caller asked of an object: an operation, another implementation, or its end.
 #[derive(Clone, Copy, Debug, PartialEq, Eq)]
@@ -49,6 +52,18 @@ pub struct Entry {
     pub proc: u32,
     /// The generation of the caller's activity; `None` for swaps and destroys.
     pub generation: Option<u32>,
+}
+
+impl Entry {
+    /// Puts the entry behind the others. Want of memory leaves them.
+    pub fn push_onto(&self, entries: &mut Vec<Entry>) -> Result<(), Memory>
+        ensures ok { OnOk result (entries.new.items ≡ entries.old.items ++ self.now ∷ []) }
+        ensures memory { OnErr result (entries.new.items ≡ entries.old.items) }
+    {
+        // The kit proves no `push` of a value of this type, but that of a slice.
+        entries.extend_from_slice(&[*self])?;
+        Ok(())
+    }
 }
 
 /// Which cells of a row an operation needs.

@@ -1,0 +1,11 @@
+pub mod Places
+pub mod Stages
+pub mod Frames
+pub mod Activities
+pub mod Graces
+pub mod Courses
+pub mod Ranges
+pub mod Fresh
+pub mod Alone
+pub mod Reached
+pub mod Ended

@@ -1,0 +1,187 @@
+ghost use Rattle.std.specs.Prelude.{◌≡◌, ◌<◌, length};
+ghost use Rattle.std.specs.Bool.{OnTrue, OnFalse};
+ghost use Rattle.gen_core.specs.Events.{caller_of, is_possible, effect};
+ghost use Rattle.gen_core.specs.Sound.{IsSound};
+
+use crate::event::GenEvent;
+use crate::state::{GenProc, GenState, GraceAt};
+
+#[tactic(auto, using(crate::proofs::Ranges::home_there))]
+fn enter(state: &mut GenState, c: usize) -> bool
+    requires sound { IsSound state.old }
+    requires in_range { c < length state.old.callers }
+    ensures possible { result ≡ is_possible state.old (GenEvent.Enter c) }
+    ensures effect { OnTrue result (state.new ≡ effect state.old (GenEvent.Enter c)) }
+    ensures stays { OnFalse result (state.new ≡ state.old) }
+{
+    let caller = state.caller(c);
+    let p = caller.proc as usize;
+    let free = caller.is_free();
+    let proc = state.processor(p);
+    if !free || proc.entered == u32::MAX {
+        return false;
+    }
+    state.set_active(c, Some(proc.generation));
+    state.set_processor(
+        p,
+        GenProc {
+            entered: proc.entered + 1,
+            ..proc
+        },
+    );
+    true
+}
+
+#[tactic(auto, using(crate::proofs::Ranges::home_there))]
+fn leave(state: &mut GenState, c: usize) -> bool
+    requires sound { IsSound state.old }
+    requires in_range { c < length state.old.callers }
+    ensures possible { result ≡ is_possible state.old (GenEvent.Leave c) }
+    ensures effect { OnTrue result (state.new ≡ effect state.old (GenEvent.Leave c)) }
+    ensures stays { OnFalse result (state.new ≡ state.old) }
+{
+    let caller = state.caller(c);
+    let p = caller.proc as usize;
+    let Some(generation) = caller.active else {
+        return false;
+    };
+    let even = generation % 2 == 0;
+    let proc = state.processor(p);
+    if proc.exits(even) == u64::MAX {
+        return false;
+    }
+    state.set_active(c, None);
+    state.set_processor(p, proc.with_exit(even));
+    true
+}
+
+fn take_role(state: &mut GenState, c: u32) -> bool
+    requires sound { IsSound state.old }
+    requires in_range { c < length state.old.callers }
+    ensures possible { result ≡ is_possible state.old (GenEvent.TakeRole c) }
+    ensures effect { OnTrue result (state.new ≡ effect state.old (GenEvent.TakeRole c)) }
+    ensures stays { OnFalse result (state.new ≡ state.old) }
+{
+    if !state.caller(c as usize).is_free() || !state.can_flip_all() {
+        return false;
+    }
+    if state.role.is_none() {
+        state.set_grace(c as usize, GraceAt::Flipping(0));
+        state.set_role(Some(c));
+    }
+    true
+}
+
+#[tactic(auto, using(crate::proofs::Ranges::flipping_there))]
+fn look_ahead(state: &mut GenState, c: usize) -> bool
+    requires sound { IsSound state.old }
+    requires in_range { c < length state.old.callers }
+    ensures possible { result ≡ is_possible state.old (GenEvent.LookAhead c) }
+    ensures effect { OnTrue result (state.new ≡ effect state.old (GenEvent.LookAhead c)) }
+    ensures stays { OnFalse result (state.new ≡ state.old) }
+{
+    let caller = state.caller(c);
+    let GraceAt::Flipping(p) = caller.grace else {
+        return false;
+    };
+    if caller.coming.is_some() {
+        return false;
+    }
+    let coming = state.processor(p as usize).other_exits();
+    state.set_coming(c, coming);
+    true
+}
+
+#[tactic(auto, using(crate::proofs::Ranges::flipping))]
+fn flip(state: &mut GenState, c: usize) -> bool
+    requires sound { IsSound state.old }
+    requires in_range { c < length state.old.callers }
+    ensures possible { result ≡ is_possible state.old (GenEvent.Flip c) }
+    ensures effect { OnTrue result (state.new ≡ effect state.old (GenEvent.Flip c)) }
+    ensures stays { OnFalse result (state.new ≡ state.old) }
+{
+    let caller = state.caller(c);
+    let GraceAt::Flipping(p) = caller.grace else {
+        return false;
+    };
+    let Some(coming) = caller.coming else {
+        return false;
+    };
+    let proc = state.processor(p as usize);
+    let grace = GraceAt::after_flip(p, state.processors());
+    state.set_flipped(c, p as usize, proc.entered, grace);
+    let flipped = GenProc {
+        generation: proc.generation + 1,
+        entered: coming as u32,
+        ..proc
+    };
+    state.set_processor(p as usize, flipped);
+    true
+}
+
+#[tactic(auto, using(crate::proofs::Ranges::looking))]
+fn look(state: &mut GenState, c: usize) -> bool
+    requires sound { IsSound state.old }
+    requires in_range { c < length state.old.callers }
+    ensures possible { result ≡ is_possible state.old (GenEvent.Look c) }
+    ensures effect { OnTrue result (state.new ≡ effect state.old (GenEvent.Look c)) }
+    ensures stays { OnFalse result (state.new ≡ state.old) }
+{
+    let caller = state.caller(c);
+    let GraceAt::Looking(p) = caller.grace else {
+        return false;
+    };
+    let wait = caller.waits[p as usize];
+    if state.processor(p as usize).other_exits() == wait as u64 {
+        let grace = GraceAt::after_look(p, state.processors());
+        state.set_grace(c, grace);
+    }
+    true
+}
+
+fn give_role(state: &mut GenState, c: usize) -> bool
+    requires sound { IsSound state.old }
+    requires in_range { c < length state.old.callers }
+    ensures possible { result ≡ is_possible state.old (GenEvent.GiveRole c) }
+    ensures effect { OnTrue result (state.new ≡ effect state.old (GenEvent.GiveRole c)) }
+    ensures stays { OnFalse result (state.new ≡ state.old) }
+{
+    let GraceAt::Quiet = state.caller(c).grace else {
+        return false;
+    };
+    state.set_grace(c, GraceAt::Idle);
+    state.set_role(None);
+    true
+}
+
+fn step(state: &mut GenState, event: &GenEvent) -> bool
+    requires sound { IsSound state.old }
+    requires in_range { caller_of event.now < length state.old.callers }
+    ensures possible { result ≡ is_possible state.old event.now }
+    ensures effect { OnTrue result (state.new ≡ effect state.old event.now) }
+    ensures stays { OnFalse result (state.new ≡ state.old) }
+{
+    match *event {
+        GenEvent::Enter(c) => enter(state, c as usize),
+        GenEvent::Leave(c) => leave(state, c as usize),
+        GenEvent::TakeRole(c) => take_role(state, c),
+        GenEvent::LookAhead(c) => look_ahead(state, c as usize),
+        GenEvent::Flip(c) => flip(state, c as usize),
+        GenEvent::Look(c) => look(state, c as usize),
+        GenEvent::GiveRole(c) => give_role(state, c as usize),
+    }
+}
+
+/// One event. An event that is not possible answers false.
+pub fn apply(state: &mut GenState, event: &GenEvent) -> bool
+    requires sound { IsSound state.old }
+    requires in_range { caller_of event.now < length state.old.callers }
+    ensures possible { result ≡ is_possible state.old event.now }
+    ensures effect { OnTrue result (state.new ≡ effect state.old event.now) }
+    ensures stays { OnFalse result (state.new ≡ state.old) }
+    ensures sound { IsSound state.new }
+    ensures callers { length state.new.callers ≡ length state.old.callers }
+    ensures procs { length state.new.procs ≡ length state.old.procs }
+{
+    step(state, event)
+}

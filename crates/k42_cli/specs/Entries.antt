@@ -1,0 +1,28 @@
+-- The entry of a line that was answered.
+use Rattle.std.specs.Prelude.{ℕ, Option, Some, None}
+use Rattle.k42_kinds.specs.declared.entry.Entry.{Entry}
+use Rattle.k42_kinds.specs.declared.entry.Answer.{Answer}
+use Rattle.k42_kinds.specs.declared.entry.Act.{Act}
+use Rattle.k42_kinds.specs.declared.entry.Act.TheVariants.{Call, Swap, Destroy}
+use Rattle.script_text.specs.declared.script.CallLine.{CallLine}
+use Rattle.k42_cli.specs.declared.asked.Asked.{Asked}
+
+-- a call is made in the generation that the swaps so far have come to; a swap or destroy is made in none
+abbrev pub generation_of : Act → ℕ → Option ℕ
+generation_of (Call op) swaps = Some swaps
+generation_of (Swap layout) swaps = None
+generation_of Destroy swaps = None
+
+abbrev pub entry_with : Asked → CallLine → ℕ → Answer → Entry
+entry_with asked line incarnation answer = record {
+  stamp = asked.stamp;
+  caller = asked.caller;
+  index = asked.index;
+  object = line.object;
+  incarnation = incarnation;
+  cell = 0;
+  act = line.act;
+  answer = answer;
+  proc = asked.proc;
+  generation = generation_of line.act asked.swaps;
+}
