@@ -5,3 +5,5 @@ pub mod Readings
 pub mod Underway
 pub mod SoundScripts
 pub mod Truncated
+pub mod DecimalNumbers
+pub mod FirstOffence

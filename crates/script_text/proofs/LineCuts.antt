@@ -1,7 +1,8 @@
 -- The first line ends with the first line feed.
-use Rattle.std.proofs.Common.{◌≡◌, ◌≢◌, ℕ, zero, suc, ◌+◌, ◌<◌, ◌≤◌, not, List, [], ◌∷◌, ◌++◌, length, get_or, take, drop, take_while, refl, sym, eq-eqb, ne_eqb, eqb, arith}
+use Rattle.std.proofs.Common.{◌≡◌, ◌≢◌, ℕ, zero, suc, ◌<◌, ◌≤◌, List, [], ◌∷◌, length, get_or, take, drop, refl, sym, ap, ◌∙◌, cond, true, false, eq-eqb, ne_eqb, eqb, arith}
+use Rattle.std.specs.List.{concat}
 use Rattle.std.proofs.lemmas.List.{take-append-drop, length-take}
-use Rattle.script_text.specs.Lines.{lines_of, text_of}
+use Rattle.script_text.specs.Lines.{lines_of, onto_first_line, text_of}
 use Rattle.script_text.specs.Cuts.{CutsLine}
 
 -- n bytes stand before the first line feed
@@ -39,3 +40,17 @@ cuts_line bytes n some ends = record {
   says = text_of-first bytes n ends;
   some = omega (arith, length-take {A = ℕ});
 }
+
+concat-onto : (byte : ℕ) (lines : List (List ℕ)) → concat (onto_first_line byte lines) ≡ byte ∷ concat lines
+concat-onto byte [] = refl
+concat-onto byte (line ∷ lines) = refl
+
+-- the lines, one behind the other, are the text
+pub concat-lines_of : (bytes : List ℕ) → concat (lines_of bytes) ≡ bytes
+concat-lines_of [] = refl
+concat-lines_of (byte ∷ bytes) =
+    let behind = ap (λ (rest : List ℕ). byte ∷ rest) (concat-lines_of bytes) in
+    elim (eqb byte 10) as (λ b. concat (cond b ((byte ∷ []) ∷ lines_of bytes) (onto_first_line byte (lines_of bytes))) ≡ byte ∷ bytes) [
+      | true ↦ behind
+      | false ↦ concat-onto byte (lines_of bytes) ∙ behind
+    ]

@@ -1,5 +1,5 @@
 -- The value of digits, one digit after the other.
-use Rattle.std.proofs.Common.{◌≡◌, ℕ, ◌+◌, ◌*◌, ◌<◌, ◌≤◌, Bool, true, false, cond, ◌&&◌, List, length, get_or, take, refl, sym, arith}
+use Rattle.std.proofs.Common.{◌≡◌, ℕ, ◌+◌, ◌*◌, ◌<◌, ◌≤◌, Bool, true, false, cond, ◌&&◌, List, length, get_or, take, refl, arith}
 use Rattle.std.specs.Prelude.{Option, None, Some, nat_le}
 use Rattle.std.specs.Option.{option_and_then}
 use Rattle.std.specs.Char.{digit_value}

@@ -1,5 +1,5 @@
 -- What a reader of lines shows after one more line.
-use Rattle.std.proofs.Common.{◌≡◌, ◌≢◌, ℕ, zero, suc, ◌+◌, ◌<◌, ◌≤◌, Bool, true, false, cond, ◌&&◌, List, [], ◌∷◌, ◌++◌, length, refl, sym, ap, ◌∙◌, arith}
+use Rattle.std.proofs.Common.{◌≡◌, ◌≢◌, ℕ, ◌+◌, ◌<◌, ◌≤◌, Bool, true, false, cond, ◌&&◌, List, [], ◌∷◌, ◌++◌, length, refl, sym, ap, ◌∙◌, arith}
 use Rattle.std.specs.Prelude.{Option, Some, None, option_map, is_some, nat_le, Result, Ok, Err}
 use Rattle.std.specs.Option.{option_and_then}
 use Rattle.std.proofs.lemmas.Bool.Decides.{nat_tests}
@@ -8,13 +8,11 @@ use Rattle.std.proofs.lemmas.List.{length-append}
 use Rattle.k42_kinds.specs.declared.operation.Op.{Op}
 use Rattle.k42_kinds.specs.declared.entry.Act.TheVariants.{Call}
 use Rattle.k42_memory.specs.declared.Memory.{Memory}
-use Rattle.script_text.specs.Numbers.{number_of, number_within}
-use Rattle.script_text.specs.Forms.{procs_on, object_on, worker_on, call_on}
-use Rattle.script_text.specs.Language.{Said, said_by, spelled, items_of, call_limit, one_object, one_worker}
-use Rattle.script_text.specs.Reading.{ShowsNothing, ShowsProcs, ShowsObject, ShowsWorker, Shows, Places, PlacesItem, PlacesCall, Says, Takes}
+use Rattle.script_text.specs.Forms.{object_on, worker_on, call_on}
+use Rattle.script_text.specs.Language.{Said, spelled, items_of, call_limit, one_object, one_worker}
+use Rattle.script_text.specs.Reading.{ShowsWorker, Shows, Places, PlacesCall, Says}
 use Rattle.script_text.specs.declared.script.ObjectLine.{ObjectLine}
 use Rattle.script_text.specs.declared.script.WorkerHead.{WorkerHead}
-use Rattle.script_text.specs.declared.script.Script.{Script}
 use Rattle.script_text.specs.declared.script.Item.{Item}
 use Rattle.script_text.specs.declared.script.Item.TheVariants.{Line}
 use Rattle.script_text.specs.declared.reading.Reading.{Reading}

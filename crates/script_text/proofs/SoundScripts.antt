@@ -1,11 +1,11 @@
 -- Every script that can be read is sound.
-use Rattle.std.proofs.Common.{◌≡◌, ℕ, zero, suc, ◌+◌, ◌<◌, ◌≤◌, ◌^◌, Bool, true, false, cond, ◌&&◌, List, [], ◌∷◌, ◌++◌, length, map, refl, sym, ap, ◌∙◌, subst, arith}
-use Rattle.std.specs.Prelude.{All, sum_by, Option, Some, None, option_map, is_some, nat_le, nat_lt, slice_get, Result, Ok, Err, IfOk, codes}
+use Rattle.std.proofs.Common.{◌≡◌, ℕ, suc, ◌+◌, ◌<◌, ◌≤◌, ◌^◌, Bool, true, false, cond, ◌&&◌, List, [], ◌∷◌, ◌++◌, length, refl, sym, ap, subst, arith}
+use Rattle.std.specs.Prelude.{Option, Some, None, option_map, nat_le, nat_lt, Result, Ok, Err, IfOk, codes}
 use Rattle.std.specs.Option.{option_and_then, ok_or}
 use Rattle.std.specs.Str.{bytes_eq}
 use Rattle.std.specs.List.{AllByRecursion}
 use Rattle.std.proofs.lemmas.Bool.Decides.{nat_tests}
-use Rattle.std.proofs.lemmas.Option.{same_Some, option_and_then_some, cond_some}
+use Rattle.std.proofs.lemmas.Option.{same_Some, option_and_then_some}
 use Rattle.std.proofs.lemmas.List.Elements.{All-nil, All-from_recursion}
 use Rattle.k42_kinds.specs.declared.operation.KindName.TheVariants.{Counter}
 use Rattle.k42_kinds.specs.declared.operation.Op.{Op}
@@ -15,9 +15,9 @@ use Rattle.k42_kinds.specs.Operations.{kind_of_op}
 use Rattle.script_text.specs.Numbers.{number_of, number_within, number_below}
 use Rattle.script_text.specs.Forms.{procs_on, free_name, shared_counter, object_on, worker_head, worker_on, counter_operation, call_on}
 use Rattle.script_text.specs.Language.{Said, said_from, spelled, items_of, call_limit, cause_of, last_number, script_at_end, unless_refused, fault_at, read_on, parsed, one_object, one_worker}
-use Rattle.script_text.specs.Lawful.{kinds_of, call_lines}
+use Rattle.script_text.specs.Lawful.{call_lines}
 use Rattle.script_text.specs.Lines.{lines_of}
-use Rattle.script_text.specs.Sound.{NamesPage, IsActOn, IsSoundLine, IsSoundWorker, IsSound}
+use Rattle.script_text.specs.Sound.{IsActOn, IsSoundLine, IsSoundWorker, IsSound}
 use Rattle.script_text.specs.Outcome.{Answers}
 use Rattle.script_text.specs.declared.fault.ParseEnd.{ParseEnd}
 use Rattle.script_text.specs.declared.fault.ScriptCause.{ScriptCause}
@@ -28,7 +28,6 @@ use Rattle.script_text.specs.declared.script.Item.{Item}
 use Rattle.script_text.specs.declared.script.Item.TheVariants.{Line}
 use Rattle.script_text.specs.declared.script.ObjectLine.{ObjectLine}
 use Rattle.script_text.specs.declared.script.WorkerHead.{WorkerHead}
-use Rattle.script_text.specs.declared.script.WorkerLines.{WorkerLines}
 use Rattle.script_text.specs.declared.script.Script.{Script}
 
 none-some : {X Y : Type 0} (x : X) → ◌≡◌ {A = Option X} None (Some x) → Y

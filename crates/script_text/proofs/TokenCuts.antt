@@ -1,5 +1,5 @@
 -- Tokens are cut off one after the other.
-use Rattle.std.proofs.Common.{◌≡◌, ◌≢◌, ℕ, zero, suc, ◌+◌, ◌<◌, ◌≤◌, List, [], ◌∷◌, ◌++◌, length, get_or, take, drop, filter, refl, sym, ◌∙◌, ap, eq-eqb, ne_eqb, arith}
+use Rattle.std.proofs.Common.{◌≡◌, ◌≢◌, ℕ, zero, suc, ◌<◌, ◌≤◌, List, [], ◌∷◌, length, get_or, take, drop, filter, refl, ◌∙◌, ap, eq-eqb, ne_eqb, arith}
 use Rattle.std.specs.List.{slice_split}
 use Rattle.script_text.specs.Tokens.{is_space, has_bytes, tokens_of}
 use Rattle.script_text.specs.Words.{with_token}

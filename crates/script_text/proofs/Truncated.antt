@@ -1,10 +1,10 @@
 -- What stands past the first byte that is too many makes no difference.
-use Rattle.std.proofs.Common.{◌≡◌, ℕ, zero, suc, ◌+◌, ◌-◌, ◌<◌, ◌≤◌, Bool, true, false, cond, not, ◌||◌, List, [], ◌∷◌, ◌++◌, length, take, refl, sym, ap, ◌∙◌, eqb, arith}
-use Rattle.std.specs.Prelude.{is_some, nat_lt, Err, sum_by}
+use Rattle.std.proofs.Common.{◌≡◌, ℕ, zero, suc, ◌+◌, ◌<◌, ◌≤◌, Bool, true, false, cond, List, [], ◌∷◌, ◌++◌, length, take, refl, sym, ap, ◌∙◌, eqb, arith}
+use Rattle.std.specs.Prelude.{is_some, Err}
 use Rattle.std.proofs.lemmas.Bool.Decides.{nat_tests}
 use Rattle.std.proofs.lemmas.List.{length-take}
 use Rattle.script_text.specs.Lines.{lines_of, onto_first_line, text_of, is_printable_text, byte_count, holds_byte}
-use Rattle.script_text.specs.Language.{said_from, spelled, byte_limit, offends, cause_of, fault_at, script_at_end, unless_refused, read_on, parsed}
+use Rattle.script_text.specs.Language.{said_from, spelled, byte_limit, offends, cause_of, fault_at, unless_refused, read_on, parsed}
 use Rattle.script_text.specs.declared.fault.ScriptCause.TheVariants.{NotYet}
 use Rattle.script_text.proofs.Underway.{byte_count-push, offends_long}
 

@@ -1,16 +1,15 @@
 -- A script that is read line by line.
-use Rattle.std.proofs.Common.{◌≡◌, ℕ, zero, suc, ◌+◌, ◌-◌, ◌<◌, ◌≤◌, Bool, true, false, not, ◌&&◌, ◌||◌, List, [], ◌∷◌, ◌++◌, length, add-zero, refl, sym, ap, ◌∙◌, arith}
-use Rattle.std.specs.Prelude.{Option, Some, None, is_some, Result, Ok, Err, sum_by}
+use Rattle.std.proofs.Common.{◌≡◌, ℕ, suc, ◌+◌, ◌-◌, ◌<◌, ◌≤◌, Bool, true, false, not, ◌&&◌, ◌||◌, List, [], ◌∷◌, ◌++◌, length, add-zero, refl, sym, ap, ◌∙◌, arith}
+use Rattle.std.specs.Prelude.{is_some, Ok, Err}
 use Rattle.std.proofs.lemmas.Bool.Decides.{nat_tests}
 use Rattle.std.proofs.lemmas.List.{length-append, append_assoc, append-nil}
 use Rattle.std.proofs.lemmas.List.Sums.{sum_by-append}
 use Rattle.script_text.specs.Lines.{lines_of, text_of, is_printable_text, byte_count, holds_byte}
 use Rattle.script_text.specs.Cuts.{CutsLine}
-use Rattle.script_text.specs.Language.{Said, said_by, said_from, spelled, byte_limit, offends, cause_of, fault_at, script_at_end, unless_refused, read_on, parsed}
+use Rattle.script_text.specs.Language.{said_by, said_from, spelled, byte_limit, offends, fault_at, read_on, parsed}
 use Rattle.script_text.specs.Reading.{Shows, Takes}
 use Rattle.script_text.specs.declared.fault.ScriptCause.TheVariants.{NotYet}
 use Rattle.script_text.specs.declared.reading.Reading.{Reading}
-use Rattle.script_text.specs.declared.script.Script.{Script}
 
 -- Some lines were read, none of which offends, and the rest of the bytes decides what the script is.
 pub record IsUnderway (bytes rest : List ℕ) (line : ℕ) (reading : Reading) : Type 0 where

@@ -1,12 +1,10 @@
 -- Which histories a script may have.
-use Rattle.std.specs.Prelude.{◌≡◌, ℕ, ◌+◌, ◌<◌, ◌≤◌, List, [], ◌∷◌, ◌++◌, length, map, sum_by, All, Option, Some, slice_get}
+use Rattle.std.specs.Prelude.{◌≡◌, ℕ, ◌+◌, ◌<◌, List, [], ◌∷◌, length, map, All, Some, slice_get}
 use Rattle.k42_kinds.specs.declared.operation.KindName.{KindName}
 use Rattle.k42_kinds.specs.declared.entry.Act.{Act}
-use Rattle.k42_kinds.specs.declared.entry.Act.TheVariants.{Call, Swap, Destroy}
 use Rattle.k42_kinds.specs.declared.entry.Answer.{Answer}
 use Rattle.k42_kinds.specs.declared.entry.Answer.TheVariants.{Abandoned}
 use Rattle.k42_kinds.specs.declared.entry.Entry.{Entry}
-use Rattle.k42_kinds.specs.Operations.{kind_of_op}
 use Rattle.k42_kinds.specs.Histories.{entries_of}
 use Rattle.k42_kinds.specs.Legal.{IsLegalHistory}
 use Rattle.script_text.specs.declared.script.CallLine.{CallLine}
@@ -32,23 +30,31 @@ pub record Deed : Type 0 where
   pub object : ℕ
   pub act : Act
 
+-- what an entry says was asked
 abbrev pub deed_of : Entry → Deed
 deed_of entry = record { index = entry.index; object = entry.object; act = entry.act }
 
 -- what the lines ask, counted on from this place
 abbrev pub deeds_from : ℕ → List CallLine → List Deed
 deeds_from index [] = []
-deeds_from index (line ∷ lines) = record { index = index; object = line.object; act = line.act } ∷ deeds_from (index + 1) lines
+deeds_from index (line ∷ lines) =
+    record { index = index; object = line.object; act = line.act } ∷ deeds_from (index + 1) lines
 
--- a swap that was given up stands in no script's history
-abbrev pub IsCarriedThrough : Answer → Type 0
-IsCarriedThrough (Abandoned number) = ⊥
-IsCarriedThrough _ = Unit {0}
+-- the answer is not that of a swap that was given up
+abbrev pub IsNotGivenUp : Answer → Type 0
+IsNotGivenUp (Abandoned number) = ⊥
+IsNotGivenUp _ = Unit {0}
 
--- A history is lawful for a script where it is a legal history of the script's objects in which each worker does what
--- its lines ask, each once and in their order, and nobody else does anything.
+-- The worker of this number does what its lines ask, each once and in their order.
+abbrev pub DoesItsLines : List Entry → ℕ → WorkerLines → Type 0
+DoesItsLines history number worker =
+    map deed_of (entries_of number history) ≡ deeds_from 0 (call_lines worker.items)
+
+-- A history is lawful for a script where it is a legal history of the script's objects in which
+-- each worker does what its lines ask, nobody else does anything, and no swap was given up.
 pub record IsLawful (script : Script) (history : List Entry) : Type 0 where
   pub legal : IsLegalHistory (kinds_of script) history
-  pub in_order : (number : ℕ) (worker : WorkerLines) → slice_get script.workers number ≡ Some worker → map deed_of (entries_of number history) ≡ deeds_from 0 (call_lines worker.items)
+  pub in_order : (number : ℕ) (worker : WorkerLines) → slice_get script.workers number ≡ Some worker
+      → DoesItsLines history number worker
   pub no_stranger : All (λ entry. entry.caller < length script.workers) history
-  pub carried_through : All (λ entry. IsCarriedThrough entry.answer) history
+  pub none_given_up : All (λ entry. IsNotGivenUp entry.answer) history

@@ -2,6 +2,7 @@
 use Rattle.std.specs.Prelude.{ℕ, ◌+◌, Bool, ◌&&◌, ◌==◌, nat_lt, nat_le, if◌then◌else◌, List, [], ◌∷◌, length, sum_by}
 use Rattle.std.specs.List.{list_all}
 
+-- the byte that ends a line
 abbrev pub line_feed : ℕ
 line_feed = 10
 
@@ -13,7 +14,10 @@ onto_first_line byte (line ∷ lines) = (byte ∷ line) ∷ lines
 -- The lines of a text, each with its line feed. A last piece without one is a line too.
 abbrev pub lines_of : List ℕ → List (List ℕ)
 lines_of [] = []
-lines_of (byte ∷ bytes) = if byte == line_feed then (byte ∷ []) ∷ lines_of bytes else onto_first_line byte (lines_of bytes)
+lines_of (byte ∷ bytes) =
+    if byte == line_feed
+    then (byte ∷ []) ∷ lines_of bytes
+    else onto_first_line byte (lines_of bytes)
 
 -- what stands on a line, without its line feed
 abbrev pub text_of : List ℕ → List ℕ
@@ -34,4 +38,5 @@ byte_count lines = sum_by length lines
 
 -- whether the line behind these holds the byte of this number, counted from 1
 abbrev pub holds_byte : ℕ → List (List ℕ) → List ℕ → Bool
-holds_byte number before line = nat_lt (byte_count before) number && nat_le number (byte_count before + length line)
+holds_byte number before line =
+    nat_lt (byte_count before) number && nat_le number (byte_count before + length line)

@@ -1,5 +1,5 @@
 -- What is true of every script that can be read: it can be run, and its records can be written.
-use Rattle.std.specs.Prelude.{◌≡◌, ℕ, ◌<◌, ◌≤◌, List, length, sum_by, All, Some, slice_get}
+use Rattle.std.specs.Prelude.{◌≡◌, ℕ, ◌<◌, ◌≤◌, length, sum_by, All, Some, slice_get}
 use Rattle.k42_kinds.specs.declared.entry.Act.{Act}
 use Rattle.k42_kinds.specs.declared.entry.Act.TheVariants.{Call, Swap, Destroy}
 use Rattle.k42_kinds.specs.declared.operation.KindName.{KindName}
@@ -21,7 +21,8 @@ NamesPage (Write page text) = page < page_count
 NamesPage (Read page) = page < page_count
 NamesPage _ = Unit {0}
 
--- the act may be asked of an object of this kind: an operation of its kind, or a swap or destroy of any
+-- The act may be asked of an object of this kind: an operation of its kind, or a swap or destroy of
+-- any.
 abbrev pub IsActOn : KindName → Act → Type 0
 IsActOn kind (Call op) = (kind_of_op op ≡ kind) × NamesPage op
 IsActOn kind (Swap layout) = Unit {0}
@@ -38,6 +39,8 @@ pub record IsSoundWorker (script : Script) (worker : WorkerLines) : Type 0 where
   pub processor : worker.proc < script.procs
   pub lines : All (IsSoundLine script) (call_lines worker.items)
 
+-- A script has 1 to 8 processors, at most 16 objects, at most 16 workers, each of them sound, and
+-- at most 65,536 lines that ask something.
 pub record IsSound (script : Script) : Type 0 where
   pub some_processor : 1 ≤ script.procs
   pub processors : script.procs ≤ 8

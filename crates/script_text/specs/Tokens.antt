@@ -2,6 +2,7 @@
 use Rattle.std.specs.Prelude.{ℕ, Bool, true, false, ◌==◌, List, [], ◌∷◌, filter}
 use Rattle.std.specs.List.{slice_split}
 
+-- the byte between tokens
 abbrev pub is_space : ℕ → Bool
 is_space byte = byte == 32
 

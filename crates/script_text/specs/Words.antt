@@ -15,4 +15,5 @@ IsWords (words.One a) tokens = tokens ≡ a.now ∷ []
 IsWords (words.Two a b) tokens = tokens ≡ a.now ∷ b.now ∷ []
 IsWords (words.Three a b c) tokens = tokens ≡ a.now ∷ b.now ∷ c.now ∷ []
 IsWords (words.Four a b c d) tokens = tokens ≡ a.now ∷ b.now ∷ c.now ∷ d.now ∷ []
-IsWords words.More tokens = (a b c d e : List ℕ) × (rest : List (List ℕ)) × (tokens ≡ a ∷ b ∷ c ∷ d ∷ e ∷ rest)
+IsWords words.More tokens =
+    (a b c d e : List ℕ) × (rest : List (List ℕ)) × (tokens ≡ a ∷ b ∷ c ∷ d ∷ e ∷ rest)

@@ -3,6 +3,7 @@
 
 mod fault;
 mod forms;
+mod laws;
 mod lines;
 mod numbers;
 mod parsing;
@@ -11,5 +12,6 @@ mod script;
 mod tokens;
 
 pub use fault::{ParseEnd, ScriptCause, ScriptFault};
+pub use laws::{first_offence_decides, lines_make_the_text, numbers_are_decimal};
 pub use parsing::parse;
-pub use script::{CallLine, Item, ObjectLine, Script, WorkerHead, WorkerLines};
+pub use script::{CallLine, Item, ObjectLine, Script, WorkerLines};

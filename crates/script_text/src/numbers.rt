@@ -24,7 +24,7 @@ fn is_number(bytes: &[u8]) -> bool
 /// The number with a digit more at its end, where it is no more than `most`.
 fn with_digit(number: u64, digit: u8, most: u64) -> Option<u64>
     requires { IsTrue (is_digit digit) }
-    ensures { SomeIff result (number * 10 + digit_value digit ≤ most) (number * 10 + digit_value digit) }
+    ensures { let next = number * 10 + digit_value digit in SomeIff result (next ≤ most) next }
 {
     let next = number
         .checked_mul(10)?

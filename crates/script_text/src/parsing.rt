@@ -62,7 +62,8 @@ fn refused(line: u32) -> ParseEnd
 
 /// The script of all lines that were read, of which there are so many.
 fn finish(alloc: Global, reading: Reading, lines: u32) -> Result<Script, ParseEnd>
-    ensures { (before : List (List ℕ)) → length before ≡ lines → Shows (said_from 1 before) reading →
+    ensures { (before : List (List ℕ)) → length before ≡ lines →
+        Shows (said_from 1 before) reading →
         Answers (script_at_end before (said_from 1 before)) result }
 {
     if reading.procs == 0 {
@@ -70,3 +71,6 @@ fn finish(alloc: Global, reading: Reading, lines: u32) -> Result<Script, ParseEn
     }
     Ok(reading.into_script(alloc)?)
 }
+
+#[cfg(test)]
+mod tests;

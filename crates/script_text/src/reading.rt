@@ -67,7 +67,8 @@ impl Reading {
 
     /// Reads a line, and answers whether it may stand there.
     pub fn take(&mut self, line: u32, text: &[u8]) -> Result<bool, Memory>
-        ensures { (said : List Said) → Shows said self.old → Takes said line text.now result self.new }
+        ensures { (said : List Said) → Shows said self.old →
+            Takes said line text.now result self.new }
     {
         if !is_printable_text(text) {
             return Ok(false);
@@ -96,7 +97,8 @@ impl Reading {
     }
 
     fn take_procs(&mut self, text: &[u8]) -> bool
-        ensures { Places (forms.procs_on (tokens_of text.now)) (λ procs. record self.old { procs = procs }) result self.old self.new }
+        ensures { Places (forms.procs_on (tokens_of text.now))
+            (λ procs. record self.old { procs = procs }) result self.old self.new }
     {
         let Some(procs) = procs_on(text) else {
             return false;
@@ -106,7 +108,8 @@ impl Reading {
     }
 
     fn take_object(&mut self, text: &[u8]) -> bool
-        ensures { Places (forms.object_on (tokens_of text.now)) (λ object. record self.old { object = Some object }) result self.old self.new }
+        ensures { Places (forms.object_on (tokens_of text.now))
+            (λ object. record self.old { object = Some object }) result self.old self.new }
     {
         let Some(object) = object_on(text) else {
             return false;
@@ -116,7 +119,8 @@ impl Reading {
     }
 
     fn take_worker(&mut self, text: &[u8]) -> bool
-        ensures { Places (forms.worker_on self.old.procs (tokens_of text.now)) (λ worker. record self.old { worker = Some worker }) result self.old self.new }
+        ensures { Places (forms.worker_on self.old.procs (tokens_of text.now))
+            (λ worker. record self.old { worker = Some worker }) result self.old self.new }
     {
         let Some(worker) = worker_on(self.procs, text) else {
             return false;
@@ -126,7 +130,8 @@ impl Reading {
     }
 
     fn take_call(&mut self, line: u32, object: &Name, text: &[u8]) -> Result<bool, Memory>
-        ensures { PlacesCall (forms.call_on object.now (tokens_of text.now)) line result self.old self.new }
+        ensures { PlacesCall (forms.call_on object.now (tokens_of text.now)) line
+            result self.old self.new }
     {
         if self.items.len() >= CALLS {
             return Ok(false);

@@ -2,7 +2,7 @@ use Rattle.std.proofs.Common.{◌≡◌, [], length, drop, suc, add-one, arith}
 use Rattle.std.proofs.lemmas.List.{take_rest}
 use Rattle.std.proofs.Math.Seq.{take-length}
 use Rattle.std.proofs.Math.ListN.{drop_of_length-le}
-use Rattle.script_text.proofs.LineCuts.{EndsAt, cuts_line}
+use Rattle.script_text.proofs.LineCuts.{cuts_line}
 use Rattle.script_text.proofs.lines.next_line.Goals as goal
 
 pub returns-then-len-bytes : goal.returns-then-len-bytes

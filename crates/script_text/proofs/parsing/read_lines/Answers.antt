@@ -1,8 +1,6 @@
-use Rattle.std.proofs.Common.{◌≡◌, ◌-◌, ◌<◌, ◌≤◌, length, sym, ◌∙◌, arith}
-use Rattle.std.specs.Prelude.{Ok}
+use Rattle.std.proofs.Common.{◌-◌, ◌<◌, length, arith}
 use Rattle.script_text.specs.Language.{said_from, byte_limit}
-use Rattle.script_text.specs.Reading.{Takes}
-use Rattle.script_text.proofs.Underway.{refused_for_length, refused_for_form, underway_on}
+use Rattle.script_text.proofs.Underway.{refused_for_form, underway_on}
 use Rattle.script_text.proofs.parsing.read_lines.Goals as goal
 
 pub loop-rest-preserved : goal.loop-rest-preserved

@@ -1,5 +1,4 @@
-use Rattle.std.proofs.Common.{◌≡◌, sym, ap}
-use Rattle.script_text.specs.Tokens.{tokens_of}
+use Rattle.std.proofs.Common.{sym}
 use Rattle.script_text.proofs.TokenCuts.{tokens_of-blank}
 use Rattle.script_text.proofs.tokens.past_blanks.Goals as goal
 
