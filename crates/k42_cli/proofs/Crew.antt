@@ -11,7 +11,7 @@ use Rattle.k42_kinds.specs.Histories.{entries_of}
 use Rattle.k42_kinds.specs.declared.entry.Answer.{Answer}
 use Rattle.k42_kinds.specs.declared.entry.Answer.TheVariants.{Replied, Swapped, Busy, Spent, Gone, Abandoned}
 use Rattle.k42_kinds.specs.declared.entry.Entry.{Entry}
-use Rattle.script_text.specs.Lawful.{kinds_of, call_lines, deed_of, deeds_from, IsCarriedThrough, IsLawful}
+use Rattle.script_text.specs.Lawful.{kinds_of, call_lines, deed_of, deeds_from, IsNotGivenUp, IsLawful}
 use Rattle.script_text.specs.declared.script.Script.{Script}
 use Rattle.script_text.specs.declared.script.WorkerLines.{WorkerLines}
 use Rattle.k42_cli.specs.Runs.{IsRunning, IsUnrefused, HasDone}
@@ -75,13 +75,13 @@ crewed_on script number worker old new here crewed running done = record {
       (All-implies (λ (entry : Entry). entry.caller ≡ number) (λ (entry : Entry). entry.caller < number + 1) done.more (λ entry same. omega arith) done.own));
 }
 
-carried : (answer : Answer) → IsUnrefused answer → IsCarriedThrough answer
-carried (Replied reply) free = tt
-carried (Swapped number) free = tt
-carried (Busy number) free = tt
-carried Spent free = tt
-carried Gone free = tt
-carried (Abandoned number) free = free
+not_given_up : (answer : Answer) → IsUnrefused answer → IsNotGivenUp answer
+not_given_up (Replied reply) free = tt
+not_given_up (Swapped number) free = tt
+not_given_up (Busy number) free = tt
+not_given_up Spent free = tt
+not_given_up Gone free = tt
+not_given_up (Abandoned number) free = free
 
 -- all workers are done
 pub lawful_at_end : (script : Script) (number : ℕ) (run : Run) → number ≡ length script.workers → IsCrewed script number run → IsLawful script run.entries.items
@@ -89,5 +89,5 @@ lawful_at_end script number run all crewed = record {
   legal = crewed.running.legal;
   in_order = λ n worker there. crewed.in_order n worker (omega (arith, all, slice_get_within script.workers n worker there)) there;
   no_stranger = subst (λ (m : ℕ). All (λ (entry : Entry). entry.caller < m) run.entries.items) all crewed.callers;
-  carried_through = All-implies (λ (entry : Entry). IsUnrefused entry.answer) (λ (entry : Entry). IsCarriedThrough entry.answer) run.entries.items (λ entry free. carried entry.answer free) crewed.running.unrefused;
+  none_given_up = All-implies (λ (entry : Entry). IsUnrefused entry.answer) (λ (entry : Entry). IsNotGivenUp entry.answer) run.entries.items (λ entry free. not_given_up entry.answer free) crewed.running.unrefused;
 }

@@ -1,3 +1,5 @@
 pub mod Entries
 pub mod Objects
 pub mod Runs
+pub mod Program
+pub mod Outputs
