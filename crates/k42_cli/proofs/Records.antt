@@ -1,16 +1,14 @@
 -- A lawful history of a sound script has a record, and the record a text.
-use Rattle.std.proofs.Common.{◌≡◌, ℕ, zero, suc, ◌+◌, ◌<◌, ◌≤◌, List, [], ◌∷◌, ◌++◌, length, get_or, take, drop, map, filter, ◌⊎◌, inl, inr, refl, sym, ap, ◌∙◌, subst, arith}
-use Rattle.std.specs.Prelude.{All, Option, Some, None, slice_get}
-use Rattle.std.specs.Option.{option_map_or}
+use Rattle.std.proofs.Common.{◌≡◌, ℕ, zero, suc, ◌+◌, ◌<◌, List, [], ◌∷◌, ◌++◌, length, get_or, take, drop, map, inl, refl, sym, ap, ◌∙◌, subst, arith}
+use Rattle.std.specs.Prelude.{All, Some, slice_get}
 use Rattle.std.proofs.lemmas.Bool.{eq-eqb}
-use Rattle.std.proofs.lemmas.List.{length-append, map-append, take-append-drop}
-use Rattle.std.proofs.lemmas.List.Elements.{All-map, All-from_get_or, filter-append}
+use Rattle.std.proofs.lemmas.List.{map-append, take-append-drop}
+use Rattle.std.proofs.lemmas.List.Elements.{All-map, filter-append}
 use Rattle.std.proofs.lemmas.Option.{slice_get_within, get_or_from_slice_get}
 use Rattle.std.proofs.Math.Seq.{drop-cons}
 use Rattle.k42_kinds.specs.Histories.{entries_of}
 use Rattle.k42_kinds.specs.Legal.{IsLegalAct, IsLegalAnswer}
 use Rattle.k42_kinds.specs.declared.operation.KindName.{KindName}
-use Rattle.k42_kinds.specs.declared.operation.LayoutName.{LayoutName}
 use Rattle.k42_kinds.specs.declared.entry.Act.{Act}
 use Rattle.k42_kinds.specs.declared.entry.Act.TheVariants.{Call, Swap, Destroy}
 use Rattle.k42_kinds.specs.declared.entry.Answer.{Answer}
@@ -24,7 +22,6 @@ use Rattle.script_text.specs.declared.script.Script.{Script}
 use Rattle.script_text.specs.declared.script.WorkerLines.{WorkerLines}
 use Rattle.record_text.specs.Histories.{calls_of, HasLine, line_of, record_of}
 use Rattle.record_text.specs.Spelling.{EndsCall, EndsSwap, Ends, HasSpelling, IsOfVersion, HasText}
-use Rattle.k42_cli.proofs.Running.{none-some}
 
 -- a deed of these lines, counted on from a number, at a place
 record IsDeedAt (lines : List CallLine) (first place : ℕ) (deed : Deed) : Type 0 where

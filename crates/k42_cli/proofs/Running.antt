@@ -1,19 +1,16 @@
 -- One more line keeps a run in order.
-use Rattle.std.proofs.Common.{◌≡◌, ◌≢◌, ℕ, zero, suc, ◌+◌, ◌<◌, ◌≤◌, Bool, true, false, cond, List, [], ◌∷◌, ◌++◌, length, get_or, set, add-zero, refl, sym, ap, ◌∙◌, subst, arith}
+use Rattle.std.proofs.Common.{◌≡◌, ◌≢◌, ℕ, zero, suc, ◌+◌, ◌≤◌, Bool, true, false, cond, List, [], ◌∷◌, ◌++◌, length, get_or, set, add-zero, refl, sym, ap, ◌∙◌, subst, arith}
 use Rattle.std.specs.Prelude.{All, Option, Some, None, slice_get, nat_lt, ◌⊎◌}
 use Rattle.std.proofs.Common.{inl, inr}
 use Rattle.std.proofs.lemmas.Bool.{eq-eqb, ne_eqb}
 use Rattle.std.proofs.lemmas.Bool.Decides.{nat_tests}
 use Rattle.std.proofs.lemmas.List.{length-set}
-use Rattle.std.proofs.lemmas.List.Elements.{All-push, All-from_get_or}
-use Rattle.std.proofs.lemmas.Option.{same_Some, slice_get_within}
-use Rattle.k42_kinds.specs.Operations.{kind_of_op}
+use Rattle.std.proofs.lemmas.List.Elements.{All-push}
+use Rattle.std.proofs.lemmas.Option.{same_Some}
 use Rattle.k42_kinds.specs.Objects.{reply_of}
-use Rattle.k42_kinds.specs.Histories.{state_of, number_of, moved_by, state_after_act, is_carried_out, is_carried_out_on}
-use Rattle.k42_kinds.specs.Legal.{IsLegalHistory, IsLegalAmong, IsLegal, IsLegalAct, IsLegalCall, IsLegalAnswer, IsLegalSwap, IsLegallySpent, IsLegallyGone, IsOwn, last_incarnation}
+use Rattle.k42_kinds.specs.Histories.{state_of, number_of, state_after_act, is_carried_out}
+use Rattle.k42_kinds.specs.Legal.{IsLegalAct, IsLegalAnswer, last_incarnation}
 use Rattle.k42_kinds.specs.declared.operation.KindName.{KindName}
-use Rattle.k42_kinds.specs.declared.operation.Op.{Op}
-use Rattle.k42_kinds.specs.declared.operation.LayoutName.{LayoutName}
 use Rattle.k42_kinds.specs.declared.states.AnyState.{AnyState}
 use Rattle.k42_kinds.specs.declared.states.AnyState.TheVariants as states
 use Rattle.k42_kinds.specs.declared.entry.Act.{Act}
@@ -25,7 +22,6 @@ use Rattle.k42_kinds.proofs.LegalHistories.{legal-push, AllowsLater, refused_for
 use Rattle.k42_kinds.proofs.LongerHistories.{state_of-push, number_of-push}
 use Rattle.script_text.specs.Sound.{IsActOn}
 use Rattle.script_text.specs.declared.script.CallLine.{CallLine}
-use Rattle.k42_cli.specs.Entries.{entry_with}
 use Rattle.k42_cli.specs.Objects.{swap_answer, answer_of, number_after, object_after, entry_of}
 use Rattle.k42_cli.specs.Runs.{IsKept, IsUnrefused, IsRunning}
 use Rattle.k42_cli.specs.declared.object.Object.{Object}

@@ -1,6 +1,6 @@
 -- A caller's lines, one after the other.
-use Rattle.std.proofs.Common.{◌≡◌, ℕ, zero, suc, ◌+◌, ◌<◌, ◌≤◌, Bool, true, List, [], ◌∷◌, ◌++◌, length, get_or, map, drop, refl, sym, ap, ◌∙◌, arith}
-use Rattle.std.specs.Prelude.{All, Option, Some, slice_get, IsTrue}
+use Rattle.std.proofs.Common.{◌≡◌, ℕ, suc, ◌+◌, ◌<◌, ◌≤◌, true, List, [], ◌∷◌, ◌++◌, length, get_or, map, drop, refl, sym, ap, ◌∙◌, arith}
+use Rattle.std.specs.Prelude.{All, Some, slice_get}
 use Rattle.std.proofs.lemmas.List.{append-nil, append_assoc, map-append}
 use Rattle.std.proofs.lemmas.List.Elements.{recursion_from_All, All-from_recursion}
 use Rattle.std.proofs.Math.ListN.{drop_of_length-le}
@@ -15,12 +15,12 @@ use Rattle.script_text.specs.declared.script.Script.{Script}
 use Rattle.script_text.specs.Sound.{IsActOn}
 use Rattle.script_text.specs.declared.script.CallLine.{CallLine}
 use Rattle.script_text.specs.declared.script.Item.TheVariants.{Begin, End, Line}
-use Rattle.k42_kinds.specs.Operations.{kind_of_op, takes_operation, same_kind}
+use Rattle.k42_kinds.specs.Operations.{kind_of_op, same_kind}
 use Rattle.k42_kinds.specs.declared.operation.KindName.{KindName}
 use Rattle.k42_kinds.specs.declared.operation.KindName.TheVariants as kinds
 use Rattle.k42_kinds.specs.declared.entry.Act.{Act}
 use Rattle.k42_kinds.specs.declared.entry.Act.TheVariants.{Call, Swap, Destroy}
-use Rattle.k42_cli.specs.Objects.{CanTake, entry_of, object_after, AnswersLine}
+use Rattle.k42_cli.specs.Objects.{CanTake, entry_of}
 use Rattle.k42_cli.specs.Runs.{IsRunning, Records, HasDone, asked_by}
 use Rattle.k42_cli.specs.declared.object.Object.{Object}
 use Rattle.k42_cli.specs.declared.engine.Caller.{Caller}

@@ -1,5 +1,5 @@
 -- An object as one thread runs it.
-use Rattle.std.specs.Prelude.{◌≡◌, ℕ, ◌+◌, Bool, IsTrue, List, Some, slice_get, slice_set, nat_lt, if◌then◌else◌}
+use Rattle.std.specs.Prelude.{◌≡◌, ℕ, ◌+◌, IsTrue, List, Some, slice_get, slice_set, nat_lt, if◌then◌else◌}
 use Rattle.k42_kinds.specs.Objects.{empty_state, reply_of}
 use Rattle.k42_kinds.specs.Operations.{takes_operation}
 use Rattle.k42_kinds.specs.Histories.{is_carried_out, state_after_act}

@@ -1,12 +1,12 @@
 -- A run on one thread, line by line.
-use Rattle.std.specs.Prelude.{◌≡◌, ℕ, ◌+◌, ◌<◌, ◌≤◌, List, [], ◌∷◌, ◌++◌, length, map, All, Option, Some, None, slice_get, slice_set}
+use Rattle.std.specs.Prelude.{◌≡◌, ℕ, ◌+◌, ◌≤◌, List, [], ◌∷◌, ◌++◌, length, map, All, Some, slice_get}
 use Rattle.k42_kinds.specs.Histories.{state_of, number_of}
 use Rattle.k42_kinds.specs.Legal.{IsLegalHistory, last_incarnation}
 use Rattle.k42_kinds.specs.declared.operation.KindName.{KindName}
 use Rattle.k42_kinds.specs.declared.entry.Answer.{Answer}
 use Rattle.k42_kinds.specs.declared.entry.Answer.TheVariants.{Busy, Abandoned}
 use Rattle.k42_kinds.specs.declared.entry.Entry.{Entry}
-use Rattle.script_text.specs.Lawful.{Deed, deed_of, deeds_from}
+use Rattle.script_text.specs.Lawful.{deed_of, deeds_from}
 use Rattle.script_text.specs.declared.script.CallLine.{CallLine}
 use Rattle.k42_cli.specs.Objects.{AnswersLine}
 use Rattle.k42_cli.specs.declared.asked.Asked.{Asked}

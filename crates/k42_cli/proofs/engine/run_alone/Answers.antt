@@ -1,7 +1,7 @@
-use Rattle.std.proofs.Common.{◌≡◌, ◌≤◌, length, refl, ap, sym, ◌∙◌, arith}
+use Rattle.std.proofs.Common.{◌≡◌, ◌≤◌, length, refl, ap, arith}
 use Rattle.std.specs.Prelude.{Some, slice_get}
 use Rattle.std.proofs.lemmas.Option.{slice_get_read}
-use Rattle.k42_cli.proofs.Crew.{crewed_at_start, crewed_on, lawful_at_end}
+use Rattle.k42_cli.proofs.Crew.{crewed_on, lawful_at_end}
 use Rattle.k42_cli.proofs.engine.run_alone.Goals as goal
 
 pub loop-worker-preserved : goal.loop-worker-preserved

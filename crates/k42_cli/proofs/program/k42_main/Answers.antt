@@ -1,5 +1,5 @@
-use Rattle.std.proofs.Common.{◌≡◌, refl}
-use Rattle.k42_cli.proofs.Endings.{usage_said, run_said, run_completes}
+use Rattle.std.proofs.Common.{refl}
+use Rattle.k42_cli.proofs.Endings.{usage_said}
 use Rattle.k42_cli.proofs.program.k42_main.Goals as goal
 
 pub returns-then-not-is_run-clause-says : goal.returns-then-not-is_run-clause-says

@@ -1,4 +1,4 @@
-use Rattle.std.proofs.Common.{◌≡◌, map}
+use Rattle.std.proofs.Common.{map}
 use Rattle.k42_cli.proofs.Fresh.{fresh-push, kind_at}
 use Rattle.k42_cli.proofs.engine.Run.new.Goals as goal
 

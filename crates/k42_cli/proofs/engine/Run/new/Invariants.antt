@@ -1,4 +1,4 @@
-use Rattle.std.proofs.Common.{◌≡◌, length, map}
+use Rattle.std.proofs.Common.{map}
 use Rattle.k42_cli.proofs.Fresh.{IsFresh}
 use Rattle.k42_cli.proofs.engine.Run.new.Given as goal
 

@@ -1,5 +1,5 @@
-use Rattle.std.proofs.Common.{◌≡◌, suc, ◌<◌, length, drop, sym, add-one, arith}
-use Rattle.k42_cli.proofs.Working.{working_at_start, done_at_end, object_here, taken_here, working_on, working_past, asks_nothing}
+use Rattle.std.proofs.Common.{suc, ◌<◌, length, drop, sym, add-one, arith}
+use Rattle.k42_cli.proofs.Working.{working_at_start, object_here, taken_here, working_on, working_past, asks_nothing}
 use Rattle.k42_cli.proofs.engine.Run.work.Goals as goal
 use Rattle.k42_cli.proofs.engine.Run.work.Goals.{in-Line+in_ok-answer, in_default}
 
