@@ -79,3 +79,6 @@ impl<T> Items<T> {
         Ok(())
     }
 }
+
+#[cfg(test)]
+mod tests;
