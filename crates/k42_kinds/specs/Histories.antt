@@ -12,18 +12,25 @@ use Rattle.k42_kinds.specs.declared.entry.Answer.TheVariants.{Swapped}
 use Rattle.k42_kinds.specs.declared.entry.Entry.{Entry}
 use Rattle.k42_kinds.specs.Objects.{empty_state, state_after}
 
--- A history is a list of entries, the first of them first. It is numbered where each entry's stamp is one more than
--- the number of entries before it.
+-- what is said of an entry, the entries before it and those after it holds at each place of the
+-- list
+abbrev pub AtEachPlace : (List Entry → Entry → List Entry → Type 0) → List Entry → Type 0
+AtEachPlace Holds list =
+    (before : List Entry) (entry : Entry) (after : List Entry)
+    → list ≡ before ++ entry ∷ after → Holds before entry after
+
+-- A history is a list of entries, the first of them first. It is numbered where each entry's
+-- stamp is one more than the number of entries before it.
 abbrev pub IsNumbered : List Entry → Type 0
-IsNumbered history = (before : List Entry) (entry : Entry) (after : List Entry) → history ≡ before ++ entry ∷ after → entry.stamp ≡ length before + 1
+IsNumbered history = AtEachPlace (λ before entry after. entry.stamp ≡ length before + 1) history
 
 -- whether the swap or destroy was carried out
 abbrev pub is_carried_out : Answer → Bool
 is_carried_out (Swapped number) = true
 is_carried_out _ = false
 
--- The state of an object after one of its entries: a call steps it, a destroy that was carried out ends it, and
--- everything else leaves it.
+-- The state of an object after one of its entries: a call steps it, a destroy that was carried
+-- out ends it, and everything else leaves it.
 abbrev pub state_after_act : AnyState → Act → Answer → AnyState
 state_after_act state (Call op) answer = state_after state op
 state_after_act state (Swap layout) answer = state
@@ -31,7 +38,8 @@ state_after_act state Destroy answer = if is_carried_out answer then states.Dead
 
 -- an entry moves its own object alone
 abbrev pub moved_by : ℕ → AnyState → Entry → AnyState
-moved_by object state entry = if entry.object == object then state_after_act state entry.act entry.answer else state
+moved_by object state entry =
+    if entry.object == object then state_after_act state entry.act entry.answer else state
 
 -- the state of the object, which is of this kind, after the history
 abbrev pub state_of : KindName → ℕ → List Entry → AnyState
@@ -58,11 +66,14 @@ asked_for Destroy = Some Dead
 
 -- what the swaps and destroys of the object that were carried out asked for, in their order
 abbrev pub implementations_of : ℕ → List Entry → List Implementation
-implementations_of object history = filter_map (λ entry. asked_for entry.act) (filter (is_carried_out_on object) history)
+implementations_of object history =
+    filter_map (λ entry. asked_for entry.act) (filter (is_carried_out_on object) history)
 
 -- the object is kept as the last of them asked, and as it was declared where there is none
 abbrev pub implementation_of : LayoutName → ℕ → List Entry → Implementation
-implementation_of declared object history = let all = implementations_of object history in slice_index_or all (length all - 1) (Live declared)
+implementation_of declared object history =
+    let all = implementations_of object history in
+    slice_index_or all (length all - 1) (Live declared)
 
 -- the entries of one caller, in their order
 abbrev pub entries_of : ℕ → List Entry → List Entry
@@ -72,8 +83,8 @@ entries_of caller history = filter (λ entry. entry.caller == caller) history
 abbrev pub unstamped : Entry → Entry
 unstamped entry = record entry { stamp = 0 }
 
--- The entries of the caller are, but for their stamps, those of the list, each once and in its order, and their
--- indexes count from 0.
+-- The entries of the caller are, but for their stamps, those of the list, each once and in its
+-- order, and their indexes count from 0.
 pub record IsInOrder (history : List Entry) (caller : ℕ) (list : List Entry) : Type 0 where
   pub same : map unstamped (entries_of caller history) ≡ map unstamped list
-  pub counted : (before : List Entry) (entry : Entry) (after : List Entry) → list ≡ before ++ entry ∷ after → entry.index ≡ length before
+  pub counted : AtEachPlace (λ before entry after. entry.index ≡ length before) list

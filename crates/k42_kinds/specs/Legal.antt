@@ -10,15 +10,18 @@ use Rattle.k42_kinds.specs.declared.entry.Answer.TheVariants.{Replied, Swapped, 
 use Rattle.k42_kinds.specs.declared.entry.Entry.{Entry}
 use Rattle.k42_kinds.specs.Objects.{reply_of}
 use Rattle.k42_kinds.specs.Operations.{kind_of_op}
-use Rattle.k42_kinds.specs.Histories.{IsNumbered, state_of, number_of}
+use Rattle.k42_kinds.specs.Histories.{AtEachPlace, IsNumbered, state_of, number_of}
 
 -- the number of an object's last incarnation, and so how many swaps it can go through
 abbrev pub last_incarnation : ℕ
 last_incarnation = 1048575
 
--- A call of an operation of the object's kind is legal where it has the reply that the object of one thread gives
--- after the entries before it, in the implementation that the swaps before it left.
-pub record IsLegalCall (kind : KindName) (before : List Entry) (entry : Entry) (op : Op) : Type 0 where
+-- A call of an operation of the object's kind is legal where it has the reply that the object of
+-- one thread gives after the entries before it, in the implementation that the swaps before it
+-- left.
+pub record IsLegalCall
+    (kind : KindName) (before : List Entry) (entry : Entry) (op : Op)
+    : Type 0 where
   pub own_kind : kind_of_op op ≡ kind
   pub replied : entry.answer ≡ Replied (reply_of (state_of kind entry.object before) op)
   pub incarnation : entry.incarnation ≡ number_of entry.object before
@@ -27,8 +30,11 @@ pub record IsLegalCall (kind : KindName) (before : List Entry) (entry : Entry) (
 abbrev pub IsAlive : KindName → ℕ → List Entry → Type 0
 IsAlive kind object before = state_of kind object before ≢ states.Dead
 
--- a swap or destroy that is carried out is the next of its object, which is alive and has an incarnation left
-pub record IsLegalSwap (kind : KindName) (before : List Entry) (entry : Entry) (number : ℕ) : Type 0 where
+-- a swap or destroy that is carried out is the next of its object, which is alive and has an
+-- incarnation left
+pub record IsLegalSwap
+    (kind : KindName) (before : List Entry) (entry : Entry) (number : ℕ)
+    : Type 0 where
   pub next : number ≡ number_of entry.object before + 1
   pub alive : IsAlive kind entry.object before
   pub unspent : number_of entry.object before < last_incarnation
@@ -72,16 +78,20 @@ pub record IsNotPast (number : ℕ) (other : Entry) : Type 0 where
   pub incarnation : other.incarnation ≤ number
   pub carried_out : number_carried_out other.answer ≤ number
 
--- Nothing that its caller had seen of the object before it is past the swap of this number, and nothing that it sees
--- later is from before the incarnation that this swap was to end.
-pub record IsTimely (before : List Entry) (entry : Entry) (after : List Entry) (number : ℕ) : Type 0 where
+-- Nothing that its caller had seen of the object before it is past the swap of this number, and
+-- nothing that it sees later is from before the incarnation that this swap was to end.
+pub record IsTimely
+    (before : List Entry) (entry : Entry) (after : List Entry) (number : ℕ)
+    : Type 0 where
   pub incarnation : entry.incarnation + 1 ≡ number
   pub earlier : All (λ other. IsOwn entry other → IsNotPast number other) before
   pub later : All (λ other. IsOwn entry other → number ≤ other.incarnation + 1) after
 
--- A swap or destroy is refused for another swap's sake where that swap stands anywhere in the history, before or
--- after.
-pub record IsLegalRefusal (before : List Entry) (entry : Entry) (after : List Entry) (number : ℕ) : Type 0 where
+-- A swap or destroy is refused for another swap's sake where that swap stands anywhere in the
+-- history, before or after.
+pub record IsLegalRefusal
+    (before : List Entry) (entry : Entry) (after : List Entry) (number : ℕ)
+    : Type 0 where
   pub timely : IsTimely before entry after number
   pub rival : Any (IsRival entry number) (before ++ after)
 
@@ -97,7 +107,8 @@ IsLegalAnswer kind before entry after (Replied reply) = ⊥
 -- how an act may be answered: a call by a reply, a swap or destroy by the rules above
 abbrev pub IsLegalAct : KindName → List Entry → Entry → List Entry → Act → Type 0
 IsLegalAct kind before entry after (Call op) = IsLegalCall kind before entry op
-IsLegalAct kind before entry after (Swap layout) = IsLegalAnswer kind before entry after entry.answer
+IsLegalAct kind before entry after (Swap layout) =
+    IsLegalAnswer kind before entry after entry.answer
 IsLegalAct kind before entry after Destroy = IsLegalAnswer kind before entry after entry.answer
 
 -- an entry is legal between the entries before it and those after it, by its act and its answer
@@ -105,12 +116,15 @@ abbrev pub IsLegal : KindName → List Entry → Entry → List Entry → Type 0
 IsLegal kind before entry after = IsLegalAct kind before entry after entry.act
 
 -- the entry is of a declared object, and legal there
-pub record IsLegalAmong (kinds : List KindName) (before : List Entry) (entry : Entry) (after : List Entry) : Type 0 where
+pub record IsLegalAmong
+    (kinds : List KindName) (before : List Entry) (entry : Entry) (after : List Entry)
+    : Type 0 where
   pub kind : KindName
   pub declared : slice_get kinds entry.object ≡ Some kind
   pub legal : IsLegal kind before entry after
 
--- A history of objects of these kinds is legal where it is numbered and each of its entries is legal.
+-- A history of objects of these kinds is legal where it is numbered and each of its entries is
+-- legal.
 pub record IsLegalHistory (kinds : List KindName) (history : List Entry) : Type 0 where
   pub numbered : IsNumbered history
-  pub legal : (before : List Entry) (entry : Entry) (after : List Entry) → history ≡ before ++ entry ∷ after → IsLegalAmong kinds before entry after
+  pub legal : AtEachPlace (IsLegalAmong kinds) history

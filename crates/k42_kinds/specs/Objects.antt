@@ -1,4 +1,5 @@
--- The objects of one thread: the state before the first operation, and what each operation does and replies.
+-- The objects of one thread: the state before the first operation, and what each operation does
+-- and replies.
 use Rattle.std.specs.Prelude.{ℕ, ◌+◌, ◌%◌, ◌^◌, Option, Some, None as Absent, if◌then◌else◌}
 use Rattle.std.specs.FinMap as finite
 use Rattle.std.specs.FinMap.{FinMap}
@@ -29,6 +30,7 @@ counter_after value (Add amount) = (value + amount) % 2 ^ 64
 counter_after value Drain = 0
 counter_after value _ = value
 
+-- what a counter replies
 abbrev pub counter_reply : ℕ → Op → Reply
 counter_reply value (Add amount) = Done
 counter_reply value Get = Number value
@@ -37,7 +39,8 @@ counter_reply value _ = Gone
 
 -- a name keeps the number that it was first bound to, until it is unbound
 abbrev pub directory_after : Directory → Op → Directory
-directory_after names (Bind key number) = if finite.contains_key names key then names else finite.insert names key number
+directory_after names (Bind key number) =
+    if finite.contains_key names key then names else finite.insert names key number
 directory_after names (Unbind key) = finite.remove names key
 directory_after names _ = names
 
@@ -46,6 +49,7 @@ abbrev pub found_number : Option ℕ → Reply
 found_number (Some number) = Number number
 found_number Absent = None
 
+-- what a directory replies
 abbrev pub directory_reply : Directory → Op → Reply
 directory_reply names (Bind key number) = if finite.contains_key names key then Taken else Done
 directory_reply names (Find key) = found_number (finite.get names key)
@@ -64,6 +68,7 @@ abbrev pub found_text : Option Page → Reply
 found_text (Some page) = Text page.text
 found_text Absent = Zero
 
+-- what the pages reply
 abbrev pub pages_reply : Pages → Op → Reply
 pages_reply pages (Write page text) = Done
 pages_reply pages (Read page) = found_text (finite.get pages page)
@@ -71,14 +76,15 @@ pages_reply pages Dirty = Number (dirty_count pages)
 pages_reply pages Clean = Number (dirty_count pages)
 pages_reply pages _ = Gone
 
--- The object of one thread takes the operations of its kind. Another kind's operation leaves its state, and is
--- answered as a dead object answers: no lawful history has one.
+-- The object of one thread takes the operations of its kind. Another kind's operation leaves its
+-- state, and is answered as a dead object answers: no lawful history has one.
 abbrev pub state_after : AnyState → Op → AnyState
 state_after (states.Counter value) op = states.Counter (counter_after value op)
 state_after (states.Directory names) op = states.Directory (directory_after names op)
 state_after (states.Pages pages) op = states.Pages (pages_after pages op)
 state_after states.Dead op = states.Dead
 
+-- what the object replies
 abbrev pub reply_of : AnyState → Op → Reply
 reply_of (states.Counter value) op = counter_reply value op
 reply_of (states.Directory names) op = directory_reply names op

@@ -19,6 +19,7 @@ kind_of_op (Read page) = kinds.Pages
 kind_of_op Dirty = kinds.Pages
 kind_of_op Clean = kinds.Pages
 
+-- whether two kinds are one
 abbrev pub same_kind : KindName → KindName → Bool
 same_kind kinds.Counter kinds.Counter = true
 same_kind kinds.Directory kinds.Directory = true
