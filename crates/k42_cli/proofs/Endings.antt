@@ -70,24 +70,30 @@ module _ (ends : Ends) where
 
   -- words that are no form
   pub usage_said : (answered : Status) → ends.left_after ≡ ends.left → ends.read_faults_after ≡ ends.read_faults → Delivers ends.taken ends.taken_after ends.write_faults ends.write_faults_after usage_line statuses.Usage answered → Says Unknown ends answered
-  usage_said answered unread quiet (inl done) = subst (Says Unknown ends) (sym done.0) (record {
-    bytes = told_bytes ends.left;
-    output = usage_line;
-    told = told_told ends.left;
-    due = refl;
-    written = done.1;
-    quiet = record { reads = quiet; writes = done.2 };
-  }, unread)
-  usage_said answered unread quiet (inr failed) = subst (Says Unknown ends) (sym failed.0) (record {
-    fault = failed.2;
-    reads = quiet;
-    bytes = told_bytes ends.left;
-    status = statuses.Usage;
-    output = usage_line;
-    told = told_told ends.left;
-    due = refl;
-    written = failed.1;
-  }, unread)
+  usage_said answered unread quiet (inl done) = subst (Says Unknown ends) (sym done.0) (
+    record {
+      bytes = told_bytes ends.left;
+      output = usage_line;
+      told = told_told ends.left;
+      due = refl;
+      written = done.1;
+      quiet = record { reads = quiet; writes = done.2 };
+    },
+    unread,
+  )
+  usage_said answered unread quiet (inr failed) = subst (Says Unknown ends) (sym failed.0) (
+    record {
+      fault = failed.2;
+      reads = quiet;
+      bytes = told_bytes ends.left;
+      status = statuses.Usage;
+      output = usage_line;
+      told = told_told ends.left;
+      due = refl;
+      written = failed.1;
+    },
+    unread,
+  )
 
   -- a run that was worked out
   pub run_said : (status : Status) (output : List ℕ) (answered : Status) → IsWorkedOut 1 ends.left ends.left_after status output → ends.read_faults_after ≡ ends.read_faults
