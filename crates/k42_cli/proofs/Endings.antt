@@ -9,13 +9,23 @@ use Rattle.script_text.specs.Language.{parsed, byte_limit}
 use Rattle.script_text.specs.declared.fault.ScriptFault.{ScriptFault}
 use Rattle.script_text.specs.declared.script.Script.{Script}
 use Rattle.script_text.proofs.Truncated.{parsed-take}
-use Rattle.k42_cli.specs.Program.{Run, Unknown, usage_line, IsRunOutput, Ends, IsQuiet, Says, CompletesRun}
+use Rattle.k42_cli.specs.Program.{Run, Unknown, usage_line, IsDue, Ends, IsQuiet, WritesDue, Says, CompletesRun}
 use Rattle.k42_cli.specs.Outputs.{IsWorkedOut, Delivers}
 use Rattle.k42_cli.specs.declared.status.Status.{Status}
 use Rattle.k42_cli.specs.declared.status.Status.TheVariants as statuses
 
+-- the same is due for bytes that are read alike
+due_alike : (bytes others : List ℕ) (status : Status) (output : List ℕ) → parsed bytes ≡ parsed others → IsDue (Run 1) bytes status output → IsDue (Run 1) others status output
+due_alike bytes others statuses.Ok output same due = record { script = due.script; history = due.history; accepted = sym same ∙ due.accepted; lawful = due.lawful; text = due.text }
+due_alike bytes others statuses.Refused output same due = record { fault = due.fault; refused = sym same ∙ due.refused; text = due.text }
+due_alike bytes others statuses.Unlawful output same due = absurd due
+due_alike bytes others statuses.Usage output same due = absurd due
+due_alike bytes others statuses.ReadFault output same due = absurd due
+due_alike bytes others statuses.WriteFault output same due = absurd due
+due_alike bytes others statuses.Memory output same due = absurd due
+
 -- what was read decides as all that was left would, and an accepted script was read whole
-pub worked_out : (left left_after : Option (List ℕ)) (all : List ℕ) (status : Status) (output : List ℕ) → TakesFirst byte_limit left left_after all → IsRunOutput 1 (parsed all) status output
+pub worked_out : (left left_after : Option (List ℕ)) (all : List ℕ) (status : Status) (output : List ℕ) → TakesFirst byte_limit left left_after all → IsDue (Run 1) all status output
     → (status ≡ statuses.Ok → length all < byte_limit) → IsWorkedOut 1 left left_after status output
 worked_out None left_after all status output takes due short = record { bytes = all; told = tt; due = due; consumed = λ accepted. tt }
 worked_out (Some bytes) left_after all status output takes due short =
@@ -23,7 +33,7 @@ worked_out (Some bytes) left_after all status output takes due short =
     record {
       bytes = bytes;
       told = refl;
-      due = subst (λ (read : Result Script ScriptFault). IsRunOutput 1 read status output) same due;
+      due = due_alike all bytes status output same due;
       consumed = λ accepted.
           let few : length bytes ≤ byte_limit = omega (arith, short accepted, ap length takes.0, length-take byte_limit bytes) in
           takes.1 ∙ ap Some (drop_of_length-le bytes {i = byte_limit} few);
@@ -38,79 +48,60 @@ unfolding told_bytes
 told_told None = tt
 told_told (Some bytes) = refl
 
-completes_by : (read : Result Script ScriptFault) (status : Status) (output : List ℕ) → IsRunOutput 1 read status output → CompletesRun read status
-completes_by (Ok script) statuses.Ok output due = inl refl
-completes_by (Ok script) statuses.Unlawful output due = absurd due
-completes_by (Ok script) statuses.Usage output due = absurd due
-completes_by (Ok script) statuses.Refused output due = absurd due
-completes_by (Ok script) statuses.ReadFault output due = absurd due
-completes_by (Ok script) statuses.WriteFault output due = absurd due
-completes_by (Ok script) statuses.Memory output due = inr refl
-completes_by (Err fault) statuses.Ok output due = absurd due
-completes_by (Err fault) statuses.Unlawful output due = absurd due
-completes_by (Err fault) statuses.Usage output due = absurd due
-completes_by (Err fault) statuses.Refused output due = inl refl
-completes_by (Err fault) statuses.ReadFault output due = absurd due
-completes_by (Err fault) statuses.WriteFault output due = absurd due
-completes_by (Err fault) statuses.Memory output due = inr refl
+completes_by : (bytes : List ℕ) (status : Status) (output : List ℕ) → IsDue (Run 1) bytes status output → CompletesRun (parsed bytes) status
+completes_by bytes statuses.Ok output due = rw due.accepted (inl refl)
+completes_by bytes statuses.Refused output due = rw due.refused (inl refl)
+completes_by bytes statuses.Unlawful output due = absurd due
+completes_by bytes statuses.Usage output due = absurd due
+completes_by bytes statuses.ReadFault output due = absurd due
+completes_by bytes statuses.WriteFault output due = absurd due
+completes_by bytes statuses.Memory output due = absurd due
 
 module _ (ends : Ends) where
-  run_read : (status : Status) (output : List ℕ) (worked : IsWorkedOut 1 ends.left ends.left_after status output) → IsQuiet ends → Grows ends.taken ends.taken_after output
-      → (read : Result Script ScriptFault) → parsed worked.bytes ≡ read → IsRunOutput 1 read status output → Says (Run 1) ends status
-  run_read statuses.Ok output worked quiet written (Ok script) is due = record {
-    bytes = worked.bytes;
-    script = script;
-    history = due.0;
-    told = worked.told;
-    consumed = worked.consumed refl;
-    accepted = is;
-    lawful = due.1;
-    written = subst (Grows ends.taken ends.taken_after) due.2 written;
-    quiet = quiet;
-  }
-  run_read statuses.Refused output worked quiet written (Err fault) is due = record {
-    bytes = worked.bytes;
-    fault = fault;
-    told = worked.told;
-    refused = is;
-    written = subst (Grows ends.taken ends.taken_after) due written;
-    quiet = quiet;
-  }
-  run_read statuses.Ok output worked quiet written (Err fault) is due = absurd due
-  run_read statuses.Refused output worked quiet written (Ok script) is due = absurd due
-  run_read statuses.Unlawful output worked quiet written (Ok script) is due = absurd due
-  run_read statuses.Unlawful output worked quiet written (Err fault) is due = absurd due
-  run_read statuses.Usage output worked quiet written (Ok script) is due = absurd due
-  run_read statuses.Usage output worked quiet written (Err fault) is due = absurd due
-  run_read statuses.ReadFault output worked quiet written (Ok script) is due = absurd due
-  run_read statuses.ReadFault output worked quiet written (Err fault) is due = absurd due
-  run_read statuses.WriteFault output worked quiet written (Ok script) is due = absurd due
-  run_read statuses.WriteFault output worked quiet written (Err fault) is due = absurd due
-  run_read statuses.Memory output worked quiet written (Ok script) is due = absurd due
-  run_read statuses.Memory output worked quiet written (Err fault) is due = absurd due
+  run_done : (status : Status) (output : List ℕ) (worked : IsWorkedOut 1 ends.left ends.left_after status output) → IsQuiet ends → Grows ends.taken ends.taken_after output → IsDue (Run 1) worked.bytes status output → Says (Run 1) ends status
+  run_done statuses.Ok output worked quiet written due =
+      (record { bytes = worked.bytes; output = output; told = worked.told; due = due; written = written; quiet = quiet }, worked.consumed refl)
+  run_done statuses.Refused output worked quiet written due = record { bytes = worked.bytes; output = output; told = worked.told; due = due; written = written; quiet = quiet }
+  run_done statuses.Unlawful output worked quiet written due = absurd due
+  run_done statuses.Usage output worked quiet written due = absurd due
+  run_done statuses.ReadFault output worked quiet written due = absurd due
+  run_done statuses.WriteFault output worked quiet written due = absurd due
+  run_done statuses.Memory output worked quiet written due = absurd due
 
   -- words that are no form
   pub usage_said : (answered : Status) → ends.left_after ≡ ends.left → ends.read_faults_after ≡ ends.read_faults → Delivers ends.taken ends.taken_after ends.write_faults ends.write_faults_after usage_line statuses.Usage answered → Says Unknown ends answered
-  usage_said answered unread quiet (inl done) = subst (Says Unknown ends) (sym done.0) (record { unread = unread; written = done.1; quiet = record { reads = quiet; writes = done.2 } })
-  usage_said answered unread quiet (inr failed) = subst (Says Unknown ends) (sym failed.0) (record {
-    fault = failed.2;
-    bytes = told_bytes ends.left;
-    status = statuses.Usage;
-    output = usage_line;
-    told = told_told ends.left;
-    due = refl;
-    written = failed.1;
-  })
-
-  run_done : (status : Status) (output : List ℕ) → IsWorkedOut 1 ends.left ends.left_after status output → IsQuiet ends → Grows ends.taken ends.taken_after output → Says (Run 1) ends status
-  run_done status output worked quiet written = run_read status output worked quiet written (parsed worked.bytes) refl worked.due
+  usage_said answered unread quiet (inl done) = subst (Says Unknown ends) (sym done.0) (
+    record {
+      bytes = told_bytes ends.left;
+      output = usage_line;
+      told = told_told ends.left;
+      due = refl;
+      written = done.1;
+      quiet = record { reads = quiet; writes = done.2 };
+    },
+    unread,
+  )
+  usage_said answered unread quiet (inr failed) = subst (Says Unknown ends) (sym failed.0) (
+    record {
+      fault = failed.2;
+      reads = quiet;
+      bytes = told_bytes ends.left;
+      status = statuses.Usage;
+      output = usage_line;
+      told = told_told ends.left;
+      due = refl;
+      written = failed.1;
+    },
+    unread,
+  )
 
   -- a run that was worked out
   pub run_said : (status : Status) (output : List ℕ) (answered : Status) → IsWorkedOut 1 ends.left ends.left_after status output → ends.read_faults_after ≡ ends.read_faults
       → Delivers ends.taken ends.taken_after ends.write_faults ends.write_faults_after output status answered → Says (Run 1) ends answered
-  run_said status output answered worked quiet (inl done) = subst (Says (Run 1) ends) (sym done.0) (run_done status output worked (record { reads = quiet; writes = done.2 }) done.1)
+  run_said status output answered worked quiet (inl done) = subst (Says (Run 1) ends) (sym done.0) (run_done status output worked (record { reads = quiet; writes = done.2 }) done.1 worked.due)
   run_said status output answered worked quiet (inr failed) = subst (Says (Run 1) ends) (sym failed.0) (record {
     fault = failed.2;
+    reads = quiet;
     bytes = worked.bytes;
     status = status;
     output = output;
@@ -124,5 +115,5 @@ module _ (ends : Ends) where
       → Delivers ends.taken ends.taken_after ends.write_faults ends.write_faults_after output status answered → CompletesRun (parsed bytes) answered
   run_completes status output answered bytes worked told quiet (inl done) =
       let same : bytes ≡ worked.bytes = subst (λ (left : Option (List ℕ)). IfSome left (λ before. before ≡ worked.bytes)) told worked.told in
-      subst (CompletesRun (parsed bytes)) (sym done.0) (completes_by (parsed bytes) status output (subst (λ (b : List ℕ). IsRunOutput 1 (parsed b) status output) (sym same) worked.due))
+      subst (CompletesRun (parsed bytes)) (sym done.0) (completes_by bytes status output (subst (λ (b : List ℕ). IsDue (Run 1) b status output) (sym same) worked.due))
   run_completes status output answered bytes worked told quiet (inr failed) = absurd (omega (arith, failed.2, quiet))

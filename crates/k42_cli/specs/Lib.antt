@@ -3,3 +3,4 @@ pub mod Objects
 pub mod Runs
 pub mod Program
 pub mod Outputs
+pub mod Endings

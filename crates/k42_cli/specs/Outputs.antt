@@ -2,11 +2,10 @@
 use Rattle.std.specs.Prelude.{◌≡◌, ℕ, ◌<◌, ◌⊎◌, List, [], Option, Some, IfSome}
 use Rattle.k42_kinds.specs.declared.entry.Entry.{Entry}
 use Rattle.k42_io.specs.Sink.{Grows, GrowsByFront}
-use Rattle.script_text.specs.Language.{parsed}
 use Rattle.script_text.specs.Lawful.{IsLawful}
 use Rattle.script_text.specs.declared.script.Script.{Script}
 use Rattle.record_text.specs.Histories.{history_text}
-use Rattle.k42_cli.specs.Program.{IsRunOutput}
+use Rattle.k42_cli.specs.Program.{Run, IsDue}
 use Rattle.k42_io.specs.declared.reading.ReadEnd.{ReadEnd}
 use Rattle.k42_io.specs.declared.reading.ReadEnd.TheVariants as reads
 use Rattle.k42_cli.specs.declared.program.WorkEnd.{WorkEnd}
@@ -20,18 +19,21 @@ pub record IsRecordText (script : Script) (version : ℕ) (written : List ℕ) :
   pub lawful : IsLawful script history
   pub text : written ≡ history_text script history version
 
--- The output is due for the bytes that the source had left, and all of them were read where it is a record.
-pub record IsWorkedOut (version : ℕ) (left left_after : Option (List ℕ)) (status : Status) (output : List ℕ) : Type 0 where
+-- The output is due for the bytes that the source had left, and a record only where it was read to
+-- its end.
+pub record IsWorkedOut (version : ℕ) (left left_after : Option (List ℕ)) (status : Status)
+    (output : List ℕ) : Type 0 where
   pub bytes : List ℕ
   pub told : IfSome left (λ before. before ≡ bytes)
-  pub due : IsRunOutput version (parsed bytes) status output
+  pub due : IsDue (Run version) bytes status output
   pub consumed : status ≡ statuses.Ok → IfSome left (λ before. left_after ≡ Some [])
 
 -- The text was written whole, or a write failed and its front was written.
 abbrev pub Delivers : Option (List ℕ) → Option (List ℕ) → ℕ → ℕ → List ℕ → Status → Status → Type 0
 Delivers taken taken_after faults faults_after text status answered =
     ((answered ≡ status) × Grows taken taken_after text × (faults_after ≡ faults))
-    ⊎ ((answered ≡ statuses.WriteFault) × GrowsByFront taken taken_after text × (faults < faults_after))
+    ⊎ ((answered ≡ statuses.WriteFault) × GrowsByFront taken taken_after text
+    × (faults < faults_after))
 
 -- why there is nothing to write, where reading ended early
 abbrev pub end_of : ReadEnd → WorkEnd

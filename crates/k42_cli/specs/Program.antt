@@ -32,21 +32,32 @@ usage_line = codes "usage: k42 run [2] | k42 check | k42 load N\n"
 
 -- `line N: CAUSE`
 abbrev pub refusal_line : ScriptFault → List ℕ
-refusal_line fault = codes "line " ++ decimal fault.line ++ codes ": " ++ cause_word fault.cause ++ codes "\n"
+refusal_line fault =
+    codes "line " ++ decimal fault.line ++ codes ": " ++ cause_word fault.cause ++ codes "\n"
 
--- The output of a run: the record text of some lawful history of the script, or why the script is refused.
-abbrev pub IsRunOutput : ℕ → Result Script ScriptFault → Status → List ℕ → Type 0
-IsRunOutput version (Ok script) statuses.Ok output = (history : List Entry) × IsLawful script history × (output ≡ history_text script history version)
-IsRunOutput version (Err fault) statuses.Refused output = output ≡ refusal_line fault
-IsRunOutput version _ _ output = ⊥
+-- The bytes are a script, and the output is the record of one lawful history of it.
+pub record IsRecordDue (version : ℕ) (bytes output : List ℕ) : Type 0 where
+  pub script : Script
+  pub history : List Entry
+  pub accepted : parsed bytes ≡ Ok script
+  pub lawful : IsLawful script history
+  pub text : output ≡ history_text script history version
 
--- The output that is due, and the status with it.
+-- The bytes are no script, and the output is the line that says why.
+pub record IsRefusalDue (bytes output : List ℕ) : Type 0 where
+  pub fault : ScriptFault
+  pub refused : parsed bytes ≡ Err fault
+  pub text : output ≡ refusal_line fault
+
+-- the output that is due for what the words ask and for the bytes, and the status with it
 abbrev pub IsDue : Form → List ℕ → Status → List ℕ → Type 0
-IsDue (Run version) bytes status output = IsRunOutput version (parsed bytes) status output
+IsDue (Run version) bytes statuses.Ok output = IsRecordDue version bytes output
+IsDue (Run version) bytes statuses.Refused output = IsRefusalDue bytes output
 IsDue Unknown bytes statuses.Usage output = output ≡ usage_line
-IsDue Unknown bytes _ output = ⊥
+IsDue _ _ _ _ = ⊥
 
--- the ends of the program before and after it: what is left to read and was taken, where it is told, and the faults
+-- the ends of the program before and after it: what is left to read and what was taken, where that
+-- is told, and the faults
 pub record Ends : Type 0 where
   pub left : Option (List ℕ)
   pub left_after : Option (List ℕ)
@@ -70,35 +81,21 @@ Told ends bytes = IfSome ends.left (λ left. left ≡ bytes)
 abbrev pub IsConsumed : Ends → Type 0
 IsConsumed ends = IfSome ends.left (λ left. ends.left_after ≡ Some [])
 
+-- nothing was read
+abbrev pub IsUnread : Ends → Type 0
+IsUnread ends = ends.left_after ≡ ends.left
+
 -- nothing was written
 abbrev pub WritesNothing : Ends → Type 0
 WritesNothing ends = Stays ends.taken ends.taken_after
 
--- The record that was written is one lawful history of the script that was read.
-pub record RunsLawfully (version : ℕ) (ends : Ends) : Type 0 where
+-- The output that is due with this status was written whole, and nothing failed.
+pub record WritesDue (form : Form) (ends : Ends) (status : Status) : Type 0 where
   pub bytes : List ℕ
-  pub script : Script
-  pub history : List Entry
+  pub output : List ℕ
   pub told : Told ends bytes
-  pub consumed : IsConsumed ends
-  pub accepted : parsed bytes ≡ Ok script
-  pub lawful : IsLawful script history
-  pub written : Grows ends.taken ends.taken_after (history_text script history version)
-  pub quiet : IsQuiet ends
-
--- The script was refused, and the line that says so was written.
-pub record RefusesScript (ends : Ends) : Type 0 where
-  pub bytes : List ℕ
-  pub fault : ScriptFault
-  pub told : Told ends bytes
-  pub refused : parsed bytes ≡ Err fault
-  pub written : Grows ends.taken ends.taken_after (refusal_line fault)
-  pub quiet : IsQuiet ends
-
--- The words are no form, nothing was read, and the line that names the forms was written.
-pub record NamesForms (ends : Ends) : Type 0 where
-  pub unread : ends.left_after ≡ ends.left
-  pub written : Grows ends.taken ends.taken_after usage_line
+  pub due : IsDue form bytes status output
+  pub written : Grows ends.taken ends.taken_after output
   pub quiet : IsQuiet ends
 
 -- A read failed, and nothing was written.
@@ -106,9 +103,10 @@ pub record FailsToRead (ends : Ends) : Type 0 where
   pub fault : ends.read_faults < ends.read_faults_after
   pub unwritten : WritesNothing ends
 
--- A write failed, and the front of an output that was due was written.
+-- A write failed and no read did, and the front of an output that was due was written.
 pub record FailsToWrite (form : Form) (ends : Ends) : Type 0 where
   pub fault : ends.write_faults < ends.write_faults_after
+  pub reads : ends.read_faults_after ≡ ends.read_faults
   pub bytes : List ℕ
   pub status : Status
   pub output : List ℕ
@@ -121,15 +119,16 @@ pub record LacksMemory (ends : Ends) : Type 0 where
   pub unwritten : WritesNothing ends
   pub quiet : IsQuiet ends
 
--- what each status says of the ends
+-- What each status says of the ends. A script that was run was read to its end, and words that are
+-- no form read nothing.
 abbrev pub Says : Form → Ends → Status → Type 0
-Says (Run version) ends statuses.Ok = RunsLawfully version ends
-Says (Run version) ends statuses.Refused = RefusesScript ends
+Says (Run version) ends statuses.Ok = WritesDue (Run version) ends statuses.Ok × IsConsumed ends
+Says (Run version) ends statuses.Refused = WritesDue (Run version) ends statuses.Refused
 Says (Run version) ends statuses.ReadFault = FailsToRead ends
 Says (Run version) ends statuses.WriteFault = FailsToWrite (Run version) ends
 Says (Run version) ends statuses.Memory = LacksMemory ends
-Says Unknown ends statuses.Usage = NamesForms ends
-Says Unknown ends statuses.WriteFault = FailsToWrite Unknown ends
+Says Unknown ends statuses.Usage = WritesDue Unknown ends statuses.Usage × IsUnread ends
+Says Unknown ends statuses.WriteFault = FailsToWrite Unknown ends × IsUnread ends
 Says _ _ _ = ⊥
 
 -- a run ends with its record or with its refusal, unless memory ran out
@@ -137,8 +136,8 @@ abbrev pub CompletesRun : Result Script ScriptFault → Status → Type 0
 CompletesRun (Ok script) status = (status ≡ statuses.Ok) ⊎ (status ≡ statuses.Memory)
 CompletesRun (Err fault) status = (status ≡ statuses.Refused) ⊎ (status ≡ statuses.Memory)
 
--- what the program answers where no fault came: a script that is accepted is run, one that is refused is refused, and
--- words that are no form name the forms; else memory ran out
+-- What the program answers where no fault came: a script that is accepted is run, one that is
+-- refused is refused, else memory ran out; and words that are no form name the forms.
 abbrev pub Completes : Form → List ℕ → Status → Type 0
 Completes (Run version) bytes status = CompletesRun (parsed bytes) status
 Completes Unknown bytes status = status ≡ statuses.Usage

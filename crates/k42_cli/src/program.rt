@@ -1,8 +1,8 @@
-ghost use Rattle.std.specs.Prelude.{◌≡◌, ℕ, ◌-◌, ◌^◌, ◌<◌, List, Some, length, IfOk, OnOk, IsErrOf, map, string_bytes};
+ghost use Rattle.std.specs.Prelude.{◌≡◌, ℕ, ◌-◌, ◌^◌, ◌<◌, ◌⊎◌, List, Some, length, IfOk, OnOk, IsErrOf, map, string_bytes};
 ghost use Rattle.script_text.specs.Language.{parsed, byte_limit};
 ghost use Rattle.script_text.specs.Sound.{IsSound};
 ghost use Rattle.k42_cli.specs.Program as program;
-ghost use Rattle.k42_cli.specs.Program.Form.{Unknown};
+ghost use Rattle.k42_cli.specs.Program.Form.{Run, Unknown};
 ghost use Rattle.k42_cli.specs.Outputs.{IsRecordText, IsWorkedOut, Delivers};
 
 use crate::engine::run_alone;
@@ -93,7 +93,8 @@ impl From<Memory> for WorkEnd {
 
 /// What these bytes of a script have to answer.
 fn answer<G: Gate>(alloc: Global, bytes: &[u8], gate: &G) -> Result<Output, Memory>
-    ensures due { IfOk result (λ output. program.IsRunOutput 1 (parsed bytes.now) output.status output.text.items) }
+    ensures due { IfOk result (λ output.
+        program.IsDue (Run 1) bytes.now output.status output.text.items) }
     ensures short { IfOk result (λ output. output.status ≡ Status.Ok → length bytes.now < byte_limit) }
 {
     match parse(alloc, bytes) {
@@ -165,9 +166,13 @@ pub fn k42_main<S: Source, K: Sink, G: Gate>(
         S.faults source.new ≡ S.faults source.old → K.faults sink.new ≡ K.faults sink.old →
         program.Completes (program.form_of (map string_bytes words.now)) bytes result }
     // Without a form nothing is read, and only a write can fail.
-    ensures unread { program.form_of (map string_bytes words.now) ≡ Unknown → source.new ≡ source.old }
+    ensures unread { program.form_of (map string_bytes words.now) ≡ Unknown →
+        source.new ≡ source.old }
     ensures usage { program.form_of (map string_bytes words.now) ≡ Unknown →
         K.faults sink.new ≡ K.faults sink.old → result ≡ Status.Usage }
+    // Where nothing is due, the sink is not touched.
+    ensures untouched { (result ≡ Status.ReadFault) ⊎ (result ≡ Status.Memory) →
+        sink.new ≡ sink.old }
 {
     if !is_run(words) {
         return deliver(sink, USAGE.as_bytes(), Status::Usage);

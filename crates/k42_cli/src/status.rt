@@ -18,8 +18,13 @@ pub enum Status {
 }
 
 impl Status {
-    /// The number that the process ends with, 0 to 6 in the order above.
-    pub fn number(self) -> u8 {
+    ghost use Rattle.std.specs.Prelude.{◌≡◌};
+    ghost use Rattle.k42_cli.specs.Endings.{exit_number};
+
+    /// The number that the process ends with.
+    pub fn number(self) -> u8
+        ensures { result ≡ exit_number self }
+    {
         match self {
             Status::Ok => 0,
             Status::Unlawful => 1,

@@ -1,0 +1,290 @@
+ghost use Rattle.std.specs.Prelude.{◌<◌, None};
+
+use crate::gate::{FreeGate, Gate};
+use crate::program::k42_main;
+use crate::status::Status;
+use k42_io::{Failed, MemSink, MemSource, QuietSink, QuietSource, Source};
+use std::alloc::Global;
+use std::cell::Cell;
+use std::process::Abort;
+use std::test::Fail;
+
+const RUN: &str = "run";
+
+/// One worker over one counter, which adds 5 and asks for the value. It has 66 bytes.
+const ADD_AND_GET: &[u8] =
+    b"procs 1\nobject hits counter shared\nworker a 0\nhits add 5\nhits get\n";
+
+/// What comes of it. It has 66 bytes too.
+const ADD_AND_GET_RECORD: &[u8] =
+    b"k42 record 1\n1 a 4 hits add 5 = ok @0\n2 a 5 hits get = 5 @0\nend 2\n";
+
+const NO_CALLS_RECORD: &[u8] = b"k42 record 1\nend 0\n";
+
+const USAGE_LINE: &[u8] = b"usage: k42 run [2] | k42 check | k42 load N\n";
+
+/// A source that is at its end, and counts the reads.
+#[derive(Drop)]
+struct Counted {
+    reads: u32,
+}
+
+impl Source for Counted {
+    ghost left = { λ _. None };
+
+    ghost faults = { λ _. 0 };
+
+    fn read(&mut self, _buf: &mut [u8]) -> Result<usize, Failed> {
+        self.reads = self.reads.saturating_add(1);
+        Ok(0)
+    }
+}
+
+/// A gate that awaits this, told as worker, line and whether it comes before the line.
+#[derive(Drop)]
+struct Awaiting {
+    told: &'static [(u32, u32, bool)],
+    met: Cell<usize>,
+    astray: Cell<bool>,
+}
+
+impl Gate for Awaiting {
+    fn at(&self, worker: u32, line: u32, before: bool) {
+        let met = self.met.get();
+        if self.told.get(met) == Some(&(worker, line, before)) {
+            self.met.set(met.saturating_add(1));
+        } else {
+            self.astray.set(true);
+        }
+    }
+}
+
+/// How a run of the program ended, and what its sink holds.
+#[derive(Drop)]
+struct Ran {
+    status: Status,
+    text: Vec<u8>,
+}
+
+/// The words of a command line.
+fn words_in(alloc: Global, line: &str) -> Result<Vec<String>, Fail> {
+    let mut words = Vec::new(alloc);
+    for word in line.split_whitespace() {
+        words.push(word.to_string(alloc)?)?;
+    }
+    Ok(words)
+}
+
+/// Runs over a source and a sink of this piece that fail at these reads and writes.
+fn run_in_pieces(
+    alloc: Global,
+    script: &[u8],
+    piece: usize,
+    reads: &[u64],
+    writes: &[u64],
+) -> Result<Ran, Fail>
+    requires { 0 < piece }
+{
+    let words = words_in(alloc, RUN)?;
+    let mut source = MemSource::new(script.to_vec(alloc)?, piece, reads.to_vec(alloc)?);
+    let mut sink = MemSink::new(alloc, 4096, piece, writes.to_vec(alloc)?)?;
+    let status = k42_main(alloc, &words, &mut source, &mut sink, &FreeGate);
+    let text = sink.taken().to_vec(alloc)?;
+    Ok(Ran { status, text })
+}
+
+/// Runs over ends that never fail, with this room in the sink.
+fn run_quietly(alloc: Global, script: Vec<u8>, room: usize) -> Result<Ran, Fail> {
+    let words = words_in(alloc, RUN)?;
+    let mut source = QuietSource::new(script);
+    let mut sink = QuietSink::new(alloc, room)?;
+    let status = k42_main(alloc, &words, &mut source, &mut sink, &FreeGate);
+    let text = sink.taken().to_vec(alloc)?;
+    Ok(Ran { status, text })
+}
+
+/// A script of one counter and so many lines that ask for its value.
+fn gets(alloc: Global, count: u32) -> Result<Vec<u8>, Fail> {
+    let mut script = b"procs 1\nobject hits counter shared\nworker a 0\n".to_vec(alloc)?;
+    for _ in 0..count {
+        script.extend_from_slice(b"hits get\n")?;
+    }
+    Ok(script)
+}
+
+#[test]
+fn memory_is_not_lacking_where_there_is_enough(rt: HostRuntime) -> Result<(), Fail> {
+    let ran = run_in_pieces(rt.alloc(), ADD_AND_GET, 4096, &[], &[])?;
+    assert_eq!(rt; ran.status, Status::Ok);
+    assert_eq!(rt; ran.text.as_slice(), ADD_AND_GET_RECORD);
+    Ok(())
+}
+
+#[test]
+fn a_script_is_answered_by_its_record(rt: HostRuntime) -> Result<(), Fail> {
+    let cases: [(&str, &[u8], &[u8]); 3] = [
+        ("no calls", b"procs 1\n", NO_CALLS_RECORD),
+        ("a sum", ADD_AND_GET, ADD_AND_GET_RECORD),
+        (
+            "a sum past 32 bits, and its end",
+            b"procs 1\nobject hits counter shared\nworker a 0\nhits add 4294967295\n\
+              hits add 4294967295\nhits drain\nhits get\n",
+            b"k42 record 1\n1 a 4 hits add 4294967295 = ok @0\n\
+              2 a 5 hits add 4294967295 = ok @0\n3 a 6 hits drain = 8589934590 @0\n\
+              4 a 7 hits get = 0 @0\nend 4\n",
+        ),
+    ];
+    for (shows, script, record) in cases {
+        let ran = run_in_pieces(rt.alloc(), script, 4096, &[], &[])?;
+        assert_eq!(rt; ran.status, Status::Ok, "{shows}");
+        assert_eq!(rt; ran.text.as_slice(), record, "{shows}");
+    }
+    Ok(())
+}
+
+#[test]
+fn a_script_that_is_none_is_answered_by_the_line_that_offends(rt: HostRuntime) -> Result<(), Fail> {
+    let cases: [(&str, &[u8], &[u8]); 2] = [
+        ("an empty input", b"", b"line 1: NotYet\n"),
+        (
+            "an amount of 2 to the 32",
+            b"procs 1\nobject hits counter shared\nworker a 0\nhits add 4294967296\n",
+            b"line 4: NotYet\n",
+        ),
+    ];
+    for (shows, script, line) in cases {
+        let ran = run_in_pieces(rt.alloc(), script, 4096, &[], &[])?;
+        assert_eq!(rt; ran.status, Status::Refused, "{shows}");
+        assert_eq!(rt; ran.text.as_slice(), line, "{shows}");
+    }
+    Ok(())
+}
+
+#[test]
+fn a_script_ends_before_byte_1048577(rt: HostRuntime) -> Result<(), Fail> {
+    let cases: [(usize, Status, &[u8]); 2] = [
+        (1_048_577, Status::Refused, b"line 2: NotYet\n"),
+        (1_048_576, Status::Ok, NO_CALLS_RECORD),
+    ];
+    for (length, status, output) in cases {
+        let mut script = b"procs 1\n".to_vec(rt.alloc())?;
+        script.resize(length, b' ')?;
+        let ran = run_quietly(rt.alloc(), script, 4096)?;
+        assert_eq!(rt; ran.status, status, "of {length} bytes");
+        assert_eq!(rt; ran.text.as_slice(), output, "of {length} bytes");
+    }
+    Ok(())
+}
+
+#[test]
+fn a_script_has_65536_calls(rt: HostRuntime) -> Result<(), Fail> {
+    let ran = run_quietly(rt.alloc(), gets(rt.alloc(), 65_536)?, 4_194_304)?;
+    assert_eq!(rt; ran.status, Status::Ok);
+    assert!(rt;
+        ran.text
+            .ends_with(b"\n65536 a 65539 hits get = 0 @0\nend 65536\n")
+    );
+    let more = run_quietly(rt.alloc(), gets(rt.alloc(), 65_537)?, 4096)?;
+    assert_eq!(rt; more.status, Status::Refused);
+    assert_eq!(rt; more.text.as_slice(), b"line 65540: NotYet\n".as_slice());
+    Ok(())
+}
+
+#[test]
+fn a_run_without_calls_over_ends_that_never_fail(rt: HostRuntime) -> Result<(), Fail> {
+    let script = b"procs 1\n".to_vec(rt.alloc())?;
+    let ran = run_quietly(rt.alloc(), script, 64)?;
+    assert_eq!(rt; ran.status, Status::Ok);
+    assert_eq!(rt; ran.text.as_slice(), NO_CALLS_RECORD);
+    Ok(())
+}
+
+#[test]
+fn words_that_are_no_form_read_nothing(rt: HostRuntime) -> Result<(), Fail> {
+    let cases = [
+        "",
+        "load",
+        "load 0",
+        "load 01",
+        "load 10001",
+        "run x",
+        // These are forms of later versions of the program.
+        "run 2",
+        "check",
+        "load 8",
+    ];
+    for line in cases {
+        let words = words_in(rt.alloc(), line)?;
+        let mut source = Counted { reads: 0 };
+        let mut sink = MemSink::new(rt.alloc(), 4096, 4096, Vec::new(rt.alloc()))?;
+        let status = k42_main(rt.alloc(), &words, &mut source, &mut sink, &FreeGate);
+        assert_eq!(rt; status, Status::Usage, "of {line}");
+        assert_eq!(rt; sink.taken(), USAGE_LINE, "of {line}");
+        assert_eq!(rt; source.reads, 0, "of {line}");
+    }
+    Ok(())
+}
+
+#[test]
+fn a_failed_read_leaves_the_sink_empty(rt: HostRuntime) -> Result<(), Fail> {
+    let ran = run_in_pieces(rt.alloc(), ADD_AND_GET, 4096, &[2], &[])?;
+    assert_eq!(rt; ran.status, Status::ReadFault);
+    assert_eq!(rt; ran.text.len(), 0);
+    Ok(())
+}
+
+#[test]
+fn a_failed_write_leaves_what_came_before_it(rt: HostRuntime) -> Result<(), Fail> {
+    let ran = run_in_pieces(rt.alloc(), ADD_AND_GET, 8, &[], &[3])?;
+    assert_eq!(rt; ran.status, Status::WriteFault);
+    assert_eq!(rt; ran.text.as_slice(), b"k42 record 1\n1 a".as_slice());
+    Ok(())
+}
+
+#[test]
+fn each_read_failing_in_turn(rt: HostRuntime) -> Result<(), Fail> {
+    for k in 1..=68 {
+        let ran = run_in_pieces(rt.alloc(), ADD_AND_GET, 1, &[k], &[])?;
+        let (status, text): (Status, &[u8]) = if k < 68 {
+            (Status::ReadFault, b"")
+        } else {
+            (Status::Ok, ADD_AND_GET_RECORD)
+        };
+        assert_eq!(rt; ran.status, status, "at read {k}");
+        assert_eq!(rt; ran.text.as_slice(), text, "at read {k}");
+    }
+    Ok(())
+}
+
+#[test]
+fn each_write_failing_in_turn(rt: HostRuntime) -> Result<(), Fail> {
+    for k in 1..=67u64 {
+        let ran = run_in_pieces(rt.alloc(), ADD_AND_GET, 1, &[], &[k])?;
+        let status = if k < 67 {
+            Status::WriteFault
+        } else {
+            Status::Ok
+        };
+        let written = ADD_AND_GET_RECORD.iter().take(k as usize - 1);
+        assert_eq!(rt; ran.status, status, "at write {k}");
+        assert!(rt; ran.text.iter().eq(written), "at write {k}");
+    }
+    Ok(())
+}
+
+#[test]
+fn the_gate_is_told_before_and_after_each_line(rt: HostRuntime) -> Result<(), Fail> {
+    let words = words_in(rt.alloc(), RUN)?;
+    let mut source = QuietSource::new(ADD_AND_GET.to_vec(rt.alloc())?);
+    let mut sink = QuietSink::new(rt.alloc(), 4096)?;
+    let gate = Awaiting {
+        told: &[(0, 4, true), (0, 4, false), (0, 5, true), (0, 5, false)],
+        met: Cell::new(0),
+        astray: Cell::new(false),
+    };
+    let status = k42_main(rt.alloc(), &words, &mut source, &mut sink, &gate);
+    assert_eq!(rt; status, Status::Ok);
+    assert_eq!(rt; gate.met.get(), 4);
+    assert!(rt; !gate.astray.get());
+    Ok(())
+}
