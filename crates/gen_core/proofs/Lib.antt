@@ -9,3 +9,4 @@ pub mod Fresh
 pub mod Alone
 pub mod Reached
 pub mod Ended
+pub mod AtTheBounds

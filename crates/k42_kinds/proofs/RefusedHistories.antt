@@ -62,8 +62,8 @@ refused_behind_its_own : IsRefused (line 1 1 0 0 (Swap Spread) (Swapped 1) ∷ l
 refused_behind_its_own = illegal refl (λ legal. let past = legal.timely.earlier 1 added (omega arith) (record { caller = refl; object = refl }) in grind arith)
 
 -- nor if it goes on in an implementation before the one that the swap was to end
-early_refusal : IsRefused [] (line 1 0 0 2 (Swap Spread) (Busy 3)) (line 2 0 1 0 (Call Get) (Replied (replies.Number 0)) ∷ line 3 1 0 0 (Swap Spread) (Swapped 1) ∷ line 4 1 1 1 (Swap Spread) (Swapped 2) ∷ line 5 1 2 2 (Swap Spread) (Swapped 3) ∷ [])
-early_refusal = illegal refl (λ legal. let past = legal.timely.later 0 added (omega arith) (record { caller = refl; object = refl }) in grind arith)
+early_refusal : IsRefused [] (line 1 0 0 2 (Swap Spread) (Busy 3)) (line 2 1 0 0 (Swap Spread) (Swapped 1) ∷ line 3 0 1 1 (Call Get) (Replied (replies.Number 0)) ∷ line 4 1 1 1 (Swap Spread) (Swapped 2) ∷ line 5 1 2 2 (Swap Spread) (Swapped 3) ∷ [])
+early_refusal = illegal refl (λ legal. let past = legal.timely.later 1 added (omega arith) (record { caller = refl; object = refl }) in grind arith)
 
 spent_too_early : IsRefused [] (line 1 0 0 0 (Swap Shared) Spent) []
 spent_too_early = illegal refl (λ legal. grind arith)
@@ -73,6 +73,9 @@ gone_while_alive = illegal refl (λ legal. grind arith)
 
 swapped_when_dead : IsRefused (line 1 0 0 0 Destroy (Swapped 1) ∷ []) (line 2 0 1 1 (Swap Shared) (Swapped 2)) []
 swapped_when_dead = illegal refl (λ legal. grind arith)
+
+spent_when_dead : IsRefused (line 1 0 0 0 Destroy (Swapped 1) ∷ []) (line 2 0 1 1 (Swap Shared) Spent) []
+spent_when_dead = illegal refl (λ legal. grind arith)
 
 -- a dead object too takes the operations of its kind alone
 call_of_another_kind : IsRefused (line 1 0 0 0 Destroy (Swapped 1) ∷ []) (line 2 0 1 1 (Call Size) (Replied replies.Gone)) []

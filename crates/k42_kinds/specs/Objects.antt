@@ -1,6 +1,6 @@
 -- The objects of one thread: the state before the first operation, and what each operation does
 -- and replies.
-use Rattle.std.specs.Prelude.{ℕ, ◌+◌, ◌%◌, ◌^◌, Option, Some, None as Absent, if◌then◌else◌}
+use Rattle.std.specs.Prelude.{◌≡◌, ℕ, ◌+◌, ◌%◌, ◌^◌, Option, Some, None as Absent, if◌then◌else◌}
 use Rattle.std.specs.FinMap as finite
 use Rattle.std.specs.FinMap.{FinMap}
 use Rattle.std.specs.Ordering.{nat_cmp}
@@ -90,6 +90,20 @@ reply_of (states.Counter value) op = counter_reply value op
 reply_of (states.Directory names) op = directory_reply names op
 reply_of (states.Pages pages) op = pages_reply pages op
 reply_of states.Dead op = Gone
+
+-- Only a name that was not bound and a page that was never written need memory.
+abbrev pub BindsNew : Directory → Op → Type 0
+BindsNew names (Bind key number) = finite.get names key ≡ Absent
+BindsNew names _ = ⊥
+
+abbrev pub WritesNew : Pages → Op → Type 0
+WritesNew pages (Write page text) = finite.get pages page ≡ Absent
+WritesNew pages _ = ⊥
+
+abbrev pub NeedsMemory : AnyState → Op → Type 0
+NeedsMemory (states.Directory names) op = BindsNew names op
+NeedsMemory (states.Pages pages) op = WritesNew pages op
+NeedsMemory _ op = ⊥
 
 -- the state before the first operation
 abbrev pub empty_state : KindName → AnyState

@@ -1,6 +1,6 @@
 ghost use Rattle.std.specs.Prelude.{◌≡◌, IfOk, OnOk, OnErr};
 ghost use Rattle.std.specs.FinMap as map;
-ghost use Rattle.k42_kinds.specs.Objects.{directory_after, directory_reply, found_number};
+ghost use Rattle.k42_kinds.specs.Objects.{BindsNew, directory_after, directory_reply, found_number};
 
 use crate::name::Name;
 use crate::operation::{Op, Reply};
@@ -94,6 +94,7 @@ pub(crate) fn step_directory(names: &mut DirectoryState, op: &Op) -> Result<Repl
     ensures replied { IfOk result (λ reply. reply ≡ directory_reply names.old op.now) }
     ensures moved { OnOk result (names.new ≡ directory_after names.old op.now) }
     ensures memory { OnErr result (names.new ≡ names.old) }
+    ensures needed { OnErr result (BindsNew names.old op.now) }
 {
     match op {
         Op::Bind(name, number) => {

@@ -72,3 +72,31 @@ pub enum Reach {
     One(u32),
     All,
 }
+
+#[cfg(test)]
+mod tests {
+    use super::*;
+    use std::test::Fail;
+
+    #[test]
+    fn an_entry_stands_behind_the_others(rt: HostRuntime) -> Result<(), Fail> {
+        let mut entries = Vec::new(rt.alloc());
+        for stamp in [1, 2, 3] {
+            let entry = Entry {
+                stamp,
+                caller: 0,
+                index: 0,
+                object: 0,
+                incarnation: 0,
+                cell: 0,
+                act: Act::Destroy,
+                answer: Answer::Gone,
+                proc: 0,
+                generation: None,
+            };
+            entry.push_onto(&mut entries)?;
+        }
+        assert!(rt; entries.iter().map(|entry| entry.stamp).eq([1, 2, 3]));
+        Ok(())
+    }
+}

@@ -1,7 +1,7 @@
 ghost use Rattle.std.specs.Prelude.{◌≡◌, IfOk, OnOk, OnErr};
 ghost use Rattle.std.specs.FinMap as map;
 ghost use Rattle.k42_kinds.specs.Pages.{dirty_count, all_cleaned, written};
-ghost use Rattle.k42_kinds.specs.Objects.{pages_after, pages_reply, found_text};
+ghost use Rattle.k42_kinds.specs.Objects.{WritesNew, pages_after, pages_reply, found_text};
 
 use crate::operation::{Op, Reply};
 use crate::page::Page;
@@ -97,6 +97,7 @@ pub(crate) fn step_pages(pages: &mut PagesState, op: &Op) -> Result<Reply, Memor
     ensures replied { IfOk result (λ reply. reply ≡ pages_reply pages.old op.now) }
     ensures moved { OnOk result (pages.new ≡ pages_after pages.old op.now) }
     ensures memory { OnErr result (pages.new ≡ pages.old) }
+    ensures needed { OnErr result (WritesNew pages.old op.now) }
 {
     match op {
         Op::Write(number, text) => {

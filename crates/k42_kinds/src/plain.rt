@@ -1,5 +1,6 @@
-ghost use Rattle.std.specs.Prelude.{◌≡◌};
-ghost use Rattle.k42_kinds.specs.Objects.{empty_state, state_after, reply_of};
+ghost use Rattle.std.specs.Prelude.{◌≡◌, IfOk, OnErr};
+ghost use Rattle.k42_kinds.specs.Objects.{empty_state, state_after, reply_of, NeedsMemory};
+ghost use Rattle.k42_kinds.specs.Steps.{Steps};
 ghost use Rattle.k42_kinds.specs.Operations.{takes_operation};
 
 use crate::counter::step_counter;
@@ -36,7 +37,12 @@ impl Kind for Plain {
         }
     }
 
-    fn step(&self, _alloc: Global, state: &mut AnyState, op: &Op) -> Result<Reply, Memory> {
+    fn step(&self, _alloc: Global, state: &mut AnyState, op: &Op) -> Result<Reply, Memory>
+        ensures ok { IfOk result (λ replied.
+            Steps state_after reply_of state.old op.now replied state.new) }
+        ensures memory { OnErr result (state.new ≡ state.old) }
+        ensures needed { OnErr result (NeedsMemory state.old op.now) }
+    {
         match state {
             AnyState::Counter(value) => Ok(step_counter(value, op)),
             AnyState::Directory(names) => step_directory(names, op),
