@@ -7,3 +7,4 @@ pub mod SoundScripts
 pub mod Truncated
 pub mod DecimalNumbers
 pub mod FirstOffence
+mod AtTheBounds
