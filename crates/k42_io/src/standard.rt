@@ -1,9 +1,9 @@
-ghost use Rattle.std.specs.Prelude.{◌≡◌, ◌+◌, ◌-◌, ◌^◌, ◌<◌, length, IfOk, OnOk, OnErr};
+ghost use Rattle.std.specs.Prelude.{◌≡◌, ◌+◌, ◌-◌, ◌^◌, ◌<◌, ◌↔◌, length, Ok, IsErr, IfOk, OnOk, OnErr};
 ghost use Rattle.std.specs.Io.{ReadsAtMost, WritesAtMost};
 
 use crate::sink::Sink;
 use crate::source::{Failed, Source};
-use std::io::{Read, Stdin, Stdout, Write};
+use std::io::{self, Read, Stdin, Stdout, Write};
 use std::marker::Model;
 
 /// Counts one more fault.
@@ -13,6 +13,20 @@ fn counted(faults: &mut u64) -> Failed
 {
     *faults += 1;
     Failed
+}
+
+/// What a read, a write or a flush of the system answered, with a fault counted where it failed.
+fn passed_on<T: Drop>(answer: io::Result<T>, faults: &mut u64) -> Result<T, Failed>
+    requires { faults.old < 2 ^ 64 - 1 }
+    ensures hidden { IsErr result ↔ IsErr answer }
+    ensures same { IfOk result (λ value. answer ≡ Ok value) }
+    ensures failed { OnErr result (faults.new ≡ faults.old + 1) }
+    ensures quiet { OnOk result (faults.new ≡ faults.old) }
+{
+    match answer {
+        Ok(value) => Ok(value),
+        Err(_) => Err(counted(faults)),
+    }
 }
 
 /// Standard input. It tells no bytes, and contracts see its count of faults.
@@ -51,10 +65,7 @@ impl Source for InputSource {
         ensures failed { OnErr result (self.new ≡ self.old + 1) }
         ensures quiet { OnOk result (self.new ≡ self.old) }
     {
-        match self.input.read(buf) {
-            Ok(count) => Ok(count),
-            Err(_) => Err(counted(&mut self.faults)),
-        }
+        passed_on(self.input.read(buf), &mut self.faults)
     }
 }
 
@@ -95,11 +106,10 @@ impl Sink for OutputSink {
         ensures failed { OnErr result (self.new ≡ self.old + 1) }
         ensures quiet { OnOk result (self.new ≡ self.old) }
     {
-        match self.output.write(piece) {
+        match passed_on(self.output.write(piece), &mut self.faults) {
             // A device that takes nothing of a piece would be asked for ever.
             Ok(0) if !piece.is_empty() => Err(counted(&mut self.faults)),
-            Ok(count) => Ok(count),
-            Err(_) => Err(counted(&mut self.faults)),
+            answer => answer,
         }
     }
 
@@ -108,9 +118,6 @@ impl Sink for OutputSink {
         ensures failed { OnErr result (self.new ≡ self.old + 1) }
         ensures quiet { OnOk result (self.new ≡ self.old) }
     {
-        match self.output.flush() {
-            Ok(()) => Ok(()),
-            Err(_) => Err(counted(&mut self.faults)),
-        }
+        passed_on(self.output.flush(), &mut self.faults)
     }
 }

@@ -96,11 +96,13 @@ fn read_all_hands_on_each_failed_read(rt: HostRuntime) -> Result<(), Fail> {
 
 #[test]
 fn read_all_reads_a_quiet_source_whole(rt: HostRuntime) -> Result<(), Fail> {
-    let bytes = vec![in rt.alloc(); 7u8; 70_000]?;
-    let mut source = QuietSource::new(bytes);
-    let all = read_all(rt.alloc(), &mut source, 1_048_576)?;
-    assert_eq!(rt; all.len(), 70_000);
-    assert_eq!(rt; read_all(rt.alloc(), &mut source, 5)?.len(), 0);
+    for (there, want, rest) in [(70_000, 70_000, 0), (1_048_580, 1_048_577, 3)] {
+        let bytes = vec![in rt.alloc(); 7u8; there]?;
+        let mut source = QuietSource::new(bytes);
+        let all = read_all(rt.alloc(), &mut source, 1_048_576)?;
+        assert_eq!(rt; all.len(), want);
+        assert_eq!(rt; read_all(rt.alloc(), &mut source, 5)?.len(), rest);
+    }
     Ok(())
 }
 
@@ -124,6 +126,11 @@ fn sinks_store_no_more_than_their_room(rt: HostRuntime) -> Result<(), Fail> {
     assert_eq!(rt; quiet.taken(), b"k42 r".as_slice());
     assert_eq!(rt; write_all(&mut sink, b"record"), Ok(()));
     assert_eq!(rt; sink.taken(), b"k42 r".as_slice());
+    let mut sink = MemSink::new(rt.alloc(), 0, 4, Vec::new(rt.alloc()))?;
+    let mut quiet = QuietSink::new(rt.alloc(), 0)?;
+    assert_eq!(rt; write_all(&mut sink, b"record"), Ok(()));
+    assert_eq!(rt; write_all(&mut quiet, b"record"), Ok(()));
+    assert!(rt; sink.taken().is_empty() && quiet.taken().is_empty());
     Ok(())
 }
 
@@ -137,6 +144,22 @@ fn write_all_flushes_once_after_the_last_byte(rt: HostRuntime) {
             (1, 7, 7)
         );
     }
+}
+
+#[test]
+fn write_all_hands_over_all_that_is_left_and_flushes_nothing_too(
+    rt: HostRuntime,
+) -> Result<(), Fail> {
+    for there in [70_000, 0] {
+        let bytes = vec![in rt.alloc(); 7u8; there]?;
+        let mut sink = Watched::new(false);
+        assert_eq!(rt; write_all(&mut sink, &bytes), Ok(()));
+        assert_eq!(rt;
+            (sink.flushes, sink.written_at_flush, sink.largest),
+            (1, there, there)
+        );
+    }
+    Ok(())
 }
 
 #[test]

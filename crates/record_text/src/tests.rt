@@ -511,3 +511,88 @@ fn a_record_of_65536_lines(rt: HostRuntime) -> Result<(), Fail> {
     assert!(rt; text.as_slice().ends_with(case.text));
     Ok(())
 }
+
+/// Two objects and one worker, whose names are as long as a name can be.
+fn script_of_long_names(alloc: Global) -> Result<Script, Fail> {
+    let mut objects = Items::new(alloc);
+    for (object, kind) in [
+        (b"directory_______", KindName::Directory),
+        (b"pages_2_________", KindName::Pages),
+    ] {
+        objects.push(ObjectLine {
+            name: name(object)?,
+            kind,
+            layout: LayoutName::Spread,
+        })?;
+    }
+    let mut workers = Items::new(alloc);
+    workers.push(WorkerLines {
+        name: name(b"worker_of_record")?,
+        proc: 7,
+        items: Items::new(alloc),
+    })?;
+    Ok(Script {
+        procs: 8,
+        objects,
+        workers,
+    })
+}
+
+/// A line whose numbers are the greatest of their types.
+fn widest(object: u32, act: Act, answer: Answer) -> RecordLine {
+    RecordLine {
+        stamp: u64::MAX,
+        worker: 0,
+        line: u32::MAX,
+        object,
+        act,
+        answer,
+        incarnation: u32::MAX,
+        extra: Some(Extra {
+            proc: u32::MAX,
+            generation: match act {
+                Act::Call(_) => Some(u32::MAX),
+                _ => None,
+            },
+        }),
+    }
+}
+
+#[test]
+fn the_widest_lines(rt: HostRuntime) -> Result<(), Fail> {
+    let alloc = rt.alloc();
+    let script = script_of_long_names(alloc)?;
+    let key = name(b"abcdefghijklmnop")?;
+    let text = Text::of(b"abcdefghijklmnopqrstuvwxyz012345").ok_or("no text")?;
+    let mut lines = Items::new(alloc);
+    for line in [
+        widest(
+            0,
+            call(Op::Bind(key, u64::MAX)),
+            Answer::Replied(Reply::Taken),
+        ),
+        widest(1, call(Op::Write(1023, text)), Answer::Replied(Reply::Done)),
+        widest(1, call(Op::Read(1023)), Answer::Replied(Reply::Text(text))),
+        widest(0, call(Op::Size), Answer::Replied(Reply::Number(u64::MAX))),
+        widest(1, Act::Destroy, Answer::Busy(u32::MAX)),
+    ] {
+        lines.push(line)?;
+    }
+    let record = Record { lines, version: 2 };
+    assert!(rt; has_text(&script, &record));
+    let text = print(alloc, &script, &record)?;
+    let want = b"k42 record 2\n\
+        18446744073709551615 worker_of_record 4294967295 directory_______ bind \
+        abcdefghijklmnop 18446744073709551615 = taken @4294967295 p4294967295 g4294967295\n\
+        18446744073709551615 worker_of_record 4294967295 pages_2_________ write 1023 \
+        abcdefghijklmnopqrstuvwxyz012345 = ok @4294967295 p4294967295 g4294967295\n\
+        18446744073709551615 worker_of_record 4294967295 pages_2_________ read 1023 = \
+        text abcdefghijklmnopqrstuvwxyz012345 @4294967295 p4294967295 g4294967295\n\
+        18446744073709551615 worker_of_record 4294967295 directory_______ size = \
+        18446744073709551615 @4294967295 p4294967295 g4294967295\n\
+        18446744073709551615 worker_of_record 4294967295 destroy pages_2_________ = \
+        busy 4294967295 @4294967295 p4294967295 g-\n\
+        end 5\n";
+    assert_eq!(rt; text.as_slice(), want.as_slice());
+    Ok(())
+}

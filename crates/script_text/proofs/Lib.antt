@@ -8,3 +8,4 @@ pub mod Truncated
 pub mod DecimalNumbers
 pub mod FirstOffence
 pub mod LawfulHistories
+mod AtTheBounds

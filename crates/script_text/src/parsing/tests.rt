@@ -84,7 +84,8 @@ fn compare(rt: &impl Abort, alloc: Global, calls: &[u8], items: &[Item]) -> Resu
     assert_eq!(rt;
         script.workers.as_slice()[0].items.as_slice(),
         items,
-        "{calls:?}"
+        "{} bytes of calls",
+        calls.len()
     );
     Ok(())
 }
@@ -94,6 +95,9 @@ fn calls_have_the_numbers_of_their_lines(rt: HostRuntime) -> Result<(), Fail> {
     compare(&rt, rt.alloc(), b"", &[])?;
     let sum = [call(4, Op::Add(5)), call(5, Op::Get)];
     compare(&rt, rt.alloc(), b"hits add 5\nhits get\n", &sum)?;
+    let late = repeated(rt.alloc(), b"", b"\n", 1_000_000, b"hits drain\nhits add 1")?;
+    let last = [call(1_000_004, Op::Drain), call(1_000_005, Op::Add(1))];
+    compare(&rt, rt.alloc(), &late, &last)?;
     let calls = b"hits add 4294967295\nhits add 4294967295\nhits drain\nhits get\n";
     let drained = [
         call(4, Op::Add(4_294_967_295)),
@@ -125,6 +129,45 @@ fn a_script_may_end_after_each_of_its_lines(rt: HostRuntime) -> Result<(), Fail>
         assert_eq!(rt; script.procs, procs, "{text:?}");
         assert_eq!(rt; script.objects.len(), objects, "{text:?}");
         assert_eq!(rt; script.workers.len(), workers, "{text:?}");
+    }
+    Ok(())
+}
+
+#[test]
+fn there_are_1_to_8_processors_and_a_worker_on_any_of_them(rt: HostRuntime) -> Result<(), Fail> {
+    for procs in 1u8..=8 {
+        for proc in 0..procs {
+            let number = [b'0' + procs];
+            let text = repeated(
+                rt.alloc(),
+                b"procs ",
+                &number,
+                1,
+                b"\nobject o counter shared\n",
+            )?;
+            let place = [b'0' + proc];
+            let text = repeated(rt.alloc(), &text, b"worker w ", 1, &place)?;
+            let script = parse(rt.alloc(), &text)?;
+            assert_eq!(rt; script.procs, u32::from(procs));
+            assert_eq!(rt; script.workers.len(), 1);
+            assert_eq!(rt; script.workers.as_slice()[0].proc, u32::from(proc));
+        }
+    }
+    Ok(())
+}
+
+#[test]
+fn only_the_bytes_from_32_to_126_stand_in_a_script(rt: HostRuntime) -> Result<(), Fail> {
+    for byte in 0u8..=255 {
+        if byte != b'\n' {
+            let text = repeated(rt.alloc(), b"procs 1\n# ", &[byte], 1, b"\n")?;
+            let end = if matches!(byte, 32..=126) {
+                None
+            } else {
+                Some(refusal(2))
+            };
+            assert_eq!(rt; end_of(rt.alloc(), &text), end, "{byte}");
+        }
     }
     Ok(())
 }
@@ -236,12 +279,13 @@ fn no_reserved_word_is_a_name(rt: HostRuntime) -> Result<(), Fail> {
 
 #[test]
 fn a_script_has_at_most_65536_calls(rt: HostRuntime) -> Result<(), Fail> {
-    let full = repeated(rt.alloc(), HEAD, b"hits get\n", 65_536, b"")?;
+    let full = repeated(rt.alloc(), HEAD, b"hits drain\nhits add 7\n", 32_768, b"")?;
     let script = parse(rt.alloc(), &full)?;
     assert_eq!(rt; script.workers.len(), 1);
     let items = &script.workers.as_slice()[0].items;
     assert_eq!(rt; items.len(), 65_536);
-    assert_eq!(rt; items.as_slice()[65_535], call(65_539, Op::Get));
+    assert_eq!(rt; items.as_slice()[65_534], call(65_538, Op::Drain));
+    assert_eq!(rt; items.as_slice()[65_535], call(65_539, Op::Add(7)));
     let over = repeated(rt.alloc(), HEAD, b"hits get\n", 65_537, b"")?;
     assert_eq!(rt; end_of(rt.alloc(), &over), Some(refusal(65_540)));
     Ok(())
