@@ -1,15 +1,13 @@
 -- What the program's status says, from what was worked out and what was delivered.
 use Rattle.std.proofs.Common.{◌≡◌, ℕ, ◌<◌, ◌≤◌, List, [], length, inl, inr, refl, sym, ap, ◌∙◌, subst, arith}
-use Rattle.std.specs.Prelude.{Option, Some, None, IfSome, Result, Ok, Err}
+use Rattle.std.specs.Prelude.{Option, Some, None, IfSome}
 use Rattle.std.proofs.lemmas.List.{length-take}
 use Rattle.std.proofs.Math.ListN.{drop_of_length-le}
 use Rattle.k42_io.specs.Sink.{Grows}
 use Rattle.k42_io.specs.Source.{TakesFirst}
 use Rattle.script_text.specs.Language.{parsed, byte_limit}
-use Rattle.script_text.specs.declared.fault.ScriptFault.{ScriptFault}
-use Rattle.script_text.specs.declared.script.Script.{Script}
 use Rattle.script_text.proofs.Truncated.{parsed-take}
-use Rattle.k42_cli.specs.Program.{Run, Unknown, usage_line, IsDue, Ends, IsQuiet, WritesDue, Says, CompletesRun}
+use Rattle.k42_cli.specs.Program.{Run, Unknown, usage_line, IsDue, Ends, IsQuiet, Says, CompletesRun}
 use Rattle.k42_cli.specs.Outputs.{IsWorkedOut, Delivers}
 use Rattle.k42_cli.specs.declared.status.Status.{Status}
 use Rattle.k42_cli.specs.declared.status.Status.TheVariants as statuses

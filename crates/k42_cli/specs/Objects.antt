@@ -29,7 +29,8 @@ CanTake object (Call op) = IsTrue (takes_operation object.plain.kind op)
 CanTake object (Swap layout) = Unit {0}
 CanTake object Destroy = Unit {0}
 
--- Nobody else swaps, so a swap or destroy is carried out while the object is alive and has an incarnation left.
+-- Nobody else swaps, so a swap or destroy is carried out while the object is alive and has an
+-- incarnation left.
 abbrev pub swap_answer : AnyState → ℕ → Answer
 swap_answer states.Dead number = Gone
 swap_answer _ number = if nat_lt number last_incarnation then Swapped (number + 1) else Spent
@@ -60,7 +61,8 @@ abbrev pub entry_of : Object → Asked → CallLine → Entry
 entry_of object asked line = entry_with asked line object.number (answer_of object line.act)
 
 -- the line's object has answered it, and the others stay
-pub record AnswersLine (old : List Object) (asked : Asked) (line : CallLine) (entry : Entry) (new : List Object) : Type 0 where
+pub record AnswersLine (old : List Object) (asked : Asked) (line : CallLine) (entry : Entry)
+    (new : List Object) : Type 0 where
   pub object : Object
   pub found : slice_get old line.object ≡ Some object
   pub entered : entry ≡ entry_of object asked line

@@ -29,7 +29,8 @@ pub record IsWorkedOut (version : ℕ) (left left_after : Option (List ℕ)) (st
   pub consumed : status ≡ statuses.Ok → IfSome left (λ before. left_after ≡ Some [])
 
 -- The text was written whole, or a write failed and its front was written.
-abbrev pub Delivers : Option (List ℕ) → Option (List ℕ) → ℕ → ℕ → List ℕ → Status → Status → Type 0
+abbrev pub Delivers : Option (List ℕ) → Option (List ℕ) → ℕ → ℕ → List ℕ → Status → Status
+    → Type 0
 Delivers taken taken_after faults faults_after text status answered =
     ((answered ≡ status) × Grows taken taken_after text × (faults_after ≡ faults))
     ⊎ ((answered ≡ statuses.WriteFault) × GrowsByFront taken taken_after text

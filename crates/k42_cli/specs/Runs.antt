@@ -16,16 +16,24 @@ use Rattle.k42_cli.specs.declared.engine.Run.{Run}
 
 -- who asks now
 abbrev pub asked_by : Run → Caller → ℕ → Asked
-asked_by run caller index = record { stamp = length run.entries.items + 1; caller = caller.number; index = index; proc = caller.proc; swaps = run.swaps }
+asked_by run caller index = record {
+  stamp = length run.entries.items + 1;
+  caller = caller.number;
+  index = index;
+  proc = caller.proc;
+}
 
 -- the line's object has answered it, and the entry stands behind the others
-pub record Records (old : Run) (caller : Caller) (index : ℕ) (line : CallLine) (new : Run) : Type 0 where
+pub record Records (old : Run) (caller : Caller) (index : ℕ) (line : CallLine) (new : Run)
+    : Type 0 where
   pub entry : Entry
-  pub answered : AnswersLine old.objects.items (asked_by old caller index) line entry new.objects.items
+  pub answered : AnswersLine old.objects.items (asked_by old caller index) line entry
+      new.objects.items
   pub entries : new.entries.items ≡ old.entries.items ++ entry ∷ []
 
 -- the object with this number is as the history says
-pub record IsKept (kinds : List KindName) (history : List Entry) (number : ℕ) (object : Object) : Type 0 where
+pub record IsKept (kinds : List KindName) (history : List Entry) (number : ℕ) (object : Object)
+    : Type 0 where
   pub kind : slice_get kinds number ≡ Some object.plain.kind
   pub state : object.state ≡ state_of object.plain.kind number history
   pub swaps : object.number ≡ number_of number history
@@ -38,11 +46,13 @@ IsUnrefused (Abandoned number) = ⊥
 IsUnrefused _ = Unit {0}
 
 -- What was done so far is a legal history, and the objects are as it says.
-pub record IsRunning (kinds : List KindName) (history : List Entry) (objects : List Object) : Type 0 where
+pub record IsRunning (kinds : List KindName) (history : List Entry) (objects : List Object)
+    : Type 0 where
   pub legal : IsLegalHistory kinds history
   pub unrefused : All (λ entry. IsUnrefused entry.answer) history
   pub size : length objects ≡ length kinds
-  pub kept : (number : ℕ) (object : Object) → slice_get objects number ≡ Some object → IsKept kinds history number object
+  pub kept : (number : ℕ) (object : Object) → slice_get objects number ≡ Some object
+      → IsKept kinds history number object
 
 -- the caller has done what its lines ask, each once and in their order
 pub record HasDone (old : Run) (caller : ℕ) (lines : List CallLine) (new : Run) : Type 0 where

@@ -10,16 +10,14 @@ pub struct Asked {
     pub caller: u32,
     pub index: u32,
     pub proc: u32,
-    /// How many swaps and destroys were carried out before.
-    pub swaps: u32,
 }
 
-/// In which generation a call is made, after so many swaps and destroys; others are made in none.
-pub fn generation_of(act: &Act, swaps: u32) -> Option<u32>
-    ensures { result ≡ entries.generation_of act.now swaps }
+/// In which generation an act is carried out. One thread never goes on to a second one.
+pub fn generation_of(act: &Act) -> Option<u32>
+    ensures { result ≡ entries.generation_of act.now }
 {
     match act {
-        Act::Call(_) => Some(swaps),
+        Act::Call(_) => Some(0),
         Act::Swap(_) | Act::Destroy => None,
     }
 }

@@ -13,12 +13,11 @@ use k42_memory::Memory;
 use script_text::{CallLine, Item, ObjectLine, Script};
 use std::alloc::Global;
 
-/// A run so far: the objects, the entries, and how many swaps and destroys were carried out.
+/// A run so far: the objects, and the entries.
 #[derive(Debug, Drop)]
 pub struct Run {
     pub objects: Vec<Object>,
     pub entries: Vec<Entry>,
-    pub swaps: u32,
 }
 
 /// Who calls, and from which processor.
@@ -34,7 +33,8 @@ impl Run {
     /// Nothing was done yet.
     fn new(alloc: Global, declared: &[ObjectLine]) -> Result<Run, Memory>
         ensures fresh { IfOk result (λ run. run.entries.items ≡ []) }
-        ensures running { IfOk result (λ run. IsRunning (map (λ object. object.kind) declared.now) [] run.objects.items) }
+        ensures running { IfOk result (λ run.
+            IsRunning (map (λ object. object.kind) declared.now) [] run.objects.items) }
     {
         let mut objects = Vec::new(alloc);
         for object in declared {
@@ -44,7 +44,6 @@ impl Run {
         Ok(Run {
             objects,
             entries: Vec::new(alloc),
-            swaps: 0,
         })
     }
 
@@ -57,7 +56,8 @@ impl Run {
         line: &CallLine,
     ) -> Result<(), Memory>
         requires declared { line.now.object < vec_len self.old.objects }
-        requires taken { (object : Object) → slice_get self.old.objects.items line.now.object ≡ Some object →
+        requires taken { (object : Object) →
+            slice_get self.old.objects.items line.now.object ≡ Some object →
             CanTake object line.now.act }
         ensures { OnOk result (Records self.old caller index line.now self.new) }
     {
@@ -66,7 +66,6 @@ impl Run {
             caller: caller.number,
             index,
             proc: caller.proc,
-            swaps: self.swaps,
         };
         let object = &mut self.objects[line.object as usize];
         object.record(alloc, &asked, line, &mut self.entries)
@@ -84,8 +83,10 @@ impl Run {
         requires running { IsRunning (kinds_of script.now) self.old.entries.items self.old.objects.items }
         requires sound { All (IsSoundLine script.now) (call_lines items.now) }
         requires few { length (call_lines items.now) ≤ 65536 }
-        ensures running { OnOk result (IsRunning (kinds_of script.now) self.new.entries.items self.new.objects.items) }
-        ensures done { OnOk result (HasDone self.old caller.number (call_lines items.now) self.new) }
+        ensures running { OnOk result
+            (IsRunning (kinds_of script.now) self.new.entries.items self.new.objects.items) }
+        ensures done { OnOk result
+            (HasDone self.old caller.number (call_lines items.now) self.new) }
     {
         let mut index = 0;
         for item in items {

@@ -55,7 +55,8 @@ impl Object {
         entries: &mut Vec<Entry>,
     ) -> Result<(), Memory>
         requires { CanTake self.old line.now.act }
-        ensures entered { OnOk result (entries.new.items ≡ entries.old.items ++ entry_of self.old asked.now line.now ∷ []) }
+        ensures entered { OnOk result
+            (entries.new.items ≡ entries.old.items ++ entry_of self.old asked.now line.now ∷ []) }
         ensures moved { OnOk result (self.new ≡ object_after self.old line.now.act) }
     {
         // The kit proves no `?` here that keeps an entry.
@@ -83,7 +84,7 @@ impl Object {
             act: line.act,
             answer,
             proc: asked.proc,
-            generation: generation_of(&line.act, asked.swaps),
+            generation: generation_of(&line.act),
         })
     }
 

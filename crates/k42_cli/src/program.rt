@@ -95,7 +95,8 @@ impl From<Memory> for WorkEnd {
 fn answer<G: Gate>(alloc: Global, bytes: &[u8], gate: &G) -> Result<Output, Memory>
     ensures due { IfOk result (λ output.
         program.IsDue (Run 1) bytes.now output.status output.text.items) }
-    ensures short { IfOk result (λ output. output.status ≡ Status.Ok → length bytes.now < byte_limit) }
+    ensures short { IfOk result (λ output.
+        output.status ≡ Status.Ok → length bytes.now < byte_limit) }
 {
     match parse(alloc, bytes) {
         Ok(script) => Ok(Output {
