@@ -5,3 +5,5 @@ pub mod Texts
 pub mod Spelling
 pub mod Histories
 pub mod LineNumbers
+pub mod Reading
+pub mod Rules

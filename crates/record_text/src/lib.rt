@@ -3,13 +3,19 @@
 
 mod acts;
 mod answers;
+mod ending;
 mod history;
+mod judging;
 mod printing;
+mod reading;
 mod record;
 mod tokens;
 
+pub use ending::{CheckEnd, RecordEnd};
 pub use history::lines_of;
+pub use judging::check;
 pub use printing::print;
+pub use reading::read;
 pub use record::{Extra, Record, RecordLine};
 
 #[cfg(test)]

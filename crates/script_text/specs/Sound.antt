@@ -1,11 +1,13 @@
 -- What is true of every script that can be read: it can be run, and its records can be written.
-use Rattle.std.specs.Prelude.{◌≡◌, ℕ, ◌<◌, ◌≤◌, length, sum_by, All, Some, slice_get}
+use Rattle.std.specs.Prelude.{◌≡◌, ℕ, ◌<◌, ◌≤◌, true, false, List, length, map, sum_by, All, Some, slice_get}
 use Rattle.k42_kinds.specs.declared.entry.Act.{Act}
 use Rattle.k42_kinds.specs.declared.entry.Act.TheVariants.{Call, Swap, Destroy}
 use Rattle.k42_kinds.specs.declared.operation.KindName.{KindName}
 use Rattle.k42_kinds.specs.declared.operation.Op.{Op}
 use Rattle.k42_kinds.specs.declared.operation.Op.TheVariants.{Write, Read}
 use Rattle.k42_kinds.specs.Operations.{kind_of_op}
+use Rattle.k42_kinds.specs.Words.{is_name}
+use Rattle.script_text.specs.Forms.{is_reserved}
 use Rattle.script_text.specs.Lawful.{kinds_of, call_lines}
 use Rattle.script_text.specs.declared.script.CallLine.{CallLine}
 use Rattle.script_text.specs.declared.script.Script.{Script}
@@ -38,6 +40,32 @@ pub record IsSoundLine (script : Script) (line : CallLine) : Type 0 where
 pub record IsSoundWorker (script : Script) (worker : WorkerLines) : Type 0 where
   pub processor : worker.proc < script.procs
   pub lines : All (IsSoundLine script) (call_lines worker.items)
+
+-- a name that a line may declare: it is of the form, and begins no form of a line
+pub record IsFreeName (name : List ℕ) : Type 0 where
+  pub formed : is_name name ≡ true
+  pub free : is_reserved name ≡ false
+
+-- no name stands at two places
+abbrev pub AreDistinct : List (List ℕ) → Type 0
+AreDistinct names =
+    (i j : ℕ) (name : List ℕ) → slice_get names i ≡ Some name → slice_get names j ≡ Some name
+    → i ≡ j
+
+-- The objects have names that lines may declare, each its own, and so have the workers.
+pub record HasDistinctNames (script : Script) : Type 0 where
+  pub object_names : AreDistinct (map (λ object. object.name) script.objects)
+  pub worker_names : AreDistinct (map (λ worker. worker.name) script.workers)
+  pub free_objects : All (λ object. IsFreeName object.name) script.objects
+  pub free_workers : All (λ worker. IsFreeName worker.name) script.workers
+
+-- A worker's lines that ask something have numbers that rise.
+abbrev pub HasRisingLines : WorkerLines → Type 0
+HasRisingLines worker =
+    (i j : ℕ) (earlier later : CallLine) → i < j
+    → slice_get (call_lines worker.items) i ≡ Some earlier
+    → slice_get (call_lines worker.items) j ≡ Some later
+    → earlier.line < later.line
 
 -- A script has 1 to 8 processors, at most 16 objects, at most 16 workers, each of them sound, and
 -- at most 65,536 lines that ask something.

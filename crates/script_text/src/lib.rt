@@ -13,5 +13,6 @@ mod tokens;
 
 pub use fault::{ParseEnd, ScriptCause, ScriptFault};
 pub use laws::{first_offence_decides, lines_make_the_text, numbers_are_decimal};
+pub use numbers::number_up_to;
 pub use parsing::parse;
 pub use script::{CallLine, Item, ObjectLine, Script, WorkerLines};

@@ -32,7 +32,7 @@ fn with_digit(number: u64, digit: u8, most: u64) -> Option<u64>
     if next > most { None } else { Some(next) }
 }
 
-/// The number that the bytes spell, where it is no more than `most`.
+/// The number that the bytes spell in decimal, where it is no more than `most`.
 pub fn number_up_to(bytes: &[u8], most: u64) -> Option<u64>
     ensures { result ≡ spelling.number_within 0 most bytes.now }
 {
