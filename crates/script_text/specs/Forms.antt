@@ -1,75 +1,159 @@
 -- The forms that a line of a script may have, by its tokens.
-use Rattle.std.specs.Prelude.{ℕ, ◌^◌, Bool, not, ◌&&◌, if◌then◌else◌, List, [], ◌∷◌, Option, Some, None, option_map, codes}
+use Rattle.std.specs.Prelude.{ℕ, ◌^◌, Bool, false, not, ◌&&◌, if◌then◌else◌, List, [], ◌∷◌, Option, Some, None, option_map, codes}
 use Rattle.std.specs.List.{list_any}
 use Rattle.std.specs.Option.{option_and_then}
 use Rattle.std.specs.Str.{bytes_eq}
-use Rattle.k42_kinds.specs.Words.{is_name}
-use Rattle.k42_kinds.specs.declared.operation.KindName.TheVariants as kinds
-use Rattle.k42_kinds.specs.declared.operation.LayoutName.TheVariants as layouts
-use Rattle.k42_kinds.specs.declared.operation.Op.{Op}
-use Rattle.k42_kinds.specs.declared.operation.Op.TheVariants.{Add, Get, Drain}
+use Rattle.k42_kinds.specs.Words.{is_name, is_text}
+use Rattle.k42_kinds.specs.declared.operation.KindName.{KindName}
+use Rattle.k42_kinds.specs.declared.operation.KindName.TheVariants.{Counter, Directory, Pages}
+use Rattle.k42_kinds.specs.declared.operation.LayoutName.{LayoutName}
+use Rattle.k42_kinds.specs.declared.operation.LayoutName.TheVariants.{Shared, Spread}
 use Rattle.script_text.specs.Numbers.{number_within, number_below}
-use Rattle.script_text.specs.declared.script.ObjectLine.{ObjectLine}
-use Rattle.script_text.specs.declared.script.WorkerHead.{WorkerHead}
+use Rattle.script_text.specs.declared.form.Form.{Form}
+use Rattle.script_text.specs.declared.form.Form.TheVariants as forms
+use Rattle.script_text.specs.declared.form.Head.{Head}
+use Rattle.script_text.specs.declared.form.Head.TheVariants as heads
+use Rattle.script_text.specs.declared.form.Request.{Request}
+use Rattle.script_text.specs.declared.form.Request.TheVariants.{Swap, Destroy, Add, Get, Drain, Bind, Find, Unbind, Size, Write, Read, Dirty, Clean}
 
--- the words that begin a form, and so are no name of an object or a worker
+-- the words that are no name of an object or a worker
 abbrev pub is_reserved : List ℕ → Bool
 is_reserved word =
     list_any (bytes_eq word)
     (codes "procs" ∷ codes "object" ∷ codes "worker" ∷ codes "begin" ∷ codes "end" ∷ codes "swap"
     ∷ codes "destroy" ∷ codes "watch" ∷ codes "unwatch" ∷ [])
 
--- the name that a line may declare
+-- the name that a word is, if it is one
+abbrev pub name_of : List ℕ → Option (List ℕ)
+name_of word = if is_name word then Some word else None
+
+-- the name that a word may declare
 abbrev pub free_name : List ℕ → Option (List ℕ)
 free_name word = if not (is_reserved word) && is_name word then Some word else None
 
--- `procs N`: the number of processors, 1 to 8
-abbrev pub procs_on : List (List ℕ) → Option ℕ
-procs_on (word ∷ number ∷ []) =
-    if bytes_eq word (codes "procs") then number_within 1 8 number else None
-procs_on _ = None
+-- the text of a page that a word is, if it is one
+abbrev pub page_text_of : List ℕ → Option (List ℕ)
+page_text_of word = if is_text word then Some word else None
 
--- a counter of this name, with one representative
-abbrev pub shared_counter : List ℕ → ObjectLine
-shared_counter name = record { name = name; kind = kinds.Counter; layout = layouts.Shared }
+-- the number of a page
+abbrev pub page_of : List ℕ → Option ℕ
+page_of = number_below 1024
 
--- `object NAME counter shared`: a counter with one representative for all processors
-abbrev pub object_on : List (List ℕ) → Option ObjectLine
-object_on (word ∷ name ∷ kind ∷ layout ∷ []) =
-    if (bytes_eq word (codes "object") && bytes_eq kind (codes "counter"))
-    && bytes_eq layout (codes "shared")
-    then option_map shared_counter (free_name name)
-    else None
-object_on _ = None
+abbrev pub kind_named : List ℕ → Option KindName
+kind_named word =
+    if bytes_eq word (codes "counter") then Some Counter
+    else if bytes_eq word (codes "directory") then Some Directory
+    else if bytes_eq word (codes "pages") then Some Pages else None
 
--- a worker of this name on a processor
-abbrev pub worker_at : List ℕ → ℕ → WorkerHead
-worker_at name proc = record { name = name; proc = proc }
+abbrev pub layout_named : List ℕ → Option LayoutName
+layout_named word =
+    if bytes_eq word (codes "shared") then Some Shared
+    else if bytes_eq word (codes "spread") then Some Spread else None
 
--- the worker that a name and a processor declare, where there are so many processors
-abbrev pub worker_head : ℕ → List ℕ → List ℕ → Option WorkerHead
-worker_head procs name proc =
-    option_and_then (λ free. option_map (worker_at free) (number_below procs proc)) (free_name name)
+-- what the first word of a line begins: one of seven forms, or a call of the object of that name
+abbrev pub head_of : List ℕ → Head
+head_of word =
+    if bytes_eq word (codes "procs") then heads.Procs
+    else if bytes_eq word (codes "object") then heads.Object
+    else if bytes_eq word (codes "worker") then heads.Worker
+    else if bytes_eq word (codes "begin") then heads.Begin
+    else if bytes_eq word (codes "end") then heads.End
+    else if bytes_eq word (codes "swap") then heads.Swap
+    else if bytes_eq word (codes "destroy") then heads.Destroy else heads.Call
 
--- `worker NAME PROC`: a worker on a processor, of which there are so many
-abbrev pub worker_on : ℕ → List (List ℕ) → Option WorkerHead
-worker_on procs (word ∷ name ∷ proc ∷ []) =
-    if bytes_eq word (codes "worker")
-    then worker_head procs name proc
-    else None
-worker_on procs _ = None
+-- `N`: the number of processors, 1 to 8
+abbrev pub procs_form : List (List ℕ) → Option Form
+procs_form (number ∷ []) = Some (forms.Procs (number_within 1 8 number))
+procs_form _ = None
 
--- the operations of a counter: `add U32`, `get` and `drain`
-abbrev pub counter_operation : List (List ℕ) → Option Op
-counter_operation (word ∷ []) =
+-- an object of this name, where its kind and its layout are known
+abbrev pub object_declared : List ℕ → Option KindName → Option LayoutName → Option Form
+object_declared name (Some kind) (Some layout) =
+    Some (forms.Object (free_name name) kind layout)
+object_declared name _ _ = None
+
+-- `NAME KIND LAYOUT`
+abbrev pub object_form : List (List ℕ) → Option Form
+object_form (name ∷ kind ∷ layout ∷ []) =
+    object_declared name (kind_named kind) (layout_named layout)
+object_form _ = None
+
+-- `NAME PROC`, where there are so many processors
+abbrev pub worker_form : ℕ → List (List ℕ) → Option Form
+worker_form procs (name ∷ proc ∷ []) =
+    Some (forms.Worker (free_name name) (number_below procs proc))
+worker_form procs _ = None
+
+-- a word alone
+abbrev pub alone : Form → List (List ℕ) → Option Form
+alone form [] = Some form
+alone form _ = None
+
+-- `OBJECT LAYOUT`
+abbrev pub swap_form : List (List ℕ) → Option Form
+swap_form (object ∷ layout ∷ []) =
+    option_map (λ named. forms.Asks (name_of object) (Swap named)) (layout_named layout)
+swap_form _ = None
+
+-- `OBJECT`
+abbrev pub destroy_form : List (List ℕ) → Option Form
+destroy_form (object ∷ []) = Some (forms.Asks (name_of object) Destroy)
+destroy_form _ = None
+
+-- an operation without an argument: `get`, `drain`, `size`, `dirty`, `clean`
+abbrev pub plain_request : List ℕ → Option Request
+plain_request word =
     if bytes_eq word (codes "get") then Some Get
-    else if bytes_eq word (codes "drain") then Some Drain else None
-counter_operation (word ∷ amount ∷ []) =
-    if bytes_eq word (codes "add") then option_map Add (number_below (2 ^ 32) amount) else None
-counter_operation _ = None
+    else if bytes_eq word (codes "drain") then Some Drain
+    else if bytes_eq word (codes "size") then Some Size
+    else if bytes_eq word (codes "dirty") then Some Dirty
+    else if bytes_eq word (codes "clean") then Some Clean else None
 
--- `OBJECT OPERATION`: an operation of the counter of this name
-abbrev pub call_on : List ℕ → List (List ℕ) → Option Op
-call_on object (name ∷ operation) =
-    if bytes_eq name object then counter_operation operation else None
-call_on object [] = None
+-- an operation with one: `add U32`, `find KEY`, `unbind KEY`, `read PAGE`
+abbrev pub request_with : List ℕ → List ℕ → Option Request
+request_with word argument =
+    if bytes_eq word (codes "add") then Some (Add (number_below (2 ^ 32) argument))
+    else if bytes_eq word (codes "find") then Some (Find (name_of argument))
+    else if bytes_eq word (codes "unbind") then Some (Unbind (name_of argument))
+    else if bytes_eq word (codes "read") then Some (Read (page_of argument)) else None
+
+-- an operation with two: `bind KEY U64`, `write PAGE TEXT`
+abbrev pub request_with_both : List ℕ → List ℕ → List ℕ → Option Request
+request_with_both word first second =
+    if bytes_eq word (codes "bind")
+    then Some (Bind (name_of first) (number_below (2 ^ 64) second))
+    else if bytes_eq word (codes "write")
+    then Some (Write (page_of first) (page_text_of second)) else None
+
+-- an operation, by its word and its arguments
+abbrev pub request_of : List (List ℕ) → Option Request
+request_of (word ∷ []) = plain_request word
+request_of (word ∷ argument ∷ []) = request_with word argument
+request_of (word ∷ first ∷ second ∷ []) = request_with_both word first second
+request_of _ = None
+
+-- an operation of the object that the first word names
+abbrev pub call_form : List ℕ → List (List ℕ) → Option Form
+call_form object tokens = option_map (λ request. forms.Asks (name_of object) request) (request_of tokens)
+
+-- the form of a line that begins so, by the tokens behind its first word
+abbrev pub form_behind : ℕ → Head → List ℕ → List (List ℕ) → Option Form
+form_behind procs heads.Procs word tokens = procs_form tokens
+form_behind procs heads.Object word tokens = object_form tokens
+form_behind procs heads.Worker word tokens = worker_form procs tokens
+form_behind procs heads.Begin word tokens = alone forms.Begin tokens
+form_behind procs heads.End word tokens = alone forms.End tokens
+form_behind procs heads.Swap word tokens = swap_form tokens
+form_behind procs heads.Destroy word tokens = destroy_form tokens
+form_behind procs heads.Call word tokens = call_form word tokens
+
+-- What a line with these tokens says, where there are so many processors: a form, each part of
+-- it as far as it is well formed; or nothing that the language knows.
+abbrev pub form_of : ℕ → List (List ℕ) → Option Form
+form_of procs [] = None
+form_of procs (word ∷ tokens) = form_behind procs (head_of word) word tokens
+
+-- whether a line with these tokens begins as one of processors
+abbrev pub begins_procs : List (List ℕ) → Bool
+begins_procs [] = false
+begins_procs (word ∷ tokens) = bytes_eq word (codes "procs")

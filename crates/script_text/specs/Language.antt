@@ -1,109 +1,172 @@
--- Which texts are a script, which script it is, and which line is refused.
-use Rattle.std.specs.Prelude.{◌≡◌, ℕ, ◌+◌, Bool, false, not, ◌||◌, nat_le, max, if◌then◌else◌, List, [], ◌∷◌, ◌++◌, length, Option, Some, None, option_map, is_some, Result, Err}
-use Rattle.std.specs.Option.{option_and_then, ok_or}
-use Rattle.k42_kinds.specs.declared.operation.Op.{Op}
-use Rattle.k42_kinds.specs.declared.entry.Act.TheVariants.{Call}
+-- Which texts are a script, which script it is, and which line is refused, and why.
+use Rattle.std.specs.Prelude.{◌≡◌, ℕ, ◌+◌, Bool, false, not, ◌&&◌, ◌==◌, max, if◌then◌else◌, List, [], ◌∷◌, ◌++◌, length, Option, Some, None, Result, Ok, Err}
+use Rattle.k42_kinds.specs.declared.operation.Op.TheVariants as operations
+use Rattle.k42_kinds.specs.declared.entry.Act.{Act}
+use Rattle.k42_kinds.specs.declared.entry.Act.TheVariants as acts
 use Rattle.script_text.specs.Lines.{lines_of, text_of, is_printable_text, holds_byte}
 use Rattle.script_text.specs.Tokens.{tokens_of, says_nothing}
-use Rattle.script_text.specs.Forms.{procs_on, object_on, worker_on, call_on}
+use Rattle.script_text.specs.Forms.{form_of}
+use Rattle.script_text.specs.Offences.{object_names, place_among, is_in_block, wants_procs, is_unknown, has_bad_number, has_bad_name, declares_again, asks_nobody, asks_other_kind, wants_worker, is_too_many, breaks_block}
+use Rattle.script_text.specs.declared.form.Form.{Form}
+use Rattle.script_text.specs.declared.form.Form.TheVariants as forms
+use Rattle.script_text.specs.declared.form.Request.{Request}
+use Rattle.script_text.specs.declared.form.Request.TheVariants.{Swap, Destroy, Add, Get, Drain, Bind, Find, Unbind, Size, Write, Read, Dirty, Clean}
 use Rattle.script_text.specs.declared.script.Script.{Script}
 use Rattle.script_text.specs.declared.script.ObjectLine.{ObjectLine}
 use Rattle.script_text.specs.declared.script.WorkerHead.{WorkerHead}
 use Rattle.script_text.specs.declared.script.WorkerLines.{WorkerLines}
 use Rattle.script_text.specs.declared.script.Item.{Item}
-use Rattle.script_text.specs.declared.script.Item.TheVariants.{Line}
+use Rattle.script_text.specs.declared.script.Item.TheVariants as items
 use Rattle.script_text.specs.declared.fault.ScriptCause.{ScriptCause}
-use Rattle.script_text.specs.declared.fault.ScriptCause.TheVariants.{NotYet}
+use Rattle.script_text.specs.declared.fault.ScriptCause.TheVariants.{ProcsExpected, UnknownWord, BadNumber, BadName, NameTwice, UnknownObject, WrongKind, WorkerExpected, TooMany, BlockFault, TooLong, BadByte}
 use Rattle.script_text.specs.declared.fault.ScriptFault.{ScriptFault}
 
 -- the first byte that a script may not have, counted from 1
 abbrev pub byte_limit : ℕ
 byte_limit = 1048577
 
--- how many calls a script may have
-abbrev pub call_limit : ℕ
-call_limit = 65536
+-- the act that a request spells, where no part of it is missing
+abbrev pub act_of : Request → Option Act
+act_of (Swap layout) = Some (acts.Swap layout)
+act_of Destroy = Some acts.Destroy
+act_of (Add (Some amount)) = Some (acts.Call (operations.Add amount))
+act_of Get = Some (acts.Call operations.Get)
+act_of Drain = Some (acts.Call operations.Drain)
+act_of (Bind (Some key) (Some number)) = Some (acts.Call (operations.Bind key number))
+act_of (Find (Some key)) = Some (acts.Call (operations.Find key))
+act_of (Unbind (Some key)) = Some (acts.Call (operations.Unbind key))
+act_of Size = Some (acts.Call operations.Size)
+act_of (Write (Some page) (Some text)) = Some (acts.Call (operations.Write page text))
+act_of (Read (Some page)) = Some (acts.Call (operations.Read page))
+act_of Dirty = Some (acts.Call operations.Dirty)
+act_of Clean = Some (acts.Call operations.Clean)
+act_of _ = None
 
--- a line that says something: its number, and its tokens
-pub record Said : Type 0 where
-  pub line : ℕ
-  pub tokens : List (List ℕ)
+-- the item stands last among those of the last worker
+abbrev pub with_item : Item → List WorkerLines → List WorkerLines
+with_item item [] = []
+with_item item (worker ∷ []) = record worker { items = worker.items ++ item ∷ [] } ∷ []
+with_item item (worker ∷ other ∷ workers) = worker ∷ with_item item (other ∷ workers)
 
--- what a line of this text says, if it says something
-abbrev pub said_by : ℕ → List ℕ → List Said
-said_by number text =
-    if says_nothing (tokens_of text) then []
-    else record { line = number; tokens = tokens_of text } ∷ []
+-- the script with one more object
+abbrev pub with_object : Script → ObjectLine → Script
+with_object script object = record script { objects = script.objects ++ object ∷ [] }
 
--- what the lines say, of which the first has this number
-abbrev pub said_from : ℕ → List (List ℕ) → List Said
-said_from number [] = []
-said_from number (line ∷ lines) =
-    said_by number (text_of line) ++ said_from (number + 1) lines
+-- the script with one more worker, that has no items yet
+abbrev pub with_worker : Script → WorkerHead → Script
+with_worker script worker = record script {
+  workers = script.workers ++ record { name = worker.name; proc = worker.proc; items = [] } ∷ [];
+}
 
--- the item of a line that calls the only object
-abbrev pub call_item : Said → Op → Item
-call_item said op = Line (record { line = said.line; object = 0; act = Call op })
+-- the script whose last worker has one more item
+abbrev pub with_last_item : Script → Item → Script
+with_last_item script item = record script { workers = with_item item script.workers }
 
--- the items that the call lines of the only object spell
-abbrev pub items_of : List ℕ → List Said → Option (List Item)
-items_of object [] = Some []
-items_of object (said ∷ rest) =
-    option_and_then (λ op. option_map (λ items. call_item said op ∷ items) (items_of object rest))
-    (call_on object said.tokens)
+-- the last worker asks the object of this place for this, on the line of this number
+abbrev pub with_call : Script → ℕ → Option ℕ → Option Act → Script
+with_call script number (Some object) (Some act) =
+    with_last_item script (items.Line (record { line = number; object = object; act = act }))
+with_call script number _ _ = script
 
--- a script of so many processors, and nothing else
-abbrev pub no_object : ℕ → Script
-no_object procs = record { procs = procs; objects = []; workers = [] }
+-- the same, where the object and the act are as the line spells them
+abbrev pub with_request : Script → ℕ → Option (List ℕ) → Request → Script
+with_request script number object request =
+    with_call script number (place_among (object_names script) object) (act_of request)
 
--- a script of one object and these workers
-abbrev pub one_object : ℕ → ObjectLine → List WorkerLines → Script
-one_object procs object workers = record { procs = procs; objects = object ∷ []; workers = workers }
+-- the script with one more line, of this number and this form
+abbrev pub with_form : Script → ℕ → Form → Script
+with_form script number (forms.Procs (Some procs)) = record script { procs = procs }
+with_form script number (forms.Object (Some name) kind layout) =
+    with_object script (record { name = name; kind = kind; layout = layout })
+with_form script number (forms.Worker (Some name) (Some proc)) =
+    with_worker script (record { name = name; proc = proc })
+with_form script number forms.Begin = with_last_item script items.Begin
+with_form script number forms.End = with_last_item script items.End
+with_form script number (forms.Asks object request) = with_request script number object request
+with_form script number _ = script
 
--- the worker with its lines
-abbrev pub one_worker : WorkerHead → List Item → WorkerLines
-one_worker worker items = record { name = worker.name; proc = worker.proc; items = items }
+-- the same, where the line has a form
+abbrev pub with_said : Script → ℕ → Option Form → Script
+with_said script number (Some form) = with_form script number form
+with_said script number None = script
 
--- the script whose only worker has these call lines, of which there may be only so many
-abbrev pub with_calls : ℕ → ObjectLine → List Said → WorkerHead → Option Script
-with_calls procs object calls worker =
-    if nat_le (length calls) call_limit
-    then option_map (λ items. one_object procs object (one_worker worker items ∷ []))
-    (items_of object.name calls)
-    else None
+-- the script with one more line, of this number and with this text
+abbrev pub with_line : Script → ℕ → List ℕ → Script
+with_line script number text =
+    if says_nothing (tokens_of text) then script
+    else with_said script number (form_of script.procs (tokens_of text))
 
--- The script that lines spell, if they spell one: the processors, then the object, then the
--- worker, then its calls, and it may end after any of them. Before the first of them there are no
--- processors.
-abbrev pub spelled : List Said → Option Script
-spelled [] = Some (no_object 0)
-spelled (procs ∷ []) = option_map no_object (procs_on procs.tokens)
-spelled (procs ∷ object ∷ []) =
-    option_and_then (λ number.
-    option_map (λ declared. one_object number declared [])
-    (object_on object.tokens)) (procs_on procs.tokens)
-spelled (procs ∷ object ∷ worker ∷ calls) =
-    option_and_then (λ number.
-    option_and_then (λ declared.
-    option_and_then (with_calls number declared calls)
-    (worker_on number worker.tokens)) (object_on object.tokens)) (procs_on procs.tokens)
+-- the script with more lines, of which the first has this number
+abbrev pub with_lines : Script → ℕ → List (List ℕ) → Script
+with_lines script number [] = script
+with_lines script number (line ∷ lines) =
+    with_lines (with_line script number (text_of line)) (number + 1) lines
 
--- A line offends, after lines that do not, where it holds the first byte that is too many, has a
--- byte that may not stand in a script, or says what makes these lines no script.
-abbrev pub offends : List (List ℕ) → List ℕ → Bool
-offends before line =
-    (holds_byte byte_limit before line || not (is_printable_text (text_of line)))
-    || not (is_some (spelled (said_from 1 (before ++ line ∷ []))))
+-- before the first line there are no processors
+abbrev pub no_script : Script
+no_script = record { procs = 0; objects = []; workers = [] }
+
+-- the script that these lines spell
+abbrev pub script_after : List (List ℕ) → Script
+script_after lines = with_lines no_script 1 lines
+
+-- the form, if there is one, fails this test
+abbrev pub fails : (Form → Bool) → Option Form → Bool
+fails test (Some form) = test form
+fails test None = false
+
+-- whether a line with these tokens is refused for this cause, behind the lines of this script
+abbrev pub is_refused_for : Script → List (List ℕ) → Option Form → ScriptCause → Bool
+is_refused_for script tokens form ProcsExpected = wants_procs script tokens
+is_refused_for script tokens form UnknownWord = is_unknown script form
+is_refused_for script tokens form BadNumber = fails has_bad_number form
+is_refused_for script tokens form BadName = fails has_bad_name form
+is_refused_for script tokens form NameTwice = fails (declares_again script) form
+is_refused_for script tokens form UnknownObject = fails (asks_nobody script) form
+is_refused_for script tokens form WrongKind = fails (asks_other_kind script) form
+is_refused_for script tokens form WorkerExpected = fails (wants_worker script) form
+is_refused_for script tokens form TooMany = fails (is_too_many script) form
+is_refused_for script tokens form BlockFault = fails (breaks_block script) form
+is_refused_for script tokens form TooLong = false
+is_refused_for script tokens form BadByte = false
+
+-- the same of the tokens alone
+abbrev pub refuses : Script → List (List ℕ) → ScriptCause → Bool
+refuses script tokens = is_refused_for script tokens (form_of script.procs tokens)
+
+-- A line offends by a cause, after the lines before it, where it holds the first byte that is too
+-- many, or has a byte that may not stand in a script, or says what is refused for that cause.
+abbrev pub offends_by : List (List ℕ) → List ℕ → ScriptCause → Bool
+offends_by before line TooLong = holds_byte byte_limit before line
+offends_by before line BadByte = not (is_printable_text (text_of line))
+offends_by before line cause =
+    not (says_nothing (tokens_of (text_of line)))
+    && refuses (script_after before) (tokens_of (text_of line)) cause
+
+-- the causes for which a form is refused, in the order in which they are tested
+abbrev pub causes_of_form : List ScriptCause
+causes_of_form =
+    UnknownWord ∷ BadNumber ∷ BadName ∷ NameTwice ∷ UnknownObject ∷ WrongKind ∷ WorkerExpected
+    ∷ TooMany ∷ BlockFault ∷ []
+
+-- all causes, in that order
+abbrev pub causes : List ScriptCause
+causes = TooLong ∷ BadByte ∷ ProcsExpected ∷ causes_of_form
+
+-- the first of these causes for which the test holds
+abbrev pub first_of : (ScriptCause → Bool) → List ScriptCause → Option ScriptCause
+first_of test [] = None
+first_of test (cause ∷ rest) = if test cause then Some cause else first_of test rest
+
+-- the cause for which the line is refused, if it is
+abbrev pub cause_of : List (List ℕ) → List ℕ → Option ScriptCause
+cause_of before line = first_of (offends_by before line) causes
 
 -- none of the lines offends after those before it
 abbrev pub NoneOffends : List (List ℕ) → Type 0
 NoneOffends lines =
     (before : List (List ℕ)) (line : List ℕ) (after : List (List ℕ))
-    → lines ≡ before ++ line ∷ after → offends before line ≡ false
-
--- the cause for which the line is refused, if it is
-abbrev pub cause_of : List (List ℕ) → List ℕ → Option ScriptCause
-cause_of before line = if offends before line then Some NotYet else None
+    → lines ≡ before ++ line ∷ after → cause_of before line ≡ None
 
 -- the fault of a line with this number
 abbrev pub fault_at : ℕ → ScriptCause → ScriptFault
@@ -113,12 +176,12 @@ fault_at number cause = record { line = number; cause = cause }
 abbrev pub last_number : List (List ℕ) → ℕ
 last_number lines = max 1 (length lines)
 
--- At the end of the input the lines that say something are the script, and without one the last
+-- At the end of the input there is a line of processors, and no activity is open; else the last
 -- line is refused.
-abbrev pub script_at_end : List (List ℕ) → List Said → Result Script ScriptFault
-script_at_end lines [] = Err (fault_at (last_number lines) NotYet)
-script_at_end lines (said ∷ rest) =
-    ok_or (spelled (said ∷ rest)) (fault_at (last_number lines) NotYet)
+abbrev pub script_at_end : ℕ → Script → Result Script ScriptFault
+script_at_end number script =
+    if script.procs == 0 then Err (fault_at number ProcsExpected)
+    else if is_in_block script then Err (fault_at number BlockFault) else Ok script
 
 -- the first cause ends it, and without one it goes on
 abbrev pub unless_refused : ℕ → Option ScriptCause → Result Script ScriptFault
@@ -129,7 +192,7 @@ unless_refused number None next = next
 -- The script of these lines, after lines that do not offend; or the fault of the first of them
 -- that does.
 abbrev pub read_on : List (List ℕ) → List (List ℕ) → Result Script ScriptFault
-read_on before [] = script_at_end before (said_from 1 before)
+read_on before [] = script_at_end (last_number before) (script_after before)
 read_on before (line ∷ lines) =
     unless_refused (length before + 1) (cause_of before line) (read_on (before ++ line ∷ []) lines)
 

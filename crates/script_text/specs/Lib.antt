@@ -3,6 +3,8 @@ pub mod Lines
 pub mod Tokens
 pub mod Numbers
 pub mod Forms
+pub mod Acts
+pub mod Offences
 pub mod Language
 pub mod Outcome
 pub mod Lawful

@@ -1,5 +1,5 @@
 -- What is true of every script that can be read: it can be run, and its records can be written.
-use Rattle.std.specs.Prelude.{◌≡◌, ℕ, ◌<◌, ◌≤◌, true, false, List, length, map, sum_by, All, Some, slice_get}
+use Rattle.std.specs.Prelude.{◌≡◌, ℕ, ◌<◌, ◌≤◌, Bool, true, false, List, [], ◌∷◌, length, map, sum_by, All, Some, slice_get}
 use Rattle.k42_kinds.specs.declared.entry.Act.{Act}
 use Rattle.k42_kinds.specs.declared.entry.Act.TheVariants.{Call, Swap, Destroy}
 use Rattle.k42_kinds.specs.declared.operation.KindName.{KindName}
@@ -10,6 +10,8 @@ use Rattle.k42_kinds.specs.Words.{is_name}
 use Rattle.script_text.specs.Forms.{is_reserved}
 use Rattle.script_text.specs.Lawful.{kinds_of, call_lines}
 use Rattle.script_text.specs.declared.script.CallLine.{CallLine}
+use Rattle.script_text.specs.declared.script.Item.{Item}
+use Rattle.script_text.specs.declared.script.Item.TheVariants.{Begin, End, Line}
 use Rattle.script_text.specs.declared.script.Script.{Script}
 use Rattle.script_text.specs.declared.script.WorkerLines.{WorkerLines}
 
@@ -36,10 +38,27 @@ pub record IsSoundLine (script : Script) (line : CallLine) : Type 0 where
   pub declared : slice_get (kinds_of script) line.object ≡ Some kind
   pub asked : IsActOn kind line.act
 
--- A worker runs on one of the processors, and each of its lines is sound.
+-- a call, and no swap or destroy
+abbrev pub IsCall : Act → Type 0
+IsCall (Call op) = Unit {0}
+IsCall (Swap layout) = ⊥
+IsCall Destroy = ⊥
+
+-- Where an activity is open, or not, in front of these items, every line in an activity is a call.
+abbrev pub BlocksHoldCalls : Bool → List Item → Type 0
+BlocksHoldCalls in_block [] = Unit {0}
+BlocksHoldCalls in_block (Begin ∷ items) = BlocksHoldCalls true items
+BlocksHoldCalls in_block (End ∷ items) = BlocksHoldCalls false items
+BlocksHoldCalls in_block (Line line ∷ items) =
+    (in_block ≡ true → IsCall line.act) × BlocksHoldCalls in_block items
+
+-- A worker runs on one of the processors, and its lines are sound, rise, and are calls where they
+-- stand in an activity.
 pub record IsSoundWorker (script : Script) (worker : WorkerLines) : Type 0 where
   pub processor : worker.proc < script.procs
   pub lines : All (IsSoundLine script) (call_lines worker.items)
+  pub rising : HasRisingLines worker
+  pub blocks : BlocksHoldCalls false worker.items
 
 -- a name that a line may declare: it is of the form, and begins no form of a line
 pub record IsFreeName (name : List ℕ) : Type 0 where
@@ -67,12 +86,13 @@ HasRisingLines worker =
     → slice_get (call_lines worker.items) j ≡ Some later
     → earlier.line < later.line
 
--- A script has 1 to 8 processors, at most 16 objects, at most 16 workers, each of them sound, and
--- at most 65,536 lines that ask something.
+-- A script has 1 to 8 processors, at most 16 objects, at most 16 workers, each of them sound, names
+-- that may be declared and differ, and at most 65,536 lines that ask something.
 pub record IsSound (script : Script) : Type 0 where
   pub some_processor : 1 ≤ script.procs
   pub processors : script.procs ≤ 8
   pub objects : length script.objects ≤ 16
   pub callers : length script.workers ≤ 16
   pub workers : All (IsSoundWorker script) script.workers
+  pub names : HasDistinctNames script
   pub few : sum_by (λ worker. length (call_lines worker.items)) script.workers ≤ 65536

@@ -5,11 +5,35 @@ ghost use Rattle.script_text.specs.Causes.{cause_word};
 use k42_memory::Memory;
 use std::alloc::{AllocError, AllocFailed};
 
-/// Why a line of a script is refused.
+/// Why a line of a script is refused. Of several causes the first is told, where `TooLong` and
+/// `BadByte` come before the others, which stand here in the order in which they are tested.
 #[derive(Clone, Copy, Debug, PartialEq, Eq)]
 pub enum ScriptCause {
-    /// The line is none that the language has in its place.
-    NotYet,
+    /// No line before it gave the processors, and it does not either.
+    ProcsExpected,
+    /// It is a second line of processors, or it has no form of the language: the number of its
+    /// tokens, its kind, its layout or its operation is none.
+    UnknownWord,
+    /// A number is not decimal, or not in its range.
+    BadNumber,
+    /// A declared name is not of the form or reserved, a key is no name, or a text is too long.
+    BadName,
+    /// The declared name is declared already.
+    NameTwice,
+    /// The object is not declared on an earlier line.
+    UnknownObject,
+    /// The operation belongs to another kind of object.
+    WrongKind,
+    /// No worker line stands before it.
+    WorkerExpected,
+    /// It is the 17th object, the 17th worker, or the 65,537th line that asks something.
+    TooMany,
+    /// It may not stand in an activity, or it ends one that has not begun.
+    BlockFault,
+    /// It holds the byte after the last that a script may have.
+    TooLong,
+    /// It has a byte that is no space and does not show.
+    BadByte,
 }
 
 impl ScriptCause {
@@ -18,7 +42,18 @@ impl ScriptCause {
         ensures { result.now ≡ cause_word self.now }
     {
         match self {
-            ScriptCause::NotYet => "NotYet",
+            ScriptCause::ProcsExpected => "ProcsExpected",
+            ScriptCause::UnknownWord => "UnknownWord",
+            ScriptCause::BadNumber => "BadNumber",
+            ScriptCause::BadName => "BadName",
+            ScriptCause::NameTwice => "NameTwice",
+            ScriptCause::UnknownObject => "UnknownObject",
+            ScriptCause::WrongKind => "WrongKind",
+            ScriptCause::WorkerExpected => "WorkerExpected",
+            ScriptCause::TooMany => "TooMany",
+            ScriptCause::BlockFault => "BlockFault",
+            ScriptCause::TooLong => "TooLong",
+            ScriptCause::BadByte => "BadByte",
         }
     }
 }

@@ -1,17 +1,20 @@
 ghost use Rattle.std.specs.Prelude.{◌≡◌, ◌<◌, ◌^◌, [], ◌∷◌, option_map};
-ghost use Rattle.std.specs.Str.{bytes_eq};
 ghost use Rattle.script_text.specs.Numbers.{number_within, number_below};
 ghost use Rattle.script_text.specs.Tokens.{tokens_of};
-ghost use Rattle.script_text.specs.Forms as forms;
+ghost use Rattle.script_text.specs.Forms as spelling;
 
+use crate::form::{Form, Head, Request};
 use crate::numbers::number_up_to;
-use crate::script::{ObjectLine, WorkerHead};
-use crate::tokens::{Words, is_word, words_of};
-use k42_kinds::{KindName, LayoutName, Name, Op};
+use crate::tokens::{Words, first_token, is_word, words_of};
+use k42_kinds::{KindName, LayoutName, Name, Text};
 
-/// Whether the word begins a form, and so is no name of an object or a worker.
+/// How many processors a script may have, and how many pages an object has.
+const PROCS: u64 = 8;
+const LAST_PAGE: u64 = 1023;
+
+/// Whether the word is no name of an object or a worker.
 fn is_reserved(word: &[u8]) -> bool
-    ensures { result ≡ forms.is_reserved word.now }
+    ensures { result ≡ spelling.is_reserved word.now }
 {
     is_word(word, "procs")
         || is_word(word, "object")
@@ -24,9 +27,15 @@ fn is_reserved(word: &[u8]) -> bool
         || is_word(word, "unwatch")
 }
 
+fn name_of(word: &[u8]) -> Option<Name>
+    ensures { result ≡ spelling.name_of word.now }
+{
+    Name::of(word)
+}
+
 /// The name that the word declares, if it may.
 fn free_name(word: &[u8]) -> Option<Name>
-    ensures { result ≡ forms.free_name word.now }
+    ensures { result ≡ spelling.free_name word.now }
 {
     if is_reserved(word) {
         return None;
@@ -34,110 +43,288 @@ fn free_name(word: &[u8]) -> Option<Name>
     Name::of(word)
 }
 
-/// The number of processors, on a line `procs N`.
-pub fn procs_on(text: &[u8]) -> Option<u32>
-    ensures { result ≡ forms.procs_on (tokens_of text.now) }
+fn page_text_of(word: &[u8]) -> Option<Text>
+    ensures { result ≡ spelling.page_text_of word.now }
 {
-    match words_of(text) {
-        Words::Two(word, number) if is_word(word, "procs") => procs_number(number),
-        _ => None,
-    }
+    Text::of(word)
+}
+
+fn page_of(word: &[u8]) -> Option<u16>
+    ensures { result ≡ spelling.page_of word.now }
+{
+    let page = number_up_to(word, LAST_PAGE)?;
+    Some(page as u16)
+}
+
+fn amount_of(word: &[u8]) -> Option<u32>
+    ensures { result ≡ number_below (2 ^ 32) word.now }
+{
+    let amount = number_up_to(word, u64::from(u32::MAX))?;
+    Some(amount as u32)
+}
+
+fn value_of(word: &[u8]) -> Option<u64>
+    ensures { result ≡ number_below (2 ^ 64) word.now }
+{
+    number_up_to(word, u64::MAX)
 }
 
 /// A number from 1 to 8.
-fn procs_number(number: &[u8]) -> Option<u32>
-    ensures { result ≡ number_within 1 8 number.now }
+fn procs_of(word: &[u8]) -> Option<u32>
+    ensures { result ≡ number_within 1 8 word.now }
 {
-    match number_up_to(number, 8) {
+    match number_up_to(word, PROCS) {
         Some(procs) if procs >= 1 => Some(procs as u32),
         _ => None,
     }
 }
 
-/// The object, on a line `object NAME counter shared`.
-pub fn object_on(text: &[u8]) -> Option<ObjectLine>
-    ensures { result ≡ forms.object_on (tokens_of text.now) }
+/// A processor, of which there are so many.
+fn proc_of(procs: u32, word: &[u8]) -> Option<u32>
+    ensures { result ≡ number_below procs word.now }
 {
-    match words_of(text) {
-        Words::Four(word, name, kind, layout)
-            if is_word(word, "object") && is_word(kind, "counter") && is_word(layout, "shared") => {
-            shared_counter(name)
-        }
-        _ => None,
-    }
-}
-
-/// A counter of this name with one representative.
-fn shared_counter(name: &[u8]) -> Option<ObjectLine>
-    ensures { result ≡ option_map forms.shared_counter (forms.free_name name.now) }
-{
-    let name = free_name(name)?;
-    Some(ObjectLine {
-        name,
-        kind: KindName::Counter,
-        layout: LayoutName::Shared,
-    })
-}
-
-/// The worker, on a line `worker NAME PROC`.
-pub fn worker_on(procs: u32, text: &[u8]) -> Option<WorkerHead>
-    ensures { result ≡ forms.worker_on procs (tokens_of text.now) }
-{
-    match words_of(text) {
-        Words::Three(word, name, proc) if is_word(word, "worker") => worker_head(procs, name, proc),
-        _ => None,
-    }
-}
-
-/// A worker of this name, on a processor below `procs`.
-fn worker_head(procs: u32, name: &[u8], proc: &[u8]) -> Option<WorkerHead>
-    ensures { result ≡ forms.worker_head procs name.now proc.now }
-{
-    let name = free_name(name)?;
     let most = procs.checked_sub(1)?;
-    let proc = number_up_to(proc, u64::from(most))?;
-    Some(WorkerHead {
-        name,
-        proc: proc as u32,
-    })
+    let proc = number_up_to(word, u64::from(most))?;
+    Some(proc as u32)
 }
 
-/// The operation, on a line of the object of this name.
-pub fn call_on(object: &Name, text: &[u8]) -> Option<Op>
-    ensures { result ≡ forms.call_on object.now (tokens_of text.now) }
+fn kind_named(word: &[u8]) -> Option<KindName>
+    ensures { result ≡ spelling.kind_named word.now }
 {
-    match words_of(text) {
-        Words::Two(name, word) if is_word_of(name, object) => plain_operation(word),
-        Words::Three(name, word, amount) if is_word_of(name, object) && is_word(word, "add") => {
-            addition(amount)
-        }
-        _ => None,
+    if is_word(word, "counter") {
+        return Some(KindName::Counter);
     }
-}
-
-fn is_word_of(word: &[u8], name: &Name) -> bool
-    ensures { result ≡ bytes_eq word.now name.now }
-{
-    word == name.bytes()
-}
-
-/// An operation that has no argument.
-fn plain_operation(word: &[u8]) -> Option<Op>
-    ensures { result ≡ forms.counter_operation (word.now ∷ []) }
-{
-    if is_word(word, "get") {
-        return Some(Op::Get);
+    if is_word(word, "directory") {
+        return Some(KindName::Directory);
     }
-    if is_word(word, "drain") {
-        return Some(Op::Drain);
+    if is_word(word, "pages") {
+        return Some(KindName::Pages);
     }
     None
 }
 
-/// An addition of this amount.
-fn addition(amount: &[u8]) -> Option<Op>
-    ensures { result ≡ option_map Op.Add (number_below (2 ^ 32) amount.now) }
+fn layout_named(word: &[u8]) -> Option<LayoutName>
+    ensures { result ≡ spelling.layout_named word.now }
 {
-    let amount = number_up_to(amount, u64::from(u32::MAX))?;
-    Some(Op::Add(amount as u32))
+    if is_word(word, "shared") {
+        return Some(LayoutName::Shared);
+    }
+    if is_word(word, "spread") {
+        return Some(LayoutName::Spread);
+    }
+    None
+}
+
+/// What the first word of a line begins.
+fn head_of(word: &[u8]) -> Head
+    ensures { result ≡ spelling.head_of word.now }
+{
+    if is_word(word, "procs") {
+        return Head::Procs;
+    }
+    if is_word(word, "object") {
+        return Head::Object;
+    }
+    if is_word(word, "worker") {
+        return Head::Worker;
+    }
+    if is_word(word, "begin") {
+        return Head::Begin;
+    }
+    if is_word(word, "end") {
+        return Head::End;
+    }
+    if is_word(word, "swap") {
+        return Head::Swap;
+    }
+    if is_word(word, "destroy") {
+        return Head::Destroy;
+    }
+    Head::Call
+}
+
+fn procs_form(text: &[u8]) -> Option<Form>
+    ensures { result ≡ spelling.procs_form (tokens_of text.now) }
+{
+    match words_of(text) {
+        Words::One(number) => Some(Form::Procs(procs_of(number))),
+        _ => None,
+    }
+}
+
+/// The object that is declared, where its kind and its layout are known.
+fn object_declared(name: &[u8], kind: &[u8], layout: &[u8]) -> Option<Form>
+    ensures { result ≡ spelling.object_declared name.now
+        (spelling.kind_named kind.now) (spelling.layout_named layout.now) }
+{
+    let kind = kind_named(kind)?;
+    let layout = layout_named(layout)?;
+    Some(Form::Object(free_name(name), kind, layout))
+}
+
+fn object_form(text: &[u8]) -> Option<Form>
+    ensures { result ≡ spelling.object_form (tokens_of text.now) }
+{
+    match words_of(text) {
+        Words::Three(name, kind, layout) => object_declared(name, kind, layout),
+        _ => None,
+    }
+}
+
+fn worker_form(procs: u32, text: &[u8]) -> Option<Form>
+    ensures { result ≡ spelling.worker_form procs (tokens_of text.now) }
+{
+    match words_of(text) {
+        Words::Two(name, proc) => Some(Form::Worker(free_name(name), proc_of(procs, proc))),
+        _ => None,
+    }
+}
+
+fn begin_form(text: &[u8]) -> Option<Form>
+    ensures { result ≡ spelling.alone Form.Begin (tokens_of text.now) }
+{
+    match words_of(text) {
+        Words::None => Some(Form::Begin),
+        _ => None,
+    }
+}
+
+fn end_form(text: &[u8]) -> Option<Form>
+    ensures { result ≡ spelling.alone Form.End (tokens_of text.now) }
+{
+    match words_of(text) {
+        Words::None => Some(Form::End),
+        _ => None,
+    }
+}
+
+/// A swap of the object of this name.
+fn swap_asked(object: &[u8], layout: &[u8]) -> Option<Form>
+    ensures { result ≡ option_map (λ named. Form.Asks (spelling.name_of object.now) (Request.Swap named))
+        (spelling.layout_named layout.now) }
+{
+    let layout = layout_named(layout)?;
+    Some(Form::Asks(name_of(object), Request::Swap(layout)))
+}
+
+fn swap_form(text: &[u8]) -> Option<Form>
+    ensures { result ≡ spelling.swap_form (tokens_of text.now) }
+{
+    match words_of(text) {
+        Words::Two(object, layout) => swap_asked(object, layout),
+        _ => None,
+    }
+}
+
+fn destroy_form(text: &[u8]) -> Option<Form>
+    ensures { result ≡ spelling.destroy_form (tokens_of text.now) }
+{
+    match words_of(text) {
+        Words::One(object) => Some(Form::Asks(name_of(object), Request::Destroy)),
+        _ => None,
+    }
+}
+
+/// An operation without an argument.
+fn plain_request(word: &[u8]) -> Option<Request>
+    ensures { result ≡ spelling.plain_request word.now }
+{
+    if is_word(word, "get") {
+        return Some(Request::Get);
+    }
+    if is_word(word, "drain") {
+        return Some(Request::Drain);
+    }
+    if is_word(word, "size") {
+        return Some(Request::Size);
+    }
+    if is_word(word, "dirty") {
+        return Some(Request::Dirty);
+    }
+    if is_word(word, "clean") {
+        return Some(Request::Clean);
+    }
+    None
+}
+
+fn request_with(word: &[u8], argument: &[u8]) -> Option<Request>
+    ensures { result ≡ spelling.request_with word.now argument.now }
+{
+    if is_word(word, "add") {
+        return Some(Request::Add(amount_of(argument)));
+    }
+    if is_word(word, "find") {
+        return Some(Request::Find(name_of(argument)));
+    }
+    if is_word(word, "unbind") {
+        return Some(Request::Unbind(name_of(argument)));
+    }
+    if is_word(word, "read") {
+        return Some(Request::Read(page_of(argument)));
+    }
+    None
+}
+
+fn request_with_both(word: &[u8], first: &[u8], second: &[u8]) -> Option<Request>
+    ensures { result ≡ spelling.request_with_both word.now first.now second.now }
+{
+    if is_word(word, "bind") {
+        return Some(Request::Bind(name_of(first), value_of(second)));
+    }
+    if is_word(word, "write") {
+        return Some(Request::Write(page_of(first), page_text_of(second)));
+    }
+    None
+}
+
+fn request_of(text: &[u8]) -> Option<Request>
+    ensures { result ≡ spelling.request_of (tokens_of text.now) }
+{
+    match words_of(text) {
+        Words::One(word) => plain_request(word),
+        Words::Two(word, argument) => request_with(word, argument),
+        Words::Three(word, first, second) => request_with_both(word, first, second),
+        _ => None,
+    }
+}
+
+fn call_form(object: &[u8], text: &[u8]) -> Option<Form>
+    ensures { result ≡ spelling.call_form object.now (tokens_of text.now) }
+{
+    let request = request_of(text)?;
+    Some(Form::Asks(name_of(object), request))
+}
+
+/// The form of a line that begins so, by what stands behind its first word.
+fn form_behind(procs: u32, head: Head, word: &[u8], text: &[u8]) -> Option<Form>
+    ensures { result ≡ spelling.form_behind procs head word.now (tokens_of text.now) }
+{
+    match head {
+        Head::Procs => procs_form(text),
+        Head::Object => object_form(text),
+        Head::Worker => worker_form(procs, text),
+        Head::Begin => begin_form(text),
+        Head::End => end_form(text),
+        Head::Swap => swap_form(text),
+        Head::Destroy => destroy_form(text),
+        Head::Call => call_form(word, text),
+    }
+}
+
+/// What a line says, where there are so many processors, if it has a form of the language.
+pub fn form_of(procs: u32, text: &[u8]) -> Option<Form>
+    ensures { result ≡ spelling.form_of procs (tokens_of text.now) }
+{
+    let (word, rest) = first_token(text);
+    if word.is_empty() {
+        return None;
+    }
+    form_behind(procs, head_of(word), word, rest)
+}
+
+/// Whether the line begins as one of processors.
+pub fn begins_procs(text: &[u8]) -> bool
+    ensures { result ≡ spelling.begins_procs (tokens_of text.now) }
+{
+    is_word(first_token(text).0, "procs")
 }

@@ -3,9 +3,8 @@ ghost use Rattle.std.specs.List.{concat};
 ghost use Rattle.std.specs.Fmt.{decimal};
 ghost use Rattle.script_text.specs.Lines.{lines_of};
 ghost use Rattle.script_text.specs.Numbers.{number_of};
-ghost use Rattle.script_text.specs.Language.{parsed, offends, NoneOffends, fault_at, said_from, script_at_end};
-
-use crate::fault::ScriptCause;
+ghost use Rattle.script_text.specs.Language.{parsed, cause_of, NoneOffends, fault_at, last_number, script_after, script_at_end};
+ghost use Rattle.script_text.specs.declared.fault.ScriptCause.{ScriptCause};
 
 /// A text is a number exactly where it is that number in decimal.
 pub fn numbers_are_decimal()
@@ -18,11 +17,13 @@ pub fn lines_make_the_text()
     ensures { (bytes : List ℕ) → concat (lines_of bytes) ≡ bytes }
 {}
 
-/// The first line that offends decides, and where none does, the end of the text.
+/// The first line that offends decides, by its first cause, and where none does, the end of the
+/// text.
 pub fn first_offence_decides()
-    ensures refused { (bytes line : List ℕ) (before after : List (List ℕ)) →
-        lines_of bytes ≡ before ++ line ∷ after → NoneOffends before → offends before line ≡ true →
-        parsed bytes ≡ Err (fault_at (length before + 1) ScriptCause.NotYet) }
+    ensures refused { (bytes line : List ℕ) (before after : List (List ℕ)) (cause : ScriptCause) →
+        lines_of bytes ≡ before ++ line ∷ after → NoneOffends before →
+        cause_of before line ≡ Some cause →
+        parsed bytes ≡ Err (fault_at (length before + 1) cause) }
     ensures at_end { (bytes : List ℕ) → NoneOffends (lines_of bytes) →
-        parsed bytes ≡ script_at_end (lines_of bytes) (said_from 1 (lines_of bytes)) }
+        parsed bytes ≡ script_at_end (last_number (lines_of bytes)) (script_after (lines_of bytes)) }
 {}

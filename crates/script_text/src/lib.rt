@@ -2,10 +2,13 @@
 #![tactic(auto)]
 
 mod fault;
+mod form;
 mod forms;
 mod laws;
 mod lines;
+mod names;
 mod numbers;
+mod offences;
 mod parsing;
 mod reading;
 mod script;

@@ -1,6 +1,6 @@
-ghost use Rattle.std.specs.Prelude.{◌≡◌, ◌<◌, ℕ, List, IfOk, OnOk, length, take};
-ghost use Rattle.script_text.specs.Language.{parsed, byte_limit, fault_at, said_from, script_at_end};
-ghost use Rattle.script_text.specs.Reading.{Shows};
+ghost use Rattle.std.specs.Prelude.{◌≡◌, ◌<◌, ℕ, List, IfOk, OnOk, length, take, max};
+ghost use Rattle.script_text.specs.Language.{parsed, byte_limit, fault_at, script_at_end};
+ghost use Rattle.script_text.specs.Reading.{IsKept, script_so_far};
 ghost use Rattle.script_text.specs.Outcome.{Answers};
 ghost use Rattle.script_text.specs.Sound.{IsSound};
 
@@ -15,9 +15,10 @@ const SCRIPT_BYTES: usize = 1_048_576;
 
 /// The script that the bytes spell, or the first line that offends.
 ///
-/// A script is a line `procs N`, then `object NAME counter shared`, then `worker NAME PROC`, then
-/// up to 65,536 lines `NAME add U32`, `NAME get` and `NAME drain` on that object, and may end after
-/// any of them. Lines without a token, and lines whose first token begins with `#`, are skipped.
+/// A script begins with a line `procs N`. Behind it stand lines `object NAME KIND LAYOUT`,
+/// `worker NAME PROC`, and the lines of the worker before them: `begin`, `end`,
+/// `swap OBJECT LAYOUT`, `destroy OBJECT`, and calls. Lines without a token, and lines whose first
+/// token begins with `#`, are skipped.
 pub fn parse(alloc: Global, bytes: &[u8]) -> Result<Script, ParseEnd>
     ensures answer { Answers (parsed bytes.now) result }
     ensures sound { IfOk result IsSound }
@@ -42,34 +43,33 @@ fn read_lines(alloc: Global, bytes: &[u8]) -> Result<Script, ParseEnd>
         rest = cut.rest;
         line += 1;
         if bytes.len() - rest.len() > SCRIPT_BYTES {
-            return Err(refused(line));
+            return Err(refused(line, ScriptCause::TooLong));
         }
-        if !reading.take(line, cut.text)? {
-            return Err(refused(line));
+        if let Some(cause) = reading.take(alloc, line, cut.text)? {
+            return Err(refused(line, cause));
         }
     }
-    finish(alloc, reading, line)
+    finish(reading, line.max(1))
 }
 
-fn refused(line: u32) -> ParseEnd
-    ensures { result ≡ ParseEnd.Fault (fault_at line ScriptCause.NotYet) }
+fn refused(line: u32, cause: ScriptCause) -> ParseEnd
+    ensures { result ≡ ParseEnd.Fault (fault_at line cause) }
 {
-    ParseEnd::Fault(ScriptFault {
-        line,
-        cause: ScriptCause::NotYet,
-    })
+    ParseEnd::Fault(ScriptFault { line, cause })
 }
 
-/// The script of all lines that were read, of which there are so many.
-fn finish(alloc: Global, reading: Reading, lines: u32) -> Result<Script, ParseEnd>
-    ensures { (before : List (List ℕ)) → length before ≡ lines →
-        Shows (said_from 1 before) reading →
-        Answers (script_at_end before (said_from 1 before)) result }
+/// The script of all lines that were read, of which the last has this number.
+fn finish(reading: Reading, last: u32) -> Result<Script, ParseEnd>
+    requires { IsKept reading }
+    ensures { Answers (script_at_end last (script_so_far reading)) result }
 {
     if reading.procs == 0 {
-        return Err(refused(lines.max(1)));
+        return Err(refused(last, ScriptCause::ProcsExpected));
     }
-    Ok(reading.into_script(alloc)?)
+    if reading.in_block {
+        return Err(refused(last, ScriptCause::BlockFault));
+    }
+    Ok(reading.into_script()?)
 }
 
 #[cfg(test)]

@@ -1,60 +1,80 @@
-ghost use Rattle.std.specs.Prelude.{◌≡◌, ◌<◌, Ok, Some, None, Option};
+ghost use Rattle.std.specs.Prelude.{◌≡◌, ◌<◌, true, false, if◌then◌else◌, Ok, Some, None, Option, is_some, nat_le};
 ghost use Rattle.script_text.specs.Tokens.{tokens_of};
 ghost use Rattle.script_text.specs.Forms as forms;
+ghost use Rattle.script_text.specs.Offences as offences;
 
-use crate::forms::{call_on, object_on, procs_on, worker_on};
+use crate::fault::ScriptCause;
+use crate::form::{Form, Request};
+use crate::forms::{begins_procs, form_of};
 use crate::lines::is_printable_text;
+use crate::names::Names;
+use crate::offences::{act_of, differs, has_bad_name, has_bad_number, kind_asked};
 use crate::script::{CallLine, Item, ObjectLine, Script, WorkerHead, WorkerLines};
 use crate::tokens::is_skipped;
 use k42_items::Items;
-use k42_kinds::{Act, Name, Op};
+use k42_kinds::{KindName, Name};
 use k42_memory::Memory;
 use std::alloc::Global;
+use std::mem;
 
-/// How many calls a script may have.
+/// How many objects a script may have, and how many workers.
+const NAMES: usize = 16;
+
+/// How many lines of a script may ask something of an object.
 const CALLS: usize = 65_536;
 
 /// What the lines so far said. There are no processors until a line names their number.
 #[derive(Debug, Drop)]
 pub struct Reading {
     pub procs: u32,
-    pub object: Option<ObjectLine>,
+    pub objects: Items<ObjectLine>,
+    pub object_names: Names,
+    /// The workers before the last one.
+    pub workers: Items<WorkerLines>,
+    pub worker_names: Names,
+    /// The last worker, and its items.
     pub worker: Option<WorkerHead>,
     pub items: Items<Item>,
+    /// Whether the last worker has an activity open.
+    pub in_block: bool,
+    /// How many lines asked something of an object.
+    pub asked: usize,
 }
 
 impl Reading {
-    ghost use Rattle.std.specs.Prelude.{ℕ, List, [], IsTrue, IfOk};
-    ghost use Rattle.script_text.specs.Language.{Said};
-    ghost use Rattle.script_text.specs.Reading.{Shows, Says, Takes, Places, PlacesCall, script_so_far};
+    ghost use Rattle.std.specs.Prelude.{ℕ, List, [], IsTrue, IfOk, OnOk};
+    ghost use Rattle.script_text.specs.Language.{no_script, with_object, with_worker, with_last_item, with_request, with_form};
+    ghost use Rattle.script_text.specs.Reading.{IsKept, Shows, Takes, TakesSaid, script_so_far, refusal_of_form};
 
     /// No line was read.
     pub fn new(alloc: Global) -> Reading
-        ensures { Shows [] result }
+        ensures { Shows no_script result }
     {
         Reading {
             procs: 0,
-            object: None,
+            objects: Items::new(alloc),
+            object_names: Names::new(alloc),
+            workers: Items::new(alloc),
+            worker_names: Names::new(alloc),
             worker: None,
             items: Items::new(alloc),
+            in_block: false,
+            asked: 0,
         }
     }
 
     /// The script that the lines are.
-    pub fn into_script(self, alloc: Global) -> Result<Script, Memory>
+    pub fn into_script(self) -> Result<Script, Memory>
         ensures { IfOk result (λ script. script ≡ script_so_far self) }
     {
         let Reading {
             procs,
-            object,
+            objects,
+            mut workers,
             worker,
             items,
+            ..
         } = self;
-        let mut objects = Items::new(alloc);
-        if let Some(object) = object {
-            objects.push(object)?;
-        }
-        let mut workers = Items::new(alloc);
         if let Some(WorkerHead { name, proc }) = worker {
             workers.push(WorkerLines { name, proc, items })?;
         }
@@ -65,85 +85,297 @@ impl Reading {
         })
     }
 
-    /// Reads a line, and answers whether it may stand there.
-    pub fn take(&mut self, line: u32, text: &[u8]) -> Result<bool, Memory>
-        ensures { (said : List Said) → Shows said self.old →
-            Takes said line text.now result self.new }
+    fn knows_object(&self, name: &Option<Name>) -> bool
+        ensures { result ≡ offences.is_among self.now.object_names name.now }
+    {
+        match name {
+            Some(name) => self.object_names.contains(name),
+            None => false,
+        }
+    }
+
+    fn knows_worker(&self, name: &Option<Name>) -> bool
+        ensures { result ≡ offences.is_among self.now.worker_names name.now }
+    {
+        match name {
+            Some(name) => self.worker_names.contains(name),
+            None => false,
+        }
+    }
+
+    fn place_of(&self, name: &Option<Name>) -> Option<usize>
+        ensures { result ≡ offences.place_among self.now.object_names name.now }
+    {
+        match name {
+            Some(name) => self.object_names.place_of(name),
+            None => None,
+        }
+    }
+
+    /// Whether it is a second line of processors.
+    fn is_unknown(&self, form: &Form) -> bool
+        ensures { result ≡ offences.is_unknown (script_so_far self.now) (Some form.now) }
+    {
+        match form {
+            Form::Procs(_) => self.procs != 0,
+            _ => false,
+        }
+    }
+
+    /// Whether it declares a name that is declared already.
+    fn declares_again(&self, form: &Form) -> bool
+        requires { IsKept self.now }
+        ensures { result ≡ offences.declares_again (script_so_far self.now) form.now }
+    {
+        match form {
+            Form::Object(name, _, _) => self.knows_object(name),
+            Form::Worker(name, _) => self.knows_worker(name),
+            _ => false,
+        }
+    }
+
+    /// Whether it asks an object that is not declared.
+    fn asks_nobody(&self, form: &Form) -> bool
+        requires { IsKept self.now }
+        ensures { result ≡ offences.asks_nobody (script_so_far self.now) form.now }
+    {
+        match form {
+            Form::Asks(object, _) => !self.knows_object(object),
+            _ => false,
+        }
+    }
+
+    /// The kind of the object of this name.
+    fn kind_of(&self, object: &Option<Name>) -> Option<KindName>
+        requires { IsKept self.now }
+        ensures { result ≡ offences.kind_of_named (script_so_far self.now) object.now }
+    {
+        let place = self.place_of(object)?;
+        Some(self.objects.as_slice().get(place)?.kind)
+    }
+
+    /// Whether it asks for an operation of another kind.
+    fn asks_other_kind(&self, form: &Form) -> bool
+        requires { IsKept self.now }
+        ensures { result ≡ offences.asks_other_kind (script_so_far self.now) form.now }
+    {
+        match form {
+            Form::Asks(object, request) => differs(kind_asked(request), self.kind_of(object)),
+            _ => false,
+        }
+    }
+
+    /// Whether no worker is declared whose line it could be.
+    fn wants_worker(&self, form: &Form) -> bool
+        requires { IsKept self.now }
+        ensures { result ≡ offences.wants_worker (script_so_far self.now) form.now }
+    {
+        match form {
+            Form::Begin | Form::End | Form::Asks(_, _) => self.worker.is_none(),
+            _ => false,
+        }
+    }
+
+    /// Whether there may be no more of its kind.
+    fn is_too_many(&self, form: &Form) -> bool
+        requires { IsKept self.now }
+        ensures { result ≡ offences.is_too_many (script_so_far self.now) form.now }
+    {
+        match form {
+            Form::Object(_, _, _) => self.objects.len() >= NAMES,
+            Form::Worker(_, _) => self.worker_names.len() >= NAMES,
+            Form::Asks(_, _) => self.asked >= CALLS,
+            _ => false,
+        }
+    }
+
+    /// Whether it may not stand in an activity and does, or ends one that has not begun.
+    fn breaks_block(&self, form: &Form) -> bool
+        requires { IsKept self.now }
+        ensures { result ≡ offences.breaks_block (script_so_far self.now) form.now }
+    {
+        match form {
+            Form::Worker(_, _) | Form::Begin => self.in_block,
+            Form::End => !self.in_block,
+            Form::Asks(_, request) => self.in_block && kind_asked(request).is_none(),
+            _ => false,
+        }
+    }
+
+    /// Why a line of this form is refused, if it is.
+    fn cause_of(&self, form: &Form) -> Option<ScriptCause>
+        requires { IsKept self.now }
+        ensures { result ≡ refusal_of_form (script_so_far self.now) form.now }
+    {
+        if self.is_unknown(form) {
+            return Some(ScriptCause::UnknownWord);
+        }
+        if has_bad_number(form) {
+            return Some(ScriptCause::BadNumber);
+        }
+        if has_bad_name(form) {
+            return Some(ScriptCause::BadName);
+        }
+        if self.declares_again(form) {
+            return Some(ScriptCause::NameTwice);
+        }
+        if self.asks_nobody(form) {
+            return Some(ScriptCause::UnknownObject);
+        }
+        if self.asks_other_kind(form) {
+            return Some(ScriptCause::WrongKind);
+        }
+        if self.wants_worker(form) {
+            return Some(ScriptCause::WorkerExpected);
+        }
+        if self.is_too_many(form) {
+            return Some(ScriptCause::TooMany);
+        }
+        if self.breaks_block(form) {
+            return Some(ScriptCause::BlockFault);
+        }
+        None
+    }
+
+    fn add_object(&mut self, object: ObjectLine) -> Result<(), Memory>
+        requires kept { IsKept self.old }
+        requires new { offences.is_among self.old.object_names (Some object.name) ≡ false }
+        ensures { OnOk result (Shows (with_object (script_so_far self.old) object) self.new) }
+    {
+        self.object_names.declare(&object.name)?;
+        self.objects.push(object)
+    }
+
+    fn add_worker(&mut self, alloc: Global, worker: WorkerHead) -> Result<(), Memory>
+        requires kept { IsKept self.old }
+        requires new { offences.is_among self.old.worker_names (Some worker.name) ≡ false }
+        requires closed { self.old.in_block ≡ false }
+        ensures { OnOk result (Shows (with_worker (script_so_far self.old) worker) self.new) }
+    {
+        self.worker_names.declare(&worker.name)?;
+        let items = mem::replace(&mut self.items, Items::new(alloc));
+        if let Some(WorkerHead { name, proc }) = self.worker {
+            self.workers.push(WorkerLines { name, proc, items })?;
+        }
+        self.worker = Some(worker);
+        Ok(())
+    }
+
+    fn add_bound(&mut self, item: Item, begins: bool) -> Result<(), Memory>
+        requires kept { IsKept self.old }
+        requires bound { item ≡ (if begins then Item.Begin else Item.End) }
+        requires worker { is_some self.old.worker ≡ true }
+        ensures { OnOk result (Shows (with_last_item (script_so_far self.old) item) self.new) }
+    {
+        self.items.push(item)?;
+        self.in_block = begins;
+        Ok(())
+    }
+
+    fn add_call(&mut self, line: CallLine) -> Result<(), Memory>
+        requires kept { IsKept self.old }
+        requires worker { is_some self.old.worker ≡ true }
+        requires few { self.old.asked < 65536 }
+        ensures { OnOk result (Shows (with_last_item (script_so_far self.old) (Item.Line line)) self.new) }
+    {
+        self.items.push(Item::Line(line))?;
+        self.asked += 1;
+        Ok(())
+    }
+
+    fn add_request(
+        &mut self,
+        number: u32,
+        object: &Option<Name>,
+        request: &Request,
+    ) -> Result<(), Memory>
+        requires kept { IsKept self.old }
+        requires worker { is_some self.old.worker ≡ true }
+        requires few { self.old.asked < 65536 }
+        ensures { OnOk result (Shows (with_request (script_so_far self.old) number object.now request.now) self.new) }
+    {
+        let Some(place) = self.place_of(object) else {
+            return Ok(());
+        };
+        let Some(act) = act_of(request) else {
+            return Ok(());
+        };
+        self.add_call(CallLine {
+            line: number,
+            object: place as u32,
+            act,
+        })
+    }
+
+    /// Adds a line that is not refused.
+    fn add(&mut self, alloc: Global, number: u32, form: &Form) -> Result<(), Memory>
+        requires kept { IsKept self.old }
+        requires taken { refusal_of_form (script_so_far self.old) form.now ≡ None }
+        ensures { OnOk result (Shows (with_form (script_so_far self.old) number form.now) self.new) }
+    {
+        match form {
+            Form::Procs(Some(procs)) => {
+                self.procs = *procs;
+                Ok(())
+            }
+            Form::Object(Some(name), kind, layout) => self.add_object(ObjectLine {
+                name: *name,
+                kind: *kind,
+                layout: *layout,
+            }),
+            Form::Worker(Some(name), Some(proc)) => self.add_worker(
+                alloc,
+                WorkerHead {
+                    name: *name,
+                    proc: *proc,
+                },
+            ),
+            Form::Begin => self.add_bound(Item::Begin, true),
+            Form::End => self.add_bound(Item::End, false),
+            Form::Asks(object, request) => self.add_request(number, object, request),
+            _ => Ok(()),
+        }
+    }
+
+    /// Reads a line, or answers why it is refused.
+    pub fn take(
+        &mut self,
+        alloc: Global,
+        number: u32,
+        text: &[u8],
+    ) -> Result<Option<ScriptCause>, Memory>
+        requires { IsKept self.old }
+        ensures { Takes (script_so_far self.old) number text.now result self.new }
     {
         if !is_printable_text(text) {
-            return Ok(false);
+            return Ok(Some(ScriptCause::BadByte));
         }
         if is_skipped(text) {
-            return Ok(true);
+            return Ok(None);
         }
-        self.take_form(line, text)
+        self.take_said(alloc, number, text)
     }
 
-    /// Reads a line that says something.
-    fn take_form(&mut self, line: u32, text: &[u8]) -> Result<bool, Memory>
-        ensures { (said : List Said) → Shows said self.old →
-            Says said (record { line = line; tokens = tokens_of text.now }) result self.new }
+    /// Reads a line that says something, or answers why it is refused.
+    fn take_said(
+        &mut self,
+        alloc: Global,
+        number: u32,
+        text: &[u8],
+    ) -> Result<Option<ScriptCause>, Memory>
+        requires { IsKept self.old }
+        ensures { TakesSaid (script_so_far self.old) number (tokens_of text.now) result self.new }
     {
-        if self.procs == 0 {
-            return Ok(self.take_procs(text));
+        if self.procs == 0 && !begins_procs(text) {
+            return Ok(Some(ScriptCause::ProcsExpected));
         }
-        let Some(object) = self.object else {
-            return Ok(self.take_object(text));
+        let Some(form) = form_of(self.procs, text) else {
+            return Ok(Some(ScriptCause::UnknownWord));
         };
-        if self.worker.is_none() {
-            return Ok(self.take_worker(text));
+        if let Some(cause) = self.cause_of(&form) {
+            return Ok(Some(cause));
         }
-        self.take_call(line, &object.name, text)
-    }
-
-    fn take_procs(&mut self, text: &[u8]) -> bool
-        ensures { Places (forms.procs_on (tokens_of text.now))
-            (λ procs. record self.old { procs = procs }) result self.old self.new }
-    {
-        let Some(procs) = procs_on(text) else {
-            return false;
-        };
-        self.procs = procs;
-        true
-    }
-
-    fn take_object(&mut self, text: &[u8]) -> bool
-        ensures { Places (forms.object_on (tokens_of text.now))
-            (λ object. record self.old { object = Some object }) result self.old self.new }
-    {
-        let Some(object) = object_on(text) else {
-            return false;
-        };
-        self.object = Some(object);
-        true
-    }
-
-    fn take_worker(&mut self, text: &[u8]) -> bool
-        ensures { Places (forms.worker_on self.old.procs (tokens_of text.now))
-            (λ worker. record self.old { worker = Some worker }) result self.old self.new }
-    {
-        let Some(worker) = worker_on(self.procs, text) else {
-            return false;
-        };
-        self.worker = Some(worker);
-        true
-    }
-
-    fn take_call(&mut self, line: u32, object: &Name, text: &[u8]) -> Result<bool, Memory>
-        ensures { PlacesCall (forms.call_on object.now (tokens_of text.now)) line
-            result self.old self.new }
-    {
-        if self.items.len() >= CALLS {
-            return Ok(false);
-        }
-        let Some(op) = call_on(object, text) else {
-            return Ok(false);
-        };
-        self.items.push(Item::Line(CallLine {
-            line,
-            object: 0,
-            act: Act::Call(op),
-        }))?;
-        Ok(true)
+        self.add(alloc, number, &form)?;
+        Ok(None)
     }
 }

@@ -5,14 +5,13 @@ ghost use Rattle.script_text.specs.Words.{IsWords, with_token};
 
 const SPACE: u8 = b' ';
 
-/// The tokens of a line, of which no form has more than four.
+/// Tokens, of which no form has more than three behind its first word.
 #[derive(Clone, Copy)]
 pub enum Words<'a> {
     None,
     One(&'a [u8]),
     Two(&'a [u8], &'a [u8]),
     Three(&'a [u8], &'a [u8], &'a [u8]),
-    Four(&'a [u8], &'a [u8], &'a [u8], &'a [u8]),
     More,
 }
 
@@ -53,7 +52,7 @@ fn past_blanks(text: &[u8]) -> &[u8]
 }
 
 /// The first token, which is empty where there is none, and what stands after it.
-fn first_token(text: &[u8]) -> (&[u8], &[u8])
+pub fn first_token(text: &[u8]) -> (&[u8], &[u8])
     ensures first { tokens_of text.now ≡ with_token result.0.now (tokens_of result.1.now) }
     ensures last { length result.0.now ≡ 0 → length result.1.now ≡ 0 }
 {
@@ -61,7 +60,7 @@ fn first_token(text: &[u8]) -> (&[u8], &[u8])
     from_token.split_at(token_len(from_token))
 }
 
-/// The tokens of a line.
+/// The tokens of a text.
 pub fn words_of(text: &[u8]) -> Words<'_>
     ensures { IsWords result (tokens_of text.now) }
 {
@@ -77,13 +76,9 @@ pub fn words_of(text: &[u8]) -> Words<'_>
     if third.is_empty() {
         return Words::Two(first, second);
     }
-    let (fourth, rest) = first_token(rest);
+    let (fourth, _) = first_token(rest);
     if fourth.is_empty() {
         return Words::Three(first, second, third);
-    }
-    let (fifth, _) = first_token(rest);
-    if fifth.is_empty() {
-        return Words::Four(first, second, third, fourth);
     }
     Words::More
 }
