@@ -1,36 +1,36 @@
 -- A script is read up to its first line that offends.
-use Rattle.std.proofs.Common.{◌≡◌, ℕ, ◌+◌, true, false, List, [], ◌∷◌, ◌++◌, length, refl, sym, ap, ◌∙◌, subst}
-use Rattle.std.specs.Prelude.{Err}
+use Rattle.std.proofs.Common.{◌≡◌, ℕ, ◌+◌, List, [], ◌∷◌, ◌++◌, length, refl, sym, ap, ◌∙◌, subst}
+use Rattle.std.specs.Prelude.{Some, None, Err}
 use Rattle.std.proofs.lemmas.List.{append_assoc, append-nil}
 use Rattle.script_text.specs.Lines.{lines_of}
-use Rattle.script_text.specs.Language.{offends, NoneOffends, fault_at, said_from, script_at_end, read_on, parsed}
-use Rattle.script_text.specs.declared.fault.ScriptCause.TheVariants.{NotYet}
+use Rattle.script_text.specs.Language.{cause_of, NoneOffends, fault_at, last_number, script_after, script_at_end, read_on, parsed}
+use Rattle.script_text.specs.declared.fault.ScriptCause.{ScriptCause}
 
 -- none of the lines offends, read after these
 NoneOffendsAfter : List (List ℕ) → List (List ℕ) → Type 0
 NoneOffendsAfter start lines =
     (before : List (List ℕ)) (line : List ℕ) (after : List (List ℕ)) → lines ≡ before ++ line ∷ after
-    → offends (start ++ before) line ≡ false
+    → cause_of (start ++ before) line ≡ None
 
 -- lines that do not offend are read
 read_on-through : (start lines after : List (List ℕ)) → NoneOffendsAfter start lines → read_on start (lines ++ after) ≡ read_on (start ++ lines) after
 unfolding NoneOffendsAfter
 read_on-through start [] after none = ap (λ (before : List (List ℕ)). read_on before after) (sym (append-nil start))
 read_on-through start (line ∷ lines) after none =
-    let first : offends start line ≡ false = subst (λ (before : List (List ℕ)). offends before line ≡ false) (append-nil start) (none [] line lines refl) in
+    let first : cause_of start line ≡ None = subst (λ (before : List (List ℕ)). cause_of before line ≡ None) (append-nil start) (none [] line lines refl) in
     let behind = read_on-through (start ++ line ∷ []) lines after (λ before next later is.
-    subst (λ (front : List (List ℕ)). offends front next ≡ false) (sym (append_assoc start (line ∷ []) before)) (none (line ∷ before) next later (ap (λ (more : List (List ℕ)). line ∷ more) is))) in
+    subst (λ (front : List (List ℕ)). cause_of front next ≡ None) (sym (append_assoc start (line ∷ []) before)) (none (line ∷ before) next later (ap (λ (more : List (List ℕ)). line ∷ more) is))) in
     rw first behind ∙ ap (λ (front : List (List ℕ)). read_on front after) (append_assoc start (line ∷ []) lines)
 
 -- the first line that offends decides
-pub refused_at_first : (bytes line : List ℕ) (before after : List (List ℕ)) → lines_of bytes ≡ before ++ line ∷ after → NoneOffends before → offends before line ≡ true
-    → parsed bytes ≡ Err (fault_at (length before + 1) NotYet)
+pub refused_at_first : (bytes line : List ℕ) (before after : List (List ℕ)) (cause : ScriptCause) → lines_of bytes ≡ before ++ line ∷ after → NoneOffends before → cause_of before line ≡ Some cause
+    → parsed bytes ≡ Err (fault_at (length before + 1) cause)
 unfolding NoneOffendsAfter
-refused_at_first bytes line before after are none offending =
+refused_at_first bytes line before after cause are none offending =
     ap (read_on []) are ∙ read_on-through [] before (line ∷ after) none ∙ rw offending refl
 
 -- where no line offends, the end of the text decides
-pub decided_at_end : (bytes : List ℕ) → NoneOffends (lines_of bytes) → parsed bytes ≡ script_at_end (lines_of bytes) (said_from 1 (lines_of bytes))
+pub decided_at_end : (bytes : List ℕ) → NoneOffends (lines_of bytes) → parsed bytes ≡ script_at_end (last_number (lines_of bytes)) (script_after (lines_of bytes))
 unfolding NoneOffendsAfter
 decided_at_end bytes none =
     ap (read_on []) (sym (append-nil (lines_of bytes))) ∙ read_on-through [] (lines_of bytes) [] none

@@ -1,6 +1,7 @@
 pub mod LineCuts
 pub mod TokenCuts
 pub mod NumberSteps
+pub mod ReaderSteps
 pub mod Underway
 pub mod Truncated
 pub mod DecimalNumbers

@@ -1,12 +1,12 @@
 -- What stands past the first byte that is too many makes no difference.
 use Rattle.std.proofs.Common.{◌≡◌, ℕ, zero, suc, ◌+◌, ◌<◌, ◌≤◌, Bool, true, false, cond, List, [], ◌∷◌, ◌++◌, length, take, refl, sym, ap, ◌∙◌, eqb, arith}
-use Rattle.std.specs.Prelude.{is_some, Err}
+use Rattle.std.specs.Prelude.{Err}
 use Rattle.std.proofs.lemmas.Bool.Decides.{nat_tests}
 use Rattle.std.proofs.lemmas.List.{length-take}
-use Rattle.script_text.specs.Lines.{lines_of, onto_first_line, text_of, is_printable_text, byte_count, holds_byte}
-use Rattle.script_text.specs.Language.{said_from, spelled, byte_limit, offends, cause_of, fault_at, unless_refused, read_on, parsed}
-use Rattle.script_text.specs.declared.fault.ScriptCause.TheVariants.{NotYet}
-use Rattle.script_text.proofs.Underway.{byte_count-push, offends_long}
+use Rattle.script_text.specs.Lines.{lines_of, onto_first_line, byte_count, holds_byte}
+use Rattle.script_text.specs.Language.{byte_limit, cause_of, fault_at, unless_refused, read_on, parsed}
+use Rattle.script_text.specs.declared.fault.ScriptCause.TheVariants.{TooLong}
+use Rattle.script_text.proofs.Underway.{byte_count-push, cause_of-long}
 
 false-true : {Y : Type 0} → ◌≡◌ {A = Bool} false true → Y
 false-true e = cc
@@ -64,10 +64,10 @@ lines_of-take (byte ∷ bytes) (suc n) =
     ]
 
 -- a line that holds the first byte that is too many is refused, whatever it is
-long_refused : (before : List (List ℕ)) (line : List ℕ) (lines : List (List ℕ)) → byte_count before < byte_limit → byte_limit ≤ byte_count before + length line → read_on before (line ∷ lines) ≡ Err (fault_at (length before + 1) NotYet)
+long_refused : (before : List (List ℕ)) (line : List ℕ) (lines : List (List ℕ)) → byte_count before < byte_limit → byte_limit ≤ byte_count before + length line → read_on before (line ∷ lines) ≡ Err (fault_at (length before + 1) TooLong)
 long_refused before line lines within long =
-    let refused : offends before line ≡ true = offends_long (holds_byte byte_limit before line) (is_printable_text (text_of line)) (is_some (spelled (said_from 1 (before ++ line ∷ [])))) (grind (arith, nat_tests, within, long)) in
-    rw refused refl
+    let holds : holds_byte byte_limit before line ≡ true = grind (arith, nat_tests, within, long) in
+    rw (cause_of-long before line holds) refl
 
 read_on-choice : (before : List (List ℕ)) (n : ℕ) (line : List ℕ) (lines : List (List ℕ)) → 0 < n → byte_count before + n ≡ byte_limit
     → (0 < behind n line → byte_count (before ++ line ∷ []) + behind n line ≡ byte_limit → read_on (before ++ line ∷ []) (cut_lines (behind n line) lines) ≡ read_on (before ++ line ∷ []) lines)

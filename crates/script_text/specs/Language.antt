@@ -174,7 +174,7 @@ fault_at number cause = record { line = number; cause = cause }
 
 -- the number of the last line, or 1 where there is none
 abbrev pub last_number : List (List ℕ) → ℕ
-last_number lines = max 1 (length lines)
+last_number lines = max (length lines) 1
 
 -- At the end of the input there is a line of processors, and no activity is open; else the last
 -- line is refused.

@@ -1,4 +1,4 @@
-ghost use Rattle.std.specs.Prelude.{◌≡◌, false, ◌∷◌, ◌++◌, [], length, OnOk, Some};
+ghost use Rattle.std.specs.Prelude.{◌≡◌, false, ◌∷◌, ◌<◌, ◌++◌, [], length, IfSome, OnOk, Some};
 ghost use Rattle.script_text.specs.Offences.{is_among, place_among};
 
 use indexmap::IndexSet;
@@ -47,7 +47,8 @@ impl Names {
 
     /// The number of the name.
     pub fn place_of(&self, name: &Name) -> Option<usize>
-        ensures { result ≡ place_among self.now (Some name.now) }
+        ensures place { result ≡ place_among self.now (Some name.now) }
+        ensures within { IfSome result (λ place. place < length self.now) }
     {
         self.declared.get_index_of(name)
     }

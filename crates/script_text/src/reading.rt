@@ -1,7 +1,9 @@
-ghost use Rattle.std.specs.Prelude.{◌≡◌, ◌<◌, true, false, if◌then◌else◌, Ok, Some, None, Option, is_some, nat_le};
+ghost use Rattle.std.specs.Prelude.{◌≡◌, ◌+◌, ◌<◌, ◌≤◌, [], ◌∷◌, ◌++◌, length, OnOk, IfSome, true, false, if◌then◌else◌, Ok, Some, None, Option, is_some, nat_le};
 ghost use Rattle.script_text.specs.Tokens.{tokens_of};
 ghost use Rattle.script_text.specs.Forms as forms;
+ghost use Rattle.script_text.specs.Lawful.{call_lines};
 ghost use Rattle.script_text.specs.Offences as offences;
+ghost use Rattle.script_text.specs.Reading.{last_worker};
 
 use crate::fault::ScriptCause;
 use crate::form::{Form, Request};
@@ -41,8 +43,22 @@ pub struct Reading {
     pub asked: usize,
 }
 
+/// Puts the last worker, if there is one, with its items behind the others.
+fn push_last(
+    workers: &mut Items<WorkerLines>,
+    worker: Option<WorkerHead>,
+    items: Items<Item>,
+) -> Result<(), Memory>
+    ensures { OnOk result (workers.new ≡ workers.old ++ last_worker worker items) }
+{
+    if let Some(WorkerHead { name, proc }) = worker {
+        workers.push(WorkerLines { name, proc, items })?;
+    }
+    Ok(())
+}
+
 impl Reading {
-    ghost use Rattle.std.specs.Prelude.{ℕ, List, [], IsTrue, IfOk, OnOk};
+    ghost use Rattle.std.specs.Prelude.{ℕ, List, IsTrue, IfOk};
     ghost use Rattle.script_text.specs.Language.{no_script, with_object, with_worker, with_last_item, with_request, with_form};
     ghost use Rattle.script_text.specs.Reading.{IsKept, Shows, Takes, TakesSaid, script_so_far, refusal_of_form};
 
@@ -75,9 +91,7 @@ impl Reading {
             items,
             ..
         } = self;
-        if let Some(WorkerHead { name, proc }) = worker {
-            workers.push(WorkerLines { name, proc, items })?;
-        }
+        push_last(&mut workers, worker, items)?;
         Ok(Script {
             procs,
             objects,
@@ -104,7 +118,8 @@ impl Reading {
     }
 
     fn place_of(&self, name: &Option<Name>) -> Option<usize>
-        ensures { result ≡ offences.place_among self.now.object_names name.now }
+        ensures place { result ≡ offences.place_among self.now.object_names name.now }
+        ensures within { IfSome result (λ place. place < length self.now.object_names) }
     {
         match name {
             Some(name) => self.object_names.place_of(name),
@@ -240,6 +255,7 @@ impl Reading {
     fn add_object(&mut self, object: ObjectLine) -> Result<(), Memory>
         requires kept { IsKept self.old }
         requires new { offences.is_among self.old.object_names (Some object.name) ≡ false }
+        requires few { length self.old.object_names < 16 }
         ensures { OnOk result (Shows (with_object (script_so_far self.old) object) self.new) }
     {
         self.object_names.declare(&object.name)?;
@@ -254,33 +270,32 @@ impl Reading {
     {
         self.worker_names.declare(&worker.name)?;
         let items = mem::replace(&mut self.items, Items::new(alloc));
-        if let Some(WorkerHead { name, proc }) = self.worker {
-            self.workers.push(WorkerLines { name, proc, items })?;
-        }
+        push_last(&mut self.workers, self.worker, items)?;
         self.worker = Some(worker);
         Ok(())
     }
 
-    fn add_bound(&mut self, item: Item, begins: bool) -> Result<(), Memory>
-        requires kept { IsKept self.old }
-        requires bound { item ≡ (if begins then Item.Begin else Item.End) }
-        requires worker { is_some self.old.worker ≡ true }
-        ensures { OnOk result (Shows (with_last_item (script_so_far self.old) item) self.new) }
-    {
-        self.items.push(item)?;
-        self.in_block = begins;
-        Ok(())
-    }
-
-    fn add_call(&mut self, line: CallLine) -> Result<(), Memory>
+    /// Adds an item to the last worker.
+    fn add_item(&mut self, item: &Item) -> Result<(), Memory>
         requires kept { IsKept self.old }
         requires worker { is_some self.old.worker ≡ true }
-        requires few { self.old.asked < 65536 }
-        ensures { OnOk result (Shows (with_last_item (script_so_far self.old) (Item.Line line)) self.new) }
+        requires few { self.old.asked + length (call_lines (item.now ∷ [])) ≤ 65536 }
+        ensures { OnOk result (Shows (with_last_item (script_so_far self.old) item.now) self.new) }
     {
-        self.items.push(Item::Line(line))?;
-        self.asked += 1;
-        Ok(())
+        match item {
+            Item::Begin => {
+                self.in_block = true;
+                self.items.push(Item::Begin)
+            }
+            Item::End => {
+                self.in_block = false;
+                self.items.push(Item::End)
+            }
+            Item::Line(line) => {
+                self.asked += 1;
+                self.items.push(Item::Line(*line))
+            }
+        }
     }
 
     fn add_request(
@@ -300,11 +315,11 @@ impl Reading {
         let Some(act) = act_of(request) else {
             return Ok(());
         };
-        self.add_call(CallLine {
+        self.add_item(&Item::Line(CallLine {
             line: number,
             object: place as u32,
             act,
-        })
+        }))
     }
 
     /// Adds a line that is not refused.
@@ -330,8 +345,8 @@ impl Reading {
                     proc: *proc,
                 },
             ),
-            Form::Begin => self.add_bound(Item::Begin, true),
-            Form::End => self.add_bound(Item::End, false),
+            Form::Begin => self.add_item(&Item::Begin),
+            Form::End => self.add_item(&Item::End),
             Form::Asks(object, request) => self.add_request(number, object, request),
             _ => Ok(()),
         }
