@@ -7,3 +7,4 @@ pub mod DecimalNumbers
 pub mod FirstOffence
 pub mod LawfulHistories
 mod AtTheBounds
+pub mod SoundForms
