@@ -8,3 +8,4 @@ pub mod FirstOffence
 pub mod LawfulHistories
 mod AtTheBounds
 pub mod SoundForms
+pub mod SoundLists
