@@ -9,3 +9,4 @@ pub mod LawfulHistories
 mod AtTheBounds
 pub mod SoundForms
 pub mod SoundLists
+pub mod SoundSteps
