@@ -10,3 +10,4 @@ mod AtTheBounds
 pub mod SoundForms
 pub mod SoundLists
 pub mod SoundSteps
+pub mod SoundRequests

@@ -78,14 +78,13 @@ module _ (old new : Script) (extends : Extends old new) (next later : ℕ) (le :
   workers_kept (worker ∷ workers) holds = (worker_kept worker holds.0, workers_kept workers holds.1)
 
 -- the item may be the next one: a line has the next number and is sound
-IsNextItem : ℕ → Script → Item → Type 0
+abbrev pub IsNextItem : ℕ → Script → Item → Type 0
 IsNextItem next script Begin = Unit {0}
 IsNextItem next script End = Unit {0}
 IsNextItem next script (Line line) = IsSoundLine script line × (line.line ≡ next)
 
 module _ (next : ℕ) (script : Script) where
   lines_more : (lines : List CallLine) (item : Item) → IsNextItem next script item → HoldsLines next script lines → HoldsLines (next + 1) script (lines ++ call_lines (item ∷ []))
-  unfolding IsNextItem
   lines_more lines Begin may holds = subst (HoldsLines (next + 1) script) (sym (append-nil lines)) (lines_kept script script (record { procs = refl; kinds = λ place kind e. e }) next (next + 1) (omega arith) lines holds)
   lines_more lines End may holds = subst (HoldsLines (next + 1) script) (sym (append-nil lines)) (lines_kept script script (record { procs = refl; kinds = λ place kind e. e }) next (next + 1) (omega arith) lines holds)
   lines_more lines (Line line) may holds = record {
@@ -104,7 +103,7 @@ module _ (next : ℕ) (script : Script) where
 
 -- the script goes on to be so where nothing is added
 module _ (next : ℕ) (script : Script) (sound : IsSoundSoFar next script) where
-  same_script : IsSoundSoFar (next + 1) script
+  pub same_script : IsSoundSoFar (next + 1) script
   same_script = record {
     processors = sound.processors;
     start = sound.start;
@@ -115,7 +114,7 @@ module _ (next : ℕ) (script : Script) (sound : IsSoundSoFar next script) where
     few = sound.few;
   }
 
-  keeps_procs : (procs : ℕ) → script.procs ≡ 0 → (1 ≤ procs) × (procs ≤ 8) → IsSoundSoFar (next + 1) (record script { procs = procs })
+  pub keeps_procs : (procs : ℕ) → script.procs ≡ 0 → (1 ≤ procs) × (procs ≤ 8) → IsSoundSoFar (next + 1) (record script { procs = procs })
   keeps_procs procs none range = record {
     processors = range.1;
     start = λ zero. absurd (omega (arith, zero, range.0));
@@ -126,7 +125,7 @@ module _ (next : ℕ) (script : Script) (sound : IsSoundSoFar next script) where
     few = sound.few;
   }
 
-  keeps_object : (object : ObjectLine) → (script.procs ≡ 0 → ⊥) → IsFreeName object.name → list_any (bytes_eq object.name) (object_names script) ≡ false → length script.objects < 16 → IsSoundSoFar (next + 1) (with_object script object)
+  pub keeps_object : (object : ObjectLine) → (script.procs ≡ 0 → ⊥) → IsFreeName object.name → list_any (bytes_eq object.name) (object_names script) ≡ false → length script.objects < 16 → IsSoundSoFar (next + 1) (with_object script object)
   keeps_object object some free new few = record {
     processors = sound.processors;
     start = λ zero. absurd (some zero);
@@ -150,7 +149,7 @@ module _ (next : ℕ) (script : Script) (sound : IsSoundSoFar next script) where
   workers_push P [] worker each last = (last, tt)
   workers_push P (first ∷ workers) worker each last = (each.0, workers_push P workers worker each.1 last)
 
-  keeps_worker : (head : WorkerHead) → (script.procs ≡ 0 → ⊥) → IsFreeName head.name → head.proc < script.procs → list_any (bytes_eq head.name) (worker_names script) ≡ false → length script.workers < 16
+  pub keeps_worker : (head : WorkerHead) → (script.procs ≡ 0 → ⊥) → IsFreeName head.name → head.proc < script.procs → list_any (bytes_eq head.name) (worker_names script) ≡ false → length script.workers < 16
       → IsSoundSoFar (next + 1) (with_worker script head)
   keeps_worker head some free placed new few =
       let idle : WorkerLines = record { name = head.name; proc = head.proc; items = [] } in
@@ -175,7 +174,7 @@ module _ (next : ℕ) (script : Script) (sound : IsSoundSoFar next script) where
         few = omega (arith, sound.few, sum_by_push asked_by script.workers idle);
       }
 
-  keeps_item : (item : Item) → (script.procs ≡ 0 → ⊥) → IsNextItem next script item → BlocksHoldCalls (is_in_block script) (item ∷ []) → call_count script + length (call_lines (item ∷ [])) ≤ call_limit → IsSoundSoFar (next + 1) (with_last_item script item)
+  pub keeps_item : (item : Item) → (script.procs ≡ 0 → ⊥) → IsNextItem next script item → BlocksHoldCalls (is_in_block script) (item ∷ []) → call_count script + length (call_lines (item ∷ [])) ≤ call_limit → IsSoundSoFar (next + 1) (with_last_item script item)
   keeps_item item some may fits few =
       let new : Script = with_last_item script item in
       let kept : Extends script new = record { procs = refl; kinds = λ place kind e. e } in
