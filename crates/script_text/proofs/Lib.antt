@@ -11,3 +11,4 @@ pub mod SoundForms
 pub mod SoundLists
 pub mod SoundSteps
 pub mod SoundRequests
+pub mod SoundScripts
