@@ -1,21 +1,21 @@
 -- What the parts of a form are, where a line has it.
-use Rattle.std.proofs.Common.{◌≡◌, ℕ, ◌<◌, ◌≤◌, Bool, true, false, cond, not, ◌&&◌, List, [], ◌∷◌, refl, sym, arith}
+use Rattle.std.proofs.Common.{◌≡◌, ℕ, ◌<◌, ◌≤◌, Bool, true, false, cond, not, ◌&&◌, List, [], ◌∷◌, refl, arith}
 use Rattle.std.specs.Prelude.{Option, Some, None, IfSome, option_map, nat_le, nat_lt, codes}
 use Rattle.std.specs.Str.{bytes_eq}
 use Rattle.std.proofs.lemmas.Bool.Decides.{nat_tests}
-use Rattle.std.proofs.lemmas.Option.{same_Some, cond_some, option_and_then_some}
+use Rattle.std.proofs.lemmas.Option.{cond_some, option_and_then_some}
 use Rattle.k42_kinds.specs.Words.{is_name}
 use Rattle.k42_kinds.specs.declared.operation.KindName.{KindName}
 use Rattle.k42_kinds.specs.declared.operation.LayoutName.{LayoutName}
 use Rattle.script_text.specs.Numbers.{number_of, number_within, number_below}
-use Rattle.script_text.specs.Forms.{is_reserved, free_name, name_of, page_of, page_text_of, kind_named, layout_named, head_of, procs_form, object_declared, object_form, worker_form, alone, swap_form, destroy_form, plain_request, request_with, request_with_both, request_of, call_form, form_behind, form_of, begins_procs}
+use Rattle.script_text.specs.Forms.{is_reserved, free_name, name_of, page_of, page_text_of, kind_named, layout_named, head_of, procs_form, object_declared, request_of, form_behind, form_of, begins_procs}
 use Rattle.script_text.specs.Sound.{IsFreeName, page_count}
 use Rattle.script_text.specs.declared.form.Form.{Form}
 use Rattle.script_text.specs.declared.form.Form.TheVariants as forms
 use Rattle.script_text.specs.declared.form.Head.{Head}
 use Rattle.script_text.specs.declared.form.Head.TheVariants as heads
 use Rattle.script_text.specs.declared.form.Request.{Request}
-use Rattle.script_text.specs.declared.form.Request.TheVariants.{Swap, Destroy, Add, Get, Drain, Bind, Find, Unbind, Size, Write, Read, Dirty, Clean}
+use Rattle.script_text.specs.declared.form.Request.TheVariants.{Swap, Write, Read}
 
 -- a page that the request names is there
 abbrev pub HasPage : Request → Type 0

@@ -1,17 +1,15 @@
 -- What stays true of names, lines and workers with one more behind them.
 use Rattle.std.proofs.Common.{◌≡◌, ℕ, zero, suc, ◌+◌, ◌<◌, ◌≤◌, Bool, true, false, ◌||◌, List, [], ◌∷◌, ◌++◌, length, ◌⊎◌, inl, inr, refl, sym, ap, subst, ◌∙◌, length-append, arith}
-use Rattle.std.specs.Prelude.{Option, Some, None, All, map, slice_get, sum_by}
+use Rattle.std.specs.Prelude.{Some, All, map, slice_get, sum_by}
 use Rattle.std.specs.Str.{bytes_eq}
 use Rattle.std.specs.List.{list_any, AllByRecursion}
-use Rattle.std.proofs.lemmas.List.{append-nil}
-use Rattle.std.proofs.lemmas.List.Elements.{All-get_or, All-push}
+use Rattle.std.proofs.lemmas.List.Elements.{All-get_or}
 use Rattle.std.proofs.lemmas.List.Sums.{sum_by-cons}
 use Rattle.std.proofs.lemmas.Option.{same_Some, none-some, slice_get_within, get_or_from_slice_get}
 use Rattle.std.proofs.lemmas.Slice.Eq.{bytes_eq-Decides}
-use Rattle.k42_kinds.specs.declared.entry.Act.TheVariants.{Call, Swap, Destroy}
 use Rattle.script_text.specs.Language.{with_item}
 use Rattle.script_text.specs.Lawful.{call_lines}
-use Rattle.script_text.specs.Offences.{is_open_behind, is_last_open, worker_names}
+use Rattle.script_text.specs.Offences.{is_open_behind, is_last_open}
 use Rattle.script_text.specs.Sound.{BlocksHoldCalls, AreDistinct}
 use Rattle.script_text.specs.declared.script.CallLine.{CallLine}
 use Rattle.script_text.specs.declared.script.Item.{Item}

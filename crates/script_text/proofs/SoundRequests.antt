@@ -1,6 +1,6 @@
 -- What is true of the script after a line that asks something of an object, and after any other.
-use Rattle.std.proofs.Common.{◌≡◌, ℕ, suc, ◌+◌, ◌<◌, ◌≤◌, ◌==◌, Bool, true, false, not, ◌&&◌, ◌⊎◌, inl, inr, List, [], ◌∷◌, length, get_or, refl, sym, ap, subst, ◌∙◌, arith}
-use Rattle.std.specs.Prelude.{Option, Some, None, slice_get, position}
+use Rattle.std.proofs.Common.{◌≡◌, ℕ, ◌+◌, ◌<◌, Bool, true, false, not, ◌&&◌, ◌⊎◌, inl, inr, List, length, get_or, refl, subst, arith}
+use Rattle.std.specs.Prelude.{Option, Some, None, slice_get}
 use Rattle.std.specs.Str.{bytes_eq}
 use Rattle.std.proofs.lemmas.Bool.Decides.{nat_tests}
 use Rattle.std.proofs.lemmas.List.{length-map}
@@ -14,8 +14,8 @@ use Rattle.k42_kinds.specs.declared.entry.Act.TheVariants as acts
 use Rattle.k42_kinds.specs.Operations.{same_kind, kind_of_op}
 use Rattle.script_text.specs.Language.{act_of, with_call, with_form}
 use Rattle.script_text.specs.Lawful.{kinds_of}
-use Rattle.script_text.specs.Offences.{name_limit, call_limit, call_count, object_names, place_among, is_in_block, kind_asked, is_swap, differs, kind_of_named, is_unknown, declares_again, asks_other_kind, is_too_many, breaks_block}
-use Rattle.script_text.specs.Sound.{NamesPage, IsActOn, IsCall, IsSoundLine}
+use Rattle.script_text.specs.Offences.{object_names, place_among, is_in_block, kind_asked, is_swap, differs, is_unknown, declares_again, asks_other_kind, is_too_many, breaks_block}
+use Rattle.script_text.specs.Sound.{NamesPage, IsActOn, IsCall}
 use Rattle.script_text.specs.declared.form.Form.{Form}
 use Rattle.script_text.specs.declared.form.Form.TheVariants as forms
 use Rattle.script_text.specs.declared.form.Request.{Request}

@@ -1,5 +1,5 @@
 -- Every script that can be read is sound.
-use Rattle.std.proofs.Common.{◌≡◌, ℕ, suc, ◌+◌, ◌<◌, ◌≤◌, ◌==◌, Bool, true, false, cond, not, ◌&&◌, List, [], ◌∷◌, ◌++◌, length, add-zero, length-append, refl, sym, ap, subst, ◌∙◌, arith}
+use Rattle.std.proofs.Common.{◌≡◌, ℕ, suc, ◌+◌, ◌==◌, Bool, true, false, cond, not, ◌&&◌, List, [], ◌∷◌, ◌++◌, length, add-zero, length-append, refl, sym, subst, arith}
 use Rattle.std.specs.Prelude.{Option, Some, None, Result, Ok, Err, IfOk, IfSome}
 use Rattle.std.specs.List.{AllByRecursion}
 use Rattle.std.proofs.lemmas.Bool.Decides.{nat_tests}
@@ -15,14 +15,14 @@ use Rattle.script_text.specs.Outcome.{Answers}
 use Rattle.script_text.specs.declared.form.Form.{Form}
 use Rattle.script_text.specs.declared.fault.ParseEnd.{ParseEnd}
 use Rattle.script_text.specs.declared.fault.ScriptCause.{ScriptCause}
-use Rattle.script_text.specs.declared.fault.ScriptCause.TheVariants.{ProcsExpected, UnknownWord, BadNumber, BadName, NameTwice, UnknownObject, WrongKind, WorkerExpected, TooMany, BlockFault, TooLong, BadByte}
+use Rattle.script_text.specs.declared.fault.ScriptCause.TheVariants.{ProcsExpected, UnknownWord, BadNumber, BadName, NameTwice, UnknownObject, WrongKind, WorkerExpected, TooMany, BlockFault}
 use Rattle.script_text.specs.declared.fault.ScriptFault.{ScriptFault}
 use Rattle.script_text.specs.declared.script.ObjectLine.{ObjectLine}
 use Rattle.script_text.specs.declared.script.Script.{Script}
 use Rattle.script_text.specs.declared.script.WorkerLines.{WorkerLines}
 use Rattle.script_text.proofs.SoundForms.{IsFormed, IsProcs, form_of-formed, form_of-procs}
 use Rattle.script_text.proofs.SoundSteps.{HoldsWorker, IsSoundSoFar, same_script}
-use Rattle.script_text.proofs.SoundRequests.{Passes, keeps_form}
+use Rattle.script_text.proofs.SoundRequests.{keeps_form}
 
 none_cond : {A : Type 0} (b : Bool) (x : A) (other : Option A) → cond b (Some x) other ≡ None → (b ≡ false) × (other ≡ None)
 none_cond true x other e = absurd (none-some x (sym e))

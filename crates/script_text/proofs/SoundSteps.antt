@@ -1,28 +1,17 @@
 -- What is true of the script after each line that is not refused.
-use Rattle.std.proofs.Common.{◌≡◌, ℕ, suc, ◌+◌, ◌<◌, ◌≤◌, ◌==◌, Bool, true, false, not, ◌&&◌, List, [], ◌∷◌, ◌++◌, length, refl, sym, ap, subst, ◌∙◌, length-append, arith}
-use Rattle.std.specs.Prelude.{Option, Some, None, IfSome, All, map, slice_get, sum_by, position, is_none, option_map, get_or, codes}
+use Rattle.std.proofs.Common.{◌≡◌, ℕ, ◌+◌, ◌<◌, ◌≤◌, Bool, false, List, [], ◌∷◌, ◌++◌, length, refl, sym, subst, length-append, arith}
+use Rattle.std.specs.Prelude.{Some, All, slice_get}
 use Rattle.std.specs.List.{list_any, AllByRecursion}
 use Rattle.std.specs.Str.{bytes_eq}
-use Rattle.std.proofs.lemmas.Bool.Decides.{nat_tests}
-use Rattle.std.proofs.lemmas.List.{append-nil, map-append, length-map}
+use Rattle.std.proofs.lemmas.List.{append-nil, map-append}
 use Rattle.std.proofs.lemmas.List.Elements.{All-nil, All-push, All-weaker, All-from_recursion, recursion_from_All}
-use Rattle.std.proofs.lemmas.List.Quantifiers.{position-Some}
 use Rattle.std.proofs.lemmas.List.Sums.{sum_by_push}
-use Rattle.std.proofs.lemmas.Option.{same_Some, none-some, slice_get-map, slice_get-get_or}
+use Rattle.std.proofs.lemmas.Option.{none-some}
 use Rattle.k42_kinds.specs.declared.operation.KindName.{KindName}
-use Rattle.k42_kinds.specs.declared.operation.KindName.TheVariants.{Counter, Directory, Pages}
-use Rattle.k42_kinds.specs.declared.operation.LayoutName.{LayoutName}
-use Rattle.k42_kinds.specs.declared.entry.Act.{Act}
-use Rattle.k42_kinds.specs.declared.entry.Act.TheVariants as acts
-use Rattle.k42_kinds.specs.Operations.{same_kind}
-use Rattle.script_text.specs.Language.{act_of, with_item, with_object, with_worker, with_last_item, with_call, with_request, with_form}
+use Rattle.script_text.specs.Language.{with_item, with_object, with_worker, with_last_item}
 use Rattle.script_text.specs.Lawful.{kinds_of, call_lines}
-use Rattle.script_text.specs.Offences.{call_limit, call_count, object_names, worker_names, is_among, place_among, is_open_behind, is_last_open, is_in_block, kind_asked, is_swap, differs, kind_of_named, wants_procs, is_unknown, declares_again, asks_other_kind, is_too_many, breaks_block}
-use Rattle.script_text.specs.Sound.{BlocksHoldCalls, IsActOn, IsCall, IsSoundLine, IsSoundWorker, IsFreeName, HasDistinctNames, IsSound}
-use Rattle.script_text.specs.declared.form.Form.{Form}
-use Rattle.script_text.specs.declared.form.Form.TheVariants as forms
-use Rattle.script_text.specs.declared.form.Request.{Request}
-use Rattle.script_text.specs.declared.form.Request.TheVariants.{Swap, Destroy, Add, Get, Drain, Bind, Find, Unbind, Size, Write, Read, Dirty, Clean}
+use Rattle.script_text.specs.Offences.{call_limit, call_count, object_names, worker_names, is_open_behind, is_in_block}
+use Rattle.script_text.specs.Sound.{BlocksHoldCalls, IsSoundLine, IsFreeName, HasDistinctNames}
 use Rattle.script_text.specs.declared.script.CallLine.{CallLine}
 use Rattle.script_text.specs.declared.script.Item.{Item}
 use Rattle.script_text.specs.declared.script.Item.TheVariants.{Begin, End, Line}
@@ -30,7 +19,6 @@ use Rattle.script_text.specs.declared.script.ObjectLine.{ObjectLine}
 use Rattle.script_text.specs.declared.script.Script.{Script}
 use Rattle.script_text.specs.declared.script.WorkerHead.{WorkerHead}
 use Rattle.script_text.specs.declared.script.WorkerLines.{WorkerLines}
-use Rattle.script_text.proofs.SoundForms.{HasPage, IsFormed, IsProcs}
 use Rattle.script_text.proofs.SoundLists.{slice_get-append_left, distinct-push, AreRising, rising-push, blocks-push, call_lines-push, with_one, with_item-each, with_item-names, with_item-length, asked_by, with_item-count}
 
 -- The lines are sound for the script, their numbers rise, and each is below that of the next line.
