@@ -8,3 +8,8 @@ pub mod DecimalNumbers
 pub mod FirstOffence
 pub mod LawfulHistories
 mod AtTheBounds
+pub mod SoundForms
+pub mod SoundLists
+pub mod SoundSteps
+pub mod SoundRequests
+pub mod SoundScripts

@@ -1,0 +1,121 @@
+-- What stays true of names, lines and workers with one more behind them.
+use Rattle.std.proofs.Common.{◌≡◌, ℕ, zero, suc, ◌+◌, ◌<◌, ◌≤◌, Bool, true, false, ◌||◌, List, [], ◌∷◌, ◌++◌, length, ◌⊎◌, inl, inr, refl, sym, ap, subst, ◌∙◌, length-append, arith}
+use Rattle.std.specs.Prelude.{Some, All, map, slice_get, sum_by}
+use Rattle.std.specs.Str.{bytes_eq}
+use Rattle.std.specs.List.{list_any, AllByRecursion}
+use Rattle.std.proofs.lemmas.List.Elements.{All-get_or}
+use Rattle.std.proofs.lemmas.List.Sums.{sum_by-cons}
+use Rattle.std.proofs.lemmas.Option.{same_Some, none-some, slice_get_within, get_or_from_slice_get}
+use Rattle.std.proofs.lemmas.Slice.Eq.{bytes_eq-Decides}
+use Rattle.script_text.specs.Language.{with_item}
+use Rattle.script_text.specs.Lawful.{call_lines}
+use Rattle.script_text.specs.Offences.{is_open_behind, is_last_open}
+use Rattle.script_text.specs.Sound.{BlocksHoldCalls, AreDistinct}
+use Rattle.script_text.specs.declared.script.CallLine.{CallLine}
+use Rattle.script_text.specs.declared.script.Item.{Item}
+use Rattle.script_text.specs.declared.script.Item.TheVariants.{Begin, End, Line}
+use Rattle.script_text.specs.declared.script.WorkerLines.{WorkerLines}
+
+pub slice_get-append_left : {X : Type 0} (xs ys : List X) (i : ℕ) (x : X) → slice_get xs i ≡ Some x → slice_get (xs ++ ys) i ≡ Some x
+slice_get-append_left [] ys i x there = absurd (none-some x there)
+slice_get-append_left (y ∷ xs) ys zero x there = there
+slice_get-append_left (y ∷ xs) ys (suc i) x there = slice_get-append_left xs ys i x there
+
+-- what stands in a list with one more behind it stands in the list, or is the one more
+slice_get-push : {X : Type 0} (xs : List X) (y x : X) (i : ℕ) → slice_get (xs ++ y ∷ []) i ≡ Some x → ((i < length xs) × (slice_get xs i ≡ Some x)) ⊎ ((i ≡ length xs) × (x ≡ y))
+slice_get-push [] y x zero there = inr (refl, sym (same_Some y x there))
+slice_get-push [] y x (suc i) there = absurd (none-some x there)
+slice_get-push (z ∷ xs) y x zero there = inl (omega arith, there)
+slice_get-push (z ∷ xs) y x (suc i) there = elim (slice_get-push xs y x i there) [
+    | inl inside ↦ inl (omega (arith, inside.0), inside.1)
+    | inr last ↦ inr (ap suc last.0, last.1)
+  ]
+
+All-slice_get : {X : Type 0} (P : X → Type 0) (xs : List X) (i : ℕ) (x : X) → All P xs → slice_get xs i ≡ Some x → P x
+All-slice_get P xs i x all there = subst P (get_or_from_slice_get xs i x x there) (All-get_or P xs i x (slice_get_within xs i x there) all)
+
+or_false : (a b : Bool) → (a || b) ≡ false → (a ≡ false) × (b ≡ false)
+or_false true b neither = cc
+or_false false b neither = (refl, neither)
+
+-- a name that is not among the names is at none of their places
+absent : (names : List (List ℕ)) (name : List ℕ) (i : ℕ) → list_any (bytes_eq name) names ≡ false → slice_get names i ≡ Some name → ⊥
+absent [] name i none there = none-some name there
+absent (first ∷ names) name zero none there =
+    let equal : bytes_eq name first ≡ true = (bytes_eq-Decides name first).1 (sym (same_Some first name there)) in
+    let not_first : bytes_eq name first ≡ false = (or_false (bytes_eq name first) (list_any (bytes_eq name) names) none).0 in cc
+absent (first ∷ names) name (suc i) none there = absent names name i (or_false (bytes_eq name first) (list_any (bytes_eq name) names) none).1 there
+
+-- a name that is not among distinct names is distinct from them
+pub distinct-push : (names : List (List ℕ)) (name : List ℕ) → AreDistinct names → list_any (bytes_eq name) names ≡ false → AreDistinct (names ++ name ∷ [])
+distinct-push names name distinct none i j found at_i at_j = elim (slice_get-push names name found i at_i) [
+    | inl a ↦ elim (slice_get-push names name found j at_j) [
+      | inl b ↦ distinct i j found a.1 b.1
+      | inr b ↦ absurd (absent names name i none (a.1 ∙ ap Some b.1))
+    ]
+    | inr a ↦ elim (slice_get-push names name found j at_j) [
+      | inl b ↦ absurd (absent names name j none (b.1 ∙ ap Some a.1))
+      | inr b ↦ a.0 ∙ sym b.0
+    ]
+  ]
+
+-- the numbers of the lines rise
+abbrev pub AreRising : List CallLine → Type 0
+AreRising lines = (i j : ℕ) (earlier later : CallLine) → i < j → slice_get lines i ≡ Some earlier → slice_get lines j ≡ Some later → earlier.line < later.line
+
+-- lines that rise do so with a line of a higher number behind them
+pub rising-push : (lines : List CallLine) (line : CallLine) → AreRising lines → All (λ earlier. earlier.line < line.line) lines → AreRising (lines ++ line ∷ [])
+rising-push lines line rising below i j earlier later before at_i at_j = elim (slice_get-push lines line earlier i at_i) [
+    | inl a ↦ elim (slice_get-push lines line later j at_j) [
+      | inl b ↦ rising i j earlier later before a.1 b.1
+      | inr b ↦ subst (λ (last : CallLine). earlier.line < last.line) (sym b.1) (All-slice_get (λ (front : CallLine). front.line < line.line) lines i earlier below a.1)
+    ]
+    | inr a ↦ elim (slice_get-push lines line later j at_j) [
+      | inl b ↦ absurd (omega (arith, a.0, b.0, before))
+      | inr b ↦ absurd (omega (arith, a.0, b.0, before))
+    ]
+  ]
+
+-- items with a call, begin or end behind them that may stand there
+pub blocks-push : (in_block : Bool) (items : List Item) (item : Item) → BlocksHoldCalls in_block items → BlocksHoldCalls (is_open_behind in_block items) (item ∷ []) → BlocksHoldCalls in_block (items ++ item ∷ [])
+blocks-push in_block [] item held fits = fits
+blocks-push in_block (Begin ∷ items) item held fits = blocks-push true items item held fits
+blocks-push in_block (End ∷ items) item held fits = blocks-push false items item held fits
+blocks-push in_block (Line line ∷ items) item held fits = (held.0, blocks-push in_block items item held.1 fits)
+
+pub call_lines-push : (items : List Item) (item : Item) → call_lines (items ++ item ∷ []) ≡ call_lines items ++ call_lines (item ∷ [])
+call_lines-push [] item = refl
+call_lines-push (Begin ∷ items) item = call_lines-push items item
+call_lines-push (End ∷ items) item = call_lines-push items item
+call_lines-push (Line line ∷ items) item = ap (λ (lines : List CallLine). line ∷ lines) (call_lines-push items item)
+
+-- the worker with one more item
+abbrev pub with_one : WorkerLines → Item → WorkerLines
+with_one worker item = record worker { items = worker.items ++ item ∷ [] }
+
+-- what holds of each worker, and of the last one with one more item, holds of each where the last one has it
+pub with_item-each : (P Q : WorkerLines → Type 0) (item : Item) (workers : List WorkerLines) → ((worker : WorkerLines) → P worker → Q worker)
+    → ((worker : WorkerLines) → is_open_behind false worker.items ≡ is_last_open workers → P worker → Q (with_one worker item)) → AllByRecursion P workers → AllByRecursion Q (with_item item workers)
+with_item-each P Q item [] stays more each = tt
+with_item-each P Q item (worker ∷ []) stays more each = (more worker refl each.0, tt)
+with_item-each P Q item (worker ∷ other ∷ workers) stays more each = (stays worker each.0, with_item-each P Q item (other ∷ workers) stays more each.1)
+
+pub with_item-names : (item : Item) (workers : List WorkerLines) → map (λ worker. worker.name) (with_item item workers) ≡ map (λ worker. worker.name) workers
+with_item-names item [] = refl
+with_item-names item (worker ∷ []) = refl
+with_item-names item (worker ∷ other ∷ workers) = ap (λ (names : List (List ℕ)). worker.name ∷ names) (with_item-names item (other ∷ workers))
+
+pub with_item-length : (item : Item) (workers : List WorkerLines) → length (with_item item workers) ≡ length workers
+with_item-length item [] = refl
+with_item-length item (worker ∷ []) = refl
+with_item-length item (worker ∷ other ∷ workers) = ap suc (with_item-length item (other ∷ workers))
+
+-- how many lines of the worker ask something
+abbrev pub asked_by : WorkerLines → ℕ
+asked_by worker = length (call_lines worker.items)
+
+pub with_item-count : (item : Item) (workers : List WorkerLines) → sum_by asked_by (with_item item workers) ≤ sum_by asked_by workers + length (call_lines (item ∷ []))
+with_item-count item [] = omega arith
+with_item-count item (worker ∷ []) = omega (arith, ap length (call_lines-push worker.items item), length-append (call_lines worker.items) (call_lines (item ∷ [])))
+with_item-count item (worker ∷ other ∷ workers) =
+    omega (arith, with_item-count item (other ∷ workers), sum_by-cons asked_by worker (with_item item (other ∷ workers)), sum_by-cons asked_by worker (other ∷ workers))
