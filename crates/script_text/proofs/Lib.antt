@@ -2,14 +2,14 @@ pub mod LineCuts
 pub mod TokenCuts
 pub mod NumberSteps
 pub mod ReaderSteps
+pub mod SoundForms
+pub mod SoundLists
+pub mod SoundSteps
+pub mod SoundRequests
+pub mod SoundScripts
 pub mod Underway
 pub mod Truncated
 pub mod DecimalNumbers
 pub mod FirstOffence
 pub mod LawfulHistories
 mod AtTheBounds
-pub mod SoundForms
-pub mod SoundLists
-pub mod SoundSteps
-pub mod SoundRequests
-pub mod SoundScripts

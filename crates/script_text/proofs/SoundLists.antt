@@ -27,9 +27,9 @@ slice_get-push [] y x zero there = inr (refl, sym (same_Some y x there))
 slice_get-push [] y x (suc i) there = absurd (none-some x there)
 slice_get-push (z ∷ xs) y x zero there = inl (omega arith, there)
 slice_get-push (z ∷ xs) y x (suc i) there = elim (slice_get-push xs y x i there) [
-    | inl inside ↦ inl (omega (arith, inside.0), inside.1)
-    | inr last ↦ inr (ap suc last.0, last.1)
-  ]
+  | inl inside ↦ inl (omega (arith, inside.0), inside.1)
+  | inr last ↦ inr (ap suc last.0, last.1)
+]
 
 All-slice_get : {X : Type 0} (P : X → Type 0) (xs : List X) (i : ℕ) (x : X) → All P xs → slice_get xs i ≡ Some x → P x
 All-slice_get P xs i x all there = subst P (get_or_from_slice_get xs i x x there) (All-get_or P xs i x (slice_get_within xs i x there) all)
@@ -49,15 +49,15 @@ absent (first ∷ names) name (suc i) none there = absent names name i (or_false
 -- a name that is not among distinct names is distinct from them
 pub distinct-push : (names : List (List ℕ)) (name : List ℕ) → AreDistinct names → list_any (bytes_eq name) names ≡ false → AreDistinct (names ++ name ∷ [])
 distinct-push names name distinct none i j found at_i at_j = elim (slice_get-push names name found i at_i) [
-    | inl a ↦ elim (slice_get-push names name found j at_j) [
-      | inl b ↦ distinct i j found a.1 b.1
-      | inr b ↦ absurd (absent names name i none (a.1 ∙ ap Some b.1))
-    ]
-    | inr a ↦ elim (slice_get-push names name found j at_j) [
-      | inl b ↦ absurd (absent names name j none (b.1 ∙ ap Some a.1))
-      | inr b ↦ a.0 ∙ sym b.0
-    ]
+  | inl a ↦ elim (slice_get-push names name found j at_j) [
+    | inl b ↦ distinct i j found a.1 b.1
+    | inr b ↦ absurd (absent names name i none (a.1 ∙ ap Some b.1))
   ]
+  | inr a ↦ elim (slice_get-push names name found j at_j) [
+    | inl b ↦ absurd (absent names name j none (b.1 ∙ ap Some a.1))
+    | inr b ↦ a.0 ∙ sym b.0
+  ]
+]
 
 -- the numbers of the lines rise
 abbrev pub AreRising : List CallLine → Type 0
@@ -66,15 +66,15 @@ AreRising lines = (i j : ℕ) (earlier later : CallLine) → i < j → slice_get
 -- lines that rise do so with a line of a higher number behind them
 pub rising-push : (lines : List CallLine) (line : CallLine) → AreRising lines → All (λ earlier. earlier.line < line.line) lines → AreRising (lines ++ line ∷ [])
 rising-push lines line rising below i j earlier later before at_i at_j = elim (slice_get-push lines line earlier i at_i) [
-    | inl a ↦ elim (slice_get-push lines line later j at_j) [
-      | inl b ↦ rising i j earlier later before a.1 b.1
-      | inr b ↦ subst (λ (last : CallLine). earlier.line < last.line) (sym b.1) (All-slice_get (λ (front : CallLine). front.line < line.line) lines i earlier below a.1)
-    ]
-    | inr a ↦ elim (slice_get-push lines line later j at_j) [
-      | inl b ↦ absurd (omega (arith, a.0, b.0, before))
-      | inr b ↦ absurd (omega (arith, a.0, b.0, before))
-    ]
+  | inl a ↦ elim (slice_get-push lines line later j at_j) [
+    | inl b ↦ rising i j earlier later before a.1 b.1
+    | inr b ↦ subst (λ (last : CallLine). earlier.line < last.line) (sym b.1) (All-slice_get (λ (front : CallLine). front.line < line.line) lines i earlier below a.1)
   ]
+  | inr a ↦ elim (slice_get-push lines line later j at_j) [
+    | inl b ↦ absurd (omega (arith, a.0, b.0, before))
+    | inr b ↦ absurd (omega (arith, a.0, b.0, before))
+  ]
+]
 
 -- items with a call, begin or end behind them that may stand there
 pub blocks-push : (in_block : Bool) (items : List Item) (item : Item) → BlocksHoldCalls in_block items → BlocksHoldCalls (is_open_behind in_block items) (item ∷ []) → BlocksHoldCalls in_block (items ++ item ∷ [])

@@ -123,9 +123,9 @@ module _ (next : ℕ) (script : Script) (sound : IsSoundSoFar next script) (some
       let declared : slice_get (kinds_of script) place ≡ Some kind = slice_get-get_or (kinds_of script) place Counter within in
       let own : differs (kind_asked request) (Some kind) ≡ false = rw (found, declared) at passes.own_kind in
       keeps_item next script sound (Line (record { line = next; object = place; act = act })) some
-        (record { kind = kind; declared = declared; asked = act_of-asked kind act request spells page own }, refl)
-        (call_in_block (is_in_block script) (is_swap request) act (swap_or_call request act spells) passes.in_place, tt)
-        (grind (arith, nat_tests, passes.few))
+      (record { kind = kind; declared = declared; asked = act_of-asked kind act request spells page own }, refl)
+      (call_in_block (is_in_block script) (is_swap request) act (swap_or_call request act spells) passes.in_place, tt)
+      (grind (arith, nat_tests, passes.few))
 
 module _ (next : ℕ) (script : Script) (sound : IsSoundSoFar next script) where
   -- a line that is not refused

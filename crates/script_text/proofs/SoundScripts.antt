@@ -74,7 +74,7 @@ keeps_line before line sound none =
     let tests = first_of-none (offends_by before line) causes none in
     let longer : (1 + length before) + 1 ≡ 1 + length (before ++ line ∷ []) = omega (arith, length-append before (line ∷ [])) in
     let kept = keeps_said (1 + length before) (script_after before) sound tokens (says_nothing tokens) (form_of (script_after before).procs tokens) (form_of-formed (script_after before).procs tokens)
-      (form_of-procs (script_after before).procs tokens) tests.1.1 in
+    (form_of-procs (script_after before).procs tokens) tests.1.1 in
     rw (with_lines-push no_script 1 before line, ← longer) kept
 
 sound_worker : (next : ℕ) (script : Script) (workers : List WorkerLines) → AllByRecursion (HoldsWorker next script) workers → AllByRecursion (IsSoundWorker script) workers

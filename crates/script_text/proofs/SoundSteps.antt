@@ -79,7 +79,7 @@ module _ (next : ℕ) (script : Script) where
     sound = All-push (IsSoundLine script) lines line holds.sound may.0;
     rising = rising-push lines line holds.rising (All-weaker (λ (early : CallLine). early.line < next) (λ (early : CallLine). early.line < line.line) (λ early before. omega (arith, before, may.1)) lines holds.earlier);
     earlier = All-push (λ (early : CallLine). early.line < next + 1) lines line
-      (All-weaker (λ (early : CallLine). early.line < next) (λ (early : CallLine). early.line < next + 1) (λ early before. omega (arith, before)) lines holds.earlier) (omega (arith, may.1));
+        (All-weaker (λ (early : CallLine). early.line < next) (λ (early : CallLine). early.line < next + 1) (λ early before. omega (arith, before)) lines holds.earlier) (omega (arith, may.1));
   }
 
   worker_more : (worker : WorkerLines) (item : Item) → IsNextItem next script item → BlocksHoldCalls (is_open_behind false worker.items) (item ∷ []) → HoldsWorker next script worker → HoldsWorker (next + 1) script (with_one worker item)
@@ -147,12 +147,12 @@ module _ (next : ℕ) (script : Script) (sound : IsSoundSoFar next script) where
         objects = sound.objects;
         callers = omega (arith, few, length-append script.workers (idle ∷ []));
         workers = workers_push (HoldsWorker (next + 1) (with_worker script head)) script.workers idle
-          (workers_kept script (with_worker script head) (record { procs = refl; kinds = λ place kind e. e }) next (next + 1) (omega arith) script.workers sound.workers)
-          (record {
-            processor = placed;
-            lines = record { sound = All-nil (IsSoundLine (with_worker script head)); rising = λ i j earlier later before at_i at_j. absurd (none-some earlier at_i); earlier = All-nil (λ (line : CallLine). line.line < next + 1) };
-            blocks = tt;
-          });
+            (workers_kept script (with_worker script head) (record { procs = refl; kinds = λ place kind e. e }) next (next + 1) (omega arith) script.workers sound.workers)
+            (record {
+              processor = placed;
+              lines = record { sound = All-nil (IsSoundLine (with_worker script head)); rising = λ i j earlier later before at_i at_j. absurd (none-some earlier at_i); earlier = All-nil (λ (line : CallLine). line.line < next + 1) };
+              blocks = tt;
+            });
         names = record {
           object_names = sound.names.object_names;
           worker_names = rw (map-append (λ (worker : WorkerLines). worker.name) script.workers (idle ∷ [])) (distinct-push (worker_names script) head.name sound.names.worker_names new);
@@ -172,15 +172,15 @@ module _ (next : ℕ) (script : Script) (sound : IsSoundSoFar next script) where
         objects = sound.objects;
         callers = rw (with_item-length item script.workers) sound.callers;
         workers = with_item-each (HoldsWorker next script) (HoldsWorker (next + 1) new) item script.workers (worker_kept script new kept next (next + 1) (omega arith))
-          (λ worker last holds. worker_kept script new kept (next + 1) (next + 1) (omega arith) (with_one worker item)
+            (λ worker last holds. worker_kept script new kept (next + 1) (next + 1) (omega arith) (with_one worker item)
             (worker_more next script worker item may (subst (λ (in_block : Bool). BlocksHoldCalls in_block (item ∷ [])) (sym last) fits) holds))
-          sound.workers;
+            sound.workers;
         names = record {
           object_names = sound.names.object_names;
           worker_names = rw (with_item-names item script.workers) sound.names.worker_names;
           free_objects = sound.names.free_objects;
           free_workers = All-from_recursion (λ (worker : WorkerLines). IsFreeName worker.name) (with_item item script.workers)
-            (with_item-each (λ (worker : WorkerLines). IsFreeName worker.name) (λ (worker : WorkerLines). IsFreeName worker.name) item script.workers (λ worker free. free) (λ worker last free. free)
+              (with_item-each (λ (worker : WorkerLines). IsFreeName worker.name) (λ (worker : WorkerLines). IsFreeName worker.name) item script.workers (λ worker free. free) (λ worker last free. free)
               (recursion_from_All (λ (worker : WorkerLines). IsFreeName worker.name) script.workers sound.names.free_workers));
         };
         few = omega (arith, few, with_item-count item script.workers);

@@ -8,7 +8,7 @@ use Rattle.script_text.specs.Lines.{lines_of, text_of, is_printable_text, byte_c
 use Rattle.script_text.specs.Tokens.{tokens_of, says_nothing}
 use Rattle.script_text.specs.Cuts.{CutsLine}
 use Rattle.script_text.specs.Language.{with_line, with_lines, no_script, script_after, refuses, first_of, causes_of_form, cause_of, byte_limit, fault_at, read_on, parsed}
-use Rattle.script_text.specs.Reading.{IsKept, Shows, script_so_far, refusal_of}
+use Rattle.script_text.specs.Reading.{IsKept, Shows, Takes, script_so_far, refusal_of}
 use Rattle.script_text.specs.declared.fault.ScriptCause.{ScriptCause}
 use Rattle.script_text.specs.declared.fault.ScriptCause.TheVariants.{ProcsExpected, TooLong, BadByte}
 use Rattle.script_text.specs.declared.script.Script.{Script}
@@ -51,6 +51,16 @@ pub cause_of-short : (before : List (List ℕ)) (line : List ℕ) → holds_byte
 cause_of-short before line short =
     rw short (unless_skipped (is_printable_text (text_of line)) (says_nothing (tokens_of (text_of line))) (refuses (script_after before) (tokens_of (text_of line))))
 
+-- the reader has taken the line
+pub taken : (script : Script) (number : ℕ) (text : List ℕ) (answer : Option ScriptCause) (new : Reading) → Takes script number text (Ok answer) new → answer ≡ None → (refusal_of script text ≡ None) × Shows (with_line script number text) new
+taken script number text None new takes none = takes
+taken script number text (Some cause) new takes none = cc
+
+-- or has refused it
+pub refused : (script : Script) (number : ℕ) (text : List ℕ) (answer : Option ScriptCause) (cause : ScriptCause) (new : Reading) → Takes script number text (Ok answer) new → answer ≡ Some cause → refusal_of script text ≡ Some cause
+refused script number text None cause new takes some = cc
+refused script number text (Some given) cause new takes some = takes ∙ some
+
 module _ (bytes rest text after : List ℕ) (line : ℕ) (reading : Reading) (u : IsUnderway bytes rest line reading) (cut : CutsLine rest text after) where
   lengths : byte_count u.before + length cut.line + length after ≡ length bytes
   lengths = omega (arith, u.whole, length-append cut.line after, ap length cut.whole)
@@ -67,7 +77,7 @@ module _ (bytes rest text after : List ℕ) (line : ℕ) (reading : Reading) (u 
   decided : length bytes - length after < byte_limit → cause_of u.before cut.line ≡ refusal_of (script_so_far reading) text
   decided short =
       let holds : holds_byte byte_limit u.before cut.line ≡ false = grind (arith, nat_tests, short, lengths) in
-      cause_of-short u.before cut.line holds ∙ rw (cut.says, u.shows.same) refl
+      cause_of-short u.before cut.line holds ∙ ap (λ (script : Script). refusal_of script (text_of cut.line)) (sym u.shows.same) ∙ ap (refusal_of (script_so_far reading)) cut.says
 
   -- the line is refused
   pub refused_for_form : (cause : ScriptCause) → length bytes - length after < byte_limit → refusal_of (script_so_far reading) text ≡ Some cause → parsed bytes ≡ Err (fault_at (line + 1) cause)
@@ -91,7 +101,8 @@ module _ (bytes rest text after : List ℕ) (line : ℕ) (reading : Reading) (u 
       same_here : with_line (script_so_far reading) (line + 1) text ≡ script_after (u.before ++ cut.line ∷ [])
       same_here =
           let next : 1 + length u.before ≡ line + 1 = omega (arith, u.counted) in
-          rw (u.shows.same, sym cut.says, sym next) (sym (with_lines-push no_script 1 u.before cut.line))
+          ap (λ (script : Script). with_line script (line + 1) text) u.shows.same ∙ ap (with_line (script_after u.before) (line + 1)) (sym cut.says)
+          ∙ ap (λ (number : ℕ). with_line (script_after u.before) number (text_of cut.line)) (sym next) ∙ sym (with_lines-push no_script 1 u.before cut.line)
 
   -- nothing stands behind the lines that were read
   pub ends_here : length rest ≡ 0 → parsed bytes ≡ read_on u.before []

@@ -10,6 +10,7 @@ use k42_kinds::{KindName, LayoutName, Name, Text};
 
 /// How many processors a script may have, and how many pages an object has.
 const PROCS: u64 = 8;
+
 const LAST_PAGE: u64 = 1023;
 
 /// Whether the word is no name of an object or a worker.
