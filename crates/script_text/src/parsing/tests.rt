@@ -1,6 +1,6 @@
 use super::*;
 use crate::script::{CallLine, Item, ObjectLine};
-use k42_kinds::{Act, KindName, LayoutName, Name, Op};
+use k42_kinds::{Act, KindName, LayoutName, Name, Op, Text};
 use std::alloc::AllocError;
 use std::process::Abort;
 use std::test::Fail;
@@ -33,20 +33,19 @@ fn end_of(alloc: Global, bytes: &[u8]) -> Option<ParseEnd> {
     }
 }
 
-/// The refusal of this line.
-fn refusal(line: u32) -> ParseEnd {
-    ParseEnd::Fault(ScriptFault {
-        line,
-        cause: ScriptCause::NotYet,
-    })
+/// The refusal of this line for this cause.
+fn refusal(line: u32, cause: ScriptCause) -> ParseEnd {
+    ParseEnd::Fault(ScriptFault { line, cause })
 }
 
+/// A line that asks this of the object of this place.
+fn asks(line: u32, object: u32, act: Act) -> Item {
+    Item::Line(CallLine { line, object, act })
+}
+
+/// A call of the first object.
 fn call(line: u32, op: Op) -> Item {
-    Item::Line(CallLine {
-        line,
-        object: 0,
-        act: Act::Call(op),
-    })
+    asks(line, 0, Act::Call(op))
 }
 
 #[test]
@@ -164,7 +163,7 @@ fn only_the_bytes_from_32_to_126_stand_in_a_script(rt: HostRuntime) -> Result<()
             let end = if matches!(byte, 32..=126) {
                 None
             } else {
-                Some(refusal(2))
+                Some(refusal(2, ScriptCause::BadByte))
             };
             assert_eq!(rt; end_of(rt.alloc(), &text), end, "{byte}");
         }
@@ -173,7 +172,7 @@ fn only_the_bytes_from_32_to_126_stand_in_a_script(rt: HostRuntime) -> Result<()
 }
 
 #[test]
-fn without_a_line_that_says_something_the_last_line_is_refused(rt: HostRuntime) {
+fn a_script_without_processors_is_refused_at_its_last_line(rt: HostRuntime) {
     let cases: [(&[u8], u32); 6] = [
         (b"", 1),
         (b"\n", 1),
@@ -183,96 +182,194 @@ fn without_a_line_that_says_something_the_last_line_is_refused(rt: HostRuntime) 
         (b"# a\n# b\n  # c", 3),
     ];
     for (text, line) in cases {
-        assert_eq!(rt; end_of(rt.alloc(), text), Some(refusal(line)), "{text:?}");
-    }
-    assert_eq!(rt; ScriptCause::NotYet.word(), "NotYet");
-}
-
-#[test]
-fn the_first_line_that_offends_is_refused(rt: HostRuntime) {
-    let cases: [(&[u8], u32); 30] = [
-        (b"\xEF\xBB\xBFprocs 1", 1),
-        (b"procs", 1),
-        (b"procs 0", 1),
-        (b"procs 9", 1),
-        (b"procs 08", 1),
-        (b"procs +1", 1),
-        (b"procs 18446744073709551617", 1),
-        (b"procs 1 1", 1),
-        (b"procs 1 # one", 1),
-        (b"Procs 1", 1),
-        (b"procs\t1", 1),
-        (b"procs 1\r\n", 1),
-        (b"object hits counter shared\nprocs 1", 1),
-        (b"procs 1\nprocs 1", 2),
-        (b"procs 1\n# a tab\tin a remark\n", 2),
-        (b"procs 1\n\x7F", 2),
-        (b"procs 1\n\n# \xC3\xA9\n", 3),
-        (b"procs 1\nworker a 0", 2),
-        (b"procs 1\nobject hits counter", 2),
-        (b"procs 1\nobject hits counter spread", 2),
-        (b"procs 1\nobject d directory shared", 2),
-        (b"procs 1\nobject hits counter shared now", 2),
-        (b"procs 1\nobject Hits counter shared", 2),
-        (b"procs 1\nobject abcdefghijklmnopq counter shared", 2),
-        (
-            b"procs 1\nobject hits counter shared\nobject more counter shared",
-            3,
-        ),
-        (b"procs 1\nobject hits counter shared\nhits get", 3),
-        (b"procs 1\nobject hits counter shared\nworker a 1", 3),
-        (b"procs 1\nobject hits counter shared\nworker a", 3),
-        (b"procs 1\nobject hits counter shared\nworker 9a 0", 3),
-        (
-            b"procs 1\nobject hits counter shared\n\nworker a 00\nprocs 9",
-            4,
-        ),
-    ];
-    for (text, line) in cases {
-        assert_eq!(rt; end_of(rt.alloc(), text), Some(refusal(line)), "{text:?}");
+        let end = refusal(line, ScriptCause::ProcsExpected);
+        assert_eq!(rt; end_of(rt.alloc(), text), Some(end), "{text:?}");
     }
 }
 
-#[test]
-fn a_line_that_is_no_call_of_the_counter_is_refused(rt: HostRuntime) -> Result<(), Fail> {
-    let cases: [(&[u8], u32); 18] = [
-        (b"hits add 4294967296", 4),
-        (b"hits add 18446744073709551616", 4),
-        (b"hits add 00", 4),
-        (b"hits add 05", 4),
-        (b"hits add", 4),
-        (b"hits add -1", 4),
-        (b"hits add 1 2", 4),
-        (b"hits get 1", 4),
-        (b"hits size", 4),
-        (b"hits", 4),
-        (b"hit get", 4),
-        (b"other get", 4),
-        (b"a get", 4),
-        (b"swap hits spread", 4),
-        (b"begin\nhits get\nend", 4),
-        (b"\n\nworker b 0", 6),
-        (b"hits get\nhits\tget\nhits frob", 5),
-        (b"hits get\n# hits frob\nhits frob\nhits get", 6),
-    ];
-    for (calls, line) in cases {
-        let text = repeated(rt.alloc(), HEAD, calls, 1, b"")?;
-        assert_eq!(rt; end_of(rt.alloc(), &text), Some(refusal(line)), "{calls:?}");
+/// Compares the refusals of these lines behind the head.
+fn compare_refusals(
+    rt: &impl Abort,
+    alloc: Global,
+    head: &[u8],
+    cases: &[(&[u8], u32, ScriptCause)],
+) -> Result<(), Fail> {
+    for (lines, line, cause) in cases {
+        let text = repeated(alloc, head, lines, 1, b"")?;
+        let end = refusal(*line, *cause);
+        assert_eq!(rt; end_of(alloc, &text), Some(end), "{lines:?}");
     }
     Ok(())
 }
 
 #[test]
-fn no_reserved_word_is_a_name(rt: HostRuntime) -> Result<(), Fail> {
+fn the_first_line_must_give_1_to_8_processors(rt: HostRuntime) -> Result<(), Fail> {
+    let cases: [(&[u8], u32, ScriptCause); 16] = [
+        (b"\xEF\xBB\xBFprocs 1", 1, ScriptCause::BadByte),
+        (b"proc", 1, ScriptCause::ProcsExpected),
+        (b"procs", 1, ScriptCause::UnknownWord),
+        (b"procs ", 1, ScriptCause::UnknownWord),
+        (b"procs 0", 1, ScriptCause::BadNumber),
+        (b"procs 9", 1, ScriptCause::BadNumber),
+        (b"procs 08", 1, ScriptCause::BadNumber),
+        (b"procs +1", 1, ScriptCause::BadNumber),
+        (b"procs 18446744073709551617", 1, ScriptCause::BadNumber),
+        (b"procs 1 1", 1, ScriptCause::UnknownWord),
+        (b"Procs 1", 1, ScriptCause::ProcsExpected),
+        (b"procs\t1", 1, ScriptCause::BadByte),
+        (b"procs 1\r\n", 1, ScriptCause::BadByte),
+        (b"hits get now or never", 1, ScriptCause::ProcsExpected),
+        (
+            b"\nobject hits counter shared\nprocs 1",
+            2,
+            ScriptCause::ProcsExpected,
+        ),
+        (b"procs 1\nprocs 1", 2, ScriptCause::UnknownWord),
+    ];
+    compare_refusals(&rt, rt.alloc(), b"", &cases)
+}
+
+#[test]
+fn each_cause_is_told_at_its_line(rt: HostRuntime) -> Result<(), Fail> {
+    let cases: [(&[u8], u32, ScriptCause); 37] = [
+        (b"hits frob", 4, ScriptCause::UnknownWord),
+        (b"hits", 4, ScriptCause::UnknownWord),
+        (b"hits add", 4, ScriptCause::UnknownWord),
+        (b"hits add 1 2", 4, ScriptCause::UnknownWord),
+        (b"hits get 1", 4, ScriptCause::UnknownWord),
+        (b"begin now", 4, ScriptCause::UnknownWord),
+        (b"swap hits", 4, ScriptCause::UnknownWord),
+        (b"swap hits round", 4, ScriptCause::UnknownWord),
+        (b"destroy", 4, ScriptCause::UnknownWord),
+        (b"watch hits", 4, ScriptCause::UnknownWord),
+        (b"worker b", 4, ScriptCause::UnknownWord),
+        (b"object d list shared", 4, ScriptCause::UnknownWord),
+        (b"object d counter wide", 4, ScriptCause::UnknownWord),
+        (b"hits add 4294967296", 4, ScriptCause::BadNumber),
+        (b"hits add 18446744073709551616", 4, ScriptCause::BadNumber),
+        (b"hits add 05", 4, ScriptCause::BadNumber),
+        (b"hits add -1", 4, ScriptCause::BadNumber),
+        (b"hits read 1024", 4, ScriptCause::BadNumber),
+        (
+            b"hits bind x 18446744073709551616",
+            4,
+            ScriptCause::BadNumber,
+        ),
+        (b"worker b 1", 4, ScriptCause::BadNumber),
+        (b"worker B 1", 4, ScriptCause::BadNumber),
+        (b"worker B 0", 4, ScriptCause::BadName),
+        (b"object Hits counter shared", 4, ScriptCause::BadName),
+        (b"other find X", 4, ScriptCause::BadName),
+        (
+            b"p write 0 abcdefghijklmnopqrstuvwxyz0123456",
+            4,
+            ScriptCause::BadName,
+        ),
+        (b"object hits pages spread", 4, ScriptCause::NameTwice),
+        (b"worker a 0", 4, ScriptCause::NameTwice),
+        (b"other get", 4, ScriptCause::UnknownObject),
+        (b"watch get", 4, ScriptCause::UnknownObject),
+        (b"Hits get", 4, ScriptCause::UnknownObject),
+        (b"swap other shared", 4, ScriptCause::UnknownObject),
+        (b"hits size", 4, ScriptCause::WrongKind),
+        (b"begin\nswap hits spread", 5, ScriptCause::BlockFault),
+        (b"begin\nbegin", 5, ScriptCause::BlockFault),
+        (b"begin\nworker b 0", 5, ScriptCause::BlockFault),
+        (b"end", 4, ScriptCause::BlockFault),
+        (b"begin\nhits get", 5, ScriptCause::BlockFault),
+    ];
+    compare_refusals(&rt, rt.alloc(), HEAD, &cases)
+}
+
+#[test]
+fn a_line_that_asks_something_stands_behind_a_worker_line(rt: HostRuntime) -> Result<(), Fail> {
+    let cases: [(&[u8], u32, ScriptCause); 7] = [
+        (b"hits get", 3, ScriptCause::WorkerExpected),
+        (b"begin", 3, ScriptCause::WorkerExpected),
+        (b"end", 3, ScriptCause::WorkerExpected),
+        (b"swap hits spread", 3, ScriptCause::WorkerExpected),
+        (b"destroy hits", 3, ScriptCause::WorkerExpected),
+        (b"hits size", 3, ScriptCause::WrongKind),
+        (b"destroy other", 3, ScriptCause::UnknownObject),
+    ];
+    compare_refusals(
+        &rt,
+        rt.alloc(),
+        b"procs 1\nobject hits counter shared\n",
+        &cases,
+    )
+}
+
+#[test]
+fn no_reserved_word_is_a_name_but_each_is_a_key(rt: HostRuntime) -> Result<(), Fail> {
     let words: [&[u8]; 9] = [
         b"procs", b"object", b"worker", b"begin", b"end", b"swap", b"destroy", b"watch", b"unwatch",
     ];
     for word in words {
         let object = repeated(rt.alloc(), b"procs 1\nobject ", word, 1, b" counter shared")?;
-        assert_eq!(rt; end_of(rt.alloc(), &object), Some(refusal(2)), "{word:?}");
-        let head = b"procs 1\nobject hits counter shared\nworker ";
-        let worker = repeated(rt.alloc(), head, word, 1, b" 0")?;
-        assert_eq!(rt; end_of(rt.alloc(), &worker), Some(refusal(3)), "{word:?}");
+        let end = Some(refusal(2, ScriptCause::BadName));
+        assert_eq!(rt; end_of(rt.alloc(), &object), end, "{word:?}");
+        let worker = repeated(rt.alloc(), b"procs 1\nworker ", word, 1, b" 0")?;
+        assert_eq!(rt; end_of(rt.alloc(), &worker), end, "{word:?}");
+        let head = b"procs 1\nobject d directory shared\nworker a 0\nd find ";
+        let key = repeated(rt.alloc(), head, word, 1, b"")?;
+        assert_eq!(rt; end_of(rt.alloc(), &key), None, "{word:?}");
+    }
+    Ok(())
+}
+
+/// Lines that declare so many names, each a letter, behind a line of processors.
+fn declared(alloc: Global, before: &[u8], behind: &[u8], times: u8) -> Result<Vec<u8>, AllocError> {
+    let mut text = Vec::new(alloc);
+    text.extend_from_slice(b"procs 1\n")?;
+    for place in 0..times.min(26) {
+        text.extend_from_slice(before)?;
+        text.push(b'a' + place)?;
+        text.extend_from_slice(behind)?;
+    }
+    Ok(text)
+}
+
+#[test]
+fn there_are_at_most_16_objects_and_16_workers(rt: HostRuntime) -> Result<(), Fail> {
+    let lines: [(&[u8], &[u8]); 2] = [(b"object ", b" counter shared\n"), (b"worker ", b" 0\n")];
+    for (before, behind) in lines {
+        let full = declared(rt.alloc(), before, behind, 16)?;
+        assert_eq!(rt; end_of(rt.alloc(), &full), None);
+        let over = declared(rt.alloc(), before, behind, 17)?;
+        let end = Some(refusal(18, ScriptCause::TooMany));
+        assert_eq!(rt; end_of(rt.alloc(), &over), end);
+    }
+    Ok(())
+}
+
+#[test]
+fn each_worker_has_the_lines_behind_its_own(rt: HostRuntime) -> Result<(), Fail> {
+    let text = b"procs 2\nobject hits counter spread\nworker a 0\nbegin\nhits add 5\nend\n\
+        object d directory shared\nswap hits shared\nworker hits 1\nd bind end 7\n\
+        destroy d\nobject p pages shared\np write 1023 !~\n";
+    let script = parse(rt.alloc(), text)?;
+    let end = Name::of(b"end").ok_or("no name")?;
+    let written = Text::of(b"!~").ok_or("no text")?;
+    let first = [
+        Item::Begin,
+        call(5, Op::Add(5)),
+        Item::End,
+        asks(8, 0, Act::Swap(LayoutName::Shared)),
+    ];
+    let second = [
+        asks(10, 1, Act::Call(Op::Bind(end, 7))),
+        asks(11, 1, Act::Destroy),
+        asks(13, 2, Act::Call(Op::Write(1023, written))),
+    ];
+    let workers = script.workers.as_slice();
+    assert_eq!(rt; workers.len(), 2);
+    assert_eq!(rt; workers[0].items.as_slice(), first.as_slice());
+    assert_eq!(rt; workers[1].items.as_slice(), second.as_slice());
+    assert_eq!(rt; workers[1].proc, 1);
+    let kinds = [KindName::Counter, KindName::Directory, KindName::Pages];
+    for (object, kind) in script.objects.as_slice().iter().zip(kinds) {
+        assert_eq!(rt; object.kind, kind);
     }
     Ok(())
 }
@@ -287,13 +384,16 @@ fn a_script_has_at_most_65536_calls(rt: HostRuntime) -> Result<(), Fail> {
     assert_eq!(rt; items.as_slice()[65_534], call(65_538, Op::Drain));
     assert_eq!(rt; items.as_slice()[65_535], call(65_539, Op::Add(7)));
     let over = repeated(rt.alloc(), HEAD, b"hits get\n", 65_537, b"")?;
-    assert_eq!(rt; end_of(rt.alloc(), &over), Some(refusal(65_540)));
+    assert_eq!(rt;
+        end_of(rt.alloc(), &over),
+        Some(refusal(65_540, ScriptCause::TooMany))
+    );
     Ok(())
 }
 
 #[test]
 fn a_script_has_at_most_1048576_bytes(rt: HostRuntime) -> Result<(), Fail> {
-    let cases: [(&[u8], &[u8], usize, &[u8], Option<u32>); 10] = [
+    let cases: [(&[u8], &[u8], usize, &[u8], Option<u32>); 9] = [
         (b"procs 1\n", b" ", 1_048_568, b"", None),
         (b"procs 1\n", b" ", 1_048_569, b"", Some(2)),
         (b"procs 1\n#", b"x", 1_048_567, b"", None),
@@ -303,13 +403,12 @@ fn a_script_has_at_most_1048576_bytes(rt: HostRuntime) -> Result<(), Fail> {
         (b"procs 1\n", b" ", 1_048_567, b"\n\n", Some(3)),
         (b"procs 1\n", b"\n", 1_048_568, b"", None),
         (b"procs 1\n", b"\n", 1_048_569, b"", Some(1_048_570)),
-        (b"procs 1\nobject\n", b"\n", 1_048_576, b"", Some(2)),
     ];
     for (before, piece, times, behind, line) in cases {
         let text = repeated(rt.alloc(), before, piece, times, behind)?;
         assert_eq!(rt;
             end_of(rt.alloc(), &text),
-            line.map(refusal),
+            line.map(|line| refusal(line, ScriptCause::TooLong)),
             "{times} of {piece:?}"
         );
     }
