@@ -14,7 +14,7 @@ use Rattle.k42_kinds.specs.declared.entry.Act.TheVariants as acts
 use Rattle.k42_kinds.specs.Operations.{same_kind, kind_of_op}
 use Rattle.script_text.specs.Language.{act_of, with_call, with_form}
 use Rattle.script_text.specs.Lawful.{kinds_of}
-use Rattle.script_text.specs.Offences.{object_names, place_among, is_in_block, kind_asked, is_swap, differs, is_unknown, declares_again, asks_other_kind, is_too_many, breaks_block}
+use Rattle.script_text.specs.Offences.{object_names, place_among, is_in_block, kind_asked, is_swap, is_another_kind, is_unknown, declares_again, asks_other_kind, is_too_many, breaks_block}
 use Rattle.script_text.specs.Sound.{NamesPage, IsActOn, IsCall}
 use Rattle.script_text.specs.declared.form.Form.{Form}
 use Rattle.script_text.specs.declared.form.Form.TheVariants as forms
@@ -43,7 +43,7 @@ module _ (kind : KindName) (act : Act) where
   called : (op : Op) → Some (acts.Call op) ≡ Some act → not (same_kind (kind_of_op op) kind) ≡ false → NamesPage op → IsActOn kind act
   called op spells same page = subst (IsActOn kind) (same_Some (acts.Call op) act spells) (same_when_not_different (kind_of_op op) kind same, page)
 
-  act_of-asked : (request : Request) → act_of request ≡ Some act → HasPage request → differs (kind_asked request) (Some kind) ≡ false → IsActOn kind act
+  act_of-asked : (request : Request) → act_of request ≡ Some act → HasPage request → is_another_kind (kind_asked request) (Some kind) ≡ false → IsActOn kind act
   act_of-asked (Swap layout) spells page same = subst (IsActOn kind) (same_Some (acts.Swap layout) act spells) tt
   act_of-asked Destroy spells page same = subst (IsActOn kind) (same_Some acts.Destroy act spells) tt
   act_of-asked (Add None) spells page same = absurd (none-some act spells)
@@ -121,7 +121,7 @@ module _ (next : ℕ) (script : Script) (sound : IsSoundSoFar next script) (some
       let within : place < length (kinds_of script) = omega (arith, place_among-lt (object_names script) object place found, length-map script.objects (λ (line : ObjectLine). line.name), length-map script.objects (λ (line : ObjectLine). line.kind)) in
       let kind : KindName = get_or (kinds_of script) place Counter in
       let declared : slice_get (kinds_of script) place ≡ Some kind = slice_get-get_or (kinds_of script) place Counter within in
-      let own : differs (kind_asked request) (Some kind) ≡ false = rw (found, declared) at passes.own_kind in
+      let own : is_another_kind (kind_asked request) (Some kind) ≡ false = rw (found, declared) at passes.own_kind in
       keeps_item next script sound (Line (record { line = next; object = place; act = act })) some
       (record { kind = kind; declared = declared; asked = act_of-asked kind act request spells page own }, refl)
       (call_in_block (is_in_block script) (is_swap request) act (swap_or_call request act spells) passes.in_place, tt)

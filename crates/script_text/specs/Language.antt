@@ -6,7 +6,7 @@ use Rattle.k42_kinds.specs.declared.entry.Act.TheVariants as acts
 use Rattle.script_text.specs.Lines.{lines_of, text_of, is_printable_text, holds_byte}
 use Rattle.script_text.specs.Tokens.{tokens_of, says_nothing}
 use Rattle.script_text.specs.Forms.{form_of}
-use Rattle.script_text.specs.Offences.{object_names, place_among, is_in_block, wants_procs, is_unknown, has_bad_number, has_bad_name, declares_again, asks_nobody, asks_other_kind, wants_worker, is_too_many, breaks_block}
+use Rattle.script_text.specs.Offences.{object_names, place_among, is_in_block, wants_procs, is_unknown, has_bad_number, has_bad_name, declares_again, asks_unknown_object, asks_other_kind, wants_worker, is_too_many, breaks_block}
 use Rattle.script_text.specs.declared.form.Form.{Form}
 use Rattle.script_text.specs.declared.form.Form.TheVariants as forms
 use Rattle.script_text.specs.declared.form.Request.{Request}
@@ -21,7 +21,7 @@ use Rattle.script_text.specs.declared.fault.ScriptCause.{ScriptCause}
 use Rattle.script_text.specs.declared.fault.ScriptCause.TheVariants.{ProcsExpected, UnknownWord, BadNumber, BadName, NameTwice, UnknownObject, WrongKind, WorkerExpected, TooMany, BlockFault, TooLong, BadByte}
 use Rattle.script_text.specs.declared.fault.ScriptFault.{ScriptFault}
 
--- the first byte that a script may not have, counted from 1
+-- the number of the first byte that is one too many for a script, counted from 1
 abbrev pub byte_limit : ℕ
 byte_limit = 1048577
 
@@ -110,23 +110,23 @@ no_script = record { procs = 0; objects = []; workers = [] }
 abbrev pub script_after : List (List ℕ) → Script
 script_after lines = with_lines no_script 1 lines
 
--- the form, if there is one, fails this test
-abbrev pub fails : (Form → Bool) → Option Form → Bool
-fails test (Some form) = test form
-fails test None = false
+-- there is a form, and this is true of it
+abbrev pub has_form_that : (Form → Bool) → Option Form → Bool
+has_form_that test (Some form) = test form
+has_form_that test None = false
 
 -- whether a line with these tokens is refused for this cause, behind the lines of this script
 abbrev pub is_refused_for : Script → List (List ℕ) → Option Form → ScriptCause → Bool
 is_refused_for script tokens form ProcsExpected = wants_procs script tokens
 is_refused_for script tokens form UnknownWord = is_unknown script form
-is_refused_for script tokens form BadNumber = fails has_bad_number form
-is_refused_for script tokens form BadName = fails has_bad_name form
-is_refused_for script tokens form NameTwice = fails (declares_again script) form
-is_refused_for script tokens form UnknownObject = fails (asks_nobody script) form
-is_refused_for script tokens form WrongKind = fails (asks_other_kind script) form
-is_refused_for script tokens form WorkerExpected = fails (wants_worker script) form
-is_refused_for script tokens form TooMany = fails (is_too_many script) form
-is_refused_for script tokens form BlockFault = fails (breaks_block script) form
+is_refused_for script tokens form BadNumber = has_form_that has_bad_number form
+is_refused_for script tokens form BadName = has_form_that has_bad_name form
+is_refused_for script tokens form NameTwice = has_form_that (declares_again script) form
+is_refused_for script tokens form UnknownObject = has_form_that (asks_unknown_object script) form
+is_refused_for script tokens form WrongKind = has_form_that (asks_other_kind script) form
+is_refused_for script tokens form WorkerExpected = has_form_that (wants_worker script) form
+is_refused_for script tokens form TooMany = has_form_that (is_too_many script) form
+is_refused_for script tokens form BlockFault = has_form_that (breaks_block script) form
 is_refused_for script tokens form TooLong = false
 is_refused_for script tokens form BadByte = false
 
@@ -183,7 +183,7 @@ script_at_end number script =
     if script.procs == 0 then Err (fault_at number ProcsExpected)
     else if is_in_block script then Err (fault_at number BlockFault) else Ok script
 
--- the first cause ends it, and without one it goes on
+-- the line's fault where it is refused, else what the lines after it give
 abbrev pub unless_refused : ℕ → Option ScriptCause → Result Script ScriptFault
     → Result Script ScriptFault
 unless_refused number (Some cause) next = Err (fault_at number cause)

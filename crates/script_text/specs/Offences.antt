@@ -18,7 +18,7 @@ use Rattle.script_text.specs.declared.script.Script.{Script}
 use Rattle.script_text.specs.declared.script.ObjectLine.{ObjectLine}
 use Rattle.script_text.specs.declared.script.WorkerLines.{WorkerLines}
 
--- how many objects a script may have, and how many workers
+-- how many objects a script may have, and as many workers
 abbrev pub name_limit : ℕ
 name_limit = 16
 
@@ -46,7 +46,7 @@ abbrev pub place_among : List (List ℕ) → Option (List ℕ) → Option ℕ
 place_among names (Some name) = position (bytes_eq name) names
 place_among names None = None
 
--- whether an activity is open behind these items, of which the first stands in one or not
+-- whether an activity is open after these items, where one is open before them or not
 abbrev pub is_open_behind : Bool → List Item → Bool
 is_open_behind in_block [] = in_block
 is_open_behind in_block (items.Begin ∷ rest) = is_open_behind true rest
@@ -62,7 +62,7 @@ is_last_open (worker ∷ other ∷ workers) = is_last_open (other ∷ workers)
 abbrev pub is_in_block : Script → Bool
 is_in_block script = is_last_open script.workers
 
--- a number that the request wants is missing
+-- a number of the request is not of the form or not in its range
 abbrev pub lacks_number : Request → Bool
 lacks_number (Add amount) = is_none amount
 lacks_number (Bind key number) = is_none number
@@ -70,7 +70,7 @@ lacks_number (Write page text) = is_none page
 lacks_number (Read page) = is_none page
 lacks_number _ = false
 
--- a key or a text that it wants is missing
+-- its key is no name, or its text is too long
 abbrev pub lacks_word : Request → Bool
 lacks_word (Bind key number) = is_none key
 lacks_word (Find key) = is_none key
@@ -99,11 +99,11 @@ abbrev pub is_swap : Request → Bool
 is_swap request = is_none (kind_asked request)
 
 -- the kind that is asked is not the object's
-abbrev pub differs : Option KindName → Option KindName → Bool
-differs (Some asked) (Some kind) = not (same_kind asked kind)
-differs _ _ = false
+abbrev pub is_another_kind : Option KindName → Option KindName → Bool
+is_another_kind (Some asked) (Some kind) = not (same_kind asked kind)
+is_another_kind _ _ = false
 
--- no line before it gave the processors, and it does not either
+-- no line of processors stands before it, and it does not begin as one
 abbrev pub wants_procs : Script → List (List ℕ) → Bool
 wants_procs script tokens = (script.procs == 0) && not (begins_procs tokens)
 
@@ -134,9 +134,9 @@ declares_again script (forms.Worker name proc) = is_among (worker_names script) 
 declares_again script _ = false
 
 -- the object that it asks is not declared
-abbrev pub asks_nobody : Script → Form → Bool
-asks_nobody script (forms.Asks object request) = not (is_among (object_names script) object)
-asks_nobody script _ = false
+abbrev pub asks_unknown_object : Script → Form → Bool
+asks_unknown_object script (forms.Asks object request) = not (is_among (object_names script) object)
+asks_unknown_object script _ = false
 
 -- the kind of the object of this name
 abbrev pub kind_of_named : Script → Option (List ℕ) → Option KindName
@@ -146,7 +146,7 @@ kind_of_named script object =
 -- it asks for an operation of another kind
 abbrev pub asks_other_kind : Script → Form → Bool
 asks_other_kind script (forms.Asks object request) =
-    differs (kind_asked request) (kind_of_named script object)
+    is_another_kind (kind_asked request) (kind_of_named script object)
 asks_other_kind script _ = false
 
 -- no worker is declared whose line it could be

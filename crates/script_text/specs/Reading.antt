@@ -48,7 +48,7 @@ pub record Shows (script : Script) (r : Reading) : Type 0 where
   pub same : script_so_far r ≡ script
   pub kept : IsKept r
 
--- why a line of this form is refused, if it is
+-- why a line of this form is refused, if it is: none of these causes looks at its tokens
 abbrev pub refusal_of_form : Script → Form → Option ScriptCause
 refusal_of_form script form = first_of (is_refused_for script [] (Some form)) causes_of_form
 

@@ -68,7 +68,7 @@ pub record IsSoundWorker (script : Script) (worker : WorkerLines) : Type 0 where
   pub rising : HasRisingLines worker
   pub blocks : BlocksHoldCalls false worker.items
 
--- a name that a line may declare: it is of the form, and begins no form of a line
+-- a name that a line may declare: it is of the form, and not reserved
 pub record IsFreeName (name : List ℕ) : Type 0 where
   pub formed : is_name name ≡ true
   pub free : is_reserved name ≡ false

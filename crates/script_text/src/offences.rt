@@ -55,8 +55,8 @@ fn same_kind(one: KindName, other: KindName) -> bool
 }
 
 /// Whether the kind that is asked is not the object's.
-pub fn differs(asked: Option<KindName>, kind: Option<KindName>) -> bool
-    ensures { result ≡ offences.differs asked kind }
+pub fn is_another_kind(asked: Option<KindName>, kind: Option<KindName>) -> bool
+    ensures { result ≡ offences.is_another_kind asked kind }
 {
     match (asked, kind) {
         (Some(asked), Some(kind)) => !same_kind(asked, kind),

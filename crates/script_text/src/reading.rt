@@ -10,7 +10,7 @@ use crate::form::{Form, Request};
 use crate::forms::{begins_procs, form_of};
 use crate::lines::is_printable_text;
 use crate::names::Names;
-use crate::offences::{act_of, differs, has_bad_name, has_bad_number, kind_asked};
+use crate::offences::{act_of, has_bad_name, has_bad_number, is_another_kind, kind_asked};
 use crate::script::{CallLine, Item, ObjectLine, Script, WorkerHead, WorkerLines};
 use crate::tokens::is_skipped;
 use k42_items::Items;
@@ -150,9 +150,9 @@ impl Reading {
     }
 
     /// Whether it asks an object that is not declared.
-    fn asks_nobody(&self, form: &Form) -> bool
+    fn asks_unknown_object(&self, form: &Form) -> bool
         requires { IsKept self.now }
-        ensures { result ≡ offences.asks_nobody (script_so_far self.now) form.now }
+        ensures { result ≡ offences.asks_unknown_object (script_so_far self.now) form.now }
     {
         match form {
             Form::Asks(object, _) => !self.knows_object(object),
@@ -175,7 +175,10 @@ impl Reading {
         ensures { result ≡ offences.asks_other_kind (script_so_far self.now) form.now }
     {
         match form {
-            Form::Asks(object, request) => differs(kind_asked(request), self.kind_of(object)),
+            Form::Asks(object, request) => is_another_kind(
+                kind_asked(request),
+                self.kind_of(object),
+            ),
             _ => false,
         }
     }
@@ -234,7 +237,7 @@ impl Reading {
         if self.declares_again(form) {
             return Some(ScriptCause::NameTwice);
         }
-        if self.asks_nobody(form) {
+        if self.asks_unknown_object(form) {
             return Some(ScriptCause::UnknownObject);
         }
         if self.asks_other_kind(form) {
