@@ -208,9 +208,9 @@ fn words_that_are_no_form_read_nothing(rt: HostRuntime) -> Result<(), Fail> {
         "load 01",
         "load 10001",
         "run x",
-        // These are forms of later versions of the program.
-        "run 2",
-        "check",
+        "check x",
+        "run 2 2",
+        // This is a form of a later version of the program.
         "load 8",
     ];
     for line in cases {
