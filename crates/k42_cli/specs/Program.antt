@@ -1,5 +1,5 @@
 -- What the program is to do for its words and its input.
-use Rattle.std.specs.Prelude.{◌≡◌, ℕ, ◌<◌, ◌⊎◌, List, ◌++◌, codes, Option, Some, None, IfSome, Result, Ok, Err}
+use Rattle.std.specs.Prelude.{◌≡◌, ℕ, ◌<◌, ◌⊎◌, List, [], ◌++◌, codes, Option, Some, None, IfSome, Result, Ok, Err}
 use Rattle.std.specs.Fmt.{decimal}
 use Rattle.k42_kinds.specs.declared.entry.Entry.{Entry}
 use Rattle.script_text.specs.Causes.{cause_word}

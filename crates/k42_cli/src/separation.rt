@@ -8,7 +8,8 @@ const LINE_FEED: u8 = b'\n';
 #[derive(Clone, Copy)]
 pub struct Parts<'a> {
     pub script: &'a [u8],
-    pub record: &'a [u8],
+    /// What stands in place of a record.
+    pub text: &'a [u8],
 }
 
 /// How many bytes the first line has, with its line feed.
@@ -49,7 +50,8 @@ fn is_separator(line: &[u8]) -> bool
 /// Cuts the input at the first line `---`.
 pub fn separate(input: &[u8]) -> Parts<'_>
     ensures script { result.script.now ≡ separation.script_part input.now }
-    ensures record { result.record.now ≡ separation.record_part input.now }
+    ensures text { result.text.now ≡ separation.record_part input.now }
+    ensures within { length result.text.now ≤ length input.now }
 {
     let mut start = 0;
     while start < input.len() {
@@ -57,13 +59,13 @@ pub fn separate(input: &[u8]) -> Parts<'_>
         if is_separator(&input[start..end]) {
             return Parts {
                 script: &input[..start],
-                record: &input[end..],
+                text: &input[end..],
             };
         }
         start = end;
     }
     Parts {
         script: input,
-        record: &[],
+        text: &[],
     }
 }

@@ -76,13 +76,13 @@ fn verdict_on(alloc: Global, script: &Script, written: &Record) -> Result<Verdic
 }
 
 /// What is found of a text that stands in place of a record.
-fn verdict_of(alloc: Global, script: &Script, record: &[u8]) -> Result<Verdict, Memory>
+fn verdict_of(alloc: Global, script: &Script, text: &[u8]) -> Result<Verdict, Memory>
     requires sound { IsSound script.now }
-    requires short { length record.now < 2 ^ 31 }
+    requires short { length text.now < 2 ^ 31 }
     ensures { IfOk result (λ verdict.
-        verdicts.IsFound script.now (reading script.now record.now) verdict) }
+        verdicts.IsFound script.now (reading script.now text.now) verdict) }
 {
-    match read(alloc, script, record) {
+    match read(alloc, script, text) {
         Ok(written) => verdict_on(alloc, script, &written),
         Err(RecordEnd::Misspelt { line }) => {
             Ok(Verdict::Unlawful(line as usize, SPELLING_RULE))
@@ -92,35 +92,35 @@ fn verdict_of(alloc: Global, script: &Script, record: &[u8]) -> Result<Verdict, 
 }
 
 /// The line at which a text is refused that holds the byte that is one too many, as its last.
-fn line_refused(alloc: Global, script: &Script, record: &[u8]) -> Result<usize, Memory>
+fn line_refused(alloc: Global, script: &Script, text: &[u8]) -> Result<usize, Memory>
     requires sound { IsSound script.now }
-    requires short { length record.now < 2 ^ 31 }
-    ensures { IfOk result (λ line. line ≡ verdicts.line_refused (reading script.now record.now)
-        (length (lines_of record.now))) }
+    requires short { length text.now < 2 ^ 31 }
+    ensures { IfOk result (λ line. line ≡ verdicts.line_refused (reading script.now text.now)
+        (length (lines_of text.now))) }
 {
-    let holding = line_count(record);
-    match read(alloc, script, record) {
+    let holding = line_count(text);
+    match read(alloc, script, text) {
         Ok(_) => Ok(holding),
         Err(RecordEnd::Misspelt { line }) => Ok(holding.min(line as usize)),
         Err(RecordEnd::Memory) => Err(Memory),
     }
 }
 
-/// What is found of the record that stands in the input, of which this is the record part.
+/// What is found of the record that stands in the input, where this text stands in its place.
 pub fn verdict_in(
     alloc: Global,
     script: &Script,
     input: &[u8],
-    record: &[u8],
+    text: &[u8],
 ) -> Result<Verdict, Memory>
     requires sound { IsSound script.now }
-    requires part { record.now ≡ record_part input.now }
-    requires short { length record.now < 2 ^ 31 }
+    requires part { text.now ≡ record_part input.now }
+    requires short { length text.now < 2 ^ 31 }
     ensures { IfOk result (λ verdict. verdicts.IsVerdict script.now input.now verdict) }
 {
     if input.len() > INPUT_BYTES {
-        let line = line_refused(alloc, script, record)?;
+        let line = line_refused(alloc, script, text)?;
         return Ok(Verdict::Unlawful(line, SPELLING_RULE));
     }
-    verdict_of(alloc, script, record)
+    verdict_of(alloc, script, text)
 }

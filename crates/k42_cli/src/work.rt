@@ -95,7 +95,7 @@ fn check(alloc: Global, input: &[u8]) -> Result<Output, Memory>
     let parts = separate(input);
     match parse(alloc, parts.script) {
         Ok(script) => {
-            let verdict = verdict_in(alloc, &script, input, parts.record)?;
+            let verdict = verdict_in(alloc, &script, input, parts.text)?;
             Ok(Output {
                 status: verdict.status(),
                 text: verdict.text(alloc)?,
