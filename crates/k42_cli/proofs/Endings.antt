@@ -1,41 +1,53 @@
 -- What the program's status says, from what was worked out and what was delivered.
-use Rattle.std.proofs.Common.{◌≡◌, ℕ, ◌<◌, ◌≤◌, List, [], length, inl, inr, refl, sym, ap, ◌∙◌, subst, arith}
-use Rattle.std.specs.Prelude.{Option, Some, None, IfSome}
-use Rattle.std.proofs.lemmas.List.{length-take}
+use Rattle.std.proofs.Common.{◌≡◌, ◌≢◌, ℕ, ◌<◌, ◌≤◌, List, [], length, take, inl, inr, refl, sym, ap, ◌∙◌, subst, arith}
+use Rattle.std.specs.Prelude.{Option, Some, None, IfSome, Result, Ok, Err}
+use Rattle.std.proofs.lemmas.List.{length-take, take_all}
 use Rattle.std.proofs.Math.ListN.{drop_of_length-le}
 use Rattle.k42_io.specs.Sink.{Grows}
 use Rattle.k42_io.specs.Source.{TakesFirst}
-use Rattle.script_text.specs.Language.{parsed, byte_limit}
+use Rattle.script_text.specs.Language.{parsed}
+use Rattle.script_text.specs.declared.fault.ScriptFault.{ScriptFault}
+use Rattle.script_text.specs.declared.script.Script.{Script}
 use Rattle.script_text.proofs.Truncated.{parsed-take}
-use Rattle.k42_cli.specs.Program.{Run, Unknown, usage_line, IsDue, Ends, IsQuiet, Says, CompletesRun}
-use Rattle.k42_cli.specs.Outputs.{IsWorkedOut, Delivers}
+use Rattle.k42_cli.specs.Separation.{script_part}
+use Rattle.k42_cli.specs.Verdicts.{input_limit, input_read, status_of}
+use Rattle.k42_cli.specs.Program.{usage_line, IsVerdictDue, IsRunDue, IsCheckDue, IsDue, Ends, IsQuiet, Says, CompletesRun, CompletesCheck, Completes}
+use Rattle.k42_cli.specs.Outputs.{limit_of, IsWorkedOut, Delivers}
+use Rattle.k42_cli.specs.declared.verdict.Verdict.{Verdict}
+use Rattle.k42_cli.specs.declared.verdict.Verdict.TheVariants.{Lawful, Unlawful}
+use Rattle.k42_cli.specs.declared.words.Form.{Form}
+use Rattle.k42_cli.specs.declared.words.Form.TheVariants.{Run, Check}
 use Rattle.k42_cli.specs.declared.status.Status.{Status}
 use Rattle.k42_cli.specs.declared.status.Status.TheVariants as statuses
 
--- the same is due for bytes that are read alike
-due_alike : (bytes others : List ℕ) (status : Status) (output : List ℕ) → parsed bytes ≡ parsed others → IsDue (Run 1) bytes status output → IsDue (Run 1) others status output
-due_alike bytes others statuses.Ok output same due = record { script = due.script; history = due.history; accepted = sym same ∙ due.accepted; lawful = due.lawful; text = due.text }
-due_alike bytes others statuses.Refused output same due = record { fault = due.fault; refused = sym same ∙ due.refused; text = due.text }
-due_alike bytes others statuses.Unlawful output same due = absurd due
-due_alike bytes others statuses.Usage output same due = absurd due
-due_alike bytes others statuses.ReadFault output same due = absurd due
-due_alike bytes others statuses.WriteFault output same due = absurd due
-due_alike bytes others statuses.Memory output same due = absurd due
+-- The same is due for bytes of which the first were read, and what was read decides.
+due_alike : (version : ℕ) (bytes others : List ℕ) (status : Status) (output : List ℕ) → parsed bytes ≡ parsed others → IsRunDue version bytes status output → IsRunDue version others status output
+due_alike version bytes others statuses.Ok output same due = record { script = due.script; history = due.history; accepted = sym same ∙ due.accepted; lawful = due.lawful; counted = due.counted; text = due.text }
+due_alike version bytes others statuses.Refused output same due = record { fault = due.fault; refused = sym same ∙ due.refused; text = due.text }
+due_alike version bytes others statuses.Unlawful output same due = absurd due
+due_alike version bytes others statuses.Usage output same due = absurd due
+due_alike version bytes others statuses.ReadFault output same due = absurd due
+due_alike version bytes others statuses.WriteFault output same due = absurd due
+due_alike version bytes others statuses.Memory output same due = absurd due
 
--- what was read decides as all that was left would, and an accepted script was read whole
-pub worked_out : (left left_after : Option (List ℕ)) (all : List ℕ) (status : Status) (output : List ℕ) → TakesFirst byte_limit left left_after all → IsDue (Run 1) all status output
-    → (status ≡ statuses.Ok → length all < byte_limit) → IsWorkedOut 1 left left_after status output
-worked_out None left_after all status output takes due short = record { bytes = all; told = tt; due = due; consumed = λ accepted. tt }
-worked_out (Some bytes) left_after all status output takes due short =
-    let same : parsed all ≡ parsed bytes = ap parsed takes.0 ∙ parsed-take bytes in
-    record {
-      bytes = bytes;
-      told = refl;
-      due = due_alike all bytes status output same due;
-      consumed = λ accepted.
-          let few : length bytes ≤ byte_limit = omega (arith, short accepted, ap length takes.0, length-take byte_limit bytes) in
-          takes.1 ∙ ap Some (drop_of_length-le bytes {i = byte_limit} few);
-    }
+due_whole : (form : Form) (all bytes : List ℕ) (status : Status) (output : List ℕ) → all ≡ take (limit_of form) bytes → IsDue (Some form) all status output → IsDue (Some form) bytes status output
+due_whole (Run version) all bytes status output is due = due_alike version all bytes status output (ap parsed is ∙ parsed-take bytes) due
+due_whole Check all bytes status output is due =
+    let same : input_read all ≡ input_read bytes = ap input_read is ∙ take_all input_limit (take input_limit bytes) (omega (arith, length-take input_limit bytes)) in
+    subst (λ (input : List ℕ). IsCheckDue input status output) same due
+
+-- what was read decides as all that was left would, and where the work was done it was read whole
+pub worked_out : (form : Form) (left left_after : Option (List ℕ)) (all : List ℕ) (status : Status) (output : List ℕ) → TakesFirst (limit_of form) left left_after all → IsDue (Some form) all status output
+    → (status ≡ statuses.Ok → length all < limit_of form) → IsWorkedOut form left left_after status output
+worked_out form None left_after all status output takes due short = record { bytes = all; told = tt; due = due; consumed = λ accepted. tt }
+worked_out form (Some bytes) left_after all status output takes due short = record {
+  bytes = bytes;
+  told = refl;
+  due = due_whole form all bytes status output takes.0 due;
+  consumed = λ accepted.
+      let few : length bytes ≤ limit_of form = omega (arith, short accepted, ap length takes.0, length-take (limit_of form) bytes) in
+      takes.1 ∙ ap Some (drop_of_length-le bytes {i = limit_of form} few);
+}
 
 told_bytes : Option (List ℕ) → List ℕ
 told_bytes None = []
@@ -46,40 +58,83 @@ unfolding told_bytes
 told_told None = tt
 told_told (Some bytes) = refl
 
-completes_by : (bytes : List ℕ) (status : Status) (output : List ℕ) → IsDue (Run 1) bytes status output → CompletesRun (parsed bytes) status
-completes_by bytes statuses.Ok output due = rw due.accepted (inl refl)
-completes_by bytes statuses.Refused output due = rw due.refused (inl refl)
-completes_by bytes statuses.Unlawful output due = absurd due
-completes_by bytes statuses.Usage output due = absurd due
-completes_by bytes statuses.ReadFault output due = absurd due
-completes_by bytes statuses.WriteFault output due = absurd due
-completes_by bytes statuses.Memory output due = absurd due
+completes_run : (version : ℕ) (bytes : List ℕ) (status : Status) (output : List ℕ) → IsRunDue version bytes status output → CompletesRun (parsed bytes) status
+completes_run version bytes statuses.Ok output due = rw due.accepted (inl refl)
+completes_run version bytes statuses.Refused output due = rw due.refused (inl refl)
+completes_run version bytes statuses.Unlawful output due = absurd due
+completes_run version bytes statuses.Usage output due = absurd due
+completes_run version bytes statuses.ReadFault output due = absurd due
+completes_run version bytes statuses.WriteFault output due = absurd due
+completes_run version bytes statuses.Memory output due = absurd due
+
+-- which statuses go with a verdict
+status_found : (script : Script) (verdict : Verdict) (status : Status) → status ≡ status_of verdict → CompletesCheck (Ok script) status
+status_found script (Lawful entries) status is = inl is
+status_found script (Unlawful line rule) status is = inr (inl is)
+
+verdict_completes : (input : List ℕ) (status : Status) (output : List ℕ) → IsVerdictDue input status output → CompletesCheck (parsed (script_part input)) status
+verdict_completes input status output due = rw due.accepted (status_found due.script due.verdict status due.answered)
+
+completes_check : (input : List ℕ) (status : Status) (output : List ℕ) → IsCheckDue input status output → CompletesCheck (parsed (script_part input)) status
+completes_check input statuses.Refused output due = rw due.refused (inl refl)
+completes_check input statuses.Ok output due = verdict_completes input statuses.Ok output due
+completes_check input statuses.Unlawful output due = verdict_completes input statuses.Unlawful output due
+completes_check input statuses.Usage output due = verdict_completes input statuses.Usage output due
+completes_check input statuses.ReadFault output due = verdict_completes input statuses.ReadFault output due
+completes_check input statuses.WriteFault output due = verdict_completes input statuses.WriteFault output due
+completes_check input statuses.Memory output due = verdict_completes input statuses.Memory output due
+
+completes_by : (form : Form) (bytes : List ℕ) (status : Status) (output : List ℕ) → IsDue (Some form) bytes status output → Completes (Some form) bytes status
+completes_by (Run version) bytes status output due = completes_run version bytes status output due
+completes_by Check bytes status output due = completes_check (input_read bytes) status output due
+
+-- no other status goes with a verdict
+other_verdict : {Y : Type 0} (verdict : Verdict) (status : Status) → status ≡ status_of verdict → status ≢ statuses.Ok → status ≢ statuses.Unlawful → Y
+other_verdict (Lawful entries) status is not_ok not_unlawful = absurd (not_ok is)
+other_verdict (Unlawful line rule) status is not_ok not_unlawful = absurd (not_unlawful is)
+
+-- nothing is due for a form with one of the other statuses
+none_due : {Y : Type 0} (form : Form) (bytes : List ℕ) (status : Status) (output : List ℕ) → status ≢ statuses.Ok → status ≢ statuses.Unlawful → status ≢ statuses.Refused → IsDue (Some form) bytes status output → Y
+none_due (Run version) bytes statuses.Ok output a b c due = absurd (a refl)
+none_due (Run version) bytes statuses.Refused output a b c due = absurd (c refl)
+none_due (Run version) bytes statuses.Unlawful output a b c due = absurd due
+none_due (Run version) bytes statuses.Usage output a b c due = absurd due
+none_due (Run version) bytes statuses.ReadFault output a b c due = absurd due
+none_due (Run version) bytes statuses.WriteFault output a b c due = absurd due
+none_due (Run version) bytes statuses.Memory output a b c due = absurd due
+none_due Check bytes statuses.Ok output a b c due = absurd (a refl)
+none_due Check bytes statuses.Refused output a b c due = absurd (c refl)
+none_due Check bytes statuses.Unlawful output a b c due = absurd (b refl)
+none_due Check bytes statuses.Usage output a b c due = other_verdict due.verdict statuses.Usage due.answered a b
+none_due Check bytes statuses.ReadFault output a b c due = other_verdict due.verdict statuses.ReadFault due.answered a b
+none_due Check bytes statuses.WriteFault output a b c due = other_verdict due.verdict statuses.WriteFault due.answered a b
+none_due Check bytes statuses.Memory output a b c due = other_verdict due.verdict statuses.Memory due.answered a b
 
 module _ (ends : Ends) where
-  run_done : (status : Status) (output : List ℕ) (worked : IsWorkedOut 1 ends.left ends.left_after status output) → IsQuiet ends → Grows ends.taken ends.taken_after output → IsDue (Run 1) worked.bytes status output → Says (Run 1) ends status
-  run_done statuses.Ok output worked quiet written due =
+  work_done : (form : Form) (status : Status) (output : List ℕ) (worked : IsWorkedOut form ends.left ends.left_after status output) → IsQuiet ends → Grows ends.taken ends.taken_after output → IsDue (Some form) worked.bytes status output → Says (Some form) ends status
+  work_done form statuses.Ok output worked quiet written due =
       (record { bytes = worked.bytes; output = output; told = worked.told; due = due; written = written; quiet = quiet }, worked.consumed refl)
-  run_done statuses.Refused output worked quiet written due = record { bytes = worked.bytes; output = output; told = worked.told; due = due; written = written; quiet = quiet }
-  run_done statuses.Unlawful output worked quiet written due = absurd due
-  run_done statuses.Usage output worked quiet written due = absurd due
-  run_done statuses.ReadFault output worked quiet written due = absurd due
-  run_done statuses.WriteFault output worked quiet written due = absurd due
-  run_done statuses.Memory output worked quiet written due = absurd due
+  work_done form statuses.Refused output worked quiet written due = record { bytes = worked.bytes; output = output; told = worked.told; due = due; written = written; quiet = quiet }
+  work_done form statuses.Unlawful output worked quiet written due = record { bytes = worked.bytes; output = output; told = worked.told; due = due; written = written; quiet = quiet }
+  work_done form statuses.Usage output worked quiet written due = none_due form worked.bytes statuses.Usage output (λ e. cc) (λ e. cc) (λ e. cc) due
+  work_done form statuses.ReadFault output worked quiet written due = none_due form worked.bytes statuses.ReadFault output (λ e. cc) (λ e. cc) (λ e. cc) due
+  work_done form statuses.WriteFault output worked quiet written due = none_due form worked.bytes statuses.WriteFault output (λ e. cc) (λ e. cc) (λ e. cc) due
+  work_done form statuses.Memory output worked quiet written due = none_due form worked.bytes statuses.Memory output (λ e. cc) (λ e. cc) (λ e. cc) due
 
   -- words that are no form
-  pub usage_said : (answered : Status) → ends.left_after ≡ ends.left → ends.read_faults_after ≡ ends.read_faults → Delivers ends.taken ends.taken_after ends.write_faults ends.write_faults_after usage_line statuses.Usage answered → Says Unknown ends answered
-  usage_said answered unread quiet (inl done) = subst (Says Unknown ends) (sym done.0) (
+  pub usage_said : (answered : Status) → ends.left_after ≡ ends.left → ends.read_faults_after ≡ ends.read_faults → Delivers ends.taken ends.taken_after ends.write_faults ends.write_faults_after usage_line statuses.Usage answered → Says None ends answered
+  usage_said answered unread quiet (inl done) = subst (Says None ends) (sym done.0) (
     record {
       bytes = told_bytes ends.left;
       output = usage_line;
       told = told_told ends.left;
-      due = refl;
+      due = (refl, refl);
       written = done.1;
       quiet = record { reads = quiet; writes = done.2 };
     },
     unread,
   )
-  usage_said answered unread quiet (inr failed) = subst (Says Unknown ends) (sym failed.0) (
+  usage_said answered unread quiet (inr failed) = subst (Says None ends) (sym failed.0) (
     record {
       fault = failed.2;
       reads = quiet;
@@ -87,17 +142,17 @@ module _ (ends : Ends) where
       status = statuses.Usage;
       output = usage_line;
       told = told_told ends.left;
-      due = refl;
+      due = (refl, refl);
       written = failed.1;
     },
     unread,
   )
 
-  -- a run that was worked out
-  pub run_said : (status : Status) (output : List ℕ) (answered : Status) → IsWorkedOut 1 ends.left ends.left_after status output → ends.read_faults_after ≡ ends.read_faults
-      → Delivers ends.taken ends.taken_after ends.write_faults ends.write_faults_after output status answered → Says (Run 1) ends answered
-  run_said status output answered worked quiet (inl done) = subst (Says (Run 1) ends) (sym done.0) (run_done status output worked (record { reads = quiet; writes = done.2 }) done.1 worked.due)
-  run_said status output answered worked quiet (inr failed) = subst (Says (Run 1) ends) (sym failed.0) (record {
+  -- a form for which an output was worked out
+  pub work_said : (form : Form) (status : Status) (output : List ℕ) (answered : Status) → IsWorkedOut form ends.left ends.left_after status output → ends.read_faults_after ≡ ends.read_faults
+      → Delivers ends.taken ends.taken_after ends.write_faults ends.write_faults_after output status answered → Says (Some form) ends answered
+  work_said form status output answered worked quiet (inl done) = subst (Says (Some form) ends) (sym done.0) (work_done form status output worked (record { reads = quiet; writes = done.2 }) done.1 worked.due)
+  work_said form status output answered worked quiet (inr failed) = subst (Says (Some form) ends) (sym failed.0) (record {
     fault = failed.2;
     reads = quiet;
     bytes = worked.bytes;
@@ -108,10 +163,28 @@ module _ (ends : Ends) where
     written = failed.1;
   })
 
-  -- which comes where no write failed
-  pub run_completes : (status : Status) (output : List ℕ) (answered : Status) (bytes : List ℕ) → IsWorkedOut 1 ends.left ends.left_after status output → ends.left ≡ Some bytes → ends.write_faults_after ≡ ends.write_faults
-      → Delivers ends.taken ends.taken_after ends.write_faults ends.write_faults_after output status answered → CompletesRun (parsed bytes) answered
-  run_completes status output answered bytes worked told quiet (inl done) =
+  -- which status comes where no write failed
+  pub work_completes : (form : Form) (status : Status) (output : List ℕ) (answered : Status) (bytes : List ℕ) → IsWorkedOut form ends.left ends.left_after status output → ends.left ≡ Some bytes → ends.write_faults_after ≡ ends.write_faults
+      → Delivers ends.taken ends.taken_after ends.write_faults ends.write_faults_after output status answered → Completes (Some form) bytes answered
+  work_completes form status output answered bytes worked told quiet (inl done) =
       let same : bytes ≡ worked.bytes = subst (λ (left : Option (List ℕ)). IfSome left (λ before. before ≡ worked.bytes)) told worked.told in
-      subst (CompletesRun (parsed bytes)) (sym done.0) (completes_by bytes status output (subst (λ (b : List ℕ). IsDue (Run 1) b status output) (sym same) worked.due))
-  run_completes status output answered bytes worked told quiet (inr failed) = absurd (omega (arith, failed.2, quiet))
+      subst (Completes (Some form) bytes) (sym done.0) (completes_by form bytes status output (subst (λ (b : List ℕ). IsDue (Some form) b status output) (sym same) worked.due))
+  work_completes form status output answered bytes worked told quiet (inr failed) = absurd (omega (arith, failed.2, quiet))
+
+-- want of memory may come whatever the bytes are
+run_memory : (outcome : Result Script ScriptFault) → CompletesRun outcome statuses.Memory
+run_memory (Ok script) = inr refl
+run_memory (Err fault) = inr refl
+
+check_memory : (outcome : Result Script ScriptFault) → CompletesCheck outcome statuses.Memory
+check_memory (Ok script) = inr (inr refl)
+check_memory (Err fault) = inr refl
+
+pub memory_completes : (form : Form) (bytes : List ℕ) → Completes (Some form) bytes statuses.Memory
+memory_completes (Run version) bytes = run_memory (parsed bytes)
+memory_completes Check bytes = check_memory (parsed (script_part (input_read bytes)))
+
+-- what is no form is none
+pub is_none : (asked : Option Form) → ((form : Form) → asked ≡ Some form → ⊥) → asked ≡ None
+is_none None other = refl
+is_none (Some form) other = absurd (other form refl)

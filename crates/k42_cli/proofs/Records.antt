@@ -1,5 +1,5 @@
 -- A lawful history of a sound script has a record, and the record a text.
-use Rattle.std.proofs.Common.{◌≡◌, ℕ, zero, suc, ◌+◌, ◌<◌, List, [], ◌∷◌, ◌++◌, length, get_or, take, drop, map, inl, refl, sym, ap, ◌∙◌, subst, arith}
+use Rattle.std.proofs.Common.{◌≡◌, ℕ, zero, suc, ◌+◌, ◌<◌, List, [], ◌∷◌, ◌++◌, length, get_or, take, drop, map, inl, inr, refl, sym, ap, ◌∙◌, subst, arith}
 use Rattle.std.specs.Prelude.{All, Some, slice_get}
 use Rattle.std.proofs.lemmas.Bool.{eq-eqb}
 use Rattle.std.proofs.lemmas.List.{map-append, take-append-drop}
@@ -21,7 +21,9 @@ use Rattle.script_text.specs.declared.script.CallLine.{CallLine}
 use Rattle.script_text.specs.declared.script.Script.{Script}
 use Rattle.script_text.specs.declared.script.WorkerLines.{WorkerLines}
 use Rattle.record_text.specs.Histories.{calls_of, HasLine, line_of, record_of}
-use Rattle.record_text.specs.Spelling.{EndsCall, EndsSwap, Ends, HasSpelling, IsOfVersion, HasText}
+use Rattle.record_text.specs.Spelling.{EndsCall, EndsSwap, Ends, HasSpelling, HasGeneration, IsOfVersion, IsVersion, HasText}
+use Rattle.k42_cli.specs.Entries.{generation_of}
+use Rattle.k42_cli.specs.Generations.{carried_out, CountsGenerations}
 
 -- a deed of these lines, counted on from a number, at a place
 record IsDeedAt (lines : List CallLine) (first place : ℕ) (deed : Deed) : Type 0 where
@@ -86,6 +88,12 @@ record Answers (script : Script) (entry : Entry) : Type 0 where
   asked : IsActOn kind entry.act
   ends : Ends entry.act entry.answer
 
+-- a call has a generation, a swap or destroy has none
+has_generation : (number : ℕ) (act : Act) → HasGeneration act (generation_of number act)
+has_generation number (Call op) = refl
+has_generation number (Swap layout) = refl
+has_generation number Destroy = refl
+
 module _ (script : Script) (sound : IsSound script) (history : List Entry) (lawful : IsLawful script history) where
   answers_by : (before : List Entry) (entry : Entry) (after : List Entry) → history ≡ before ++ entry ∷ after → (worker : WorkerLines) → slice_get script.workers entry.caller ≡ Some worker → Answers script entry
   answers_by before entry after e worker found =
@@ -117,12 +125,18 @@ module _ (script : Script) (sound : IsSound script) (history : List Entry) (lawf
   pub lines_there : All (HasLine script) history
   lines_there = each_all (HasLine script) history (λ before entry after e. (answers before entry after e).has)
 
+  -- what a record of this version tells of an entry
+  told_by : (version : ℕ) → IsVersion version → (entry : Entry) → HasGeneration entry.act entry.generation → IsOfVersion version (line_of script version entry)
+  told_by version (inl one) entry has = rw one (record { told = refl })
+  told_by version (inr two) entry has = rw two (record { told = (refl, has) })
+
   -- and the record of all has a text
-  pub text_there : HasText script (record_of script history 1)
-  text_there = record {
-    version = inl refl;
-    spelled = All-map (HasSpelling script) (line_of script 1) history (each_all (λ entry. HasSpelling script (line_of script 1 entry)) history (λ before entry after e.
+  pub text_there : CountsGenerations script history → (version : ℕ) → IsVersion version → HasText script (record_of script history version)
+  text_there counted version is = record {
+    version = is;
+    spelled = All-map (HasSpelling script) (line_of script version) history (each_all (λ entry. HasSpelling script (line_of script version entry)) history (λ before entry after e.
         let a = answers before entry after e in
         record { by_worker = a.has.caller; kind = a.kind; of_object = a.declared; asked = a.asked; answered = a.ends }));
-    told = All-map (IsOfVersion 1) (line_of script 1) history (each_all (λ entry. IsOfVersion 1 (line_of script 1 entry)) history (λ before entry after e. record { told = refl }));
+    told = All-map (IsOfVersion version) (line_of script version) history (each_all (λ entry. IsOfVersion version (line_of script version entry)) history (λ before entry after e.
+        told_by version is entry (subst (HasGeneration entry.act) (sym (counted.generations before entry after e)) (has_generation (carried_out before) entry.act))));
   }

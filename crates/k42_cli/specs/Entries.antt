@@ -7,11 +7,11 @@ use Rattle.k42_kinds.specs.declared.entry.Act.TheVariants.{Call, Swap, Destroy}
 use Rattle.script_text.specs.declared.script.CallLine.{CallLine}
 use Rattle.k42_cli.specs.declared.asked.Asked.{Asked}
 
--- one thread makes each call in the first generation; a swap or destroy is made in none
-abbrev pub generation_of : Act → Option ℕ
-generation_of (Call op) = Some 0
-generation_of (Swap layout) = None
-generation_of Destroy = None
+-- a call is made in the generation of this number, a swap or destroy in none
+abbrev pub generation_of : ℕ → Act → Option ℕ
+generation_of generation (Call op) = Some generation
+generation_of generation (Swap layout) = None
+generation_of generation Destroy = None
 
 abbrev pub entry_with : Asked → CallLine → ℕ → Answer → Entry
 entry_with asked line incarnation answer = record {
@@ -24,5 +24,5 @@ entry_with asked line incarnation answer = record {
   act = line.act;
   answer = answer;
   proc = asked.proc;
-  generation = generation_of line.act;
+  generation = generation_of asked.generation line.act;
 }

@@ -1,6 +1,10 @@
 pub mod Entries
+pub mod Generations
 pub mod Objects
 pub mod Runs
+pub mod Words
+pub mod Separation
+pub mod Verdicts
 pub mod Program
 pub mod Outputs
 pub mod Endings

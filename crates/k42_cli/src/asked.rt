@@ -10,14 +10,16 @@ pub struct Asked {
     pub caller: u32,
     pub index: u32,
     pub proc: u32,
+    /// How many swaps and destroys were carried out before, of all objects.
+    pub generation: u32,
 }
 
-/// In which generation an act is carried out. One thread never goes on to a second one.
-pub fn generation_of(act: &Act) -> Option<u32>
-    ensures { result ≡ entries.generation_of act.now }
+/// In which generation an act is carried out, where so many swaps and destroys came before it.
+pub fn generation_of(generation: u32, act: &Act) -> Option<u32>
+    ensures { result ≡ entries.generation_of generation act.now }
 {
     match act {
-        Act::Call(_) => Some(0),
+        Act::Call(_) => Some(generation),
         Act::Swap(_) | Act::Destroy => None,
     }
 }

@@ -1,9 +1,10 @@
-ghost use Rattle.std.specs.Prelude.{◌≡◌, ◌<◌, ◌≤◌, [], length, map, All, Some, IfOk, OnOk, vec_len, slice_get};
+ghost use Rattle.std.specs.Prelude.{◌≡◌, ◌+◌, ◌^◌, ◌<◌, ◌≤◌, [], length, map, All, Some, IfOk, OnOk, vec_len, slice_get};
 ghost use Rattle.k42_kinds.specs.Histories.{entries_of};
 ghost use Rattle.script_text.specs.Sound.{IsSound, IsSoundLine};
 ghost use Rattle.script_text.specs.Lawful.{IsLawful, kinds_of, call_lines};
 ghost use Rattle.k42_cli.specs.declared.object.Object.{Object};
 ghost use Rattle.k42_cli.specs.Objects.{CanTake};
+ghost use Rattle.k42_cli.specs.Generations.{CountsGenerations};
 
 use crate::asked::Asked;
 use crate::gate::Gate;
@@ -18,6 +19,8 @@ use std::alloc::Global;
 pub struct Run {
     pub objects: Vec<Object>,
     pub entries: Vec<Entry>,
+    /// How many swaps and destroys were carried out, of all objects.
+    pub swaps: u32,
 }
 
 /// Who calls, and from which processor.
@@ -28,11 +31,12 @@ pub struct Caller {
 }
 
 impl Run {
-    ghost use Rattle.k42_cli.specs.Runs.{Records, IsRunning, HasDone};
+    ghost use Rattle.k42_cli.specs.Runs.{Records, IsRunning, HasDone, IsCounted};
 
     /// Nothing was done yet.
     fn new(alloc: Global, declared: &[ObjectLine]) -> Result<Run, Memory>
         ensures fresh { IfOk result (λ run. run.entries.items ≡ []) }
+        ensures unswapped { IfOk result (λ run. run.swaps ≡ 0) }
         ensures running { IfOk result (λ run.
             IsRunning (map (λ object. object.kind) declared.now) [] run.objects.items) }
     {
@@ -44,6 +48,7 @@ impl Run {
         Ok(Run {
             objects,
             entries: Vec::new(alloc),
+            swaps: 0,
         })
     }
 
@@ -59,6 +64,7 @@ impl Run {
         requires taken { (object : Object) →
             slice_get self.old.objects.items line.now.object ≡ Some object →
             CanTake object line.now.act }
+        requires few { self.old.swaps < 2 ^ 31 }
         ensures { OnOk result (Records self.old caller index line.now self.new) }
     {
         let asked = Asked {
@@ -66,9 +72,13 @@ impl Run {
             caller: caller.number,
             index,
             proc: caller.proc,
+            generation: self.swaps,
         };
         let object = &mut self.objects[line.object as usize];
-        object.record(alloc, &asked, line, &mut self.entries)
+        let number = object.number;
+        object.record(alloc, &asked, line, &mut self.entries)?;
+        self.swaps += object.number - number;
+        Ok(())
     }
 
     /// Carries out the caller's lines in their order.
@@ -82,11 +92,13 @@ impl Run {
     ) -> Result<(), Memory>
         requires running { IsRunning (kinds_of script.now) self.old.entries.items self.old.objects.items }
         requires sound { All (IsSoundLine script.now) (call_lines items.now) }
-        requires few { length (call_lines items.now) ≤ 65536 }
+        requires few { vec_len self.old.entries + length (call_lines items.now) ≤ 65536 }
+        requires counted { IsCounted self.old }
         ensures running { OnOk result
             (IsRunning (kinds_of script.now) self.new.entries.items self.new.objects.items) }
         ensures done { OnOk result
-            (HasDone self.old caller.number (call_lines items.now) self.new) }
+            (HasDone self.old caller (call_lines items.now) self.new) }
+        ensures counted { OnOk result (IsCounted self.new) }
     {
         let mut index = 0;
         for item in items {
@@ -104,7 +116,8 @@ impl Run {
 /// Runs the workers one after the other, in the order of the script, and gives the history.
 pub fn run_alone<G: Gate>(alloc: Global, script: &Script, gate: &G) -> Result<Vec<Entry>, Memory>
     requires { IsSound script.now }
-    ensures { IfOk result (λ history. IsLawful script.now history.items) }
+    ensures lawful { IfOk result (λ history. IsLawful script.now history.items) }
+    ensures counted { IfOk result (λ history. CountsGenerations script.now history.items) }
 {
     let mut run = Run::new(alloc, script.objects.as_slice())?;
     let mut number = 0;

@@ -84,7 +84,7 @@ impl Object {
             act: line.act,
             answer,
             proc: asked.proc,
-            generation: generation_of(&line.act),
+            generation: generation_of(asked.generation, &line.act),
         })
     }
 

@@ -9,6 +9,9 @@ use std::cell::Cell;
 use std::process::Abort;
 use std::test::Fail;
 
+mod judging;
+mod separating;
+
 const RUN: &str = "run";
 
 /// One worker over one counter, which adds 5 and asks for the value. It has 66 bytes.
@@ -18,6 +21,18 @@ const ADD_AND_GET: &[u8] =
 /// What comes of it. It has 66 bytes too.
 const ADD_AND_GET_RECORD: &[u8] =
     b"k42 record 1\n1 a 4 hits add 5 = ok @0\n2 a 5 hits get = 5 @0\nend 2\n";
+
+/// One worker over one counter that is swapped between an addition and the question for the value.
+const SWAP_BETWEEN: &[u8] = b"procs 1\nobject hits counter shared\nworker a 0\n\
+    hits add 5\nswap hits spread\nhits get\n";
+
+/// What comes of it. It has 101 bytes.
+const SWAP_BETWEEN_RECORD: &[u8] = b"k42 record 1\n1 a 4 hits add 5 = ok @0\n\
+    2 a 5 swap hits spread = done 1 @0\n3 a 6 hits get = 5 @1\nend 3\n";
+
+/// The same in version 2.
+const SWAP_BETWEEN_RECORD_2: &[u8] = b"k42 record 2\n1 a 4 hits add 5 = ok @0 p0 g0\n\
+    2 a 5 swap hits spread = done 1 @0 p0 g-\n3 a 6 hits get = 5 @1 p0 g1\nend 3\n";
 
 const NO_CALLS_RECORD: &[u8] = b"k42 record 1\nend 0\n";
 
@@ -78,15 +93,16 @@ fn words_in(alloc: Global, line: &str) -> Result<Vec<String>, Fail> {
 /// Runs over a source and a sink of this piece that fail at these reads and writes.
 fn run_in_pieces(
     alloc: Global,
-    script: &[u8],
+    line: &str,
+    input: &[u8],
     piece: usize,
     reads: &[u64],
     writes: &[u64],
 ) -> Result<Ran, Fail>
     requires { 0 < piece }
 {
-    let words = words_in(alloc, RUN)?;
-    let mut source = MemSource::new(script.to_vec(alloc)?, piece, reads.to_vec(alloc)?);
+    let words = words_in(alloc, line)?;
+    let mut source = MemSource::new(input.to_vec(alloc)?, piece, reads.to_vec(alloc)?);
     let mut sink = MemSink::new(alloc, 4096, piece, writes.to_vec(alloc)?)?;
     let status = k42_main(alloc, &words, &mut source, &mut sink, &FreeGate);
     let text = sink.taken().to_vec(alloc)?;
@@ -94,9 +110,9 @@ fn run_in_pieces(
 }
 
 /// Runs over ends that never fail, with this room in the sink.
-fn run_quietly(alloc: Global, script: Vec<u8>, room: usize) -> Result<Ran, Fail> {
-    let words = words_in(alloc, RUN)?;
-    let mut source = QuietSource::new(script);
+fn run_quietly(alloc: Global, line: &str, input: Vec<u8>, room: usize) -> Result<Ran, Fail> {
+    let words = words_in(alloc, line)?;
+    let mut source = QuietSource::new(input);
     let mut sink = QuietSink::new(alloc, room)?;
     let status = k42_main(alloc, &words, &mut source, &mut sink, &FreeGate);
     let text = sink.taken().to_vec(alloc)?;
@@ -114,7 +130,7 @@ fn gets(alloc: Global, count: u32) -> Result<Vec<u8>, Fail> {
 
 #[test]
 fn memory_is_not_lacking_where_there_is_enough(rt: HostRuntime) -> Result<(), Fail> {
-    let ran = run_in_pieces(rt.alloc(), ADD_AND_GET, 4096, &[], &[])?;
+    let ran = run_in_pieces(rt.alloc(), RUN, ADD_AND_GET, 4096, &[], &[])?;
     assert_eq!(rt; ran.status, Status::Ok);
     assert_eq!(rt; ran.text.as_slice(), ADD_AND_GET_RECORD);
     Ok(())
@@ -135,7 +151,26 @@ fn a_script_is_answered_by_its_record(rt: HostRuntime) -> Result<(), Fail> {
         ),
     ];
     for (shows, script, record) in cases {
-        let ran = run_in_pieces(rt.alloc(), script, 4096, &[], &[])?;
+        let ran = run_in_pieces(rt.alloc(), RUN, script, 4096, &[], &[])?;
+        assert_eq!(rt; ran.status, Status::Ok, "{shows}");
+        assert_eq!(rt; ran.text.as_slice(), record, "{shows}");
+    }
+    Ok(())
+}
+
+#[test]
+fn a_record_of_version_2_tells_processors_and_generations(rt: HostRuntime) -> Result<(), Fail> {
+    let cases: [(&str, &[u8], &[u8]); 3] = [
+        ("no calls", b"procs 1\n", b"k42 record 2\nend 0\n"),
+        (
+            "the worker's processor",
+            b"procs 8\nobject hits counter shared\nworker a 7\nhits add 5\nhits get\n",
+            b"k42 record 2\n1 a 4 hits add 5 = ok @0 p7 g0\n2 a 5 hits get = 5 @0 p7 g0\nend 2\n",
+        ),
+        ("a generation for each swap", SWAP_BETWEEN, SWAP_BETWEEN_RECORD_2),
+    ];
+    for (shows, script, record) in cases {
+        let ran = run_in_pieces(rt.alloc(), "run 2", script, 4096, &[], &[])?;
         assert_eq!(rt; ran.status, Status::Ok, "{shows}");
         assert_eq!(rt; ran.text.as_slice(), record, "{shows}");
     }
@@ -153,7 +188,7 @@ fn a_script_that_is_none_is_answered_by_the_line_that_offends(rt: HostRuntime) -
         ),
     ];
     for (shows, script, line) in cases {
-        let ran = run_in_pieces(rt.alloc(), script, 4096, &[], &[])?;
+        let ran = run_in_pieces(rt.alloc(), RUN, script, 4096, &[], &[])?;
         assert_eq!(rt; ran.status, Status::Refused, "{shows}");
         assert_eq!(rt; ran.text.as_slice(), line, "{shows}");
     }
@@ -169,7 +204,7 @@ fn a_script_ends_before_byte_1048577(rt: HostRuntime) -> Result<(), Fail> {
     for (length, status, output) in cases {
         let mut script = b"procs 1\n".to_vec(rt.alloc())?;
         script.resize(length, b' ')?;
-        let ran = run_quietly(rt.alloc(), script, 4096)?;
+        let ran = run_quietly(rt.alloc(), RUN, script, 4096)?;
         assert_eq!(rt; ran.status, status, "of {length} bytes");
         assert_eq!(rt; ran.text.as_slice(), output, "of {length} bytes");
     }
@@ -178,13 +213,13 @@ fn a_script_ends_before_byte_1048577(rt: HostRuntime) -> Result<(), Fail> {
 
 #[test]
 fn a_script_has_65536_calls(rt: HostRuntime) -> Result<(), Fail> {
-    let ran = run_quietly(rt.alloc(), gets(rt.alloc(), 65_536)?, 4_194_304)?;
+    let ran = run_quietly(rt.alloc(), RUN, gets(rt.alloc(), 65_536)?, 4_194_304)?;
     assert_eq!(rt; ran.status, Status::Ok);
     assert!(rt;
         ran.text
             .ends_with(b"\n65536 a 65539 hits get = 0 @0\nend 65536\n")
     );
-    let more = run_quietly(rt.alloc(), gets(rt.alloc(), 65_537)?, 4096)?;
+    let more = run_quietly(rt.alloc(), RUN, gets(rt.alloc(), 65_537)?, 4096)?;
     assert_eq!(rt; more.status, Status::Refused);
     assert_eq!(rt; more.text.as_slice(), b"line 65540: NotYet\n".as_slice());
     Ok(())
@@ -193,7 +228,7 @@ fn a_script_has_65536_calls(rt: HostRuntime) -> Result<(), Fail> {
 #[test]
 fn a_run_without_calls_over_ends_that_never_fail(rt: HostRuntime) -> Result<(), Fail> {
     let script = b"procs 1\n".to_vec(rt.alloc())?;
-    let ran = run_quietly(rt.alloc(), script, 64)?;
+    let ran = run_quietly(rt.alloc(), RUN, script, 64)?;
     assert_eq!(rt; ran.status, Status::Ok);
     assert_eq!(rt; ran.text.as_slice(), NO_CALLS_RECORD);
     Ok(())
@@ -208,9 +243,9 @@ fn words_that_are_no_form_read_nothing(rt: HostRuntime) -> Result<(), Fail> {
         "load 01",
         "load 10001",
         "run x",
-        // These are forms of later versions of the program.
-        "run 2",
-        "check",
+        "check x",
+        "run 2 2",
+        // This is a form of a later version of the program.
         "load 8",
     ];
     for line in cases {
@@ -227,7 +262,7 @@ fn words_that_are_no_form_read_nothing(rt: HostRuntime) -> Result<(), Fail> {
 
 #[test]
 fn a_failed_read_leaves_the_sink_empty(rt: HostRuntime) -> Result<(), Fail> {
-    let ran = run_in_pieces(rt.alloc(), ADD_AND_GET, 4096, &[2], &[])?;
+    let ran = run_in_pieces(rt.alloc(), RUN, ADD_AND_GET, 4096, &[2], &[])?;
     assert_eq!(rt; ran.status, Status::ReadFault);
     assert_eq!(rt; ran.text.len(), 0);
     Ok(())
@@ -235,7 +270,7 @@ fn a_failed_read_leaves_the_sink_empty(rt: HostRuntime) -> Result<(), Fail> {
 
 #[test]
 fn a_failed_write_leaves_what_came_before_it(rt: HostRuntime) -> Result<(), Fail> {
-    let ran = run_in_pieces(rt.alloc(), ADD_AND_GET, 8, &[], &[3])?;
+    let ran = run_in_pieces(rt.alloc(), RUN, ADD_AND_GET, 8, &[], &[3])?;
     assert_eq!(rt; ran.status, Status::WriteFault);
     assert_eq!(rt; ran.text.as_slice(), b"k42 record 1\n1 a".as_slice());
     Ok(())
@@ -244,7 +279,7 @@ fn a_failed_write_leaves_what_came_before_it(rt: HostRuntime) -> Result<(), Fail
 #[test]
 fn each_read_failing_in_turn(rt: HostRuntime) -> Result<(), Fail> {
     for k in 1..=68 {
-        let ran = run_in_pieces(rt.alloc(), ADD_AND_GET, 1, &[k], &[])?;
+        let ran = run_in_pieces(rt.alloc(), RUN, ADD_AND_GET, 1, &[k], &[])?;
         let (status, text): (Status, &[u8]) = if k < 68 {
             (Status::ReadFault, b"")
         } else {
@@ -259,7 +294,7 @@ fn each_read_failing_in_turn(rt: HostRuntime) -> Result<(), Fail> {
 #[test]
 fn each_write_failing_in_turn(rt: HostRuntime) -> Result<(), Fail> {
     for k in 1..=67u64 {
-        let ran = run_in_pieces(rt.alloc(), ADD_AND_GET, 1, &[], &[k])?;
+        let ran = run_in_pieces(rt.alloc(), RUN, ADD_AND_GET, 1, &[], &[k])?;
         let status = if k < 67 {
             Status::WriteFault
         } else {

@@ -1,10 +1,11 @@
-use Rattle.std.proofs.Common.{suc, ◌<◌, length, drop, sym, add-one, arith}
-use Rattle.k42_cli.proofs.Working.{working_at_start, object_here, taken_here, working_on, working_past, asks_nothing}
+use Rattle.std.proofs.Common.{suc, ◌+◌, ◌<◌, ◌≤◌, length, drop, sym, add-one, arith}
+use Rattle.script_text.specs.Lawful.{call_lines}
+use Rattle.k42_cli.proofs.Working.{working_at_start, object_here, taken_here, room_here, working_on, working_past, asks_nothing}
 use Rattle.k42_cli.proofs.engine.Run.work.Goals as goal
 use Rattle.k42_cli.proofs.engine.Run.work.Goals.{in-Line+in_ok-answer, in_default}
 
 pub loop-item-init : goal.loop-item-init
-loop-item-init g c = working_at_start c.args.script.now c.args.self.now c.args.caller.number c.args.items.now c.requires.running c.requires.sound
+loop-item-init g c = working_at_start c.args.script.now c.args.self.now c.args.caller c.args.items.now c.requires.running c.requires.sound c.requires.counted
 
 pub answer-requires-clause-declared : goal.answer-requires-clause-declared
 answer-requires-clause-declared g c =
@@ -16,6 +17,12 @@ pub answer-requires-clause-taken : goal.answer-requires-clause-taken
 answer-requires-clause-taken g c =
     let l = c.loop-item in
     taken_here c.args.script.now c.args.self.now c.args.caller c.args.items.now l.item-index l.index l.self c.item-item.result c.loop-item-test.true (sym c.item-item.is) l.invariant c.in-Line.line c.in-Line.is
+
+pub answer-requires-clause-few : goal.answer-requires-clause-few
+answer-requires-clause-few g c =
+    let l = c.loop-item in
+    let few : length c.args.self.now.entries.items + length (call_lines c.args.items.now) ≤ 65536 = omega (arith, c.requires.few, c.args.self.now.entries.ok.0) in
+    omega (arith, room_here c.args.script.now c.args.self.now c.args.caller c.args.items.now l.item-index l.index l.self c.item-item.result c.loop-item-test.true (sym c.item-item.is) l.invariant c.in-Line.line c.in-Line.is few)
 
 pub loop-item-preserved : goal.loop-item-preserved
 loop-item-preserved g c =

@@ -1,0 +1,25 @@
+use Rattle.std.proofs.Common.{◌≡◌, ◌+◌, ◌≤◌, ◌∷◌, List, ℕ, length, take, drop, true, false, sym, ◌∙◌, ap, arith}
+use Rattle.std.proofs.Math.Nat.{add-sub_cancel_left}
+use Rattle.std.proofs.lemmas.List.{take_rest}
+use Rattle.script_text.specs.Lines.{lines_of}
+use Rattle.k42_cli.specs.Separation as separation
+use Rattle.k42_cli.proofs.Separating.{passed_on, text_behind}
+use Rattle.k42_cli.proofs.separation.separate.Goals as goal
+
+pub returns-then-is_separator-clause-text : goal.returns-then-is_separator-clause-text
+returns-then-is_separator-clause-text c =
+    let l = c.loop-start in
+    let input = c.args.input.now in
+    let n = c.first_line_len.result in
+    let first = rw take_rest at c.first_line_len.ensures.line in
+    let here : separation.is_separator (take n (drop l.start input)) ≡ true = rw add-sub_cancel_left at (sym c.is_separator.ensures ∙ c.if-is_separator.true) in
+    rw take_rest (text_behind input l.start n l.invariant first here)
+
+pub loop-start-preserved : goal.loop-start-preserved
+loop-start-preserved c =
+    let l = c.loop-start in
+    let input = c.args.input.now in
+    let n = c.first_line_len.result in
+    let first = rw take_rest at c.first_line_len.ensures.line in
+    let other : separation.is_separator (take n (drop l.start input)) ≡ false = rw add-sub_cancel_left at (sym c.is_separator.ensures ∙ c.if-is_separator.false) in
+    passed_on input l.start n l.invariant first (omega (arith, c.first_line_len.ensures.within)) other
