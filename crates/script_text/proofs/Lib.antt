@@ -13,3 +13,4 @@ pub mod DecimalNumbers
 pub mod FirstOffence
 pub mod LawfulHistories
 mod AtTheBounds
+mod MatchedBlocks
