@@ -1,9 +1,14 @@
 pub mod LineCuts
 pub mod TokenCuts
+pub mod Spacing
 pub mod NumberSteps
 pub mod Underway
 pub mod Truncated
 pub mod DecimalNumbers
+pub mod Spellings
+pub mod Numbered
+pub mod GeneratedSteps
+pub mod SoundTrials
 pub mod FirstOffence
 pub mod LawfulHistories
 mod AtTheBounds

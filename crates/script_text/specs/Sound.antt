@@ -52,6 +52,14 @@ BlocksHoldCalls in_block (End ∷ items) = BlocksHoldCalls false items
 BlocksHoldCalls in_block (Line line ∷ items) =
     (in_block ≡ true → IsCall line.act) × BlocksHoldCalls in_block items
 
+-- A worker's lines that ask something have numbers that rise.
+abbrev pub HasRisingLines : WorkerLines → Type 0
+HasRisingLines worker =
+    (i j : ℕ) (earlier later : CallLine) → i < j
+    → slice_get (call_lines worker.items) i ≡ Some earlier
+    → slice_get (call_lines worker.items) j ≡ Some later
+    → earlier.line < later.line
+
 -- A worker runs on one of the processors, and its lines are sound, rise, and are calls where they
 -- stand in an activity.
 pub record IsSoundWorker (script : Script) (worker : WorkerLines) : Type 0 where
@@ -77,14 +85,6 @@ pub record HasDistinctNames (script : Script) : Type 0 where
   pub worker_names : AreDistinct (map (λ worker. worker.name) script.workers)
   pub free_objects : All (λ object. IsFreeName object.name) script.objects
   pub free_workers : All (λ worker. IsFreeName worker.name) script.workers
-
--- A worker's lines that ask something have numbers that rise.
-abbrev pub HasRisingLines : WorkerLines → Type 0
-HasRisingLines worker =
-    (i j : ℕ) (earlier later : CallLine) → i < j
-    → slice_get (call_lines worker.items) i ≡ Some earlier
-    → slice_get (call_lines worker.items) j ≡ Some later
-    → earlier.line < later.line
 
 -- A script has 1 to 8 processors, at most 16 objects, at most 16 workers, each of them sound, names
 -- that may be declared and differ, and at most 65,536 lines that ask something.
