@@ -9,10 +9,10 @@ use std::alloc::{AllocError, AllocFailed};
 /// `BadByte` come before the others, which stand here in the order in which they are tested.
 #[derive(Clone, Copy, Debug, PartialEq, Eq)]
 pub enum ScriptCause {
-    /// No line before it gave the processors, and it does not either.
+    /// No line of processors stands before it, and it does not begin as one.
     ProcsExpected,
-    /// It is a second line of processors, or it has no form of the language: the number of its
-    /// tokens, its kind, its layout or its operation is none.
+    /// It is a second line of processors, its form does not have so many tokens, or its kind,
+    /// layout or operation word is unknown.
     UnknownWord,
     /// A number is not decimal, or not in its range.
     BadNumber,
@@ -32,7 +32,7 @@ pub enum ScriptCause {
     BlockFault,
     /// It holds the byte after the last that a script may have.
     TooLong,
-    /// It has a byte that is no space and does not show.
+    /// It has a byte outside 32 to 126, beside its line feed.
     BadByte,
 }
 

@@ -24,7 +24,7 @@ pub enum Form {
     Worker(Option<Name>, Option<u32>),
     Begin,
     End,
-    /// The object of this name is asked for something.
+    /// A call, swap or destroy line: the object of this name is asked for it.
     Asks(Option<Name>, Request),
 }
 

@@ -8,9 +8,10 @@ use crate::numbers::number_up_to;
 use crate::tokens::{Words, first_token, is_word, words_of};
 use k42_kinds::{KindName, LayoutName, Name, Text};
 
-/// How many processors a script may have, and how many pages an object has.
+/// The most processors.
 const PROCS: u64 = 8;
 
+/// The number of the last page of an object.
 const LAST_PAGE: u64 = 1023;
 
 /// Whether the word is no name of an object or a worker.

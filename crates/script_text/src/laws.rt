@@ -6,7 +6,7 @@ ghost use Rattle.script_text.specs.Numbers.{number_of};
 ghost use Rattle.script_text.specs.Language.{parsed, cause_of, NoneOffends, fault_at, last_number, script_after, script_at_end};
 ghost use Rattle.script_text.specs.declared.fault.ScriptCause.{ScriptCause};
 
-/// A text is a number exactly where it is that number in decimal.
+/// A text is a number below 2^64 exactly where it is that number in decimal.
 pub fn numbers_are_decimal()
     ensures { (bytes : List ℕ) (n : ℕ) → n < 2 ^ 64 →
         (number_of bytes ≡ Some n) ↔ (bytes ≡ decimal n) }

@@ -15,10 +15,10 @@ const SCRIPT_BYTES: usize = 1_048_576;
 
 /// The script that the bytes spell, or the first line that offends.
 ///
-/// A script begins with a line `procs N`. Behind it stand lines `object NAME KIND LAYOUT`,
+/// The first line that is not skipped is `procs N`. After it stand lines `object NAME KIND LAYOUT`,
 /// `worker NAME PROC`, and the lines of the worker before them: `begin`, `end`,
 /// `swap OBJECT LAYOUT`, `destroy OBJECT`, and calls. Lines without a token, and lines whose first
-/// token begins with `#`, are skipped.
+/// token begins with `#`, are skipped where their bytes may stand there.
 pub fn parse(alloc: Global, bytes: &[u8]) -> Result<Script, ParseEnd>
     ensures answer { Answers (parsed bytes.now) result }
     ensures sound { IfOk result IsSound }
