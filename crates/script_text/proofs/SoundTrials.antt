@@ -11,7 +11,7 @@ use Rattle.std.proofs.lemmas.Slice.Eq.{bytes_eq-Decides}
 use Rattle.k42_kinds.specs.declared.operation.KindName.TheVariants.{Counter, Directory, Pages}
 use Rattle.script_text.specs.Generated.{hits, names, cache, value_at, swap_line, call_line, step_line, steps_of, step_items, worker_line, worker_lines, generated}
 use Rattle.script_text.specs.Lawful.{call_lines}
-use Rattle.script_text.specs.Sound.{IsSoundLine, IsSoundWorker, IsFreeName, AreDistinct, BlocksHoldCalls, IsSound}
+use Rattle.script_text.specs.Sound.{IsSoundLine, IsSoundWorker, IsFreeName, AreDistinct, BlocksMatch, IsSound}
 use Rattle.script_text.specs.declared.script.CallLine.{CallLine}
 use Rattle.script_text.proofs.GeneratedSteps.{few_steps}
 use Rattle.script_text.proofs.Spacing.{both, neither, refuted}
@@ -64,8 +64,8 @@ length-calls : (n number : ℕ) (steps : List ℕ) → length (call_lines (step_
 length-calls n number [] = refl
 length-calls n number (k ∷ steps) = ap suc (length-calls n (number + 1) steps)
 
-outside_blocks : (n number : ℕ) (steps : List ℕ) → BlocksHoldCalls false (step_items n number steps)
-outside_blocks n number [] = tt
+outside_blocks : (n number : ℕ) (steps : List ℕ) → BlocksMatch false (step_items n number steps) false
+outside_blocks n number [] = refl
 outside_blocks n number (k ∷ steps) = (λ inside. cc, outside_blocks n (number + 1) steps)
 
 sound_worker : (n number worker : ℕ) → worker < 4 → IsSoundWorker (generated n) (worker_lines n number worker)
