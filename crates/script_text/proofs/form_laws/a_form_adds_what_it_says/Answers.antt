@@ -1,4 +1,4 @@
-use Rattle.script_text.proofs.Spellings.{procs_line, object_line, worker_line, begin_line, end_line}
+use Rattle.script_text.proofs.Spellings.{procs_line, object_line, worker_line}
 use Rattle.script_text.proofs.form_laws.a_form_adds_what_it_says.Goals as goal
 
 pub returns-clause-procs : goal.returns-clause-procs
