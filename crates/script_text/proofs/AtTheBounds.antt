@@ -1,5 +1,5 @@
 -- What is too much for a script, and pages that are there and that are not.
-use Rattle.std.proofs.Common.{◌≡◌, ◌≤◌, ℕ, refl, arith}
+use Rattle.std.proofs.Common.{◌≡◌, arith}
 use Rattle.std.specs.Prelude.{length, sum_by}
 use Rattle.k42_kinds.specs.declared.operation.Op.TheVariants.{Read}
 use Rattle.script_text.specs.Lawful.{call_lines}

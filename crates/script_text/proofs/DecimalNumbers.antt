@@ -74,3 +74,8 @@ number_of-decimal bytes n small = (
       sym (decimal-digits_value own bytes plain.digits plain.some plain.lead (omega (arith, parts.1, small))) ∙ ap decimal parts.1,
   λ is. rw (is, plain-number (decimal n) (decimal-plain n small), digits_value-decimal own n small) refl,
 )
+
+-- all bytes of a number are digits
+pub list_all_digits-decimal : (n : ℕ) → n < 2 ^ 64 → list_all is_digit (decimal n) ≡ true
+unfolding AreDigits
+list_all_digits-decimal n small = (decimal-plain n small).digits

@@ -1,5 +1,6 @@
 pub mod LineCuts
 pub mod TokenCuts
+pub mod Spacing
 pub mod NumberSteps
 pub mod ReaderSteps
 pub mod SoundForms
@@ -10,6 +11,11 @@ pub mod SoundScripts
 pub mod Underway
 pub mod Truncated
 pub mod DecimalNumbers
+pub mod Spellings
+pub mod Numbered
+pub mod GeneratedSteps
+pub mod SoundTrials
 pub mod FirstOffence
 pub mod LawfulHistories
 mod AtTheBounds
+mod MatchedBlocks

@@ -1,11 +1,11 @@
 -- What the reader keeps after one more line.
-use Rattle.std.proofs.Common.{◌≡◌, ℕ, zero, suc, ◌+◌, ◌≤◌, Bool, true, false, List, [], ◌∷◌, ◌++◌, length, map, refl, sym, ap, subst, ◌∙◌, arith}
+use Rattle.std.proofs.Common.{◌≡◌, ℕ, ◌+◌, ◌≤◌, Bool, true, false, List, [], ◌∷◌, ◌++◌, length, map, refl, sym, ap, subst, ◌∙◌, arith}
 use Rattle.std.specs.Prelude.{Option, Some, None, is_some, sum_by, Result, OnOk}
-use Rattle.std.proofs.lemmas.List.{append_assoc, append-nil, length-append}
+use Rattle.std.proofs.lemmas.List.{length-append}
 use Rattle.indexmap.proofs.MapLemmas.{OnOk-map}
 use Rattle.std.proofs.lemmas.List.Sums.{sum_by-append}
 use Rattle.script_text.specs.Lawful.{call_lines}
-use Rattle.script_text.specs.Offences.{is_open_behind, is_last_open, is_in_block, call_limit, call_count, object_names, worker_names}
+use Rattle.script_text.specs.Offences.{is_open_behind, is_last_open, call_limit}
 use Rattle.script_text.specs.Language.{with_item, with_last_item, with_worker}
 use Rattle.script_text.specs.Reading.{last_worker, script_so_far, StartsEmpty, IsKept, Shows}
 use Rattle.script_text.specs.declared.script.CallLine.{CallLine}

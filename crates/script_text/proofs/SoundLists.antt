@@ -10,7 +10,7 @@ use Rattle.std.proofs.lemmas.Slice.Eq.{bytes_eq-Decides}
 use Rattle.script_text.specs.Language.{with_item}
 use Rattle.script_text.specs.Lawful.{call_lines}
 use Rattle.script_text.specs.Offences.{is_open_behind, is_last_open}
-use Rattle.script_text.specs.Sound.{BlocksHoldCalls, AreDistinct}
+use Rattle.script_text.specs.Sound.{BlocksMatch, AreDistinct}
 use Rattle.script_text.specs.declared.script.CallLine.{CallLine}
 use Rattle.script_text.specs.declared.script.Item.{Item}
 use Rattle.script_text.specs.declared.script.Item.TheVariants.{Begin, End, Line}
@@ -76,12 +76,34 @@ rising-push lines line rising below i j earlier later before at_i at_j = elim (s
   ]
 ]
 
+-- the activities of the items match as far as they go: one may be open behind them
+abbrev pub BlocksMatchSoFar : Bool → List Item → Type 0
+BlocksMatchSoFar before items = BlocksMatch before items (is_open_behind before items)
+
 -- items with a call, begin or end behind them that may stand there
-pub blocks-push : (in_block : Bool) (items : List Item) (item : Item) → BlocksHoldCalls in_block items → BlocksHoldCalls (is_open_behind in_block items) (item ∷ []) → BlocksHoldCalls in_block (items ++ item ∷ [])
-blocks-push in_block [] item held fits = fits
-blocks-push in_block (Begin ∷ items) item held fits = blocks-push true items item held fits
-blocks-push in_block (End ∷ items) item held fits = blocks-push false items item held fits
-blocks-push in_block (Line line ∷ items) item held fits = (held.0, blocks-push in_block items item held.1 fits)
+pub blocks-push : (before : Bool) (items : List Item) (item : Item) → BlocksMatchSoFar before items → BlocksMatchSoFar (is_open_behind before items) (item ∷ []) → BlocksMatchSoFar before (items ++ item ∷ [])
+blocks-push before [] item matched fits = fits
+blocks-push before (Begin ∷ items) item matched fits = (matched.0, blocks-push true items item matched.1 fits)
+blocks-push before (End ∷ items) item matched fits = (matched.0, blocks-push false items item matched.1 fits)
+blocks-push before (Line line ∷ items) item matched fits = (matched.0, blocks-push before items item matched.1 fits)
+
+-- no worker but the last has an activity open
+abbrev pub EarlierAreClosed : List WorkerLines → Type 0
+EarlierAreClosed [] = Unit {0}
+EarlierAreClosed (worker ∷ []) = Unit {0}
+EarlierAreClosed (worker ∷ other ∷ workers) = (is_open_behind false worker.items ≡ false) × EarlierAreClosed (other ∷ workers)
+
+-- one more worker, where the last has none open either
+pub closed-push : (workers : List WorkerLines) (worker : WorkerLines) → EarlierAreClosed workers → is_last_open workers ≡ false → EarlierAreClosed (workers ++ worker ∷ [])
+closed-push [] worker earlier last = tt
+closed-push (first ∷ []) worker earlier last = (last, tt)
+closed-push (first ∷ second ∷ workers) worker earlier last = (earlier.0, closed-push (second ∷ workers) worker earlier.1 last)
+
+pub with_item-closed : (item : Item) (workers : List WorkerLines) → EarlierAreClosed workers → EarlierAreClosed (with_item item workers)
+with_item-closed item [] earlier = tt
+with_item-closed item (worker ∷ []) earlier = tt
+with_item-closed item (worker ∷ other ∷ []) earlier = (earlier.0, tt)
+with_item-closed item (worker ∷ other ∷ third ∷ workers) earlier = (earlier.0, with_item-closed item (other ∷ third ∷ workers) earlier.1)
 
 pub call_lines-push : (items : List Item) (item : Item) → call_lines (items ++ item ∷ []) ≡ call_lines items ++ call_lines (item ∷ [])
 call_lines-push [] item = refl

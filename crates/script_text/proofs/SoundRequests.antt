@@ -99,6 +99,11 @@ call_in_block : (in_block swap : Bool) (act : Act) → (swap ≡ true) ⊎ IsCal
 call_in_block in_block swap act (inl is_swap) kept inside = absurd cc
 call_in_block in_block swap act (inr is_call) kept inside = is_call
 
+-- an `end` that breaks no block stands in an activity
+open_at_end : (in_block : Bool) → not in_block ≡ false → in_block ≡ true
+open_at_end true kept = refl
+open_at_end false kept = cc
+
 -- a name that is among these has its place among them
 place_among-lt : (names : List (List ℕ)) (name : Option (List ℕ)) (place : ℕ) → place_among names name ≡ Some place → place < length names
 place_among-lt names None place there = absurd (none-some place there)
@@ -124,7 +129,7 @@ module _ (next : ℕ) (script : Script) (sound : IsSoundSoFar next script) (some
       let own : is_another_kind (kind_asked request) (Some kind) ≡ false = rw (found, declared) at passes.own_kind in
       keeps_item next script sound (Line (record { line = next; object = place; act = act })) some
       (record { kind = kind; declared = declared; asked = act_of-asked kind act request spells page own }, refl)
-      (call_in_block (is_in_block script) (is_swap request) act (swap_or_call request act spells) passes.in_place, tt)
+      (call_in_block (is_in_block script) (is_swap request) act (swap_or_call request act spells) passes.in_place, refl)
       (grind (arith, nat_tests, passes.few))
 
 module _ (next : ℕ) (script : Script) (sound : IsSoundSoFar next script) where
@@ -139,8 +144,8 @@ module _ (next : ℕ) (script : Script) (sound : IsSoundSoFar next script) where
   keeps_form (forms.Worker None (Some proc)) start formed passes = same_script next script sound
   keeps_form (forms.Worker (Some name) None) start formed passes = same_script next script sound
   keeps_form (forms.Worker (Some name) (Some proc)) start formed passes =
-      keeps_worker next script sound (record { name = name; proc = proc }) start formed.0 formed.1 passes.new (grind (arith, nat_tests, passes.few))
-  keeps_form forms.Begin start formed passes = keeps_item next script sound Begin start tt tt (omega (arith, sound.few))
-  keeps_form forms.End start formed passes = keeps_item next script sound End start tt tt (omega (arith, sound.few))
+      keeps_worker next script sound (record { name = name; proc = proc }) start formed.0 formed.1 passes.new (grind (arith, nat_tests, passes.few)) passes.in_place
+  keeps_form forms.Begin start formed passes = keeps_item next script sound Begin start tt (passes.in_place, refl) (omega (arith, sound.few))
+  keeps_form forms.End start formed passes = keeps_item next script sound End start tt (open_at_end (is_in_block script) passes.in_place, refl) (omega (arith, sound.few))
   keeps_form (forms.Asks object request) start formed passes =
       keeps_call next script sound start object request formed passes (place_among (object_names script) object) (act_of request) refl refl

@@ -8,9 +8,9 @@ use Rattle.std.proofs.lemmas.Option.{none-some}
 use Rattle.script_text.specs.Lines.{lines_of, text_of}
 use Rattle.script_text.specs.Tokens.{tokens_of, says_nothing}
 use Rattle.script_text.specs.Forms.{form_of, begins_procs}
-use Rattle.script_text.specs.Offences.{is_in_block, wants_procs}
+use Rattle.script_text.specs.Offences.{is_open_behind, is_last_open, is_in_block, wants_procs}
 use Rattle.script_text.specs.Language.{with_said, with_line, with_lines, no_script, script_after, is_refused_for, offends_by, causes, first_of, cause_of, fault_at, last_number, script_at_end, unless_refused, read_on, parsed}
-use Rattle.script_text.specs.Sound.{IsSoundWorker, IsFreeName, IsSound}
+use Rattle.script_text.specs.Sound.{BlocksMatch, IsSoundWorker, IsFreeName, IsSound}
 use Rattle.script_text.specs.Outcome.{Answers}
 use Rattle.script_text.specs.declared.form.Form.{Form}
 use Rattle.script_text.specs.declared.fault.ParseEnd.{ParseEnd}
@@ -21,6 +21,7 @@ use Rattle.script_text.specs.declared.script.ObjectLine.{ObjectLine}
 use Rattle.script_text.specs.declared.script.Script.{Script}
 use Rattle.script_text.specs.declared.script.WorkerLines.{WorkerLines}
 use Rattle.script_text.proofs.SoundForms.{IsFormed, IsProcs, form_of-formed, form_of-procs}
+use Rattle.script_text.proofs.SoundLists.{EarlierAreClosed}
 use Rattle.script_text.proofs.SoundSteps.{HoldsWorker, IsSoundSoFar, same_script}
 use Rattle.script_text.proofs.SoundRequests.{keeps_form}
 
@@ -77,19 +78,29 @@ keeps_line before line sound none =
     (form_of-procs (script_after before).procs tokens) tests.1.1 in
     rw (with_lines-push no_script 1 before line, ← longer) kept
 
-sound_worker : (next : ℕ) (script : Script) (workers : List WorkerLines) → AllByRecursion (HoldsWorker next script) workers → AllByRecursion (IsSoundWorker script) workers
-sound_worker next script [] holds = tt
-sound_worker next script (worker ∷ workers) holds =
-    (record { processor = holds.0.processor; lines = holds.0.lines.sound; rising = holds.0.lines.rising; blocks = holds.0.blocks }, sound_worker next script workers holds.1)
+module _ (next : ℕ) (script : Script) where
+  -- a worker that has no activity open
+  sound_worker : (worker : WorkerLines) → HoldsWorker next script worker → is_open_behind false worker.items ≡ false → IsSoundWorker script worker
+  sound_worker worker holds closed = record {
+    processor = holds.processor;
+    lines = holds.lines.sound;
+    rising = holds.lines.rising;
+    blocks = subst (BlocksMatch false worker.items) closed holds.blocks;
+  }
 
--- at the end a script of some processors is sound
-ended_script : (next : ℕ) (script : Script) → IsSoundSoFar next script → (script.procs == 0) ≡ false → IsSound script
-ended_script next script sound some = record {
+  sound_workers : (workers : List WorkerLines) → AllByRecursion (HoldsWorker next script) workers → EarlierAreClosed workers → is_last_open workers ≡ false → AllByRecursion (IsSoundWorker script) workers
+  sound_workers [] holds earlier last = tt
+  sound_workers (worker ∷ []) holds earlier last = (sound_worker worker holds.0 last, tt)
+  sound_workers (worker ∷ other ∷ workers) holds earlier last = (sound_worker worker holds.0 earlier.0, sound_workers (other ∷ workers) holds.1 earlier.1 last)
+
+-- at the end a script of some processors, with no activity open, is sound
+ended_script : (next : ℕ) (script : Script) → IsSoundSoFar next script → (script.procs == 0) ≡ false → is_in_block script ≡ false → IsSound script
+ended_script next script sound some closed = record {
   some_processor = grind (arith, nat_tests, some);
   processors = sound.processors;
   objects = sound.objects;
   callers = sound.callers;
-  workers = All-from_recursion (IsSoundWorker script) script.workers (sound_worker next script script.workers sound.workers);
+  workers = All-from_recursion (IsSoundWorker script) script.workers (sound_workers next script script.workers sound.workers sound.closed closed);
   names = sound.names;
   few = sound.few;
 }
@@ -97,16 +108,16 @@ ended_script next script sound some = record {
 err-ok : {Y : Type 0} (fault : ScriptFault) (script : Script) → ◌≡◌ {A = Result Script ScriptFault} (Err fault) (Ok script) → Y
 err-ok fault script e = absurd cc
 
--- what is answered at the end is the script that was read, and it has processors
-ended_by : (none in_block : Bool) (early late : ScriptFault) (read script : Script) → ◌≡◌ {A = Result Script ScriptFault} (cond none (Err early) (cond in_block (Err late) (Ok read))) (Ok script) → (none ≡ false) × (read ≡ script)
+-- what is answered at the end is the script that was read, which has processors and no activity open
+ended_by : (none in_block : Bool) (early late : ScriptFault) (read script : Script) → ◌≡◌ {A = Result Script ScriptFault} (cond none (Err early) (cond in_block (Err late) (Ok read))) (Ok script) → (none ≡ false) × (in_block ≡ false) × (read ≡ script)
 ended_by true in_block early late read script e = err-ok early script e
 ended_by false true early late read script e = err-ok late script e
-ended_by false false early late read script e = (refl, cc)
+ended_by false false early late read script e = (refl, refl, cc)
 
 ended_sound : (next number : ℕ) (read script : Script) → IsSoundSoFar next read → script_at_end number read ≡ Ok script → IsSound script
 ended_sound next number read script sound e =
     let ended = ended_by (read.procs == 0) (is_in_block read) (fault_at number ProcsExpected) (fault_at number BlockFault) read script e in
-    subst IsSound ended.1 (ended_script next read sound ended.0)
+    subst IsSound ended.2 (ended_script next read sound ended.0 ended.1)
 
 unless_sound : (number : ℕ) (cause : Option ScriptCause) (next : Result Script ScriptFault) (script : Script) → (cause ≡ None → next ≡ Ok script → IsSound script) → unless_refused number cause next ≡ Ok script → IsSound script
 unless_sound number (Some cause) next script sound e = err-ok (fault_at number cause) script e
@@ -126,6 +137,7 @@ nothing_read = record {
   objects = omega arith;
   callers = omega arith;
   workers = tt;
+  closed = tt;
   names = record {
     object_names = λ i j name at_i at_j. absurd (none-some name at_i);
     worker_names = λ i j name at_i at_j. absurd (none-some name at_i);

@@ -11,7 +11,7 @@ use Rattle.k42_kinds.specs.declared.operation.KindName.{KindName}
 use Rattle.script_text.specs.Language.{with_item, with_object, with_worker, with_last_item}
 use Rattle.script_text.specs.Lawful.{kinds_of, call_lines}
 use Rattle.script_text.specs.Offences.{call_limit, call_count, object_names, worker_names, is_open_behind, is_in_block}
-use Rattle.script_text.specs.Sound.{BlocksHoldCalls, IsSoundLine, IsFreeName, HasDistinctNames}
+use Rattle.script_text.specs.Sound.{IsSoundLine, IsFreeName, HasDistinctNames}
 use Rattle.script_text.specs.declared.script.CallLine.{CallLine}
 use Rattle.script_text.specs.declared.script.Item.{Item}
 use Rattle.script_text.specs.declared.script.Item.TheVariants.{Begin, End, Line}
@@ -19,7 +19,7 @@ use Rattle.script_text.specs.declared.script.ObjectLine.{ObjectLine}
 use Rattle.script_text.specs.declared.script.Script.{Script}
 use Rattle.script_text.specs.declared.script.WorkerHead.{WorkerHead}
 use Rattle.script_text.specs.declared.script.WorkerLines.{WorkerLines}
-use Rattle.script_text.proofs.SoundLists.{slice_get-append_left, distinct-push, AreRising, rising-push, blocks-push, call_lines-push, with_one, with_item-each, with_item-names, with_item-length, asked_by, with_item-count}
+use Rattle.script_text.proofs.SoundLists.{slice_get-append_left, distinct-push, AreRising, rising-push, BlocksMatchSoFar, blocks-push, EarlierAreClosed, closed-push, with_item-closed, call_lines-push, with_one, with_item-each, with_item-names, with_item-length, asked_by, with_item-count}
 
 -- The lines are sound for the script, their numbers rise, and each is below that of the next line.
 pub record HoldsLines (next : ℕ) (script : Script) (lines : List CallLine) : Type 0 where
@@ -30,7 +30,7 @@ pub record HoldsLines (next : ℕ) (script : Script) (lines : List CallLine) : T
 pub record HoldsWorker (next : ℕ) (script : Script) (worker : WorkerLines) : Type 0 where
   pub processor : worker.proc < script.procs
   pub lines : HoldsLines next script (call_lines worker.items)
-  pub blocks : BlocksHoldCalls false worker.items
+  pub blocks : BlocksMatchSoFar false worker.items
 
 -- what is true of the script where the next line has this number
 pub record IsSoundSoFar (next : ℕ) (script : Script) : Type 0 where
@@ -39,6 +39,7 @@ pub record IsSoundSoFar (next : ℕ) (script : Script) : Type 0 where
   pub objects : length script.objects ≤ 16
   pub callers : length script.workers ≤ 16
   pub workers : AllByRecursion (HoldsWorker next script) script.workers
+  pub closed : EarlierAreClosed script.workers
   pub names : HasDistinctNames script
   pub few : call_count script ≤ call_limit
 
@@ -82,7 +83,7 @@ module _ (next : ℕ) (script : Script) where
         (All-weaker (λ (early : CallLine). early.line < next) (λ (early : CallLine). early.line < next + 1) (λ early before. omega (arith, before)) lines holds.earlier) (omega (arith, may.1));
   }
 
-  worker_more : (worker : WorkerLines) (item : Item) → IsNextItem next script item → BlocksHoldCalls (is_open_behind false worker.items) (item ∷ []) → HoldsWorker next script worker → HoldsWorker (next + 1) script (with_one worker item)
+  worker_more : (worker : WorkerLines) (item : Item) → IsNextItem next script item → BlocksMatchSoFar (is_open_behind false worker.items) (item ∷ []) → HoldsWorker next script worker → HoldsWorker (next + 1) script (with_one worker item)
   worker_more worker item may fits holds = record {
     processor = holds.processor;
     lines = subst (HoldsLines (next + 1) script) (sym (call_lines-push worker.items item)) (lines_more (call_lines worker.items) item may holds.lines);
@@ -98,6 +99,7 @@ module _ (next : ℕ) (script : Script) (sound : IsSoundSoFar next script) where
     objects = sound.objects;
     callers = sound.callers;
     workers = workers_kept script script (record { procs = refl; kinds = λ place kind e. e }) next (next + 1) (omega arith) script.workers sound.workers;
+    closed = sound.closed;
     names = sound.names;
     few = sound.few;
   }
@@ -109,6 +111,7 @@ module _ (next : ℕ) (script : Script) (sound : IsSoundSoFar next script) where
     objects = sound.objects;
     callers = sound.callers;
     workers = subst (λ (workers : List WorkerLines). AllByRecursion (HoldsWorker (next + 1) (record script { procs = procs })) workers) (sym (sound.start none).1) tt;
+    closed = sound.closed;
     names = record { object_names = sound.names.object_names; worker_names = sound.names.worker_names; free_objects = sound.names.free_objects; free_workers = sound.names.free_workers };
     few = sound.few;
   }
@@ -120,6 +123,7 @@ module _ (next : ℕ) (script : Script) (sound : IsSoundSoFar next script) where
     objects = omega (arith, few, length-append script.objects (object ∷ []));
     callers = sound.callers;
     workers = workers_kept script (with_object script object) (record { procs = refl; kinds = longer }) next (next + 1) (omega arith) script.workers sound.workers;
+    closed = sound.closed;
     names = record {
       object_names = rw (map-append (λ (line : ObjectLine). line.name) script.objects (object ∷ [])) (distinct-push (object_names script) object.name sound.names.object_names new);
       worker_names = sound.names.worker_names;
@@ -137,9 +141,9 @@ module _ (next : ℕ) (script : Script) (sound : IsSoundSoFar next script) where
   workers_push P [] worker each last = (last, tt)
   workers_push P (first ∷ workers) worker each last = (each.0, workers_push P workers worker each.1 last)
 
-  pub keeps_worker : (head : WorkerHead) → (script.procs ≡ 0 → ⊥) → IsFreeName head.name → head.proc < script.procs → list_any (bytes_eq head.name) (worker_names script) ≡ false → length script.workers < 16
+  pub keeps_worker : (head : WorkerHead) → (script.procs ≡ 0 → ⊥) → IsFreeName head.name → head.proc < script.procs → list_any (bytes_eq head.name) (worker_names script) ≡ false → length script.workers < 16 → is_in_block script ≡ false
       → IsSoundSoFar (next + 1) (with_worker script head)
-  keeps_worker head some free placed new few =
+  keeps_worker head some free placed new few outside =
       let idle : WorkerLines = record { name = head.name; proc = head.proc; items = [] } in
       record {
         processors = sound.processors;
@@ -151,8 +155,9 @@ module _ (next : ℕ) (script : Script) (sound : IsSoundSoFar next script) where
             (record {
               processor = placed;
               lines = record { sound = All-nil (IsSoundLine (with_worker script head)); rising = λ i j earlier later before at_i at_j. absurd (none-some earlier at_i); earlier = All-nil (λ (line : CallLine). line.line < next + 1) };
-              blocks = tt;
+              blocks = refl;
             });
+        closed = closed-push script.workers idle sound.closed outside;
         names = record {
           object_names = sound.names.object_names;
           worker_names = rw (map-append (λ (worker : WorkerLines). worker.name) script.workers (idle ∷ [])) (distinct-push (worker_names script) head.name sound.names.worker_names new);
@@ -162,7 +167,7 @@ module _ (next : ℕ) (script : Script) (sound : IsSoundSoFar next script) where
         few = omega (arith, sound.few, sum_by_push asked_by script.workers idle);
       }
 
-  pub keeps_item : (item : Item) → (script.procs ≡ 0 → ⊥) → IsNextItem next script item → BlocksHoldCalls (is_in_block script) (item ∷ []) → call_count script + length (call_lines (item ∷ [])) ≤ call_limit → IsSoundSoFar (next + 1) (with_last_item script item)
+  pub keeps_item : (item : Item) → (script.procs ≡ 0 → ⊥) → IsNextItem next script item → BlocksMatchSoFar (is_in_block script) (item ∷ []) → call_count script + length (call_lines (item ∷ [])) ≤ call_limit → IsSoundSoFar (next + 1) (with_last_item script item)
   keeps_item item some may fits few =
       let new : Script = with_last_item script item in
       let kept : Extends script new = record { procs = refl; kinds = λ place kind e. e } in
@@ -173,8 +178,9 @@ module _ (next : ℕ) (script : Script) (sound : IsSoundSoFar next script) where
         callers = rw (with_item-length item script.workers) sound.callers;
         workers = with_item-each (HoldsWorker next script) (HoldsWorker (next + 1) new) item script.workers (worker_kept script new kept next (next + 1) (omega arith))
             (λ worker last holds. worker_kept script new kept (next + 1) (next + 1) (omega arith) (with_one worker item)
-            (worker_more next script worker item may (subst (λ (in_block : Bool). BlocksHoldCalls in_block (item ∷ [])) (sym last) fits) holds))
+            (worker_more next script worker item may (subst (λ (in_block : Bool). BlocksMatchSoFar in_block (item ∷ [])) (sym last) fits) holds))
             sound.workers;
+        closed = with_item-closed item script.workers sound.closed;
         names = record {
           object_names = sound.names.object_names;
           worker_names = rw (with_item-names item script.workers) sound.names.worker_names;

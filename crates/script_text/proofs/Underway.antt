@@ -8,7 +8,7 @@ use Rattle.script_text.specs.Lines.{lines_of, text_of, is_printable_text, byte_c
 use Rattle.script_text.specs.Tokens.{tokens_of, says_nothing}
 use Rattle.script_text.specs.Cuts.{CutsLine}
 use Rattle.script_text.specs.Language.{with_line, with_lines, no_script, script_after, refuses, first_of, causes_of_form, cause_of, byte_limit, fault_at, read_on, parsed}
-use Rattle.script_text.specs.Reading.{IsKept, Shows, Takes, script_so_far, refusal_of}
+use Rattle.script_text.specs.Reading.{Shows, Takes, script_so_far, refusal_of}
 use Rattle.script_text.specs.declared.fault.ScriptCause.{ScriptCause}
 use Rattle.script_text.specs.declared.fault.ScriptCause.TheVariants.{ProcsExpected, TooLong, BadByte}
 use Rattle.script_text.specs.declared.script.Script.{Script}

@@ -1,7 +1,6 @@
 -- The forms that a line of a script may have, by its tokens.
 use Rattle.std.specs.Prelude.{ℕ, ◌^◌, Bool, false, not, ◌&&◌, if◌then◌else◌, List, [], ◌∷◌, Option, Some, None, option_map, codes}
 use Rattle.std.specs.List.{list_any}
-use Rattle.std.specs.Option.{option_and_then}
 use Rattle.std.specs.Str.{bytes_eq}
 use Rattle.k42_kinds.specs.Words.{is_name, is_text}
 use Rattle.k42_kinds.specs.declared.operation.KindName.{KindName}

@@ -9,6 +9,8 @@ pub mod Language
 pub mod Outcome
 pub mod Lawful
 pub mod Sound
+pub mod Spelled
+pub mod Generated
 pub mod Cuts
 pub mod Words
 pub mod Reading

@@ -1,5 +1,5 @@
 -- When a line that says something is refused, after the lines that made this script.
-use Rattle.std.specs.Prelude.{ℕ, Bool, true, false, not, ◌&&◌, ◌||◌, ◌==◌, nat_le, if◌then◌else◌, List, [], ◌∷◌, length, map, sum_by, position, codes, Option, Some, None, is_none, is_some, slice_get}
+use Rattle.std.specs.Prelude.{ℕ, Bool, true, false, not, ◌&&◌, ◌==◌, nat_le, List, [], ◌∷◌, length, map, sum_by, position, Option, Some, None, is_none, slice_get}
 use Rattle.std.specs.List.{list_any}
 use Rattle.std.specs.Option.{option_and_then}
 use Rattle.std.specs.Str.{bytes_eq}
@@ -15,7 +15,6 @@ use Rattle.script_text.specs.declared.form.Request.TheVariants.{Swap, Destroy, A
 use Rattle.script_text.specs.declared.script.Item.{Item}
 use Rattle.script_text.specs.declared.script.Item.TheVariants as items
 use Rattle.script_text.specs.declared.script.Script.{Script}
-use Rattle.script_text.specs.declared.script.ObjectLine.{ObjectLine}
 use Rattle.script_text.specs.declared.script.WorkerLines.{WorkerLines}
 
 -- how many objects a script may have, and as many workers

@@ -1,5 +1,5 @@
 -- What a reader of lines keeps of those that it has read.
-use Rattle.std.specs.Prelude.{◌≡◌, ℕ, ◌≤◌, Bool, false, not, if◌then◌else◌, List, [], ◌∷◌, ◌++◌, length, Option, Some, None, Result, Ok, Err}
+use Rattle.std.specs.Prelude.{◌≡◌, ℕ, ◌≤◌, not, if◌then◌else◌, List, [], ◌∷◌, ◌++◌, length, Option, Some, None, Result, Ok, Err}
 use Rattle.k42_memory.specs.declared.Memory.{Memory}
 use Rattle.script_text.specs.Lines.{is_printable_text}
 use Rattle.script_text.specs.Tokens.{tokens_of, says_nothing}

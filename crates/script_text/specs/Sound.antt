@@ -44,13 +44,14 @@ IsCall (Call op) = Unit {0}
 IsCall (Swap layout) = ⊥
 IsCall Destroy = ⊥
 
--- Where an activity is open, or not, in front of these items, every line in an activity is a call.
-abbrev pub BlocksHoldCalls : Bool → List Item → Type 0
-BlocksHoldCalls in_block [] = Unit {0}
-BlocksHoldCalls in_block (Begin ∷ items) = BlocksHoldCalls true items
-BlocksHoldCalls in_block (End ∷ items) = BlocksHoldCalls false items
-BlocksHoldCalls in_block (Line line ∷ items) =
-    (in_block ≡ true → IsCall line.act) × BlocksHoldCalls in_block items
+-- Where an activity is open before these items, or not, and after them, or not: none begins in
+-- another, each `end` ends one, and every line in one is a call.
+abbrev pub BlocksMatch : Bool → List Item → Bool → Type 0
+BlocksMatch before [] after = before ≡ after
+BlocksMatch before (Begin ∷ items) after = (before ≡ false) × BlocksMatch true items after
+BlocksMatch before (End ∷ items) after = (before ≡ true) × BlocksMatch false items after
+BlocksMatch before (Line line ∷ items) after =
+    (before ≡ true → IsCall line.act) × BlocksMatch before items after
 
 -- A worker's lines that ask something have numbers that rise.
 abbrev pub HasRisingLines : WorkerLines → Type 0
@@ -60,13 +61,13 @@ HasRisingLines worker =
     → slice_get (call_lines worker.items) j ≡ Some later
     → earlier.line < later.line
 
--- A worker runs on one of the processors, and its lines are sound, rise, and are calls where they
--- stand in an activity.
+-- A worker runs on one of the processors, its lines are sound and rise, and its activities match:
+-- none is open before its first item, and none after its last.
 pub record IsSoundWorker (script : Script) (worker : WorkerLines) : Type 0 where
   pub processor : worker.proc < script.procs
   pub lines : All (IsSoundLine script) (call_lines worker.items)
   pub rising : HasRisingLines worker
-  pub blocks : BlocksHoldCalls false worker.items
+  pub blocks : BlocksMatch false worker.items false
 
 -- a name that a line may declare: it is of the form, and not reserved
 pub record IsFreeName (name : List ℕ) : Type 0 where

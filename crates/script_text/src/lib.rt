@@ -3,7 +3,9 @@
 
 mod fault;
 mod form;
+mod form_laws;
 mod forms;
+mod generating;
 mod laws;
 mod lines;
 mod names;
@@ -15,6 +17,11 @@ mod script;
 mod tokens;
 
 pub use fault::{ParseEnd, ScriptCause, ScriptFault};
+pub use form_laws::{
+    a_form_adds_what_it_says, a_skipped_line_changes_nothing, a_space_parts_tokens,
+    an_act_is_spelled_once, spaced_tokens_are_tokens,
+};
+pub use generating::generate;
 pub use laws::{first_offence_decides, lines_make_the_text, numbers_are_decimal};
 pub use numbers::number_up_to;
 pub use parsing::parse;

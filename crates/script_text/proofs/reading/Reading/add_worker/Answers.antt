@@ -1,4 +1,3 @@
-use Rattle.std.proofs.Common.{◌≡◌, ◌∙◌}
 use Rattle.script_text.proofs.ReaderSteps.{shows_worker}
 use Rattle.script_text.proofs.reading.Reading.add_worker.Goals as goal
 

@@ -1,0 +1,269 @@
+-- What a line says, where it is spelled as its form is.
+use Rattle.std.proofs.Common.{◌≡◌, ℕ, ◌<◌, ◌≤◌, ◌^◌, true, false, ◌&&◌, eqb, List, [], ◌∷◌, length, refl, sym, ap, ◌∙◌, arith}
+use Rattle.std.specs.Prelude.{Option, Some, None, codes, nat_le, nat_lt}
+use Rattle.std.specs.List.{AllByRecursion, list_all}
+use Rattle.std.specs.Fmt.{decimal}
+use Rattle.std.specs.Str.{bytes_eq}
+use Rattle.std.proofs.lemmas.Bool.Decides.{nat_tests}
+use Rattle.std.proofs.lemmas.Fmt.{decimal_nonempty}
+use Rattle.std.proofs.lemmas.Option.{same_Some}
+use Rattle.k42_kinds.specs.Words.{is_digit, is_lower, is_visible, continues_name, is_name, is_text}
+use Rattle.k42_kinds.specs.declared.entry.Act.{Act}
+use Rattle.k42_kinds.specs.declared.entry.Act.TheVariants.{Call, Swap, Destroy}
+use Rattle.k42_kinds.specs.declared.operation.KindName.{KindName}
+use Rattle.k42_kinds.specs.declared.operation.KindName.TheVariants.{Counter, Directory, Pages}
+use Rattle.k42_kinds.specs.declared.operation.LayoutName.{LayoutName}
+use Rattle.k42_kinds.specs.declared.operation.LayoutName.TheVariants.{Shared, Spread}
+use Rattle.k42_kinds.specs.declared.operation.Op.{Op}
+use Rattle.k42_kinds.specs.declared.operation.Op.TheVariants.{Add, Get, Drain, Bind, Find, Unbind, Size, Write, Read, Dirty, Clean}
+use Rattle.script_text.specs.Acts.{layout_word, operation_word, argument_tokens, act_tokens}
+use Rattle.script_text.specs.Forms.{is_reserved, free_name, kind_named, layout_named, head_of, request_of, form_of}
+use Rattle.script_text.specs.Language.{act_of, with_line, with_said, with_object, with_worker, with_last_item}
+use Rattle.script_text.specs.Numbers.{number_within, number_below}
+use Rattle.script_text.specs.Offences.{object_names, place_among}
+use Rattle.script_text.specs.Sound.{IsFreeName}
+use Rattle.script_text.specs.Spelled.{spaced, IsToken, IsOpInRange, IsInRange, kind_word, procs_tokens, object_tokens, worker_tokens, begin_tokens, end_tokens}
+use Rattle.script_text.specs.Tokens.{is_space, tokens_of, is_remark, says_nothing}
+use Rattle.script_text.specs.declared.form.Form.{Form}
+use Rattle.script_text.specs.declared.form.Form.TheVariants as forms
+use Rattle.script_text.specs.declared.form.Head.TheVariants as heads
+use Rattle.script_text.specs.declared.form.Request.{Request}
+use Rattle.script_text.specs.declared.form.Request.TheVariants as requests
+use Rattle.script_text.specs.declared.script.Item.TheVariants as items
+use Rattle.script_text.specs.declared.script.ObjectLine.{ObjectLine}
+use Rattle.script_text.specs.declared.script.Script.{Script}
+use Rattle.script_text.specs.declared.script.WorkerHead.{WorkerHead}
+use Rattle.script_text.proofs.DecimalNumbers.{list_all_digits-decimal, number_of-decimal}
+use Rattle.script_text.proofs.Spacing.{tokens_of-spaced, list_any_no_space, both, neither}
+
+-- a line that is spelled with one space between each two tokens says what they say
+pub with_line-spaced : (script : Script) (number : ℕ) (tokens : List (List ℕ)) → AllByRecursion IsToken tokens → says_nothing tokens ≡ false → with_line script number (spaced tokens) ≡ with_said script number (form_of script.procs tokens)
+with_line-spaced script number tokens all says = rw (tokens_of-spaced tokens all, says) refl
+
+solid_name : (b : ℕ) → continues_name b ≡ true → is_space b ≡ false
+solid_name b e = grind (arith, nat_tests, e)
+
+solid_text : (b : ℕ) → is_visible b ≡ true → is_space b ≡ false
+solid_text b e = grind (arith, nat_tests, e)
+
+solid_digit : (b : ℕ) → is_digit b ≡ true → is_space b ≡ false
+solid_digit b e = grind (arith, nat_tests, e)
+
+solid_lower : (b : ℕ) → is_lower b ≡ true → is_space b ≡ false
+solid_lower b e = grind (arith, nat_tests, e)
+
+-- names, texts and numbers are tokens
+pub token_name : (name : List ℕ) → is_name name ≡ true → IsToken name
+token_name [] is = cc
+token_name (b ∷ name) is =
+    let parts = both _ (list_all continues_name name) is in
+    let first = both _ (is_lower b) parts.0 in
+    rw (solid_lower b first.1, list_any_no_space continues_name solid_name name parts.1) refl
+
+pub token_text : (text : List ℕ) → is_text text ≡ true → IsToken text
+token_text [] is = cc
+token_text (b ∷ text) is =
+    let parts = both _ (list_all is_visible (b ∷ text)) is in
+    rw (list_any_no_space is_visible solid_text (b ∷ text) parts.1) refl
+
+digits_token : (bytes : List ℕ) → list_all is_digit bytes ≡ true → 0 < length bytes → IsToken bytes
+digits_token [] all some = absurd (omega (arith, some))
+digits_token (b ∷ bytes) all some = rw (list_any_no_space is_digit solid_digit (b ∷ bytes) all) refl
+
+pub token_decimal : (n : ℕ) → n < 2 ^ 64 → IsToken (decimal n)
+token_decimal n small = digits_token (decimal n) (list_all_digits-decimal n small) (decimal_nonempty n small)
+
+-- a number within a range
+pub number_within-decimal : (low high n : ℕ) → low ≤ n → n ≤ high → n < 2 ^ 64 → number_within low high (decimal n) ≡ Some n
+number_within-decimal low high n above within small =
+    let inside : (nat_le low n && nat_le n high) ≡ true = grind (arith, nat_tests, above, within) in
+    rw ((number_of-decimal (decimal n) n small).1 refl, inside) refl
+
+pub number_below-decimal : (bound n : ℕ) → n < bound → n < 2 ^ 64 → number_below bound (decimal n) ≡ Some n
+number_below-decimal bound n below small =
+    let inside : nat_lt n bound ≡ true = grind (arith, nat_tests, below) in
+    rw ((number_of-decimal (decimal n) n small).1 refl, inside) refl
+
+-- `procs N`
+pub procs_line : (script : Script) (number procs : ℕ) → 1 ≤ procs → procs ≤ 8 → with_line script number (spaced (procs_tokens procs)) ≡ record script { procs = procs }
+procs_line script number procs some few =
+    with_line-spaced script number (procs_tokens procs) (refl, (token_decimal procs (omega (arith, few)), tt)) refl
+    ∙ rw (number_within-decimal 1 8 procs some few (omega (arith, few))) refl
+
+kind_named-word : (kind : KindName) → kind_named (kind_word kind) ≡ Some kind
+kind_named-word Counter = refl
+kind_named-word Directory = refl
+kind_named-word Pages = refl
+
+layout_named-word : (layout : LayoutName) → layout_named (layout_word layout) ≡ Some layout
+layout_named-word Shared = refl
+layout_named-word Spread = refl
+
+kind_token : (kind : KindName) → IsToken (kind_word kind)
+kind_token Counter = refl
+kind_token Directory = refl
+kind_token Pages = refl
+
+layout_token : (layout : LayoutName) → IsToken (layout_word layout)
+layout_token Shared = refl
+layout_token Spread = refl
+
+free_name-free : (name : List ℕ) → IsFreeName name → free_name name ≡ Some name
+free_name-free name free = rw (free.free, free.formed) refl
+
+-- `object NAME KIND LAYOUT`
+pub object_line : (script : Script) (number : ℕ) (object : ObjectLine) → IsFreeName object.name → with_line script number (spaced (object_tokens object)) ≡ with_object script object
+object_line script number object free =
+    with_line-spaced script number (object_tokens object) (refl, (token_name object.name free.formed, (kind_token object.kind, (layout_token object.layout, tt)))) refl
+    ∙ rw (kind_named-word object.kind, layout_named-word object.layout, free_name-free object.name free) refl
+
+-- `worker NAME PROC`
+pub worker_line : (script : Script) (number : ℕ) (worker : WorkerHead) → IsFreeName worker.name → worker.proc < script.procs → script.procs ≤ 8 → with_line script number (spaced (worker_tokens worker)) ≡ with_worker script worker
+worker_line script number worker free there few =
+    with_line-spaced script number (worker_tokens worker) (refl, (token_name worker.name free.formed, (token_decimal worker.proc (omega (arith, there, few)), tt))) refl
+    ∙ rw (free_name-free worker.name free, number_below-decimal script.procs worker.proc there (omega (arith, there, few))) refl
+
+-- `begin`
+pub begin_line : (script : Script) (number : ℕ) → with_line script number (spaced begin_tokens) ≡ with_last_item script items.Begin
+begin_line script number = with_line-spaced script number begin_tokens (refl, tt) refl
+
+-- `end`
+pub end_line : (script : Script) (number : ℕ) → with_line script number (spaced end_tokens) ≡ with_last_item script items.End
+end_line script number = with_line-spaced script number end_tokens (refl, tt) refl
+
+-- a name that may be declared begins no form
+head_of-free : (name : List ℕ) → is_reserved name ≡ false → head_of name ≡ heads.Call
+head_of-free name free =
+    let procs = neither (bytes_eq name (codes "procs")) _ free in
+    let object = neither (bytes_eq name (codes "object")) _ procs.1 in
+    let worker = neither (bytes_eq name (codes "worker")) _ object.1 in
+    let begin = neither (bytes_eq name (codes "begin")) _ worker.1 in
+    let end = neither (bytes_eq name (codes "end")) _ begin.1 in
+    let swap = neither (bytes_eq name (codes "swap")) _ end.1 in
+    let destroy = neither (bytes_eq name (codes "destroy")) _ swap.1 in
+    rw (procs.0, object.0, worker.0, begin.0, end.0, swap.0, destroy.0) refl
+
+unmarked_lower : (b : ℕ) → is_lower b ≡ true → eqb b 35 ≡ false
+unmarked_lower b e = grind (arith, nat_tests, e)
+
+-- nor a remark
+says-name : (name : List ℕ) → is_name name ≡ true → is_remark name ≡ false
+says-name [] is = cc
+says-name (b ∷ name) is =
+    let parts = both _ (list_all continues_name name) is in
+    unmarked_lower b (both _ (is_lower b) parts.0).1
+
+-- the tokens of an operation
+op_tokens : (op : Op) → IsOpInRange op → AllByRecursion IsToken (operation_word op ∷ argument_tokens op)
+op_tokens (Add amount) in_range = (refl, (token_decimal amount (omega (arith, in_range)), tt))
+op_tokens Get in_range = (refl, tt)
+op_tokens Drain in_range = (refl, tt)
+op_tokens (Bind key number) in_range = (refl, (token_name key in_range.0, (token_decimal number in_range.1, tt)))
+op_tokens (Find key) in_range = (refl, (token_name key in_range, tt))
+op_tokens (Unbind key) in_range = (refl, (token_name key in_range, tt))
+op_tokens Size in_range = (refl, tt)
+op_tokens (Write page text) in_range = (refl, (token_decimal page (omega (arith, in_range.0)), (token_text text in_range.1, tt)))
+op_tokens (Read page) in_range = (refl, (token_decimal page (omega (arith, in_range)), tt))
+op_tokens Dirty in_range = (refl, tt)
+op_tokens Clean in_range = (refl, tt)
+
+-- the request that an operation is
+request_of_op : Op → Request
+request_of_op (Add amount) = requests.Add (Some amount)
+request_of_op Get = requests.Get
+request_of_op Drain = requests.Drain
+request_of_op (Bind key number) = requests.Bind (Some key) (Some number)
+request_of_op (Find key) = requests.Find (Some key)
+request_of_op (Unbind key) = requests.Unbind (Some key)
+request_of_op Size = requests.Size
+request_of_op (Write page text) = requests.Write (Some page) (Some text)
+request_of_op (Read page) = requests.Read (Some page)
+request_of_op Dirty = requests.Dirty
+request_of_op Clean = requests.Clean
+
+act_of-request : (op : Op) → act_of (request_of_op op) ≡ Some (Call op)
+unfolding request_of_op
+act_of-request (Add amount) = refl
+act_of-request Get = refl
+act_of-request Drain = refl
+act_of-request (Bind key number) = refl
+act_of-request (Find key) = refl
+act_of-request (Unbind key) = refl
+act_of-request Size = refl
+act_of-request (Write page text) = refl
+act_of-request (Read page) = refl
+act_of-request Dirty = refl
+act_of-request Clean = refl
+
+request_of-op : (op : Op) → IsOpInRange op → request_of (operation_word op ∷ argument_tokens op) ≡ Some (request_of_op op)
+unfolding request_of_op
+request_of-op (Add amount) in_range = rw (number_below-decimal (2 ^ 32) amount in_range (omega (arith, in_range))) refl
+request_of-op Get in_range = refl
+request_of-op Drain in_range = refl
+request_of-op (Bind key number) in_range = rw (in_range.0, number_below-decimal (2 ^ 64) number in_range.1 in_range.1) refl
+request_of-op (Find key) in_range = rw in_range refl
+request_of-op (Unbind key) in_range = rw in_range refl
+request_of-op Size in_range = refl
+request_of-op (Write page text) in_range = rw (in_range.1, number_below-decimal 1024 page in_range.0 (omega (arith, in_range.0))) refl
+request_of-op (Read page) in_range = rw (number_below-decimal 1024 page in_range (omega (arith, in_range))) refl
+request_of-op Dirty in_range = refl
+request_of-op Clean in_range = refl
+
+request_of_act : Act → Request
+request_of_act (Call op) = request_of_op op
+request_of_act (Swap layout) = requests.Swap layout
+request_of_act Destroy = requests.Destroy
+
+act_of-act : (act : Act) → act_of (request_of_act act) ≡ Some act
+unfolding request_of_act
+act_of-act (Call op) = act_of-request op
+act_of-act (Swap layout) = refl
+act_of-act Destroy = refl
+
+-- a line that asks something of an object, as its tokens, which are no remark
+act_says : (name : List ℕ) (act : Act) → IsFreeName name → IsInRange act → says_nothing (act_tokens name act) ≡ false
+act_says name (Call op) free in_range = says-name name free.formed
+act_says name (Swap layout) free in_range = refl
+act_says name Destroy free in_range = refl
+
+all_tokens : (name : List ℕ) (act : Act) → IsFreeName name → IsInRange act → AllByRecursion IsToken (act_tokens name act)
+all_tokens name (Call op) free in_range = (token_name name free.formed, op_tokens op in_range)
+all_tokens name (Swap layout) free in_range = (refl, (token_name name free.formed, (layout_token layout, tt)))
+all_tokens name Destroy free in_range = (refl, (token_name name free.formed, tt))
+
+form_of-act : (procs : ℕ) (name : List ℕ) (act : Act) → IsFreeName name → IsInRange act → form_of procs (act_tokens name act) ≡ Some (forms.Asks (Some name) (request_of_act act))
+unfolding request_of_act
+form_of-act procs name (Call op) free in_range = rw (head_of-free name free.free, request_of-op op in_range, free.formed) refl
+form_of-act procs name (Swap layout) free in_range = rw (layout_named-word layout, free.formed) refl
+form_of-act procs name Destroy free in_range = rw free.formed refl
+
+-- a line that asks something of an object
+pub act_line : (script : Script) (number place : ℕ) (name : List ℕ) (act : Act) → IsFreeName name → place_among (object_names script) (Some name) ≡ Some place → IsInRange act → with_line script number (spaced (act_tokens name act)) ≡ with_last_item script (items.Line (record { line = number; object = place; act = act }))
+act_line script number place name act free declared in_range =
+    with_line-spaced script number (act_tokens name act) (all_tokens name act free in_range) (act_says name act free in_range)
+    ∙ rw (form_of-act script.procs name act free in_range, declared, act_of-act act) refl
+
+-- the name and the act that a form says
+said_name : Option Form → Option (List ℕ)
+said_name (Some (forms.Asks object request)) = object
+said_name _ = None
+
+said_act : Option Form → Option Act
+said_act (Some (forms.Asks object request)) = act_of request
+said_act _ = None
+
+form_of_text : List ℕ → Option Form
+form_of_text text = form_of 1 (tokens_of text)
+
+form_of_text-act : (name : List ℕ) (act : Act) → IsFreeName name → IsInRange act → form_of_text (spaced (act_tokens name act)) ≡ Some (forms.Asks (Some name) (request_of_act act))
+unfolding form_of_text
+form_of_text-act name act free in_range = rw (tokens_of-spaced (act_tokens name act) (all_tokens name act free in_range)) (form_of-act 1 name act free in_range)
+
+-- two acts of one spelling are one, on one object
+pub act_spelling : (name other : List ℕ) (act another : Act) → IsFreeName name → IsFreeName other → IsInRange act → IsInRange another → spaced (act_tokens name act) ≡ spaced (act_tokens other another) → (name ≡ other) × (act ≡ another)
+unfolding said_name said_act
+act_spelling name other act another free free_other in_range other_in_range same =
+    let forms_same = sym (form_of_text-act name act free in_range) ∙ ap form_of_text same ∙ form_of_text-act other another free_other other_in_range in (
+      same_Some name other (ap said_name forms_same),
+      same_Some act another (sym (act_of-act act) ∙ ap said_act forms_same ∙ act_of-act another),
+    )
