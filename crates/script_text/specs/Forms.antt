@@ -133,7 +133,8 @@ request_of _ = None
 
 -- an operation of the object that the first word names
 abbrev pub call_form : List ℕ → List (List ℕ) → Option Form
-call_form object tokens = option_map (λ request. forms.Asks (name_of object) request) (request_of tokens)
+call_form object tokens =
+    option_map (λ request. forms.Asks (name_of object) request) (request_of tokens)
 
 -- the form of a line that begins so, by the tokens behind its first word
 abbrev pub form_behind : ℕ → Head → List ℕ → List (List ℕ) → Option Form

@@ -18,7 +18,8 @@ use Rattle.script_text.specs.declared.reading.Reading.{Reading}
 -- the last worker with its items, if there is one
 abbrev pub last_worker : Option WorkerHead → List Item → List WorkerLines
 last_worker None items = []
-last_worker (Some worker) items = record { name = worker.name; proc = worker.proc; items = items } ∷ []
+last_worker (Some worker) items =
+    record { name = worker.name; proc = worker.proc; items = items } ∷ []
 
 -- the script that the reader has read
 abbrev pub script_so_far : Reading → Script

@@ -202,7 +202,8 @@ fn end_form(text: &[u8]) -> Option<Form>
 
 /// A swap of the object of this name.
 fn swap_asked(object: &[u8], layout: &[u8]) -> Option<Form>
-    ensures { result ≡ option_map (λ named. Form.Asks (spelling.name_of object.now) (Request.Swap named))
+    ensures { result
+        ≡ option_map (λ named. Form.Asks (spelling.name_of object.now) (Request.Swap named))
         (spelling.layout_named layout.now) }
 {
     let layout = layout_named(layout)?;

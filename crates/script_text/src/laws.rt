@@ -25,5 +25,6 @@ pub fn first_offence_decides()
         cause_of before line ≡ Some cause →
         parsed bytes ≡ Err (fault_at (length before + 1) cause) }
     ensures at_end { (bytes : List ℕ) → NoneOffends (lines_of bytes) →
-        parsed bytes ≡ script_at_end (last_number (lines_of bytes)) (script_after (lines_of bytes)) }
+        parsed bytes
+        ≡ script_at_end (last_number (lines_of bytes)) (script_after (lines_of bytes)) }
 {}

@@ -310,7 +310,8 @@ impl Reading {
         requires kept { IsKept self.old }
         requires worker { is_some self.old.worker ≡ true }
         requires few { self.old.asked < 65536 }
-        ensures { OnOk result (Shows (with_request (script_so_far self.old) number object.now request.now) self.new) }
+        ensures { OnOk result
+            (Shows (with_request (script_so_far self.old) number object.now request.now) self.new) }
     {
         let Some(place) = self.place_of(object) else {
             return Ok(());
@@ -329,7 +330,8 @@ impl Reading {
     fn add(&mut self, alloc: Global, number: u32, form: &Form) -> Result<(), Memory>
         requires kept { IsKept self.old }
         requires taken { refusal_of_form (script_so_far self.old) form.now ≡ None }
-        ensures { OnOk result (Shows (with_form (script_so_far self.old) number form.now) self.new) }
+        ensures { OnOk result
+            (Shows (with_form (script_so_far self.old) number form.now) self.new) }
     {
         match form {
             Form::Procs(Some(procs)) => {
