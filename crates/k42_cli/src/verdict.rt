@@ -115,7 +115,8 @@ pub fn verdict_in(
 ) -> Result<Verdict, Memory>
     requires sound { IsSound script.now }
     requires part { text.now ≡ record_part input.now }
-    requires short { length text.now < 2 ^ 31 }
+    requires within { length text.now ≤ length input.now }
+    requires read { length input.now ≤ verdicts.input_limit }
     ensures { IfOk result (λ verdict. verdicts.IsVerdict script.now input.now verdict) }
 {
     if input.len() > INPUT_BYTES {

@@ -1,5 +1,5 @@
 use super::{
-    ADD_AND_GET, Ran, SWAP_BETWEEN, SWAP_BETWEEN_RECORD, SWAP_BETWEEN_RECORD_2, run_in_pieces,
+    Ran, SWAP_BETWEEN, SWAP_BETWEEN_RECORD, SWAP_BETWEEN_RECORD_2, run_in_pieces,
     run_quietly,
 };
 use crate::status::Status;
@@ -191,35 +191,37 @@ fn a_script_without_a_record_is_unlawful(rt: HostRuntime) -> Result<(), Fail> {
     Ok(())
 }
 
-/// A script, and a record of so many lines of 22 bytes, with a remark in the script so long that
-/// both have this length, as far as the record's last line has room.
+/// The longest line of a record.
+const LONGEST: &[u8] = b"18446744073709551615 aaaaaaaaaaaaaaaa 4294967295 bbbbbbbbbbbbbbbb \
+    write 1023 cccccccccccccccccccccccccccccccc = text dddddddddddddddddddddddddddddddd \
+    @4294967295\n";
+
+/// A script, and a record of so many of the longest lines without its end, with a remark in the
+/// script so long that both have this length.
 fn long_input(alloc: Global, lines: usize, length: usize) -> Result<Vec<u8>, Fail> {
-    let line = b"1 a 4 hits get = 0 @0\n";
-    let head = b"---\nk42 record 1\n";
-    let record = head.len() + lines * line.len();
-    let mut input = ADD_AND_GET.to_vec(alloc)?;
-    input.push(b'#')?;
-    let remark = length.saturating_sub(record).saturating_sub(1);
-    input.resize(remark.max(input.len()), b' ')?;
-    input.push(b'\n')?;
+    let head = b"\n---\nk42 record 1\n";
+    let mut input = b"procs 1\nobject bbbbbbbbbbbbbbbb pages shared\n\
+        worker aaaaaaaaaaaaaaaa 0\n#"
+        .to_vec(alloc)?;
+    let record = lines.saturating_mul(LONGEST.len()).saturating_add(head.len());
+    input.resize(length.saturating_sub(record).max(input.len()), b' ')?;
     input.extend_from_slice(head)?;
     for _ in 0..lines {
-        input.extend_from_slice(line)?;
+        input.extend_from_slice(LONGEST)?;
     }
     Ok(input)
 }
 
 #[test]
 fn input_ends_before_byte_16777217(rt: HostRuntime) -> Result<(), Fail> {
-    // The first line of the record is followed by 740,000 entries, so that the last one stands on
-    // line 740,001, and the end is missed on the next one.
-    let cases: [(usize, &[u8]); 3] = [
-        (16_777_216, b"line 740002: rule 11\n"),
-        (16_777_217, b"line 740001: rule 11\n"),
-        (16_777_218, b"line 740001: rule 11\n"),
+    // Behind its first line the record has 100,000 lines. A record of them is none on the line
+    // behind them, where its end is missing; with a byte too many it is none on the last of them.
+    let cases: [(usize, &[u8]); 2] = [
+        (16_777_216, b"line 100002: rule 11\n"),
+        (16_777_217, b"line 100001: rule 11\n"),
     ];
     for (length, line) in cases {
-        let input = long_input(rt.alloc(), 740_000, length)?;
+        let input = long_input(rt.alloc(), 100_000, length)?;
         assert_eq!(rt; input.len(), length);
         let ran = run_quietly(rt.alloc(), "check", input, 4096)?;
         assert_eq!(rt; ran.status, Status::Unlawful, "of {length} bytes");
