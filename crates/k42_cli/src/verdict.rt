@@ -84,9 +84,7 @@ fn verdict_of(alloc: Global, script: &Script, text: &[u8]) -> Result<Verdict, Me
 {
     match read(alloc, script, text) {
         Ok(written) => verdict_on(alloc, script, &written),
-        Err(RecordEnd::Misspelt { line }) => {
-            Ok(Verdict::Unlawful(line as usize, SPELLING_RULE))
-        }
+        Err(RecordEnd::Misspelt { line }) => { Ok(Verdict::Unlawful(line as usize, SPELLING_RULE)) }
         Err(RecordEnd::Memory) => Err(Memory),
     }
 }
