@@ -1,17 +1,21 @@
 -- What the program's status says, from what was worked out and what was delivered.
-use Rattle.std.proofs.Common.{◌≡◌, ◌≢◌, ℕ, ◌<◌, ◌≤◌, List, [], length, take, inl, inr, refl, sym, ap, ◌∙◌, subst, arith}
-use Rattle.std.specs.Prelude.{Option, Some, None, IfSome, Result, Ok, Err}
+use Rattle.std.proofs.Common.{◌≡◌, ◌≢◌, ℕ, ◌<◌, ◌≤◌, Bool, true, false, List, [], length, take, inl, inr, refl, sym, ap, ◌∙◌, subst, arith}
+use Rattle.std.specs.Prelude.{Option, Some, None, IfSome, Result, Ok, Err, nat_lt, ◌↔◌}
+use Rattle.std.proofs.lemmas.Bool.Decides.{nat_tests}
 use Rattle.std.proofs.lemmas.List.{length-take, take_all}
 use Rattle.std.proofs.Math.ListN.{drop_of_length-le}
 use Rattle.k42_io.specs.Sink.{Grows}
 use Rattle.k42_io.specs.Source.{TakesFirst}
-use Rattle.script_text.specs.Language.{parsed}
+use Rattle.script_text.specs.Language.{parsed, byte_limit}
 use Rattle.script_text.specs.declared.fault.ScriptFault.{ScriptFault}
 use Rattle.script_text.specs.declared.script.Script.{Script}
 use Rattle.script_text.proofs.Truncated.{parsed-take}
-use Rattle.k42_cli.specs.Separation.{script_part}
-use Rattle.k42_cli.specs.Verdicts.{input_limit, input_read, status_of}
+use Rattle.script_text.specs.Lines.{lines_of}
+use Rattle.record_text.specs.Reading.{reading}
+use Rattle.k42_cli.specs.Separation.{script_part, record_part}
+use Rattle.k42_cli.specs.Verdicts.{input_limit, spelling_rule, line_refused, IsFound, IsVerdict, status_of}
 use Rattle.k42_cli.specs.Program.{usage_line, IsVerdictDue, IsRunDue, IsCheckDue, IsDue, Ends, IsQuiet, Says, CompletesRun, CompletesCheck, Completes}
+use Rattle.k42_cli.proofs.CutInput.{script_part-take}
 use Rattle.k42_cli.specs.Outputs.{limit_of, IsWorkedOut, Delivers}
 use Rattle.k42_cli.specs.declared.verdict.Verdict.{Verdict}
 use Rattle.k42_cli.specs.declared.verdict.Verdict.TheVariants.{Lawful, Unlawful}
@@ -30,11 +34,87 @@ due_alike version bytes others statuses.ReadFault output same due = absurd due
 due_alike version bytes others statuses.WriteFault output same due = absurd due
 due_alike version bytes others statuses.Memory output same due = absurd due
 
+found_alike : (script : Script) (bytes : List ℕ) (verdict : Verdict) → IsVerdict script (take input_limit bytes) verdict → IsVerdict script bytes verdict
+found_alike script bytes verdict found = record {
+  whole = λ short.
+      let all : take input_limit bytes ≡ bytes = take_all input_limit bytes (omega (arith, short)) in
+      (subst (λ (input : List ℕ). IsVerdict script input verdict) all found).whole short;
+  too_long = λ long.
+      let same : take input_limit (take input_limit bytes) ≡ take input_limit bytes = take_all input_limit (take input_limit bytes) (omega (arith, length-take input_limit bytes)) in
+      found.too_long (omega (arith, long, length-take input_limit bytes)) ∙ ap (λ (input : List ℕ). Unlawful (line_refused (reading script (record_part input)) (length (lines_of (record_part input)))) spelling_rule) same;
+}
+
+-- a record is lawful only where there is no byte too many
+pub short_where_lawful : (script : Script) (input : List ℕ) (verdict : Verdict) → IsVerdict script input verdict → status_of verdict ≡ statuses.Ok → length input < input_limit
+short_where_lawful script input verdict found lawful = by (nat_lt (length input) input_limit) refl
+  where
+    refused : ◌≡◌ {A = Status} statuses.Ok statuses.Unlawful → ⊥
+    refused e = cc
+
+    by : (b : Bool) → nat_lt (length input) input_limit ≡ b → length input < input_limit
+    by true less = grind (arith, nat_tests, less)
+    by false more = absurd (refused (sym lawful ∙ ap status_of (found.too_long (grind (arith, nat_tests, more)))))
+
+verdict_alike : (bytes : List ℕ) (status : Status) (output : List ℕ) → IsVerdictDue (take input_limit bytes) status output → IsVerdictDue bytes status output
+verdict_alike bytes status output due = record {
+  script = due.script;
+  verdict = due.verdict;
+  accepted = sym (script_part-take bytes) ∙ due.accepted;
+  found = found_alike due.script bytes due.verdict due.found;
+  answered = due.answered;
+  text = due.text;
+}
+
+check_alike : (bytes : List ℕ) (status : Status) (output : List ℕ) → IsCheckDue (take input_limit bytes) status output → IsCheckDue bytes status output
+check_alike bytes statuses.Refused output due = record { fault = due.fault; refused = sym (script_part-take bytes) ∙ due.refused; text = due.text }
+check_alike bytes statuses.Ok output due = verdict_alike bytes statuses.Ok output due
+check_alike bytes statuses.Unlawful output due = verdict_alike bytes statuses.Unlawful output due
+check_alike bytes statuses.Usage output due = verdict_alike bytes statuses.Usage output due
+check_alike bytes statuses.ReadFault output due = verdict_alike bytes statuses.ReadFault output due
+check_alike bytes statuses.WriteFault output due = verdict_alike bytes statuses.WriteFault output due
+check_alike bytes statuses.Memory output due = verdict_alike bytes statuses.Memory output due
+
+-- and so the other way
+found_cut : (script : Script) (bytes : List ℕ) (verdict : Verdict) → IsVerdict script bytes verdict → IsVerdict script (take input_limit bytes) verdict
+found_cut script bytes verdict found = record {
+  whole = λ short.
+      let few : length bytes < input_limit = omega (arith, short, length-take input_limit bytes) in
+      subst (λ (input : List ℕ). IsFound script (reading script (record_part input)) verdict) (sym (take_all input_limit bytes (omega (arith, few)))) (found.whole few);
+  too_long = λ long.
+      let same : take input_limit (take input_limit bytes) ≡ take input_limit bytes = take_all input_limit (take input_limit bytes) (omega (arith, length-take input_limit bytes)) in
+      found.too_long (omega (arith, long, length-take input_limit bytes)) ∙ ap (λ (input : List ℕ). Unlawful (line_refused (reading script (record_part input)) (length (lines_of (record_part input)))) spelling_rule) (sym same);
+}
+
+verdict_cut : (bytes : List ℕ) (status : Status) (output : List ℕ) → IsVerdictDue bytes status output → IsVerdictDue (take input_limit bytes) status output
+verdict_cut bytes status output due = record {
+  script = due.script;
+  verdict = due.verdict;
+  accepted = script_part-take bytes ∙ due.accepted;
+  found = found_cut due.script bytes due.verdict due.found;
+  answered = due.answered;
+  text = due.text;
+}
+
+check_cut : (bytes : List ℕ) (status : Status) (output : List ℕ) → IsCheckDue bytes status output → IsCheckDue (take input_limit bytes) status output
+check_cut bytes statuses.Refused output due = record { fault = due.fault; refused = script_part-take bytes ∙ due.refused; text = due.text }
+check_cut bytes statuses.Ok output due = verdict_cut bytes statuses.Ok output due
+check_cut bytes statuses.Unlawful output due = verdict_cut bytes statuses.Unlawful output due
+check_cut bytes statuses.Usage output due = verdict_cut bytes statuses.Usage output due
+check_cut bytes statuses.ReadFault output due = verdict_cut bytes statuses.ReadFault output due
+check_cut bytes statuses.WriteFault output due = verdict_cut bytes statuses.WriteFault output due
+check_cut bytes statuses.Memory output due = verdict_cut bytes statuses.Memory output due
+
+due_cut : (form : Form) (bytes : List ℕ) (status : Status) (output : List ℕ) → IsDue (Some form) bytes status output → IsDue (Some form) (take (limit_of form) bytes) status output
+due_cut (Run version) bytes status output due = due_alike version bytes (take byte_limit bytes) status output (sym (parsed-take bytes)) due
+due_cut Check bytes status output due = check_cut bytes status output due
+
 due_whole : (form : Form) (all bytes : List ℕ) (status : Status) (output : List ℕ) → all ≡ take (limit_of form) bytes → IsDue (Some form) all status output → IsDue (Some form) bytes status output
 due_whole (Run version) all bytes status output is due = due_alike version all bytes status output (ap parsed is ∙ parsed-take bytes) due
-due_whole Check all bytes status output is due =
-    let same : input_read all ≡ input_read bytes = ap input_read is ∙ take_all input_limit (take input_limit bytes) (omega (arith, length-take input_limit bytes)) in
-    subst (λ (input : List ℕ). IsCheckDue input status output) same due
+due_whole Check all bytes status output is due = check_alike bytes status output (subst (λ (input : List ℕ). IsCheckDue input status output) is due)
+
+-- what stands past the limit makes no difference
+pub nothing_past_limit : (form : Form) (bytes output : List ℕ) (status : Status) → IsDue (Some form) (take (limit_of form) bytes) status output ↔ IsDue (Some form) bytes status output
+nothing_past_limit form bytes output status = (due_whole form (take (limit_of form) bytes) bytes status output refl, due_cut form bytes status output)
 
 -- what was read decides as all that was left would, and where the work was done it was read whole
 pub worked_out : (form : Form) (left left_after : Option (List ℕ)) (all : List ℕ) (status : Status) (output : List ℕ) → TakesFirst (limit_of form) left left_after all → IsDue (Some form) all status output
@@ -86,7 +166,7 @@ completes_check input statuses.Memory output due = verdict_completes input statu
 
 completes_by : (form : Form) (bytes : List ℕ) (status : Status) (output : List ℕ) → IsDue (Some form) bytes status output → Completes (Some form) bytes status
 completes_by (Run version) bytes status output due = completes_run version bytes status output due
-completes_by Check bytes status output due = completes_check (input_read bytes) status output due
+completes_by Check bytes status output due = completes_check bytes status output due
 
 -- no other status goes with a verdict
 other_verdict : {Y : Type 0} (verdict : Verdict) (status : Status) → status ≡ status_of verdict → status ≢ statuses.Ok → status ≢ statuses.Unlawful → Y
@@ -182,7 +262,7 @@ check_memory (Err fault) = inr refl
 
 pub memory_completes : (form : Form) (bytes : List ℕ) → Completes (Some form) bytes statuses.Memory
 memory_completes (Run version) bytes = run_memory (parsed bytes)
-memory_completes Check bytes = check_memory (parsed (script_part (input_read bytes)))
+memory_completes Check bytes = check_memory (parsed (script_part bytes))
 
 -- what is no form is none
 pub is_none : (asked : Option Form) → ((form : Form) → asked ≡ Some form → ⊥) → asked ≡ None

@@ -5,4 +5,5 @@ pub mod Fresh
 pub mod Crew
 pub mod Records
 pub mod Separating
+pub mod CutInput
 pub mod Endings

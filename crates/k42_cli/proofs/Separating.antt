@@ -75,15 +75,15 @@ module _ (input : List ℕ) (start n : ℕ) (passed : IsPassed input start) (fir
   -- the line is one
   pub script_before : is_separator (take n (drop start input)) ≡ true → take start input ≡ script_part input
   script_before here = sym (
-    passed.script ∙ ap (λ (lines : List (List ℕ)). take start input ++ concat (lines_before lines)) first
-    ∙ ap (λ (part : List ℕ). take start input ++ part) (script_here (take n (drop start input)) (lines_of (drop n (drop start input))) here) ∙ append-nil (take start input)
-  )
+      passed.script ∙ ap (λ (lines : List (List ℕ)). take start input ++ concat (lines_before lines)) first
+      ∙ ap (λ (part : List ℕ). take start input ++ part) (script_here (take n (drop start input)) (lines_of (drop n (drop start input))) here) ∙ append-nil (take start input)
+      )
 
   pub text_behind : is_separator (take n (drop start input)) ≡ true → drop (start + n) input ≡ record_part input
   text_behind here = sym (
-    passed.text ∙ ap (λ (lines : List (List ℕ)). concat (lines_after lines)) first
-    ∙ text_here (take n (drop start input)) (lines_of (drop n (drop start input))) here ∙ concat-lines_of (drop n (drop start input)) ∙ drop-drop start n input
-  )
+      passed.text ∙ ap (λ (lines : List (List ℕ)). concat (lines_after lines)) first
+      ∙ text_here (take n (drop start input)) (lines_of (drop n (drop start input))) here ∙ concat-lines_of (drop n (drop start input)) ∙ drop-drop start n input
+      )
 
 -- there is none
 pub script_all : (input : List ℕ) (start : ℕ) → length input ≤ start → IsPassed input start → input ≡ script_part input

@@ -11,7 +11,7 @@ use Rattle.record_text.specs.Histories.{history_text}
 use Rattle.k42_io.specs.Sink.{Grows, GrowsByFront, Stays}
 use Rattle.k42_cli.specs.Generations.{CountsGenerations}
 use Rattle.k42_cli.specs.Separation.{script_part}
-use Rattle.k42_cli.specs.Verdicts.{input_read, IsVerdict, verdict_line, status_of}
+use Rattle.k42_cli.specs.Verdicts.{IsVerdict, verdict_line, status_of}
 use Rattle.k42_cli.specs.declared.verdict.Verdict.{Verdict}
 use Rattle.k42_cli.specs.declared.words.Form.{Form}
 use Rattle.k42_cli.specs.declared.words.Form.TheVariants.{Run, Check}
@@ -66,7 +66,7 @@ IsCheckDue input status output = IsVerdictDue input status output
 -- the output that is due for what the words ask and for the bytes, and the status with it
 abbrev pub IsDue : Option Form → List ℕ → Status → List ℕ → Type 0
 IsDue (Some (Run version)) bytes status output = IsRunDue version bytes status output
-IsDue (Some Check) bytes status output = IsCheckDue (input_read bytes) status output
+IsDue (Some Check) bytes status output = IsCheckDue bytes status output
 IsDue None bytes status output = (status ≡ statuses.Usage) × (output ≡ usage_line)
 
 -- the ends of the program before and after it: what is left to read and what was taken, where that
@@ -160,5 +160,5 @@ CompletesCheck (Err fault) status = (status ≡ statuses.Refused) ⊎ (status �
 -- that is refused is refused, else memory ran out; and words that are no form name the forms.
 abbrev pub Completes : Option Form → List ℕ → Status → Type 0
 Completes (Some (Run version)) bytes status = CompletesRun (parsed bytes) status
-Completes (Some Check) bytes status = CompletesCheck (parsed (script_part (input_read bytes))) status
+Completes (Some Check) bytes status = CompletesCheck (parsed (script_part bytes)) status
 Completes None bytes status = status ≡ statuses.Usage

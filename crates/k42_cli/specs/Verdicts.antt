@@ -16,10 +16,6 @@ use Rattle.k42_cli.specs.declared.status.Status.TheVariants as statuses
 abbrev pub input_limit : ℕ
 input_limit = 16777217
 
--- What is read of the input. What stands past the byte that is one too many makes no difference.
-abbrev pub input_read : List ℕ → List ℕ
-input_read bytes = take input_limit bytes
-
 -- the rule that a record is spelled as records are
 abbrev pub spelling_rule : ℕ
 spelling_rule = 11
@@ -41,17 +37,18 @@ abbrev pub line_refused : Result Record ℕ → ℕ → ℕ
 line_refused (Ok written) holding = holding
 line_refused (Err line) holding = min holding line
 
--- The line of the record that holds the byte that is one too many, which is the last byte read.
-abbrev pub holding_line : List ℕ → ℕ
-holding_line input = length (lines_of (record_part input))
+-- What is read of the record where there is a byte too many, which is then the last byte read.
+-- What stands past it makes no difference.
+abbrev pub record_read : List ℕ → List ℕ
+record_read input = record_part (take input_limit input)
 
--- What is found of the record that stands in what was read.
+-- What is found of the record that stands in the input.
 pub record IsVerdict (script : Script) (input : List ℕ) (verdict : Verdict) : Type 0 where
   pub whole : length input < input_limit →
       IsFound script (reading script (record_part input)) verdict
   pub too_long : input_limit ≤ length input →
-      verdict ≡ Unlawful (line_refused (reading script (record_part input)) (holding_line input))
-      spelling_rule
+      verdict ≡ Unlawful (line_refused (reading script (record_read input))
+      (length (lines_of (record_read input)))) spelling_rule
 
 -- `lawful N`, or `line N: rule R`
 abbrev pub verdict_line : Verdict → List ℕ

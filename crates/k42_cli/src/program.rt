@@ -1,4 +1,4 @@
-ghost use Rattle.std.specs.Prelude.{◌≡◌, ℕ, ◌+◌, ◌-◌, ◌^◌, ◌<◌, ◌⊎◌, List, Some, None, IfOk, OnOk, IsErrOf, map, string_bytes};
+ghost use Rattle.std.specs.Prelude.{◌≡◌, ℕ, ◌+◌, ◌-◌, ◌^◌, ◌<◌, ◌⊎◌, ◌↔◌, List, take, Some, None, IfOk, OnOk, IsErrOf, map, string_bytes};
 ghost use Rattle.k42_cli.specs.Program as program;
 ghost use Rattle.k42_cli.specs.Words as asked;
 ghost use Rattle.k42_cli.specs.Words.{HasVersion};
@@ -122,6 +122,10 @@ pub fn k42_main<S: Source, K: Sink, G: Gate>(
     ensures complete { (bytes : List ℕ) → S.left source.old ≡ Some bytes →
         S.faults source.new ≡ S.faults source.old → K.faults sink.new ≡ K.faults sink.old →
         program.Completes (asked.form_of (map string_bytes words.now)) bytes result }
+    // What stands past the first byte that is one too many makes no difference to what is due.
+    ensures enough { (form : Form) (bytes output : List ℕ) (status : Status) →
+        program.IsDue (Some form) (take (limit_of form) bytes) status output
+        ↔ program.IsDue (Some form) bytes status output }
     // Without a form nothing is read, and only a write can fail.
     ensures unread { asked.form_of (map string_bytes words.now) ≡ None →
         source.new ≡ source.old }

@@ -167,7 +167,11 @@ fn a_record_of_version_2_tells_processors_and_generations(rt: HostRuntime) -> Re
             b"procs 8\nobject hits counter shared\nworker a 7\nhits add 5\nhits get\n",
             b"k42 record 2\n1 a 4 hits add 5 = ok @0 p7 g0\n2 a 5 hits get = 5 @0 p7 g0\nend 2\n",
         ),
-        ("a generation for each swap", SWAP_BETWEEN, SWAP_BETWEEN_RECORD_2),
+        (
+            "a generation for each swap",
+            SWAP_BETWEEN,
+            SWAP_BETWEEN_RECORD_2,
+        ),
     ];
     for (shows, script, record) in cases {
         let ran = run_in_pieces(rt.alloc(), "run 2", script, 4096, &[], &[])?;

@@ -84,9 +84,7 @@ fn verdict_of(alloc: Global, script: &Script, text: &[u8]) -> Result<Verdict, Me
 {
     match read(alloc, script, text) {
         Ok(written) => verdict_on(alloc, script, &written),
-        Err(RecordEnd::Misspelt { line }) => {
-            Ok(Verdict::Unlawful(line as usize, SPELLING_RULE))
-        }
+        Err(RecordEnd::Misspelt { line }) => { Ok(Verdict::Unlawful(line as usize, SPELLING_RULE)) }
         Err(RecordEnd::Memory) => Err(Memory),
     }
 }
@@ -115,7 +113,8 @@ pub fn verdict_in(
 ) -> Result<Verdict, Memory>
     requires sound { IsSound script.now }
     requires part { text.now ≡ record_part input.now }
-    requires short { length text.now < 2 ^ 31 }
+    requires within { length text.now ≤ length input.now }
+    requires read { length input.now ≤ verdicts.input_limit }
     ensures { IfOk result (λ verdict. verdicts.IsVerdict script.now input.now verdict) }
 {
     if input.len() > INPUT_BYTES {

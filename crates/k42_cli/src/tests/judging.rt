@@ -1,6 +1,5 @@
 use super::{
-    ADD_AND_GET, Ran, SWAP_BETWEEN, SWAP_BETWEEN_RECORD, SWAP_BETWEEN_RECORD_2, run_in_pieces,
-    run_quietly,
+    Ran, SWAP_BETWEEN, SWAP_BETWEEN_RECORD, SWAP_BETWEEN_RECORD_2, run_in_pieces, run_quietly,
 };
 use crate::status::Status;
 use std::alloc::Global;
@@ -11,8 +10,7 @@ const TWO_WORKERS: &[u8] = b"procs 2\nobject hits counter spread\nworker a 0\nhi
     hits get\nworker b 1\nhits add 7\nhits get\n";
 
 /// One swap of one counter.
-const ONE_SWAP: &[u8] =
-    b"procs 1\nobject hits counter shared\nworker a 0\nswap hits shared\n";
+const ONE_SWAP: &[u8] = b"procs 1\nobject hits counter shared\nworker a 0\nswap hits shared\n";
 
 /// Judges a record by a script.
 fn judge(alloc: Global, script: &[u8], record: &[u8]) -> Result<Ran, Fail> {
@@ -31,9 +29,19 @@ fn changed(alloc: Global, record: &str, old: &str, new: &str) -> Result<Vec<u8>,
 #[test]
 fn a_lawful_record_is_told_with_its_entries(rt: HostRuntime) -> Result<(), Fail> {
     let cases: [(&str, &[u8], &[u8], &[u8]); 4] = [
-        ("no entry", b"procs 1\n", b"k42 record 1\nend 0\n", b"lawful 0\n"),
+        (
+            "no entry",
+            b"procs 1\n",
+            b"k42 record 1\nend 0\n",
+            b"lawful 0\n",
+        ),
         ("a swap", SWAP_BETWEEN, SWAP_BETWEEN_RECORD, b"lawful 3\n"),
-        ("version 2", SWAP_BETWEEN, SWAP_BETWEEN_RECORD_2, b"lawful 3\n"),
+        (
+            "version 2",
+            SWAP_BETWEEN,
+            SWAP_BETWEEN_RECORD_2,
+            b"lawful 3\n",
+        ),
         (
             "two workers in turns",
             TWO_WORKERS,
@@ -88,8 +96,16 @@ fn the_first_rule_that_is_broken_is_told(rt: HostRuntime) -> Result<(), Fail> {
             b"k42 record 1\n1 a 4 hits add 5 = ok @0\n2 a 5 swap hits spread = done 1 @0\nend 2\n",
             b"line 4: rule 8\n",
         ),
-        (ONE_SWAP, b"k42 record 1\n1 a 4 swap hits shared = busy 1 @0\nend 1\n", b"line 2: rule 7\n"),
-        (ONE_SWAP, b"k42 record 1\n1 a 4 swap hits shared = spent @0\nend 1\n", b"line 2: rule 6\n"),
+        (
+            ONE_SWAP,
+            b"k42 record 1\n1 a 4 swap hits shared = busy 1 @0\nend 1\n",
+            b"line 2: rule 7\n",
+        ),
+        (
+            ONE_SWAP,
+            b"k42 record 1\n1 a 4 swap hits shared = spent @0\nend 1\n",
+            b"line 2: rule 6\n",
+        ),
     ];
     for (script, record, line) in cases {
         let ran = judge(rt.alloc(), script, record)?;
@@ -186,45 +202,54 @@ fn a_script_without_a_record_is_unlawful(rt: HostRuntime) -> Result<(), Fail> {
         input.extend_from_slice(end.as_bytes())?;
         let ran = run_quietly(rt.alloc(), "check", input, 4096)?;
         assert_eq!(rt; ran.status, Status::Unlawful, "with {end:?}");
-        assert_eq!(rt; ran.text.as_slice(), b"line 1: rule 11\n".as_slice(), "with {end:?}");
+        assert_eq!(rt;
+            ran.text.as_slice(),
+            b"line 1: rule 11\n".as_slice(),
+            "with {end:?}"
+        );
     }
     Ok(())
 }
 
-/// A script, and a record of so many lines of 22 bytes, with a remark in the script so long that
-/// both have this length, as far as the record's last line has room.
+/// The longest line of a record.
+const LONGEST: &[u8] = b"18446744073709551615 aaaaaaaaaaaaaaaa 4294967295 bbbbbbbbbbbbbbbb \
+    write 1023 cccccccccccccccccccccccccccccccc = text dddddddddddddddddddddddddddddddd \
+    @4294967295\n";
+
+/// A script, and a record of so many of the longest lines without its end, with a remark in the
+/// script so long that both have this length.
 fn long_input(alloc: Global, lines: usize, length: usize) -> Result<Vec<u8>, Fail> {
-    let line = b"1 a 4 hits get = 0 @0\n";
-    let head = b"---\nk42 record 1\n";
-    let record = head.len() + lines * line.len();
-    let mut input = ADD_AND_GET.to_vec(alloc)?;
-    input.push(b'#')?;
-    let remark = length.saturating_sub(record).saturating_sub(1);
-    input.resize(remark.max(input.len()), b' ')?;
-    input.push(b'\n')?;
+    let head = b"\n---\nk42 record 1\n";
+    let mut input = b"procs 1\nobject bbbbbbbbbbbbbbbb pages shared\n\
+        worker aaaaaaaaaaaaaaaa 0\n#"
+        .to_vec(alloc)?;
+    let record = lines
+        .saturating_mul(LONGEST.len())
+        .saturating_add(head.len());
+    input.resize(length.saturating_sub(record).max(input.len()), b' ')?;
     input.extend_from_slice(head)?;
     for _ in 0..lines {
-        input.extend_from_slice(line)?;
+        input.extend_from_slice(LONGEST)?;
     }
     Ok(input)
 }
 
 #[test]
-fn input_ends_before_byte_16777217(rt: HostRuntime) -> Result<(), Fail> {
-    // The first line of the record is followed by 740,000 entries, so that the last one stands on
-    // line 740,001, and the end is missed on the next one.
-    let cases: [(usize, &[u8]); 3] = [
-        (16_777_216, b"line 740002: rule 11\n"),
-        (16_777_217, b"line 740001: rule 11\n"),
-        (16_777_218, b"line 740001: rule 11\n"),
-    ];
-    for (length, line) in cases {
-        let input = long_input(rt.alloc(), 740_000, length)?;
-        assert_eq!(rt; input.len(), length);
-        let ran = run_quietly(rt.alloc(), "check", input, 4096)?;
-        assert_eq!(rt; ran.status, Status::Unlawful, "of {length} bytes");
-        assert_eq!(rt; ran.text.as_slice(), line, "of {length} bytes");
-    }
+fn input_of_16777216_bytes_is_read_whole(rt: HostRuntime) -> Result<(), Fail> {
+    // The record has no end, which is missing on the line behind its 100,001 lines.
+    let input = long_input(rt.alloc(), 100_000, 16_777_216)?;
+    let ran = run_quietly(rt.alloc(), "check", input, 4096)?;
+    assert_eq!(rt; ran.status, Status::Unlawful);
+    assert_eq!(rt; ran.text.as_slice(), b"line 100002: rule 11\n".as_slice());
+    Ok(())
+}
+
+#[test]
+fn byte_16777217_is_refused_on_its_line(rt: HostRuntime) -> Result<(), Fail> {
+    let input = long_input(rt.alloc(), 100_000, 16_777_217)?;
+    let ran = run_quietly(rt.alloc(), "check", input, 4096)?;
+    assert_eq!(rt; ran.status, Status::Unlawful);
+    assert_eq!(rt; ran.text.as_slice(), b"line 100001: rule 11\n".as_slice());
     Ok(())
 }
 

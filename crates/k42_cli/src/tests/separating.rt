@@ -10,7 +10,11 @@ fn the_first_line_of_three_dashes_separates(rt: HostRuntime) -> Result<(), Fail>
         (b"---\nend 0\n", b"", b"end 0\n"),
         (b"procs 1\n---", b"procs 1\n", b""),
         (b"a\n---\nb\n---\nc", b"a\n", b"b\n---\nc"),
-        (b"a---\n---b\n --- \n----\n", b"a---\n---b\n --- \n----\n", b""),
+        (
+            b"a---\n---b\n --- \n----\n",
+            b"a---\n---b\n --- \n----\n",
+            b"",
+        ),
         (b"a\n--- \n--", b"a\n--- \n--", b""),
         (b"\n---\n\n", b"\n", b"\n"),
     ];

@@ -1,5 +1,5 @@
 use Rattle.std.proofs.Common.{refl}
-use Rattle.k42_cli.proofs.Endings.{usage_said, work_completes, memory_completes, is_none}
+use Rattle.k42_cli.proofs.Endings.{usage_said, work_completes, memory_completes, nothing_past_limit, is_none}
 use Rattle.k42_cli.proofs.program.k42_main.Goals as goal
 
 pub returns-in_default-clause-says : goal.returns-in_default-clause-says
@@ -30,3 +30,15 @@ returns-in-Ok-clause-complete g c = λ bytes told reads writes.
 
 pub returns-in-Err-Memory-clause-complete : goal.returns-in-Err-Memory-clause-complete
 returns-in-Err-Memory-clause-complete g c = λ bytes told reads writes. rw (← c.form_of.ensures.form, c.in-Some.is) (memory_completes c.in-Some.form bytes)
+
+pub returns-in_default-clause-enough : goal.returns-in_default-clause-enough
+returns-in_default-clause-enough g c = nothing_past_limit
+
+pub returns-in-Ok-clause-enough : goal.returns-in-Ok-clause-enough
+returns-in-Ok-clause-enough g c = nothing_past_limit
+
+pub returns-in-Err-ReadFault-clause-enough : goal.returns-in-Err-ReadFault-clause-enough
+returns-in-Err-ReadFault-clause-enough g c = nothing_past_limit
+
+pub returns-in-Err-Memory-clause-enough : goal.returns-in-Err-Memory-clause-enough
+returns-in-Err-Memory-clause-enough g c = nothing_past_limit
