@@ -10,6 +10,7 @@ use std::process::Abort;
 use std::test::Fail;
 
 mod judging;
+mod running;
 mod separating;
 
 const RUN: &str = "run";
@@ -182,27 +183,9 @@ fn a_record_of_version_2_tells_processors_and_generations(rt: HostRuntime) -> Re
 }
 
 #[test]
-fn a_script_that_is_none_is_answered_by_the_line_that_offends(rt: HostRuntime) -> Result<(), Fail> {
-    let cases: [(&str, &[u8], &[u8]); 2] = [
-        ("an empty input", b"", b"line 1: NotYet\n"),
-        (
-            "an amount of 2 to the 32",
-            b"procs 1\nobject hits counter shared\nworker a 0\nhits add 4294967296\n",
-            b"line 4: NotYet\n",
-        ),
-    ];
-    for (shows, script, line) in cases {
-        let ran = run_in_pieces(rt.alloc(), RUN, script, 4096, &[], &[])?;
-        assert_eq!(rt; ran.status, Status::Refused, "{shows}");
-        assert_eq!(rt; ran.text.as_slice(), line, "{shows}");
-    }
-    Ok(())
-}
-
-#[test]
 fn a_script_ends_before_byte_1048577(rt: HostRuntime) -> Result<(), Fail> {
     let cases: [(usize, Status, &[u8]); 2] = [
-        (1_048_577, Status::Refused, b"line 2: NotYet\n"),
+        (1_048_577, Status::Refused, b"line 2: TooLong\n"),
         (1_048_576, Status::Ok, NO_CALLS_RECORD),
     ];
     for (length, status, output) in cases {
@@ -225,7 +208,7 @@ fn a_script_has_65536_calls(rt: HostRuntime) -> Result<(), Fail> {
     );
     let more = run_quietly(rt.alloc(), RUN, gets(rt.alloc(), 65_537)?, 4096)?;
     assert_eq!(rt; more.status, Status::Refused);
-    assert_eq!(rt; more.text.as_slice(), b"line 65540: NotYet\n".as_slice());
+    assert_eq!(rt; more.text.as_slice(), b"line 65540: TooMany\n".as_slice());
     Ok(())
 }
 
