@@ -1,3 +1,4 @@
 pub mod LineLookups
 pub mod Digits
 pub mod LineParts
+pub mod ByteCuts

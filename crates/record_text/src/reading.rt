@@ -1,15 +1,116 @@
-ghost use Rattle.std.specs.Prelude.{◌≡◌, ◌<◌, ◌^◌, ◌≤◌, length, IfOk};
+ghost use Rattle.std.specs.Prelude.{◌≡◌, ◌<◌, ◌^◌, ◌≤◌, ◌∷◌, ◌++◌, [], length, IfOk, OnOk};
+ghost use Rattle.script_text.specs.Lines.{lines_of};
 ghost use Rattle.record_text.specs.Reading as record_reading;
 ghost use Rattle.record_text.specs.Spelling.{HasText};
 ghost use Rattle.record_text.specs.Texts.{record_text};
+ghost use Rattle.record_text.specs.Cursor.{left_tokens};
+
+mod acts;
+mod answers;
+mod cursor;
+mod lines;
+mod parts;
 
 use crate::ending::RecordEnd;
-use crate::record::Record;
+use crate::reading::cursor::{Left, next_line};
+use crate::reading::lines::{count_on, line_on, version_on};
+use crate::record::{Record, RecordLine};
+use k42_items::Items;
+use k42_memory::Memory;
 use script_text::Script;
 use std::alloc::Global;
 
+/// Whether this is the last line of a record of so many entries.
+fn is_last(line: Left<'_>, count: usize) -> bool
+    ensures { result ≡ record_reading.is_last count (left_tokens line) }
+{
+    match count_on(line) {
+        Some(told) => told == count as u64,
+        None => false,
+    }
+}
+
+/// The record of these entries, where a line that is no entry's stands behind them.
+fn ended(
+    lines: Vec<RecordLine>,
+    version: u32,
+    line: Left<'_>,
+    rest: &[u8],
+) -> Result<Record, RecordEnd>
+    requires { length lines.items < 2 ^ 31 }
+    ensures { record_reading.Reads (record_reading.ended version lines.items
+        (left_tokens line) (lines_of rest.now)) result }
+{
+    let count = lines.len();
+    let line_number = count as u32 + 2;
+    if !is_last(line, count) {
+        return Err(RecordEnd::Misspelt { line: line_number });
+    }
+    if !rest.is_empty() {
+        return Err(RecordEnd::Misspelt {
+            line: line_number + 1,
+        });
+    }
+    Ok(Record {
+        lines: Items::of(lines),
+        version,
+    })
+}
+
+fn keep(lines: &mut Vec<RecordLine>, line: RecordLine) -> Result<(), Memory>
+    ensures { OnOk result (lines.new.items ≡ lines.old.items ++ line ∷ []) }
+{
+    lines.push(line)?;
+    Ok(())
+}
+
+/// Reads the lines behind the first.
+fn read_entries(
+    alloc: Global,
+    script: &Script,
+    version: u32,
+    bytes: &[u8],
+) -> Result<Record, RecordEnd>
+    requires objects { length script.now.objects ≤ 16 }
+    requires workers { length script.now.workers ≤ 16 }
+    requires short { length bytes.now < 2 ^ 31 }
+    ensures { record_reading.Reads
+        (record_reading.entries_on script.now version [] (lines_of bytes.now)) result }
+{
+    let mut lines = Vec::new(alloc);
+    let mut rest = bytes;
+    while !rest.is_empty() {
+        let cut = next_line(rest);
+        rest = cut.rest;
+        match line_on(cut.line, script, version) {
+            Some(line) => keep(&mut lines, line)?,
+            None => return ended(lines, version, cut.line, rest),
+        }
+    }
+    Err(RecordEnd::Misspelt {
+        line: lines.len() as u32 + 2,
+    })
+}
+
+/// Reads the first line, and then the others.
+fn read_all(alloc: Global, script: &Script, bytes: &[u8]) -> Result<Record, RecordEnd>
+    requires objects { length script.now.objects ≤ 16 }
+    requires workers { length script.now.workers ≤ 16 }
+    requires short { length bytes.now < 2 ^ 31 }
+    ensures { record_reading.Reads (record_reading.reading script.now bytes.now) result }
+{
+    if bytes.is_empty() {
+        return Err(RecordEnd::Misspelt { line: 1 });
+    }
+    let cut = next_line(bytes);
+    match version_on(cut.line) {
+        Some(version) => read_entries(alloc, script, version, cut.rest),
+        None => Err(RecordEnd::Misspelt { line: 1 }),
+    }
+}
+
 /// The record whose text the bytes are.
-pub fn read(_alloc: Global, script: &Script, bytes: &[u8]) -> Result<Record, RecordEnd>
+pub fn read(alloc: Global, script: &Script, bytes: &[u8]) -> Result<Record, RecordEnd>
     requires objects { length script.now.objects ≤ 16 }
     requires workers { length script.now.workers ≤ 16 }
     requires short { length bytes.now < 2 ^ 31 }
@@ -18,5 +119,5 @@ pub fn read(_alloc: Global, script: &Script, bytes: &[u8]) -> Result<Record, Rec
     ensures text { IfOk result (λ written. record_text script.now written ≡ bytes.now) }
     ensures few { IfOk result (λ written. length written.lines < 2 ^ 31) }
 {
-    Err(RecordEnd::Memory)
+    read_all(alloc, script, bytes)
 }
