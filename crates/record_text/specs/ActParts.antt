@@ -122,10 +122,15 @@ call_at script name tokens = do
   op ← operation_at kind tokens
   Some (asked object (Call op.0), op.1)
 
+-- the act that begins with this word
+abbrev pub act_of : Script → List ℕ → List (List ℕ) → Found Asked
+act_of script word tokens =
+    if bytes_eq word (codes "swap") then swap_at script tokens
+    else if bytes_eq word (codes "destroy") then destroy_at script tokens
+    else call_at script word tokens
+
 -- a swap, a destroy or a call
 unfoldable pub act_at : Script → List (List ℕ) → Found Asked
 act_at script tokens = do
   word ← token_at tokens
-  if bytes_eq word.0 (codes "swap") then swap_at script word.1
-  else if bytes_eq word.0 (codes "destroy") then destroy_at script word.1
-  else call_at script word.0 word.1
+  act_of script word.0 word.1

@@ -1,4 +1,4 @@
-ghost use Rattle.std.specs.Prelude.{◌≡◌, ◌<◌, ◌^◌, ◌≤◌, ◌∷◌, ◌++◌, [], length, IfOk, OnOk};
+ghost use Rattle.std.specs.Prelude.{◌≡◌, ◌<◌, ◌^◌, ◌≤◌, [], length, IfOk};
 ghost use Rattle.script_text.specs.Lines.{lines_of};
 ghost use Rattle.record_text.specs.Reading as record_reading;
 ghost use Rattle.record_text.specs.Spelling.{HasText};
@@ -16,13 +16,12 @@ use crate::reading::cursor::{Left, next_line};
 use crate::reading::lines::{count_on, line_on, version_on};
 use crate::record::{Record, RecordLine};
 use k42_items::Items;
-use k42_memory::Memory;
 use script_text::Script;
 use std::alloc::Global;
 
 /// Whether this is the last line of a record of so many entries.
 fn is_last(line: Left<'_>, count: usize) -> bool
-    ensures { result ≡ record_reading.is_last count (left_tokens line) }
+    ensures { result ≡ record_reading.is_last count (left_tokens line.entry) }
 {
     match count_on(line) {
         Some(told) => told == count as u64,
@@ -39,7 +38,7 @@ fn ended(
 ) -> Result<Record, RecordEnd>
     requires { length lines.items < 2 ^ 31 }
     ensures { record_reading.Reads (record_reading.ended version lines.items
-        (left_tokens line) (lines_of rest.now)) result }
+        (left_tokens line.entry) (lines_of rest.now)) result }
 {
     let count = lines.len();
     let line_number = count as u32 + 2;
@@ -55,13 +54,6 @@ fn ended(
         lines: Items::of(lines),
         version,
     })
-}
-
-fn keep(lines: &mut Vec<RecordLine>, line: RecordLine) -> Result<(), Memory>
-    ensures { OnOk result (lines.new.items ≡ lines.old.items ++ line ∷ []) }
-{
-    lines.push(line)?;
-    Ok(())
 }
 
 /// Reads the lines behind the first.
@@ -83,7 +75,7 @@ fn read_entries(
         let cut = next_line(rest);
         rest = cut.rest;
         match line_on(cut.line, script, version) {
-            Some(line) => keep(&mut lines, line)?,
+            Some(line) => line.push_onto(&mut lines)?,
             None => return ended(lines, version, cut.line, rest),
         }
     }

@@ -14,7 +14,7 @@ use script_text::Script;
 /// The version that the first line of a record names.
 #[tactic(auto, unfolding(crate::specs::LineParts::version_on))]
 pub fn version_on(mut left: Left<'_>) -> Option<u32>
-    ensures { result ≡ parts.version_on (left_tokens left) }
+    ensures { result ≡ parts.version_on (left_tokens left.entry) }
 {
     take_word(&mut left, "k42")?;
     take_word(&mut left, "record")?;
@@ -29,7 +29,7 @@ pub fn version_on(mut left: Left<'_>) -> Option<u32>
 /// How many entries the last line of a record counts.
 #[tactic(auto, unfolding(crate::specs::LineParts::count_on))]
 pub fn count_on(mut left: Left<'_>) -> Option<u64>
-    ensures { result ≡ parts.count_on (left_tokens left) }
+    ensures { result ≡ parts.count_on (left_tokens left.entry) }
 {
     take_word(&mut left, "end")?;
     let count = take_number(&mut left, 0, u64::MAX)?;
@@ -91,7 +91,7 @@ fn take_extra(left: &mut Left<'_>, version: u32, act: &Act) -> Option<Option<Ext
 pub fn line_on(mut left: Left<'_>, script: &Script, version: u32) -> Option<RecordLine>
     requires objects { length script.now.objects ≤ 16 }
     requires workers { length script.now.workers ≤ 16 }
-    ensures { result ≡ parts.line_on script.now version (left_tokens left) }
+    ensures { result ≡ parts.line_on script.now version (left_tokens left.entry) }
 {
     let stamp = take_number(&mut left, 0, u64::MAX)?;
     let worker = take_worker(&mut left, script)?;
