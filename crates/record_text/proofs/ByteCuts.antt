@@ -1,11 +1,12 @@
 -- A text is cut at the first byte of a kind: into lines at line feeds, into tokens at spaces.
-use Rattle.std.proofs.Common.{◌≡◌, ◌≢◌, ℕ, zero, suc, ◌+◌, ◌<◌, ◌≤◌, List, [], ◌∷◌, ◌++◌, length, get_or, take, drop, refl, ap, ◌∙◌, false, Option, Some, None, ne_eqb, eqb, add-one, arith}
+use Rattle.std.proofs.Common.{◌≡◌, ◌≢◌, ℕ, zero, suc, ◌+◌, ◌<◌, ◌≤◌, List, [], ◌∷◌, ◌++◌, length, get_or, take, drop, refl, ap, ◌∙◌, Bool, cond, true, false, Option, Some, None, ne_eqb, eqb, add-one, arith}
 use Rattle.std.specs.Prelude.{option_map}
 use Rattle.std.proofs.Math.Seq.{take-length}
-use Rattle.std.specs.List.{slice_split, AllByRecursion}
+use Rattle.std.specs.List.{AllByRecursion, onto_first}
 use Rattle.std.proofs.lemmas.List.Splits.{slice_split_at, slice_split_none}
 use Rattle.std.proofs.lemmas.List.Elements.{All-from_recursion}
-use Rattle.script_text.specs.Lines.{lines_of}
+use Rattle.script_text.specs.Lines.{lines_of, onto_first_line}
+use Rattle.record_text.specs.Parts.{at_end}
 use Rattle.record_text.specs.Lines.{body_of, pieces_of, tokens_on}
 
 -- the byte is none of these
@@ -92,3 +93,30 @@ pub lines_of-uncut : (bytes : List ℕ) (n : ℕ) → 0 < length bytes → IsCut
 lines_of-uncut bytes n some cut all =
     let none = all_without 10 bytes n cut all in
     (one_line bytes some none, rw (body_of-unended bytes none) refl)
+
+-- pieces that the first byte may stand before
+onto_pieces : (b : ℕ) (test : Bool) (pieces : List (List ℕ)) → at_end (cond test ([] ∷ pieces) (onto_first b pieces)) ≡ None
+onto_pieces b true pieces = refl
+onto_pieces b false [] = refl
+onto_pieces b false (piece ∷ pieces) = refl
+
+-- there is always a piece
+pub at_end-pieces_of : (text : List ℕ) → at_end (pieces_of text) ≡ None
+at_end-pieces_of [] = refl
+at_end-pieces_of (b ∷ text) = onto_pieces b (eqb b 32) (pieces_of text)
+
+-- the first line, and those behind it
+pub record HasLines (lines : List (List ℕ)) : Type 0 where
+  pub line : List ℕ
+  pub others : List (List ℕ)
+  pub are : lines ≡ line ∷ others
+
+onto_lines : (b : ℕ) (test : Bool) (lines : List (List ℕ)) → HasLines (cond test ((b ∷ []) ∷ lines) (onto_first_line b lines))
+onto_lines b true lines = record { line = b ∷ []; others = lines; are = refl }
+onto_lines b false [] = record { line = b ∷ []; others = []; are = refl }
+onto_lines b false (line ∷ lines) = record { line = b ∷ line; others = lines; are = refl }
+
+-- a text with bytes has lines
+pub lines_of-some : (bytes : List ℕ) → 0 < length bytes → HasLines (lines_of bytes)
+lines_of-some [] some = absurd (omega arith)
+lines_of-some (b ∷ bytes) some = onto_lines b (eqb b 10) (lines_of bytes)

@@ -2,3 +2,4 @@ pub mod LineLookups
 pub mod Digits
 pub mod LineParts
 pub mod ByteCuts
+pub mod EntryLines

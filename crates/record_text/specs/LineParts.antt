@@ -3,7 +3,7 @@ use Rattle.std.specs.Prelude.{ℕ, ◌==◌, if◌then◌else◌, List, Option, 
 use Rattle.k42_kinds.specs.declared.entry.Act.{Act}
 use Rattle.k42_kinds.specs.declared.entry.Act.TheVariants.{Call, Swap, Destroy}
 use Rattle.script_text.specs.declared.script.Script.{Script}
-use Rattle.record_text.specs.Parts.{Found, ◌>>=◌, spelled_at, behind_word, number_at, marked_at, finished, most_32, most_64}
+use Rattle.record_text.specs.Parts.{Found, ◌>>=◌, spelled_at, behind_word, number_at, marked_at, at_end, most_32, most_64}
 use Rattle.record_text.specs.ActParts.{worker_of, act_at}
 use Rattle.record_text.specs.AnswerParts.{answer_at}
 use Rattle.record_text.specs.declared.record.Extra.{Extra}
@@ -15,14 +15,16 @@ version_on tokens = do
   first ← behind_word (codes "k42") tokens
   second ← behind_word (codes "record") first
   version ← number_at 1 2 second
-  finished version.0 version.1
+  end ← at_end version.1
+  Some version.0
 
 -- `end COUNT`
 unfoldable pub count_on : List (List ℕ) → Option ℕ
 count_on tokens = do
   first ← behind_word (codes "end") tokens
   count ← number_at 0 most_64 first
-  finished count.0 count.1
+  end ← at_end count.1
+  Some count.0
 
 -- `gG` of a call, and `g-` of a swap or destroy
 unfoldable pub some_generation : List (List ℕ) → Found (Option ℕ)
@@ -62,7 +64,8 @@ line_on script version tokens = do
   answer ← answer_at asked.0.act equals
   incarnation ← marked_at 64 answer.1
   extra ← extra_at version asked.0.act incarnation.1
-  finished (record {
+  end ← at_end extra.1
+  Some (record {
     stamp = stamp.0;
     worker = worker.0;
     line = line.0;
@@ -71,4 +74,4 @@ line_on script version tokens = do
     answer = answer.0;
     incarnation = incarnation.0;
     extra = extra.0;
-  }) extra.1
+  })

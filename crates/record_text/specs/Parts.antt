@@ -69,7 +69,7 @@ marked_number mark (byte ∷ digits) =
 abbrev pub marked_at : ℕ → List (List ℕ) → Found ℕ
 marked_at mark tokens = spelled_at (marked_number mark) tokens
 
--- this, where no token is left
-abbrev pub finished : {X : Type 0} → X → List (List ℕ) → Option X
-finished value [] = Some value
-finished value (token ∷ tokens) = None
+-- no token is left
+abbrev pub at_end : List (List ℕ) → Option Unit
+at_end [] = Some tt
+at_end (token ∷ tokens) = None

@@ -41,13 +41,14 @@ fn ended(
         (left_tokens line.entry) (lines_of rest.now)) result }
 {
     let count = lines.len();
-    let line_number = count as u32 + 2;
     if !is_last(line, count) {
-        return Err(RecordEnd::Misspelt { line: line_number });
+        return Err(RecordEnd::Misspelt {
+            line: count as u32 + 2,
+        });
     }
     if !rest.is_empty() {
         return Err(RecordEnd::Misspelt {
-            line: line_number + 1,
+            line: count as u32 + 3,
         });
     }
     Ok(Record {

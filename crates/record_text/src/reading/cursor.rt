@@ -1,6 +1,6 @@
 //! The lines of a text, one after the other, and the tokens of a line, one after the other.
 ghost use Rattle.std.specs.Prelude.{◌≡◌, ◌≢◌, ℕ, ◌<◌, ◌≤◌, length, slice_index};
-ghost use Rattle.record_text.specs.Parts.{token_at};
+ghost use Rattle.record_text.specs.Parts.{token_at, at_end};
 ghost use Rattle.record_text.specs.Cursor.{CutsLine, TakesToken, left_tokens};
 
 const SPACE: u8 = b' ';
@@ -66,4 +66,14 @@ pub fn take_token<'a>(left: &mut Left<'a>) -> Option<&'a [u8]>
     }
     left.rest = Some(&rest[len + 1..]);
     Some(&rest[..len])
+}
+
+/// Asks that no token is left.
+pub fn expect_end(left: &Left<'_>) -> Option<()>
+    ensures { result ≡ at_end (left_tokens left.now) }
+{
+    match left.rest {
+        Some(_) => None,
+        None => Some(()),
+    }
 }

@@ -1,15 +1,35 @@
 //! The lines of a record.
 ghost use Rattle.std.specs.Prelude.{◌≡◌, ◌≤◌, length};
+ghost use Rattle.script_text.specs.Numbers.{number_within};
+ghost use Rattle.record_text.specs.Parts.{number_at};
 ghost use Rattle.record_text.specs.LineParts as parts;
 ghost use Rattle.record_text.specs.Cursor.{Takes, left_tokens};
 
 use crate::reading::acts::{Asked, take_act, take_worker};
 use crate::reading::answers::take_answer;
-use crate::reading::cursor::Left;
+use crate::reading::cursor::{Left, expect_end, take_token};
 use crate::reading::parts::{take_marked, take_number, take_small_number, take_word};
 use crate::record::{Extra, RecordLine};
 use k42_kinds::Act;
-use script_text::Script;
+use script_text::{Script, number_up_to};
+
+fn version_of(token: &[u8]) -> Option<u32>
+    ensures { result ≡ number_within 1 2 token.now }
+{
+    match number_up_to(token, 2) {
+        Some(version) if version >= 1 => Some(version as u32),
+        _ => None,
+    }
+}
+
+/// Takes the number 1 or 2.
+#[tactic(auto, unfolding(crate::specs::Parts::spelled_at))]
+fn take_version(left: &mut Left<'_>) -> Option<u32>
+    ensures { Takes result left.new (number_at 1 2 (left_tokens left.old)) }
+{
+    let token = take_token(left)?;
+    version_of(token)
+}
 
 /// The version that the first line of a record names.
 #[tactic(auto, unfolding(crate::specs::LineParts::version_on))]
@@ -18,12 +38,9 @@ pub fn version_on(mut left: Left<'_>) -> Option<u32>
 {
     take_word(&mut left, "k42")?;
     take_word(&mut left, "record")?;
-    let version = take_number(&mut left, 1, 2)?;
-    if left.rest.is_none() {
-        Some(version as u32)
-    } else {
-        None
-    }
+    let version = take_version(&mut left)?;
+    expect_end(&left)?;
+    Some(version)
 }
 
 /// How many entries the last line of a record counts.
@@ -33,11 +50,8 @@ pub fn count_on(mut left: Left<'_>) -> Option<u64>
 {
     take_word(&mut left, "end")?;
     let count = take_number(&mut left, 0, u64::MAX)?;
-    if left.rest.is_none() {
-        Some(count)
-    } else {
-        None
-    }
+    expect_end(&left)?;
+    Some(count)
 }
 
 #[tactic(auto, unfolding(crate::specs::LineParts::some_generation))]
@@ -101,9 +115,7 @@ pub fn line_on(mut left: Left<'_>, script: &Script, version: u32) -> Option<Reco
     let answer = take_answer(&mut left, &act)?;
     let incarnation = take_marked(&mut left, b'@')?;
     let extra = take_extra(&mut left, version, &act)?;
-    if left.rest.is_some() {
-        return None;
-    }
+    expect_end(&left)?;
     Some(RecordLine {
         stamp,
         worker,
