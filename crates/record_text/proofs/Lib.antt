@@ -3,3 +3,5 @@ pub mod Digits
 pub mod LineParts
 pub mod ByteCuts
 pub mod EntryLines
+pub mod ReadParts
+pub mod ReadNames

@@ -12,4 +12,5 @@ pub mod ActParts
 pub mod AnswerParts
 pub mod LineParts
 pub mod Reading
+pub mod Values
 pub mod Rules
