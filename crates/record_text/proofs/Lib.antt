@@ -5,3 +5,4 @@ pub mod ByteCuts
 pub mod EntryLines
 pub mod ReadParts
 pub mod ReadNames
+pub mod ReadOperations
