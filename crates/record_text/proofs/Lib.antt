@@ -6,3 +6,4 @@ pub mod EntryLines
 pub mod ReadParts
 pub mod ReadNames
 pub mod ReadOperations
+pub mod ReadActs
