@@ -7,3 +7,4 @@ pub mod ReadParts
 pub mod ReadNames
 pub mod ReadOperations
 pub mod ReadActs
+pub mod ReadAnswers

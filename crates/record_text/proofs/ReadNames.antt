@@ -24,7 +24,7 @@ place_takes named name xs i e =
       | inr past ↦ absurd (omega (arith, past.0, place_within (λ x. bytes_eq name (named x)) xs i e))
     ]
 
-false_unless : (b : Bool) → (b ≡ true → ⊥) → b ≡ false
+pub false_unless : (b : Bool) → (b ≡ true → ⊥) → b ≡ false
 false_unless true never = absurd (never refl)
 false_unless false never = refl
 
