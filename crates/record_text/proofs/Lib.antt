@@ -8,3 +8,5 @@ pub mod ReadNames
 pub mod ReadOperations
 pub mod ReadActs
 pub mod ReadAnswers
+pub mod ReadExtras
+pub mod ReadEntries
