@@ -10,3 +10,5 @@ pub mod ReadActs
 pub mod ReadAnswers
 pub mod ReadExtras
 pub mod ReadEntries
+pub mod SolidTokens
+pub mod SolidLines

@@ -5,6 +5,7 @@ use Rattle.std.specs.Option.{option_map_or}
 use Rattle.std.specs.Str.{bytes_eq}
 use Rattle.std.proofs.lemmas.Option.{same_Some, slice_get_within, slice_get_cases, slice_get-get_or, slice_get-map}
 use Rattle.k42_kinds.specs.Operations.{kind_of_op}
+use Rattle.k42_kinds.specs.Words.{is_name}
 use Rattle.k42_kinds.specs.declared.operation.KindName.{KindName}
 use Rattle.k42_kinds.specs.declared.operation.LayoutName.{LayoutName}
 use Rattle.k42_kinds.specs.declared.operation.LayoutName.TheVariants.{Shared, Spread}
@@ -223,3 +224,17 @@ act_again script object kind (Call op) rest names e is_on fits =
     rw (other, another) (call_again script object op rest found (e ∙ ap (λ (k : KindName). Some k) (sym is_on.0)) is_on.1 fits)
 act_again script object kind (Swap layout) rest names e is_on fits = swap_again script object layout rest (object_again script object kind names e)
 act_again script object kind Destroy rest names e is_on fits = destroy_again script object rest (object_again script object kind names e)
+
+-- ---- the names of a script are names
+
+pub object_has_name : (script : Script) (object : ℕ) (kind : KindName) → HasDistinctNames script → slice_get (kinds_of script) object ≡ Some kind → is_name (object_name script object) ≡ true
+object_has_name script object kind names e =
+    let is = declared script object kind e in
+    rw is.named (free_line script object is.line names is.at).formed
+
+pub worker_has_name : (script : Script) (worker : ℕ) → HasDistinctNames script → worker < length script.workers → is_name (worker_name script worker) ≡ true
+worker_has_name script worker names lt =
+    elim (slice_get_cases script.workers worker).1 [
+      | inl is ↦ rw (is.2, ← is.3) (names.free_workers worker is.0 lt).formed
+      | inr past ↦ absurd (omega (arith, lt, past.0))
+    ]
