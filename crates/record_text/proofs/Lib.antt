@@ -12,3 +12,4 @@ pub mod ReadExtras
 pub mod ReadEntries
 pub mod SolidTokens
 pub mod SolidLines
+pub mod ReadRecords

@@ -164,15 +164,17 @@ unfolding version_on
 version_again version above below =
     rw (word_again (codes "k42") (codes "record" ∷ decimal version ∷ []), word_again (codes "record") (decimal version ∷ []), number_again 1 2 version [] (omega arith) above below) refl
 
-pub count_takes : (tokens : List (List ℕ)) (count : ℕ) → count_on tokens ≡ Some count → tokens ≡ last_tokens count
+pub count_takes : (tokens : List (List ℕ)) (count : ℕ) → count_on tokens ≡ Some count → (tokens ≡ last_tokens count) × (count < 2 ^ 64)
 unfolding count_on ended
 count_takes tokens count e =
     let first = step (behind_word (codes "end") tokens) (λ (left : List (List ℕ)). number_at 0 most_64 left >>= ended) count e in
     let second = step (number_at 0 most_64 first.0) ended count first.2 in
     let number = number_takes 0 most_64 first.0 second.0.0 second.0.1 (omega arith) second.1 in
-    let end = ended_takes second.0 count second.2 in
-    word_passes (codes "end") tokens first.0 first.1
-    ∙ ap (λ (left : List (List ℕ)). codes "end" ∷ left) (number.spelled ∙ ap (λ (n : ℕ). decimal n ∷ second.0.1) end.0 ∙ ap (λ (left : List (List ℕ)). decimal count ∷ left) end.1)
+    let end = ended_takes second.0 count second.2 in (
+      word_passes (codes "end") tokens first.0 first.1
+          ∙ ap (λ (left : List (List ℕ)). codes "end" ∷ left) (number.spelled ∙ ap (λ (n : ℕ). decimal n ∷ second.0.1) end.0 ∙ ap (λ (left : List (List ℕ)). decimal count ∷ left) end.1),
+      omega (arith, number.below, end.0),
+    )
 
 pub count_again : (count : ℕ) → count < 2 ^ 64 → count_on (last_tokens count) ≡ Some count
 unfolding count_on

@@ -33,10 +33,10 @@ both_solid xs ys first second = list_all-append is_solid xs ys ∙ rw (first, se
 one_solid : (token : List ℕ) → is_solid token ≡ true → are_solid (token ∷ []) ≡ true
 one_solid token solid = rw solid refl
 
-two_solid : (first second : List ℕ) → is_solid first ≡ true → is_solid second ≡ true → are_solid (first ∷ second ∷ []) ≡ true
+pub two_solid : (first second : List ℕ) → is_solid first ≡ true → is_solid second ≡ true → are_solid (first ∷ second ∷ []) ≡ true
 two_solid first second one two = rw (one, two) refl
 
-three_solid : (first second third : List ℕ) → is_solid first ≡ true → is_solid second ≡ true → is_solid third ≡ true → are_solid (first ∷ second ∷ third ∷ []) ≡ true
+pub three_solid : (first second third : List ℕ) → is_solid first ≡ true → is_solid second ≡ true → is_solid third ≡ true → are_solid (first ∷ second ∷ third ∷ []) ≡ true
 three_solid first second third one two three = rw (one, two, three) refl
 
 marked_solid : (mark n : ℕ) → is_visible mark ≡ true → n < 2 ^ 64 → is_solid (mark ∷ decimal n) ≡ true

@@ -64,7 +64,7 @@ pieces_of-spaced token (next ∷ tokens) solid =
     pieces_of-more token (spaced (next ∷ tokens)) (without 32 token refl parts.0) ∙ ap (λ (pieces : List (List ℕ)). token ∷ pieces) (pieces_of-spaced next tokens parts.1)
 
 -- a line that is made of tokens has just these
-pub tokens_on-line_with : (token : List ℕ) (tokens : List (List ℕ)) → are_solid (token ∷ tokens) ≡ true → tokens_on (line_with (token ∷ tokens)) ≡ token ∷ tokens
+tokens_on-line_with : (token : List ℕ) (tokens : List (List ℕ)) → are_solid (token ∷ tokens) ≡ true → tokens_on (line_with (token ∷ tokens)) ≡ token ∷ tokens
 tokens_on-line_with token tokens solid = tokens_on-ended (spaced (token ∷ tokens)) ∙ pieces_of-spaced token tokens solid
 
 spaced-without : (token : List ℕ) (tokens : List (List ℕ)) → are_solid (token ∷ tokens) ≡ true → IsWithout 10 (spaced (token ∷ tokens))
@@ -74,7 +74,7 @@ spaced-without token (next ∷ tokens) solid =
     IsWithout-append 10 token (32 ∷ spaced (next ∷ tokens)) (without 10 token refl parts.0) (refl, spaced-without next tokens parts.1)
 
 -- it is the first line of what begins with it
-pub lines_of-line_with : (token : List ℕ) (tokens : List (List ℕ)) (rest : List ℕ) → are_solid (token ∷ tokens) ≡ true → lines_of (line_with (token ∷ tokens) ++ rest) ≡ line_with (token ∷ tokens) ∷ lines_of rest
+lines_of-line_with : (token : List ℕ) (tokens : List (List ℕ)) (rest : List ℕ) → are_solid (token ∷ tokens) ≡ true → lines_of (line_with (token ∷ tokens) ++ rest) ≡ line_with (token ∷ tokens) ∷ lines_of rest
 lines_of-line_with token tokens rest solid =
     ap lines_of (append_assoc (spaced (token ∷ tokens)) (10 ∷ []) rest) ∙ lines_of-ended (spaced (token ∷ tokens)) rest (spaced-without token tokens solid)
 
@@ -101,8 +101,17 @@ made_of line (Some body) token tokens ends e =
     let joined : spaced (token ∷ tokens) ≡ body = spaced-join token tokens ∙ ap (join_with_byte 32) (sym e) ∙ join_with_byte-slice_split 32 body in
     ends body refl ∙ ap (λ (text : List ℕ). text ++ 10 ∷ []) (sym joined)
 
-pub line_of_tokens : (line token : List ℕ) (tokens : List (List ℕ)) → tokens_on line ≡ token ∷ tokens → line ≡ line_with (token ∷ tokens)
-line_of_tokens line token tokens e = made_of line (body_of line) token tokens (body_ends line) e
+pub line_of_tokens : (line : List ℕ) (tokens : List (List ℕ)) → 0 < length tokens → tokens_on line ≡ tokens → line ≡ line_with tokens
+line_of_tokens line [] some e = absurd (omega (arith, some))
+line_of_tokens line (token ∷ tokens) some e = made_of line (body_of line) token tokens (body_ends line) e
+
+pub tokens_of_line : (tokens : List (List ℕ)) → 0 < length tokens → are_solid tokens ≡ true → tokens_on (line_with tokens) ≡ tokens
+tokens_of_line [] some solid = absurd (omega (arith, some))
+tokens_of_line (token ∷ tokens) some solid = tokens_on-line_with token tokens solid
+
+pub lines_of_line : (tokens : List (List ℕ)) (rest : List ℕ) → 0 < length tokens → are_solid tokens ≡ true → lines_of (line_with tokens ++ rest) ≡ line_with tokens ∷ lines_of rest
+lines_of_line [] rest some solid = absurd (omega (arith, some))
+lines_of_line (token ∷ tokens) rest some solid = lines_of-line_with token tokens rest solid
 
 -- ---- the parts of a record are solid
 
