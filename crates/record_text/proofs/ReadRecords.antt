@@ -1,6 +1,6 @@
 -- A record that is read has just this text, and the text of a record is read.
 use Rattle.std.proofs.Common.{◌≡◌, ℕ, zero, suc, ◌+◌, ◌^◌, ◌<◌, ◌≤◌, Bool, true, false, cond, List, [], ◌∷◌, ◌++◌, length, map, refl, sym, ap, subst, ◌∙◌, eqb, eq-eqb, arith, inl, inr}
-use Rattle.std.specs.Prelude.{All, Option, Some, None, Result, Ok, Err, codes}
+use Rattle.std.specs.Prelude.{All, Option, Some, None, Result, Ok, Err, IfOk, codes}
 use Rattle.std.specs.Option.{option_map_or}
 use Rattle.std.specs.Fmt.{decimal}
 use Rattle.std.specs.List.{AllByRecursion, concat, flat_map}
@@ -18,7 +18,8 @@ use Rattle.record_text.specs.Spelling.{HasSpelling, IsOfVersion, IsVersion, HasT
 use Rattle.record_text.specs.Values.{FitsLine, FitsRecord}
 use Rattle.record_text.specs.LineParts.{version_on, line_on, count_on}
 use Rattle.record_text.specs.Parts.{spelled_at}
-use Rattle.record_text.specs.Reading.{is_last, entries, ended, entries_on, record_on, reading}
+use Rattle.record_text.specs.Reading.{is_last, entries, ended, entries_on, record_on, reading, Reads}
+use Rattle.record_text.specs.declared.ending.RecordEnd.{RecordEnd}
 use Rattle.record_text.specs.declared.record.RecordLine.{RecordLine}
 use Rattle.record_text.specs.declared.record.Record.{Record}
 use Rattle.record_text.proofs.ReadExtras.{version_takes, version_again, count_takes, count_again}
@@ -229,3 +230,28 @@ reading_again script written names has fits =
     let tokens = tokens_of_line (first_tokens written.version) (omega arith) (first_solid written.version small) in
     rw (lines_of_record script written names spelled each small fits.few, tokens, version_again written.version version.0 version.1)
     (entries_again script written.version [] written.lines written.lines names spelled told each refl fits.few)
+
+ok_is : (one other : Record) → ◌≡◌ {A = Result Record ℕ} (Ok one) (Ok other) → one ≡ other
+ok_is one other e = cc
+
+-- no two records have one text
+pub one_record : (script : Script) (one other : Record) → HasDistinctNames script → HasText script one → FitsRecord one → HasText script other → FitsRecord other → record_text script one ≡ record_text script other → one ≡ other
+one_record script one other names has_one fits_one has_other fits_other same =
+    ok_is one other (sym (reading_again script one names has_one fits_one) ∙ ap (reading script) same ∙ reading_again script other names has_other fits_other)
+
+-- the facts of what was answered
+pub answer_has_text : (script : Script) (bytes : List ℕ) (result : Result Record RecordEnd) → Reads (reading script bytes) result → IfOk result (λ written. HasText script written)
+answer_has_text script bytes (Ok written) answer = (reading_takes script bytes written answer).has
+answer_has_text script bytes (Err end) answer = tt
+
+pub answer_is_text : (script : Script) (bytes : List ℕ) (result : Result Record RecordEnd) → Reads (reading script bytes) result → IfOk result (λ written. record_text script written ≡ bytes)
+answer_is_text script bytes (Ok written) answer = (reading_takes script bytes written answer).text
+answer_is_text script bytes (Err end) answer = tt
+
+pub answer_is_short : (script : Script) (bytes : List ℕ) (result : Result Record RecordEnd) → length bytes < 2 ^ 31 → Reads (reading script bytes) result → IfOk result (λ written. length written.lines < 2 ^ 31)
+answer_is_short script bytes (Ok written) short answer = omega (arith, short, (reading_takes script bytes written answer).short)
+answer_is_short script bytes (Err end) short answer = tt
+
+pub answer_fits : (script : Script) (bytes : List ℕ) (result : Result Record RecordEnd) → Reads (reading script bytes) result → IfOk result FitsRecord
+answer_fits script bytes (Ok written) answer = (reading_takes script bytes written answer).fits
+answer_fits script bytes (Err end) answer = tt

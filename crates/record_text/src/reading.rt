@@ -1,8 +1,10 @@
-ghost use Rattle.std.specs.Prelude.{◌≡◌, ◌<◌, ◌^◌, ◌≤◌, [], length, IfOk};
+ghost use Rattle.std.specs.Prelude.{◌≡◌, ◌<◌, ◌^◌, ◌≤◌, [], length, Ok, IfOk};
 ghost use Rattle.script_text.specs.Lines.{lines_of};
 ghost use Rattle.record_text.specs.Reading as record_reading;
 ghost use Rattle.record_text.specs.Spelling.{HasText};
+ghost use Rattle.script_text.specs.Sound.{HasDistinctNames};
 ghost use Rattle.record_text.specs.Texts.{record_text};
+ghost use Rattle.record_text.specs.Values.{FitsRecord};
 ghost use Rattle.record_text.specs.Cursor.{left_tokens};
 
 mod acts;
@@ -103,6 +105,9 @@ fn read_all(alloc: Global, script: &Script, bytes: &[u8]) -> Result<Record, Reco
 }
 
 /// The record whose text the bytes are.
+///
+/// A record is a line `k42 record VERSION`, a line for each entry, and a line `end COUNT`, each with
+/// its line feed. `Misspelt` names the first line that is not such a line or that is missing.
 pub fn read(alloc: Global, script: &Script, bytes: &[u8]) -> Result<Record, RecordEnd>
     requires objects { length script.now.objects ≤ 16 }
     requires workers { length script.now.workers ≤ 16 }
@@ -111,6 +116,13 @@ pub fn read(alloc: Global, script: &Script, bytes: &[u8]) -> Result<Record, Reco
     ensures spelled { IfOk result (λ written. HasText script.now written) }
     ensures text { IfOk result (λ written. record_text script.now written ≡ bytes.now) }
     ensures few { IfOk result (λ written. length written.lines < 2 ^ 31) }
+    ensures values { IfOk result FitsRecord }
+
+    // So `Misspelt` comes only where the bytes are the text of no record at all.
+    ensures again { (written : Record) → HasDistinctNames script.now →
+        HasText script.now written → FitsRecord written →
+        record_text script.now written ≡ bytes.now →
+        record_reading.reading script.now bytes.now ≡ Ok written }
 {
     read_all(alloc, script, bytes)
 }
