@@ -1,6 +1,6 @@
 -- One line after the other, as they are read.
 use Rattle.std.proofs.Common.{◌≡◌, ℕ, ◌+◌, ◌<◌, true, List, length, refl}
-use Rattle.std.specs.Prelude.{Result, Err}
+use Rattle.std.specs.Prelude.{Err}
 use Rattle.script_text.specs.Lines.{lines_of}
 use Rattle.record_text.specs.declared.record.RecordLine.{RecordLine}
 use Rattle.record_text.specs.Reading.{is_last, ended}

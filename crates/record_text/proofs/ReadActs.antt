@@ -1,7 +1,6 @@
 -- An act that is read is spelled so, and what is spelled so is read.
 use Rattle.std.proofs.Common.{◌≡◌, ℕ, ◌<◌, Bool, true, false, cond, ◌||◌, List, [], ◌∷◌, ◌++◌, length, get_or, refl, sym, ap, subst, ◌∙◌, arith, inl, inr}
 use Rattle.std.specs.Prelude.{Option, Some, None, codes, option_map, slice_get}
-use Rattle.std.specs.Option.{option_map_or}
 use Rattle.std.specs.Str.{bytes_eq}
 use Rattle.std.proofs.lemmas.Option.{same_Some, slice_get_within, slice_get_cases, slice_get-get_or, slice_get-map}
 use Rattle.k42_kinds.specs.Operations.{kind_of_op}
@@ -12,7 +11,6 @@ use Rattle.k42_kinds.specs.declared.operation.LayoutName.TheVariants.{Shared, Sp
 use Rattle.k42_kinds.specs.declared.operation.Op.{Op}
 use Rattle.k42_kinds.specs.declared.entry.Act.{Act}
 use Rattle.k42_kinds.specs.declared.entry.Act.TheVariants.{Call, Swap, Destroy}
-use Rattle.script_text.specs.Forms.{is_reserved}
 use Rattle.script_text.specs.Lawful.{kinds_of}
 use Rattle.script_text.specs.Sound.{IsActOn, NamesPage, HasDistinctNames, IsFreeName}
 use Rattle.script_text.specs.declared.script.ObjectLine.{ObjectLine}
@@ -21,7 +19,7 @@ use Rattle.script_text.specs.declared.script.Script.{Script}
 use Rattle.record_text.specs.Acts.{operation_word, argument_tokens, layout_word, act_tokens}
 use Rattle.record_text.specs.Texts.{worker_name, object_name}
 use Rattle.record_text.specs.Values.{FitsOperation, FitsAct}
-use Rattle.record_text.specs.Parts.{Found, ◌>>=◌, token_at, spelled_at}
+use Rattle.record_text.specs.Parts.{Found, ◌>>=◌, spelled_at}
 use Rattle.record_text.specs.ActParts.{operation_at, layout_of, object_of, worker_of, asked, swap_at, destroy_at, call_at, act_of, act_at}
 use Rattle.record_text.specs.declared.reading.acts.Asked.{Asked}
 use Rattle.record_text.proofs.ReadParts.{step, word_or, pair_is, spelled_takes, spelled_again}

@@ -1,6 +1,6 @@
 -- The line of an entry that is read is spelled so, and what is spelled so is read.
-use Rattle.std.proofs.Common.{◌≡◌, ℕ, ◌^◌, ◌<◌, List, [], ◌∷◌, ◌++◌, refl, sym, ap, subst, ◌∙◌, arith}
-use Rattle.std.specs.Prelude.{Option, Some, None, codes}
+use Rattle.std.proofs.Common.{◌≡◌, ℕ, List, [], ◌∷◌, ◌++◌, refl, sym, ap, subst, ◌∙◌, arith}
+use Rattle.std.specs.Prelude.{Option, Some, codes}
 use Rattle.std.specs.Fmt.{decimal}
 use Rattle.std.proofs.lemmas.List.{append_assoc, append-nil}
 use Rattle.std.proofs.lemmas.Option.{same_Some}
@@ -12,8 +12,8 @@ use Rattle.record_text.specs.Answers.{answer_tokens}
 use Rattle.record_text.specs.Texts.{worker_name, object_name, extra_tokens, line_tokens}
 use Rattle.record_text.specs.Spelling.{HasSpelling, IsOfVersion, IsVersion}
 use Rattle.record_text.specs.Values.{FitsLine}
-use Rattle.record_text.specs.Parts.{Found, ◌>>=◌, spelled_at, behind_word, number_at, marked_at, at_end, most_32, most_64}
-use Rattle.record_text.specs.ActParts.{worker_of, act_at, asked}
+use Rattle.record_text.specs.Parts.{◌>>=◌, spelled_at, behind_word, number_at, marked_at, at_end, most_32, most_64}
+use Rattle.record_text.specs.ActParts.{worker_of, act_at}
 use Rattle.record_text.specs.AnswerParts.{answer_at}
 use Rattle.record_text.specs.LineParts.{extra_at, line_on}
 use Rattle.record_text.specs.declared.reading.acts.Asked.{Asked}

@@ -1,6 +1,6 @@
 -- What version 2 tells besides, the first line and the last line: what is read is spelled so, and what is spelled so is read.
-use Rattle.std.proofs.Common.{◌≡◌, ◌≢◌, ℕ, zero, suc, ◌^◌, ◌<◌, ◌≤◌, true, false, List, [], ◌∷◌, ◌++◌, refl, sym, ap, subst, ◌∙◌, eqb, eq-eqb, arith, inl, inr}
-use Rattle.std.specs.Prelude.{Option, Some, None, IfSome, IsSome, IsNone, MatchOption, codes}
+use Rattle.std.proofs.Common.{◌≡◌, ℕ, zero, suc, ◌^◌, ◌<◌, ◌≤◌, false, List, [], ◌∷◌, ◌++◌, refl, ap, subst, ◌∙◌, eqb, arith, inl, inr}
+use Rattle.std.specs.Prelude.{Option, Some, None, IfSome, MatchOption, codes}
 use Rattle.std.specs.Fmt.{decimal}
 use Rattle.std.proofs.lemmas.Bool.Decides.{nat_tests}
 use Rattle.std.proofs.lemmas.Option.{same_Some}

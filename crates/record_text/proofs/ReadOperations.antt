@@ -1,6 +1,6 @@
 -- An operation that is read is spelled so, and what is spelled so is read.
-use Rattle.std.proofs.Common.{◌≡◌, ℕ, ◌-◌, ◌^◌, ◌<◌, List, [], ◌∷◌, ◌++◌, refl, ap, subst, ◌∙◌, cond, arith, inl, inr}
-use Rattle.std.specs.Prelude.{Option, Some, None, codes}
+use Rattle.std.proofs.Common.{◌≡◌, ℕ, ◌-◌, List, [], ◌∷◌, ◌++◌, refl, ap, subst, ◌∙◌, cond, arith, inl, inr}
+use Rattle.std.specs.Prelude.{Some, None, codes}
 use Rattle.std.specs.Fmt.{decimal}
 use Rattle.std.specs.Str.{bytes_eq}
 use Rattle.k42_kinds.specs.Operations.{kind_of_op}
@@ -11,7 +11,7 @@ use Rattle.k42_kinds.specs.declared.operation.Op.TheVariants.{Add, Get, Drain, B
 use Rattle.script_text.specs.Sound.{NamesPage, page_count}
 use Rattle.record_text.specs.Acts.{operation_word, argument_tokens}
 use Rattle.record_text.specs.Values.{FitsOperation}
-use Rattle.record_text.specs.Parts.{Found, ◌>>=◌, token_at, number_at, name_at, text_at, most_32, most_64}
+use Rattle.record_text.specs.Parts.{Found, ◌>>=◌, number_at, name_at, text_at, most_32, most_64}
 use Rattle.record_text.specs.ActParts.{given_nothing, given, binding_at, page_at, writing_at, counter_operation, directory_operation, pages_operation, operation_of, operation_at}
 use Rattle.record_text.proofs.ReadParts.{step, word_or, pair_is, number_takes, number_again, name_takes, name_again, text_takes, text_again}
 

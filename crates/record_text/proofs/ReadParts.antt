@@ -1,17 +1,16 @@
 -- A part that is read is spelled so, and what is spelled so is read.
-use Rattle.std.proofs.Common.{◌≡◌, ◌≢◌, ℕ, zero, suc, ◌+◌, ◌-◌, ◌^◌, ◌<◌, ◌≤◌, Bool, true, false, cond, ◌&&◌, List, [], ◌∷◌, length, get_or, refl, sym, ap, subst, ◌∙◌, eq-eqb, eqb, leb, arith, inl, inr}
-use Rattle.std.specs.Prelude.{◌⊎◌, Option, Some, None, slice_get}
+use Rattle.std.proofs.Common.{◌≡◌, ℕ, ◌^◌, ◌<◌, ◌≤◌, Bool, true, false, cond, ◌&&◌, List, [], ◌∷◌, refl, sym, ap, ◌∙◌, eq-eqb, eqb, leb, arith, inl, inr}
+use Rattle.std.specs.Prelude.{◌⊎◌, Option, Some, None}
 use Rattle.std.specs.Option.{option_and_then}
 use Rattle.std.specs.Str.{bytes_eq}
 use Rattle.std.specs.Fmt.{decimal}
-use Rattle.std.specs.List.{position}
 use Rattle.std.proofs.lemmas.Bool.Decides.{nat_tests}
 use Rattle.std.proofs.lemmas.Option.{same_Some}
 use Rattle.std.proofs.lemmas.Slice.Eq.{bytes_eq-Decides}
 use Rattle.k42_kinds.specs.Words.{is_name, is_text}
 use Rattle.script_text.specs.Numbers.{number_of, number_within}
 use Rattle.script_text.proofs.DecimalNumbers.{number_of-decimal}
-use Rattle.record_text.specs.Parts.{Found, ◌>>=◌, token_at, spelled_at, behind_word, number_at, name_of, name_at, text_of, text_at, marked_number, marked_at, at_end, most_32, most_64}
+use Rattle.record_text.specs.Parts.{◌>>=◌, spelled_at, behind_word, number_at, name_at, text_at, marked_number, marked_at, at_end, most_32}
 
 -- what the first of two steps found, and what the second made of it
 pub step : {A B : Type 0} (first : Option A) (next : A → Option B) (y : B) → (first >>= next) ≡ Some y → (x : A) × (first ≡ Some x) × (next x ≡ Some y)

@@ -1,11 +1,11 @@
 -- A record that is read has just this text, and the text of a record is read.
-use Rattle.std.proofs.Common.{◌≡◌, ℕ, zero, suc, ◌+◌, ◌^◌, ◌<◌, ◌≤◌, Bool, true, false, cond, List, [], ◌∷◌, ◌++◌, length, map, refl, sym, ap, subst, ◌∙◌, eqb, eq-eqb, arith, inl, inr}
+use Rattle.std.proofs.Common.{◌≡◌, ℕ, suc, ◌+◌, ◌^◌, ◌<◌, ◌≤◌, Bool, true, false, cond, List, [], ◌∷◌, ◌++◌, length, map, refl, sym, ap, subst, ◌∙◌, eqb, eq-eqb, arith, inl, inr}
 use Rattle.std.specs.Prelude.{All, Option, Some, None, Result, Ok, Err, IfOk, codes}
 use Rattle.std.specs.Option.{option_map_or}
 use Rattle.std.specs.Fmt.{decimal}
 use Rattle.std.specs.List.{AllByRecursion, concat, flat_map}
 use Rattle.std.proofs.lemmas.Bool.Decides.{nat_tests}
-use Rattle.std.proofs.lemmas.List.{append_assoc, append-nil, length-append}
+use Rattle.std.proofs.lemmas.List.{append_assoc, append-nil}
 use Rattle.std.proofs.lemmas.List.Elements.{All-from_recursion, recursion_from_All}
 use Rattle.script_text.specs.Lines.{lines_of, onto_first_line}
 use Rattle.script_text.specs.Sound.{HasDistinctNames}
@@ -24,7 +24,7 @@ use Rattle.record_text.specs.declared.record.RecordLine.{RecordLine}
 use Rattle.record_text.specs.declared.record.Record.{Record}
 use Rattle.record_text.proofs.ReadExtras.{version_takes, version_again, count_takes, count_again}
 use Rattle.record_text.proofs.ReadEntries.{line_takes, line_again}
-use Rattle.record_text.proofs.SolidTokens.{is_solid, are_solid, decimal_solid, line_of_tokens, tokens_of_line, lines_of_line}
+use Rattle.record_text.proofs.SolidTokens.{are_solid, decimal_solid, line_of_tokens, tokens_of_line, lines_of_line}
 use Rattle.record_text.proofs.SolidLines.{line_solid, two_solid, three_solid}
 
 -- the entries of these lines, behind those before

@@ -1,19 +1,18 @@
 -- The tokens of a record have neither spaces nor line feeds in them, so that a line is cut into just its tokens.
-use Rattle.std.proofs.Common.{◌≡◌, ℕ, ◌^◌, ◌<◌, Bool, true, false, ◌&&◌, List, [], ◌∷◌, ◌++◌, length, refl, sym, ap, ◌∙◌, eqb, arith, inl, inr}
-use Rattle.std.specs.Prelude.{Option, Some, None, IfSome, MatchOption, option_map, codes, slice_get}
+use Rattle.std.proofs.Common.{◌≡◌, ℕ, ◌^◌, ◌<◌, Bool, true, false, ◌&&◌, List, [], ◌∷◌, ◌++◌, length, refl, sym, ap, ◌∙◌, eqb, arith}
+use Rattle.std.specs.Prelude.{Option, Some, None, option_map}
 use Rattle.std.specs.Option.{option_map_or}
-use Rattle.std.specs.List.{list_all, flat_map, join_with_byte}
+use Rattle.std.specs.List.{list_all, join_with_byte}
 use Rattle.std.specs.Fmt.{decimal}
 use Rattle.std.proofs.lemmas.Bool.Decides.{nat_tests}
 use Rattle.std.proofs.lemmas.List.{append_assoc, append-nil}
-use Rattle.std.proofs.lemmas.List.Folds.{list_all-append}
 use Rattle.std.proofs.lemmas.List.Splits.{join_with_byte-slice_split}
-use Rattle.std.proofs.lemmas.Option.{same_Some, slice_get_cases}
+use Rattle.std.proofs.lemmas.Option.{same_Some}
 use Rattle.k42_kinds.specs.Words.{is_digit, is_lower, continues_name, is_name, is_visible, is_text}
-use Rattle.script_text.specs.Numbers.{is_number, number_of}
+use Rattle.script_text.specs.Numbers.{is_number}
 use Rattle.script_text.specs.Lines.{lines_of}
 use Rattle.script_text.proofs.DecimalNumbers.{number_of-decimal}
-use Rattle.record_text.specs.Tokens.{spaced, behind_spaces, line_with}
+use Rattle.record_text.specs.Tokens.{spaced, line_with}
 use Rattle.record_text.specs.Lines.{body_of, pieces_of, tokens_on}
 use Rattle.record_text.proofs.ByteCuts.{IsWithout, lines_of-ended, pieces_of-more, pieces_of-last, tokens_on-ended}
 use Rattle.record_text.proofs.ReadParts.{passed}

@@ -1,5 +1,5 @@
 -- The answer of an act, read from the front of the tokens that are left.
-use Rattle.std.specs.Prelude.{ℕ, if◌then◌else◌, List, Option, Some, None, codes}
+use Rattle.std.specs.Prelude.{ℕ, if◌then◌else◌, List, Some, None, codes}
 use Rattle.std.specs.Str.{bytes_eq}
 use Rattle.k42_kinds.specs.declared.operation.Reply.{Reply}
 use Rattle.k42_kinds.specs.declared.operation.Reply.TheVariants as replies

@@ -1,5 +1,5 @@
 -- The values that a line of a record has: numbers of their widths, keys that are names, and texts.
-use Rattle.std.specs.Prelude.{◌≡◌, ℕ, ◌<◌, ◌^◌, true, length, All, Option, IfSome}
+use Rattle.std.specs.Prelude.{◌≡◌, ◌<◌, ◌^◌, true, length, All, IfSome}
 use Rattle.k42_kinds.specs.Words.{is_name, is_text}
 use Rattle.k42_kinds.specs.declared.operation.Op.{Op}
 use Rattle.k42_kinds.specs.declared.operation.Op.TheVariants.{Add, Bind, Find, Unbind, Write}

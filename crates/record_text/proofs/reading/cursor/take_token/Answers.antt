@@ -1,4 +1,4 @@
-use Rattle.std.proofs.Common.{length, refl, arith}
+use Rattle.std.proofs.Common.{refl, arith}
 use Rattle.std.proofs.lemmas.List.{take_rest}
 use Rattle.record_text.proofs.ByteCuts.{IsCut, pieces_of-cut, pieces_of-uncut}
 use Rattle.record_text.proofs.reading.cursor.take_token.Goals as goal
