@@ -1,3 +1,15 @@
 pub mod LineLookups
 pub mod Digits
 pub mod LineParts
+pub mod ByteCuts
+pub mod EntryLines
+pub mod ReadParts
+pub mod ReadNames
+pub mod ReadOperations
+pub mod ReadActs
+pub mod ReadAnswers
+pub mod ReadExtras
+pub mod ReadEntries
+pub mod SolidTokens
+pub mod SolidLines
+pub mod ReadRecords

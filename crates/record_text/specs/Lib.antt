@@ -5,5 +5,12 @@ pub mod Texts
 pub mod Spelling
 pub mod Histories
 pub mod LineNumbers
+pub mod Lines
+pub mod Cursor
+pub mod Parts
+pub mod ActParts
+pub mod AnswerParts
+pub mod LineParts
 pub mod Reading
+pub mod Values
 pub mod Rules

@@ -1,5 +1,8 @@
+ghost use Rattle.std.specs.Prelude.{◌≡◌, [], ◌∷◌, ◌++◌, OnOk};
+
 use k42_items::Items;
 use k42_kinds::{Act, Answer};
+use k42_memory::Memory;
 
 /// What a record of version 2 tells of an entry besides.
 #[derive(Clone, Copy, Debug, PartialEq, Eq)]
@@ -27,6 +30,17 @@ pub struct RecordLine {
     pub incarnation: u32,
     /// `None` in a record of version 1, and `Some` in one of version 2.
     pub extra: Option<Extra>,
+}
+
+impl RecordLine {
+    /// Puts the line behind the others.
+    pub fn push_onto(&self, lines: &mut Vec<RecordLine>) -> Result<(), Memory>
+        ensures { OnOk result (lines.new.items ≡ lines.old.items ++ self.now ∷ []) }
+    {
+        // The kit proves no `push` of a value of this type, but that of a slice.
+        lines.extend_from_slice(&[*self])?;
+        Ok(())
+    }
 }
 
 /// The lines of a record in the order of the history, and the version of its text, 1 or 2.

@@ -1,4 +1,5 @@
 mod conditions;
+mod reading;
 
 use super::*;
 use conditions::{has_lines, has_text, is_version};

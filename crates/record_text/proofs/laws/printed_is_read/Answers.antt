@@ -1,0 +1,5 @@
+use Rattle.record_text.proofs.ReadRecords.{reading_again}
+use Rattle.record_text.proofs.laws.printed_is_read.Goals as goal
+
+pub returns : goal.returns
+returns c = reading_again
