@@ -6,4 +6,5 @@ pub mod Spelling
 pub mod Histories
 pub mod LineNumbers
 pub mod Reading
+pub mod Told
 pub mod Rules
