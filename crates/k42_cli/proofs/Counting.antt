@@ -57,7 +57,7 @@ none_of : {Y : Type 0} (g : ℕ) → ◌≡◌ {A = Option ℕ} None (Some g) �
 none_of g e = cc
 
 -- the generation of an act, where it has one
-generation_is : (number g : ℕ) (act : Act) → generation_of number act ≡ Some g → g ≡ number
+pub generation_is : (number g : ℕ) (act : Act) → generation_of number act ≡ Some g → g ≡ number
 generation_is number g (Call op) e = sym (same_Some number g e)
 generation_is number g (Swap layout) e = none_of g e
 generation_is number g Destroy e = none_of g e

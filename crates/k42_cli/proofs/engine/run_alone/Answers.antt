@@ -35,3 +35,6 @@ returns-clause-lawful g c =
 
 pub returns-clause-counted : goal.returns-clause-counted
 returns-clause-counted g c = counted_at_end c.args.script.now c.loop-worker.number c.loop-worker.run c.loop-worker.invariant.crewed
+
+pub returns-clause-in_turn : goal.returns-clause-in_turn
+returns-clause-in_turn g c = c.loop-worker.invariant.crewed.in_turn
