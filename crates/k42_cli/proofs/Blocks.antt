@@ -28,19 +28,19 @@ calls_in_open (Line own ∷ items) begun block zero after match some within here
 calls_in_open (Line own ∷ items) begun block (suc place) after match some within here (suc between) line upto there = calls_in_open items begun block place after match.1 some within here between line (omega arith) there
 
 -- between two lines of one block all lines are calls
-pub calls_in_block : (items : List Item) (begun block : ℕ) (open after : Bool) → BlocksMatch open items after → (block ≢ 0 → open ≡ true) → block ≤ begun
+pub calls_in_block : (items : List Item) (begun block : ℕ) (inside after : Bool) → BlocksMatch inside items after → (block ≢ 0 → inside ≡ true) → block ≤ begun
     → (first last told : ℕ) → get_or (blocks_from begun block items) first 0 ≡ told → get_or (blocks_from begun block items) last 0 ≡ told → told ≢ 0
     → (between : ℕ) (line : CallLine) → first ≤ between → between ≤ last → slice_get (call_lines items) between ≡ Some line → IsCall line.act
-calls_in_block [] begun block open after match opened within first last told here there some between line from upto found = absurd (some (sym here))
-calls_in_block (Begin ∷ items) begun block open after match opened within first last told here there some between line from upto found =
+calls_in_block [] begun block inside after match opened within first last told here there some between line from upto found = absurd (some (sym here))
+calls_in_block (Begin ∷ items) begun block inside after match opened within first last told here there some between line from upto found =
     calls_in_block items (begun + 1) (begun + 1) true after match.1 (λ other. refl) (omega arith) first last told here there some between line from upto found
-calls_in_block (End ∷ items) begun block open after match opened within first last told here there some between line from upto found =
+calls_in_block (End ∷ items) begun block inside after match opened within first last told here there some between line from upto found =
     calls_in_block items begun 0 false after match.1 (λ other. absurd (other refl)) (omega arith) first last told here there some between line from upto found
-calls_in_block (Line own ∷ items) begun block open after match opened within zero last told here there some between line from upto found =
+calls_in_block (Line own ∷ items) begun block inside after match opened within zero last told here there some between line from upto found =
     let same : block ≡ told = here in
     let begins : block ≢ 0 = λ none. some (sym same ∙ none) in
     calls_in_open (Line own ∷ items) begun block last after (subst (λ (b : Bool). BlocksMatch b (Line own ∷ items) after) (opened begins) match) begins within (there ∙ sym same) between line upto found
-calls_in_block (Line own ∷ items) begun block open after match opened within (suc first) zero told here there some between line from upto found = absurd (omega arith)
-calls_in_block (Line own ∷ items) begun block open after match opened within (suc first) (suc last) told here there some zero line from upto found = absurd (omega arith)
-calls_in_block (Line own ∷ items) begun block open after match opened within (suc first) (suc last) told here there some (suc between) line from upto found =
-    calls_in_block items begun block open after match.1 opened within first last told here there some between line (omega arith) (omega arith) found
+calls_in_block (Line own ∷ items) begun block inside after match opened within (suc first) zero told here there some between line from upto found = absurd (omega arith)
+calls_in_block (Line own ∷ items) begun block inside after match opened within (suc first) (suc last) told here there some zero line from upto found = absurd (omega arith)
+calls_in_block (Line own ∷ items) begun block inside after match opened within (suc first) (suc last) told here there some (suc between) line from upto found =
+    calls_in_block items begun block inside after match.1 opened within first last told here there some between line (omega arith) (omega arith) found

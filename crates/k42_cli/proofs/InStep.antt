@@ -1,9 +1,9 @@
 -- The record of workers that ran one after the other is lawful in all that it tells.
 use Rattle.std.proofs.Common.{◌≡◌, ◌≢◌, ℕ, zero, suc, ◌+◌, ◌<◌, ◌≤◌, Bool, true, false, cond, List, [], ◌∷◌, ◌++◌, length, get_or, take, drop, map, refl, sym, ap, ◌∙◌, subst, arith}
-use Rattle.std.specs.Prelude.{All, Option, Some, None, IfSome, slice_get}
+use Rattle.std.specs.Prelude.{◌==◌, All, Option, Some, None, IfSome, slice_get}
 use Rattle.std.specs.List.{AllByRecursion}
 use Rattle.std.specs.Option.{option_map}
-use Rattle.std.proofs.lemmas.Bool.{eqb-eq}
+use Rattle.std.proofs.lemmas.Bool.{eqb-true}
 use Rattle.std.proofs.lemmas.List.{append_assoc, length-append, length-map, take-map}
 use Rattle.std.proofs.lemmas.List.Sums.{sum_by-append}
 use Rattle.std.proofs.lemmas.List.Elements.{filter-append, recursion_from_All}
@@ -45,6 +45,39 @@ none_carried_out (entry ∷ entries) none = rw none.0 (none_carried_out entries 
 split_twice : {X : Type 0} (all front : List X) (first : X) (between back start : List X) (x : X) (end : List X) → all ≡ front ++ first ∷ (between ++ back) → first ∷ between ≡ start ++ x ∷ end → all ≡ (front ++ start) ++ x ∷ (end ++ back)
 split_twice all front first between back start x end e s =
     e ∙ ap (λ (middle : List _). front ++ (middle ++ back)) s ∙ ap (λ (rest : List _). front ++ rest) (append_assoc start (x ∷ end) back) ∙ sym (append_assoc front start (x ∷ (end ++ back)))
+
+-- the generation that is told of an entry is the entry's
+told_of : (extra : Bool) (entry : Entry) (told : ℕ) → told_generation (cond extra (Some (record { proc = entry.proc; generation = entry.generation })) None) ≡ Some told → entry.generation ≡ Some told
+told_of true entry told here = here
+told_of false entry told here = cc
+
+-- and the processor is
+processor_told : (extra : Bool) (entry : Entry) (processor : ℕ) → entry.proc ≡ processor → IfSome (cond extra (Some (record { proc = entry.proc; generation = entry.generation })) None) (λ (told : Extra). told.proc ≡ processor)
+processor_told true entry processor here = here
+processor_told false entry processor here = tt
+
+-- the entry of which a generation is told
+record IsTold (found : Option Entry) (told : ℕ) : Type 0 where
+  entry : Entry
+  there : found ≡ Some entry
+  generation : entry.generation ≡ Some told
+
+told_by_line : (script : Script) (version : ℕ) (found : Option Entry) (told : ℕ) → option_map (λ (line : RecordLine). told_generation line.extra) (option_map (line_of script version) found) ≡ Some (Some told) → IsTold found told
+told_by_line script version None told here = cc
+told_by_line script version (Some entry) told here = record { entry = entry; there = refl; generation = told_of (version == 2) entry told (same_Some (told_generation (line_of script version entry).extra) (Some told) here) }
+
+-- the entry whose line this is
+record IsLineOf (script : Script) (version : ℕ) (found : Option Entry) (line : RecordLine) : Type 0 where
+  entry : Entry
+  there : found ≡ Some entry
+  same : line_of script version entry ≡ line
+
+line_by_entry : (script : Script) (version : ℕ) (found : Option Entry) (line : RecordLine) → option_map (line_of script version) found ≡ Some line → IsLineOf script version found line
+line_by_entry script version None line here = cc
+line_by_entry script version (Some entry) line here = record { entry = entry; there = refl; same = same_Some (line_of script version entry) line here }
+
+same_step : {block other later_block later_other : ℕ} (former generation : ℕ) → block ≡ other → later_block ≡ later_other → AreInStep other later_other former generation → AreInStep block later_block former generation
+same_step former generation same later_same step = record { risen = step.risen; level = λ some level. step.level (λ none. some (later_same ∙ none)) (sym same ∙ level ∙ later_same) }
 
 module _ (script : Script) (sound : IsSound script) (history : List Entry) (lawful : IsLawful script history) (counted : CountsGenerations script history) (turn : RunsInTurn history) where
   -- between two entries of a worker all are its own
@@ -97,3 +130,55 @@ module _ (script : Script) (sound : IsSound script) (history : List Entry) (lawf
             let there : generation ≡ carried_out (front ++ first ∷ between) = generation_is (carried_out (front ++ first ∷ between)) generation last.act (sym (counted.generations (front ++ first ∷ between) last after whole) ∙ later) in
             omega (arith, here, there, none, sum_by-append (λ (entry : Entry). cond (is_carried_out entry.answer) 1 0) front (first ∷ between));
       }
+
+  -- the lines of a worker are those of its entries
+  lines_of_worker : (version caller : ℕ) (entries : List Entry) → lines_by caller (map (line_of script version) entries) ≡ map (line_of script version) (entries_of caller entries)
+  lines_of_worker version caller entries = filter-map (λ (line : RecordLine). line.worker == caller) (line_of script version) entries
+
+  -- a block is looked up among the worker's
+  block_of : (caller place : ℕ) (worker : WorkerLines) → slice_get script.workers caller ≡ Some worker → block_at script caller place ≡ get_or (blocks_of worker.items) place 0
+  block_of caller place worker found = rw found refl
+
+  -- the generation of each line is in step with those before it
+  step_kept : (version : ℕ) (before : List Entry) (entry : Entry) (after : List Entry) → history ≡ before ++ entry ∷ after → (worker : WorkerLines) → slice_get script.workers entry.caller ≡ Some worker
+      → (generation : ℕ) → told_generation (extra_of version entry) ≡ Some generation
+      → (earlier former : ℕ) → slice_get (generations_by entry.caller (map (line_of script version) before)) earlier ≡ Some (Some former)
+      → AreInStep (block_at script entry.caller earlier) (block_at script entry.caller (length (lines_by entry.caller (map (line_of script version) before)))) former generation
+  step_kept version before entry after e worker found generation later earlier former there =
+      let caller = entry.caller in
+      let own = entries_of caller before in
+      let told = λ (line : RecordLine). told_generation line.extra in
+      let looked_up : option_map told (option_map (line_of script version) (slice_get own earlier)) ≡ Some (Some former) =
+      ap (option_map told) (sym (slice_get-map (line_of script version) own earlier)) ∙ sym (slice_get-map told (map (line_of script version) own) earlier)
+      ∙ ap (λ (lines : List RecordLine). slice_get (map told lines) earlier) (sym (lines_of_worker version caller before)) ∙ there in
+      let first = told_by_line script version (slice_get own earlier) former looked_up in
+      let place = among (λ (other : Entry). other.caller == caller) before first.entry earlier first.there in
+      let whole : history ≡ place.before ++ first.entry ∷ (place.after ++ entry ∷ after) = e ∙ ap (λ (front : List Entry). front ++ entry ∷ after) place.split ∙ append_assoc place.before (first.entry ∷ place.after) (entry ∷ after) in
+      let step = in_step place.before first.entry place.after entry after whole (eqb-true first.entry.caller caller place.passes) worker found former generation first.generation (told_of (version == 2) entry generation later) in
+      let count : length (lines_by caller (map (line_of script version) before)) ≡ length (entries_of caller (place.before ++ first.entry ∷ place.after)) =
+      ap length (lines_of_worker version caller before) ∙ length-map own (line_of script version) ∙ ap (λ (all : List Entry). length (entries_of caller all)) place.split in
+      let blocks = blocks_of worker.items in
+      let block : block_at script caller earlier ≡ get_or blocks (length (entries_of caller place.before)) 0 = block_of caller earlier worker found ∙ ap (λ (n : ℕ). get_or blocks n 0) (sym place.counted) in
+      let later_block : block_at script caller (length (lines_by caller (map (line_of script version) before))) ≡ get_or blocks (length (entries_of caller (place.before ++ first.entry ∷ place.after))) 0 =
+      block_of caller (length (lines_by caller (map (line_of script version) before))) worker found ∙ ap (λ (n : ℕ). get_or blocks n 0) count in
+      same_step former generation block later_block step
+
+  -- the line of each entry keeps the generations
+  kept_by : (version : ℕ) (before : List Entry) (entry : Entry) (after : List Entry) → history ≡ before ++ entry ∷ after → KeepsGenerations script (map (line_of script version) before) (line_of script version entry)
+  kept_by version before entry after e =
+      let worker = found_at script.workers entry.caller (All-at_split (λ (other : Entry). other.caller < length script.workers) history lawful.no_stranger before entry after e) in
+      let on : entry.proc ≡ worker.0.proc = All-at_split (IsOnProcessor script) history counted.processors before entry after e worker.0 worker.1 in
+      let processor : entry.proc ≡ processor_of script entry.caller = rw worker.1 on in
+      record {
+        processor = processor_told (version == 2) entry (processor_of script entry.caller) processor;
+        generation = step_kept version before entry after e worker.0 worker.1;
+      }
+
+  kept_at : (version place : ℕ) → KeepsAt script (map (line_of script version) history) place Generations
+  kept_at version place line there =
+      let found = line_by_entry script version (slice_get history place) line (sym (slice_get-map (line_of script version) history place) ∙ there) in
+      rw (take-map, ← found.same) (kept_by version (take place history) found.entry (drop (suc place) history) (split_at history place found.entry found.there))
+
+  -- the record is lawful in all that it tells
+  pub judged_lawful : (version : ℕ) → IsLawfulRecord script (record_of script history version)
+  judged_lawful version = record { history = history; lawful = lawful; same = refl; generations = kept_at version }

@@ -1,6 +1,6 @@
 -- A lawful history of a sound script has a record, and the record a text.
 use Rattle.std.proofs.Common.{◌≡◌, ℕ, zero, suc, ◌+◌, ◌<◌, List, [], ◌∷◌, ◌++◌, length, get_or, take, drop, map, inl, inr, refl, sym, ap, ◌∙◌, subst, arith}
-use Rattle.std.specs.Prelude.{All, Some, slice_get}
+use Rattle.std.specs.Prelude.{All, Some, Result, Ok, Err, IfOk, slice_get}
 use Rattle.std.proofs.lemmas.Bool.{eq-eqb}
 use Rattle.std.proofs.lemmas.List.{map-append, take-append-drop}
 use Rattle.std.proofs.lemmas.List.Elements.{All-map, filter-append}
@@ -57,6 +57,11 @@ pub found_at : {X : Type 0} (xs : List X) (n : ℕ) → n < length xs → (x : X
 found_at [] n within = absurd (omega arith)
 found_at (x ∷ xs) zero within = (x, refl)
 found_at (x ∷ xs) (suc n) within = found_at xs n (omega arith)
+
+-- what follows of each value follows of a value that there may be
+pub where_ok : {X E : Type 0} (P Q : X → Type 0) → ((x : X) → P x → Q x) → (result : Result X E) → IfOk result P → IfOk result Q
+where_ok P Q each (Ok x) holds = each x holds
+where_ok P Q each (Err e) holds = tt
 
 -- what holds of all elements holds of the one that is found
 pub All-found : {X : Type 0} (P : X → Type 0) (xs : List X) (n : ℕ) (x : X) → All P xs → slice_get xs n ≡ Some x → P x
