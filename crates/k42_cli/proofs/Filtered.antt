@@ -1,6 +1,6 @@
 -- Elements that pass a test, and where they stand among all.
-use Rattle.std.proofs.Common.{◌≡◌, ℕ, zero, suc, Bool, true, false, cond, List, [], ◌∷◌, ◌++◌, length, get_or, take, drop, map, filter, refl, sym, ap, ◌∙◌, arith}
-use Rattle.std.specs.Prelude.{Option, Some, None, slice_get}
+use Rattle.std.proofs.Common.{◌≡◌, ℕ, zero, suc, Bool, true, false, cond, List, [], ◌∷◌, ◌++◌, length, take, drop, map, filter, refl, sym, ap, ◌∙◌}
+use Rattle.std.specs.Prelude.{Some, slice_get}
 use Rattle.std.proofs.lemmas.List.{take-append-drop}
 use Rattle.std.proofs.lemmas.Option.{same_Some, slice_get_within, get_or_from_slice_get}
 use Rattle.std.proofs.Math.Seq.{drop-cons}
@@ -25,6 +25,7 @@ among-cons p y xs x rest false test place here =
     let inner = rest place (rw test at here) in
     record { before = y ∷ inner.before; after = inner.after; split = ap (λ (back : List _). y ∷ back) inner.split; passes = inner.passes; counted = rw test inner.counted }
 
+-- what stands at a place of those that pass stands among all
 pub among : {X : Type 0} (p : X → Bool) (xs : List X) (x : X) (place : ℕ) → slice_get (filter p xs) place ≡ Some x → IsAmong p xs place x
 among p [] x place here = cc
 among p (y ∷ xs) x place here = among-cons p y xs x (among p xs x) (p y) refl place here
@@ -33,6 +34,7 @@ cond-map : {X Y : Type 0} (f : X → Y) (x : X) (xs : List X) (ys : List Y) → 
 cond-map f x xs ys same true = ap (λ (back : List _). f x ∷ back) same
 cond-map f x xs ys same false = same
 
+-- a test after a function, or of what it gives
 pub filter-map : {X Y : Type 0} (p : Y → Bool) (f : X → Y) (xs : List X) → filter p (map f xs) ≡ map f (filter (λ x. p (f x)) xs)
 filter-map p f [] = refl
 filter-map p f (x ∷ xs) = cond-map f x (filter (λ x. p (f x)) xs) (filter p (map f xs)) (filter-map p f xs) (p (f x))

@@ -1,9 +1,10 @@
 -- The record of workers that ran one after the other is lawful in all that it tells.
-use Rattle.std.proofs.Common.{◌≡◌, ◌≢◌, ℕ, zero, suc, ◌+◌, ◌<◌, ◌≤◌, Bool, true, false, cond, List, [], ◌∷◌, ◌++◌, length, get_or, take, drop, map, refl, sym, ap, ◌∙◌, subst, arith}
-use Rattle.std.specs.Prelude.{◌==◌, All, Option, Some, None, IfSome, slice_get}
+use Rattle.std.proofs.Common.{◌≡◌, ◌≢◌, ℕ, suc, ◌+◌, ◌<◌, ◌≤◌, Bool, true, false, cond, List, [], ◌∷◌, ◌++◌, length, get_or, take, drop, map, refl, sym, ap, ◌∙◌, subst, arith}
+use Rattle.std.specs.Prelude.{◌==◌, Option, Some, None, IfSome, slice_get}
 use Rattle.std.specs.List.{AllByRecursion}
 use Rattle.std.specs.Option.{option_map}
 use Rattle.std.proofs.lemmas.Bool.{eqb-true}
+use Rattle.std.proofs.lemmas.Simd.{map-map}
 use Rattle.std.proofs.lemmas.List.{append_assoc, length-append, length-map, take-map}
 use Rattle.std.proofs.lemmas.List.Sums.{sum_by-append}
 use Rattle.std.proofs.lemmas.List.Elements.{filter-append, recursion_from_All}
@@ -15,13 +16,12 @@ use Rattle.k42_kinds.specs.declared.entry.Act.{Act}
 use Rattle.k42_kinds.specs.declared.entry.Act.TheVariants.{Call, Swap, Destroy}
 use Rattle.k42_kinds.specs.declared.entry.Entry.{Entry}
 use Rattle.k42_kinds.proofs.Splits.{heads, All-at_split}
-use Rattle.script_text.specs.Lawful.{call_lines, deed_of, IsLawful}
+use Rattle.script_text.specs.Lawful.{deed_of, IsLawful}
 use Rattle.script_text.specs.Sound.{IsCall, IsSoundWorker, IsSound}
-use Rattle.script_text.specs.declared.script.CallLine.{CallLine}
 use Rattle.script_text.specs.declared.script.Script.{Script}
 use Rattle.script_text.specs.declared.script.WorkerLines.{WorkerLines}
 use Rattle.record_text.specs.Histories.{extra_of, line_of, record_of}
-use Rattle.record_text.specs.Rules.{Rule, Generations, KeepsGenerations, KeepsAt, IsLawfulRecord}
+use Rattle.record_text.specs.Rules.{Generations, KeepsGenerations, KeepsAt, IsLawfulRecord}
 use Rattle.record_text.specs.Told.{lines_by, processor_of, told_generation, generations_by, blocks_of, block_at, AreInStep}
 use Rattle.record_text.specs.declared.record.Extra.{Extra}
 use Rattle.record_text.specs.declared.record.RecordLine.{RecordLine}
@@ -40,6 +40,10 @@ call_is_no_swap kind before entry after Destroy call legal = absurd call
 none_carried_out : (entries : List Entry) → AllByRecursion (λ entry. is_carried_out entry.answer ≡ false) entries → carried_out entries ≡ 0
 none_carried_out [] none = refl
 none_carried_out (entry ∷ entries) none = rw none.0 (none_carried_out entries none.1)
+
+-- a caller has as many entries in two lists as in both
+count_of_both : (caller : ℕ) (front back : List Entry) → length (entries_of caller (front ++ back)) ≡ length (entries_of caller front) + length (entries_of caller back)
+count_of_both caller front back = ap length (filter-append (λ (entry : Entry). entry.caller == caller) front back) ∙ length-append (entries_of caller front) (entries_of caller back)
 
 -- what stands before what, where a list is split twice
 split_twice : {X : Type 0} (all front : List X) (first : X) (between back start : List X) (x : X) (end : List X) → all ≡ front ++ first ∷ (between ++ back) → first ∷ between ≡ start ++ x ∷ end → all ≡ (front ++ start) ++ x ∷ (end ++ back)
@@ -62,9 +66,26 @@ record IsTold (found : Option Entry) (told : ℕ) : Type 0 where
   there : found ≡ Some entry
   generation : entry.generation ≡ Some told
 
-told_by_line : (script : Script) (version : ℕ) (found : Option Entry) (told : ℕ) → option_map (λ (line : RecordLine). told_generation line.extra) (option_map (line_of script version) found) ≡ Some (Some told) → IsTold found told
-told_by_line script version None told here = cc
-told_by_line script version (Some entry) told here = record { entry = entry; there = refl; generation = told_of (version == 2) entry told (same_Some (told_generation (line_of script version entry).extra) (Some told) here) }
+told_by : (script : Script) (version : ℕ) (found : Option Entry) (told : ℕ) → option_map (λ (entry : Entry). told_generation (line_of script version entry).extra) found ≡ Some (Some told) → IsTold found told
+told_by script version None told here = cc
+told_by script version (Some entry) told here = record { entry = entry; there = refl; generation = told_of (version == 2) entry told (same_Some (told_generation (line_of script version entry).extra) (Some told) here) }
+
+-- the lines of a worker are those of its entries
+lines_of_worker : (script : Script) (version caller : ℕ) (entries : List Entry) → lines_by caller (map (line_of script version) entries) ≡ map (line_of script version) (entries_of caller entries)
+lines_of_worker script version caller entries = filter-map (λ (line : RecordLine). line.worker == caller) (line_of script version) entries
+
+count_of_worker : (script : Script) (version caller : ℕ) (entries : List Entry) → length (lines_by caller (map (line_of script version) entries)) ≡ length (entries_of caller entries)
+count_of_worker script version caller entries = ap length (lines_of_worker script version caller entries) ∙ length-map (entries_of caller entries) (line_of script version)
+
+-- and so are their generations
+generations_of_worker : (script : Script) (version caller : ℕ) (entries : List Entry) → generations_by caller (map (line_of script version) entries) ≡ map (λ (entry : Entry). told_generation (line_of script version entry).extra) (entries_of caller entries)
+generations_of_worker script version caller entries =
+    ap (map (λ (line : RecordLine). told_generation line.extra)) (lines_of_worker script version caller entries) ∙ map-map (λ (line : RecordLine). told_generation line.extra) (line_of script version) (entries_of caller entries)
+
+told_at : (script : Script) (version caller : ℕ) (entries : List Entry) (place told : ℕ) → slice_get (generations_by caller (map (line_of script version) entries)) place ≡ Some (Some told) → IsTold (slice_get (entries_of caller entries) place) told
+told_at script version caller entries place told here =
+    told_by script version (slice_get (entries_of caller entries) place) told
+    (sym (slice_get-map (λ (entry : Entry). told_generation (line_of script version entry).extra) (entries_of caller entries) place) ∙ (rw (generations_of_worker script version caller entries) at here))
 
 -- the entry whose line this is
 record IsLineOf (script : Script) (version : ℕ) (found : Option Entry) (line : RecordLine) : Type 0 where
@@ -76,6 +97,7 @@ line_by_entry : (script : Script) (version : ℕ) (found : Option Entry) (line :
 line_by_entry script version None line here = cc
 line_by_entry script version (Some entry) line here = record { entry = entry; there = refl; same = same_Some (line_of script version entry) line here }
 
+-- what is in step is so in the same blocks
 same_step : {block other later_block later_other : ℕ} (former generation : ℕ) → block ≡ other → later_block ≡ later_other → AreInStep other later_other former generation → AreInStep block later_block former generation
 same_step former generation same later_same step = record { risen = step.risen; level = λ some level. step.level (λ none. some (later_same ∙ none)) (sym same ∙ level ∙ later_same) }
 
@@ -90,7 +112,7 @@ module _ (script : Script) (sound : IsSound script) (history : List Entry) (lawf
       let inner = (heads first other between (start ++ entry ∷ end) s).tail in
       let whole = split_twice history front first between (last ∷ after) (other ∷ start) entry end e s in
       let above : first.caller ≤ entry.caller = All-at_split (λ (later : Entry). first.caller ≤ later.caller) (between ++ last ∷ after) (turn front first (between ++ last ∷ after) e) start entry (end ++ last ∷ after)
-          (ap (λ (rest : List Entry). rest ++ last ∷ after) inner ∙ append_assoc start (entry ∷ end) (last ∷ after)) in
+      (ap (λ (rest : List Entry). rest ++ last ∷ after) inner ∙ append_assoc start (entry ∷ end) (last ∷ after)) in
       let below : entry.caller ≤ last.caller = All-at_split (λ (later : Entry). entry.caller ≤ later.caller) (end ++ last ∷ after) (turn (front ++ other ∷ start) entry (end ++ last ∷ after) whole) end last after refl in
       omega (arith, above, below, own)
 
@@ -106,12 +128,13 @@ module _ (script : Script) (sound : IsSound script) (history : List Entry) (lawf
       let deed = deed_by script sound history lawful (front ++ start) entry (end ++ last ∷ after) whole worker (ap (slice_get script.workers) by ∙ found) in
       let place = length (map deed_of (entries_of entry.caller (front ++ start))) in
       let placed : place ≡ length (entries_of caller (front ++ start)) = length-map (entries_of entry.caller (front ++ start)) deed_of ∙ ap (λ (n : ℕ). length (entries_of n (front ++ start))) by in
-      let lower = ap length (filter-append (λ (other : Entry). other.caller == caller) front start) ∙ length-append (entries_of caller front) (entries_of caller start) in
+      let lower = count_of_both caller front start in
       let regrouped : front ++ first ∷ between ≡ (front ++ start) ++ entry ∷ end = ap (λ (rest : List Entry). front ++ rest) s ∙ sym (append_assoc front start (entry ∷ end)) in
-      let upper = ap (λ (all : List Entry). length (entries_of caller all)) regrouped ∙ ap length (filter-append (λ (other : Entry). other.caller == caller) (front ++ start) (entry ∷ end)) ∙ length-append (entries_of caller (front ++ start)) (entries_of caller (entry ∷ end)) in
+      let all : length (entries_of caller (front ++ first ∷ between)) ≡ length (entries_of caller ((front ++ start) ++ entry ∷ end)) = ap (λ (some : List Entry). length (entries_of caller some)) regrouped in
+      let upper = count_of_both caller (front ++ start) (entry ∷ end) in
       let blocks = (All-found (IsSoundWorker script) script.workers caller worker sound.workers found).blocks in
       let call : IsCall deed.line.act = calls_in_block worker.items 0 0 false false blocks (λ other. absurd (other refl)) (omega arith)
-          (length (entries_of caller front)) (length (entries_of caller (front ++ first ∷ between))) block here there some place deed.line (omega (arith, placed, lower)) (omega (arith, placed, upper)) deed.there in
+      (length (entries_of caller front)) (length (entries_of caller (front ++ first ∷ between))) block here there some place deed.line (omega (arith, placed, lower)) (omega (arith, placed, all, upper)) deed.there in
       let legal = lawful.legal.legal (front ++ start) entry (end ++ last ∷ after) whole in
       call_is_no_swap legal.kind (front ++ start) entry (end ++ last ∷ after) entry.act (subst IsCall (sym deed.act) call) legal.legal
 
@@ -125,15 +148,11 @@ module _ (script : Script) (sound : IsSound script) (history : List Entry) (lawf
         risen = never_falls history counted.generations front between after first last e former generation earlier later;
         level = λ some same.
             let none = none_carried_out (first ∷ between) (recursion_from_All (λ (entry : Entry). is_carried_out entry.answer ≡ false) (first ∷ between)
-                (each_all (λ (entry : Entry). is_carried_out entry.answer ≡ false) (first ∷ between) (calls_between front first between last after e own worker found _ some same refl))) in
+            (each_all (λ (entry : Entry). is_carried_out entry.answer ≡ false) (first ∷ between) (calls_between front first between last after e own worker found _ some same refl))) in
             let here : former ≡ carried_out front = generation_is (carried_out front) former first.act (sym (counted.generations front first (between ++ last ∷ after) e) ∙ earlier) in
             let there : generation ≡ carried_out (front ++ first ∷ between) = generation_is (carried_out (front ++ first ∷ between)) generation last.act (sym (counted.generations (front ++ first ∷ between) last after whole) ∙ later) in
             omega (arith, here, there, none, sum_by-append (λ (entry : Entry). cond (is_carried_out entry.answer) 1 0) front (first ∷ between));
       }
-
-  -- the lines of a worker are those of its entries
-  lines_of_worker : (version caller : ℕ) (entries : List Entry) → lines_by caller (map (line_of script version) entries) ≡ map (line_of script version) (entries_of caller entries)
-  lines_of_worker version caller entries = filter-map (λ (line : RecordLine). line.worker == caller) (line_of script version) entries
 
   -- a block is looked up among the worker's
   block_of : (caller place : ℕ) (worker : WorkerLines) → slice_get script.workers caller ≡ Some worker → block_at script caller place ≡ get_or (blocks_of worker.items) place 0
@@ -146,17 +165,12 @@ module _ (script : Script) (sound : IsSound script) (history : List Entry) (lawf
       → AreInStep (block_at script entry.caller earlier) (block_at script entry.caller (length (lines_by entry.caller (map (line_of script version) before)))) former generation
   step_kept version before entry after e worker found generation later earlier former there =
       let caller = entry.caller in
-      let own = entries_of caller before in
-      let told = λ (line : RecordLine). told_generation line.extra in
-      let looked_up : option_map told (option_map (line_of script version) (slice_get own earlier)) ≡ Some (Some former) =
-      ap (option_map told) (sym (slice_get-map (line_of script version) own earlier)) ∙ sym (slice_get-map told (map (line_of script version) own) earlier)
-      ∙ ap (λ (lines : List RecordLine). slice_get (map told lines) earlier) (sym (lines_of_worker version caller before)) ∙ there in
-      let first = told_by_line script version (slice_get own earlier) former looked_up in
+      let first = told_at script version caller before earlier former there in
       let place = among (λ (other : Entry). other.caller == caller) before first.entry earlier first.there in
       let whole : history ≡ place.before ++ first.entry ∷ (place.after ++ entry ∷ after) = e ∙ ap (λ (front : List Entry). front ++ entry ∷ after) place.split ∙ append_assoc place.before (first.entry ∷ place.after) (entry ∷ after) in
       let step = in_step place.before first.entry place.after entry after whole (eqb-true first.entry.caller caller place.passes) worker found former generation first.generation (told_of (version == 2) entry generation later) in
       let count : length (lines_by caller (map (line_of script version) before)) ≡ length (entries_of caller (place.before ++ first.entry ∷ place.after)) =
-      ap length (lines_of_worker version caller before) ∙ length-map own (line_of script version) ∙ ap (λ (all : List Entry). length (entries_of caller all)) place.split in
+      count_of_worker script version caller before ∙ ap (λ (all : List Entry). length (entries_of caller all)) place.split in
       let blocks = blocks_of worker.items in
       let block : block_at script caller earlier ≡ get_or blocks (length (entries_of caller place.before)) 0 = block_of caller earlier worker found ∙ ap (λ (n : ℕ). get_or blocks n 0) (sym place.counted) in
       let later_block : block_at script caller (length (lines_by caller (map (line_of script version) before))) ≡ get_or blocks (length (entries_of caller (place.before ++ first.entry ∷ place.after))) 0 =

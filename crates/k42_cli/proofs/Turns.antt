@@ -42,12 +42,12 @@ pub in_turn-append : (number : ℕ) (old more : List Entry) → All (λ (entry :
 in_turn-append number old more earlier own turn before entry after e =
     elim (split-append old more before entry after e) [
       | inl first ↦
-        let below : entry.caller < number = All-at_split (λ (other : Entry). other.caller < number) old earlier before entry first.rest first.within in
-        rw first.end (All-append (λ (later : Entry). entry.caller ≤ later.caller) first.rest more (turn before entry first.rest first.within)
-            (All-implies (λ (later : Entry). later.caller ≡ number) (λ (later : Entry). entry.caller ≤ later.caller) more (λ later same. omega (arith, below, same)) own))
+          let below : entry.caller < number = All-at_split (λ (other : Entry). other.caller < number) old earlier before entry first.rest first.within in
+          rw first.end (All-append (λ (later : Entry). entry.caller ≤ later.caller) first.rest more (turn before entry first.rest first.within)
+          (All-implies (λ (later : Entry). later.caller ≡ number) (λ (later : Entry). entry.caller ≤ later.caller) more (λ later same. omega (arith, below, same)) own))
       | inr second ↦
-        let here : entry.caller ≡ number = All-at_split (λ (other : Entry). other.caller ≡ number) more own second.front entry after second.within in
-        each_all (λ (later : Entry). entry.caller ≤ later.caller) after (λ front later back s.
-            let there : later.caller ≡ number = All-at_split (λ (other : Entry). other.caller ≡ number) more own (second.front ++ entry ∷ front) later back (second.within ∙ ap (λ (rest : List Entry). second.front ++ entry ∷ rest) s ∙ sym (append_assoc second.front (entry ∷ front) (later ∷ back))) in
-            omega (arith, here, there))
+          let here : entry.caller ≡ number = All-at_split (λ (other : Entry). other.caller ≡ number) more own second.front entry after second.within in
+          each_all (λ (later : Entry). entry.caller ≤ later.caller) after (λ front later back s.
+          let there : later.caller ≡ number = All-at_split (λ (other : Entry). other.caller ≡ number) more own (second.front ++ entry ∷ front) later back (second.within ∙ ap (λ (rest : List Entry). second.front ++ entry ∷ rest) s ∙ sym (append_assoc second.front (entry ∷ front) (later ∷ back))) in
+          omega (arith, here, there))
     ]

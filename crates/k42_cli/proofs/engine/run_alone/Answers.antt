@@ -1,8 +1,8 @@
-use Rattle.std.proofs.Common.{◌≡◌, ◌+◌, ◌≤◌, length, refl, sym, ap, ◌∙◌, arith}
+use Rattle.std.proofs.Common.{◌≡◌, ◌≤◌, length, refl, ap, arith}
 use Rattle.std.specs.Prelude.{Some, slice_get}
 use Rattle.std.proofs.lemmas.Option.{slice_get_read}
 use Rattle.script_text.specs.Lawful.{call_lines}
-use Rattle.k42_cli.proofs.Crew.{crewed_at_start, crewed_on, room_for, lawful_at_end, counted_at_end}
+use Rattle.k42_cli.proofs.Crew.{crewed_on, room_for, lawful_at_end, counted_at_end}
 use Rattle.k42_cli.proofs.engine.run_alone.Goals as goal
 
 pub work-requires-clause-few : goal.work-requires-clause-few

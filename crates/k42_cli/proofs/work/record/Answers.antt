@@ -17,11 +17,11 @@ returns g c =
     let history = c.in_ok-history.history.items in
     let known = c.in_ok-history.ensures in
     where_ok (λ text. text.items ≡ record_text script c.in_ok-lines.lines) (λ text. IsRecordText script c.args.version text.items)
-        (λ text same. record {
-          history = history;
-          lawful = known.lawful;
-          counted = known.counted;
-          judged = judged_lawful script c.requires.sound history known.lawful known.counted known.in_turn c.args.version;
-          text = same ∙ ap (record_text script) c.in_ok-lines.ensures;
-        })
-        c.print.result c.print.ensures
+    (λ text same. record {
+      history = history;
+      lawful = known.lawful;
+      counted = known.counted;
+      judged = judged_lawful script c.requires.sound history known.lawful known.counted known.in_turn c.args.version;
+      text = same ∙ ap (record_text script) c.in_ok-lines.ensures;
+    })
+    c.print.result c.print.ensures
