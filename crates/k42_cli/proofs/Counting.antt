@@ -1,13 +1,12 @@
 -- The swaps and destroys of a run, and the generations by their count.
-use Rattle.std.proofs.Common.{◌≡◌, ℕ, zero, suc, ◌+◌, ◌<◌, ◌≤◌, Bool, true, false, cond, List, [], ◌∷◌, ◌++◌, length, refl, sym, ap, ◌∙◌, subst, arith}
-use Rattle.std.specs.Prelude.{Option, Some, None, count_by}
+use Rattle.std.proofs.Common.{◌≡◌, ℕ, ◌+◌, ◌≤◌, Bool, true, false, cond, List, [], ◌∷◌, ◌++◌, length, refl, sym, ap, ◌∙◌, subst, arith}
+use Rattle.std.specs.Prelude.{Option, Some, None}
 use Rattle.std.proofs.lemmas.List.Sums.{sum_by-append, count_by-le-length}
-use Rattle.std.proofs.lemmas.List.{append-nil, append_assoc}
+use Rattle.std.proofs.lemmas.List.{append_assoc}
 use Rattle.std.proofs.lemmas.Option.{same_Some}
-use Rattle.k42_kinds.specs.Histories.{AtEachPlace, is_carried_out}
+use Rattle.k42_kinds.specs.Histories.{is_carried_out}
 use Rattle.k42_kinds.specs.declared.entry.Act.{Act}
 use Rattle.k42_kinds.specs.declared.entry.Act.TheVariants.{Call, Swap, Destroy}
-use Rattle.k42_kinds.specs.declared.entry.Answer.{Answer}
 use Rattle.k42_kinds.specs.declared.entry.Entry.{Entry}
 use Rattle.k42_kinds.proofs.Splits.{no_split, each_split-push}
 use Rattle.script_text.specs.declared.script.CallLine.{CallLine}
@@ -57,7 +56,7 @@ none_of : {Y : Type 0} (g : ℕ) → ◌≡◌ {A = Option ℕ} None (Some g) �
 none_of g e = cc
 
 -- the generation of an act, where it has one
-generation_is : (number g : ℕ) (act : Act) → generation_of number act ≡ Some g → g ≡ number
+pub generation_is : (number g : ℕ) (act : Act) → generation_of number act ≡ Some g → g ≡ number
 generation_is number g (Call op) e = sym (same_Some number g e)
 generation_is number g (Swap layout) e = none_of g e
 generation_is number g Destroy e = none_of g e

@@ -17,12 +17,13 @@ use Rattle.script_text.specs.Sound.{IsSound}
 use Rattle.script_text.specs.declared.script.CallLine.{CallLine}
 use Rattle.script_text.specs.declared.script.Script.{Script}
 use Rattle.script_text.specs.declared.script.WorkerLines.{WorkerLines}
-use Rattle.k42_cli.specs.Generations.{IsOnProcessor, CountsGenerations}
+use Rattle.k42_cli.specs.Generations.{IsOnProcessor, CountsGenerations, RunsInTurn}
 use Rattle.k42_cli.specs.Runs.{IsRunning, IsUnrefused, IsCounted, IsBy, HasDone}
 use Rattle.k42_cli.specs.declared.engine.Caller.{Caller}
 use Rattle.k42_cli.specs.declared.engine.Run.{Run}
 use Rattle.k42_cli.proofs.Running.{All-implies}
 use Rattle.k42_cli.proofs.Counting.{counted_at_start}
+use Rattle.k42_cli.proofs.Turns.{in_turn-nil, in_turn-append}
 
 -- The first so many workers have done what their lines ask, and nobody else has done anything.
 pub record IsCrewed (script : Script) (number : ℕ) (run : Run) : Type 0 where
@@ -30,6 +31,7 @@ pub record IsCrewed (script : Script) (number : ℕ) (run : Run) : Type 0 where
   pub in_order : (n : ℕ) (worker : WorkerLines) → n < number → slice_get script.workers n ≡ Some worker → map deed_of (entries_of n run.entries.items) ≡ deeds_from 0 (call_lines worker.items)
   pub callers : All (λ entry. entry.caller < number) run.entries.items
   pub processors : All (IsOnProcessor script) run.entries.items
+  pub in_turn : RunsInTurn run.entries.items
   pub swaps : IsCounted run
   pub made : length run.entries.items ≡ sum_by (λ worker. length (call_lines worker.items)) (take number script.workers)
 
@@ -54,6 +56,7 @@ crewed_at_start script run none unswapped running = record {
   in_order = λ n worker below. absurd (omega arith);
   callers = rw none (All-nil (λ (entry : Entry). entry.caller < 0));
   processors = rw none (All-nil (IsOnProcessor script));
+  in_turn = in_turn-nil run.entries.items none;
   swaps = counted_at_start run none unswapped;
   made = ap length none;
 }
@@ -119,6 +122,7 @@ crewed_on script number worker old new here crewed running swaps done = record {
       (All-implies (λ (entry : Entry). entry.caller ≡ number) (λ (entry : Entry). entry.caller < number + 1) done.more (λ entry same. omega arith) (own_caller number worker done.more done.own)));
   processors = rw done.entries (All-append (IsOnProcessor script) old.entries.items done.more crewed.processors
       (All-implies (IsBy (caller_of number worker)) (IsOnProcessor script) done.more (own_processor script number worker here) done.own));
+  in_turn = rw done.entries (in_turn-append number old.entries.items done.more crewed.callers (own_caller number worker done.more done.own) crewed.in_turn);
   swaps = swaps;
   made =
       let lines = λ (w : WorkerLines). length (call_lines w.items) in

@@ -26,7 +26,7 @@ use Rattle.k42_cli.specs.declared.status.Status.TheVariants as statuses
 
 -- The same is due for bytes of which the first were read, and what was read decides.
 due_alike : (version : ℕ) (bytes others : List ℕ) (status : Status) (output : List ℕ) → parsed bytes ≡ parsed others → IsRunDue version bytes status output → IsRunDue version others status output
-due_alike version bytes others statuses.Ok output same due = record { script = due.script; history = due.history; accepted = sym same ∙ due.accepted; lawful = due.lawful; counted = due.counted; text = due.text }
+due_alike version bytes others statuses.Ok output same due = record { script = due.script; history = due.history; accepted = sym same ∙ due.accepted; lawful = due.lawful; counted = due.counted; judged = due.judged; text = due.text }
 due_alike version bytes others statuses.Refused output same due = record { fault = due.fault; refused = sym same ∙ due.refused; text = due.text }
 due_alike version bytes others statuses.Unlawful output same due = absurd due
 due_alike version bytes others statuses.Usage output same due = absurd due

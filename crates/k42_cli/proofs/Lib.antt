@@ -2,8 +2,12 @@ pub mod Running
 pub mod Counting
 pub mod Working
 pub mod Fresh
-pub mod Crew
 pub mod Records
+pub mod Turns
+pub mod Crew
+pub mod Filtered
+pub mod Blocks
+pub mod InStep
 pub mod Separating
 pub mod CutInput
 pub mod Endings

@@ -1,6 +1,6 @@
 -- A lawful history of a sound script has a record, and the record a text.
 use Rattle.std.proofs.Common.{◌≡◌, ℕ, zero, suc, ◌+◌, ◌<◌, List, [], ◌∷◌, ◌++◌, length, get_or, take, drop, map, inl, inr, refl, sym, ap, ◌∙◌, subst, arith}
-use Rattle.std.specs.Prelude.{All, Some, slice_get}
+use Rattle.std.specs.Prelude.{All, Some, Result, Ok, Err, IfOk, slice_get}
 use Rattle.std.proofs.lemmas.Bool.{eq-eqb}
 use Rattle.std.proofs.lemmas.List.{map-append, take-append-drop}
 use Rattle.std.proofs.lemmas.List.Elements.{All-map, filter-append}
@@ -26,12 +26,12 @@ use Rattle.k42_cli.specs.Entries.{generation_of}
 use Rattle.k42_cli.specs.Generations.{carried_out, CountsGenerations}
 
 -- a deed of these lines, counted on from a number, at a place
-record IsDeedAt (lines : List CallLine) (first place : ℕ) (deed : Deed) : Type 0 where
-  line : CallLine
-  there : slice_get lines place ≡ Some line
-  index : deed.index ≡ first + place
-  object : deed.object ≡ line.object
-  act : deed.act ≡ line.act
+pub record IsDeedAt (lines : List CallLine) (first place : ℕ) (deed : Deed) : Type 0 where
+  pub line : CallLine
+  pub there : slice_get lines place ≡ Some line
+  pub index : deed.index ≡ first + place
+  pub object : deed.object ≡ line.object
+  pub act : deed.act ≡ line.act
 
 deeds_from-split : (lines : List CallLine) (first : ℕ) (front : List Deed) (deed : Deed) (back : List Deed) → deeds_from first lines ≡ front ++ deed ∷ back → IsDeedAt lines first (length front) deed
 deeds_from-split [] first front deed back e = absurd (no_split front deed back e)
@@ -49,17 +49,22 @@ deeds_from-split (line ∷ lines) first (other ∷ front) deed back e =
     record { line = rest.line; there = rest.there; index = omega (arith, rest.index); object = rest.object; act = rest.act }
 
 -- what holds of each split of a list holds of all its elements
-each_all : {X : Type 0} (P : X → Type 0) (xs : List X) → ((before : List X) (x : X) (after : List X) → xs ≡ before ++ x ∷ after → P x) → All P xs
+pub each_all : {X : Type 0} (P : X → Type 0) (xs : List X) → ((before : List X) (x : X) (after : List X) → xs ≡ before ++ x ∷ after → P x) → All P xs
 each_all P xs each = λ k d within. each (take k xs) (get_or xs k d) (drop (suc k) xs) (sym (take-append-drop k xs) ∙ ap (λ (back : List _). take k xs ++ back) (drop-cons xs k d within))
 
 -- a place that is there has an element
-found_at : {X : Type 0} (xs : List X) (n : ℕ) → n < length xs → (x : X) × (slice_get xs n ≡ Some x)
+pub found_at : {X : Type 0} (xs : List X) (n : ℕ) → n < length xs → (x : X) × (slice_get xs n ≡ Some x)
 found_at [] n within = absurd (omega arith)
 found_at (x ∷ xs) zero within = (x, refl)
 found_at (x ∷ xs) (suc n) within = found_at xs n (omega arith)
 
+-- what follows of each value follows of a value that there may be
+pub where_ok : {X E : Type 0} (P Q : X → Type 0) → ((x : X) → P x → Q x) → (result : Result X E) → IfOk result P → IfOk result Q
+where_ok P Q each (Ok x) holds = each x holds
+where_ok P Q each (Err e) holds = tt
+
 -- what holds of all elements holds of the one that is found
-All-found : {X : Type 0} (P : X → Type 0) (xs : List X) (n : ℕ) (x : X) → All P xs → slice_get xs n ≡ Some x → P x
+pub All-found : {X : Type 0} (P : X → Type 0) (xs : List X) (n : ℕ) (x : X) → All P xs → slice_get xs n ≡ Some x → P x
 All-found P xs n x all found = subst P (get_or_from_slice_get xs n x x found) (all n x (slice_get_within xs n x found))
 
 -- the entries of a caller, where one of them stands between others
@@ -95,13 +100,19 @@ has_generation number (Swap layout) = refl
 has_generation number Destroy = refl
 
 module _ (script : Script) (sound : IsSound script) (history : List Entry) (lawful : IsLawful script history) where
-  answers_by : (before : List Entry) (entry : Entry) (after : List Entry) → history ≡ before ++ entry ∷ after → (worker : WorkerLines) → slice_get script.workers entry.caller ≡ Some worker → Answers script entry
-  answers_by before entry after e worker found =
+  -- each entry of a worker is the deed of one of its lines
+  pub deed_by : (before : List Entry) (entry : Entry) (after : List Entry) → history ≡ before ++ entry ∷ after → (worker : WorkerLines) → slice_get script.workers entry.caller ≡ Some worker → IsDeedAt (call_lines worker.items) 0 (length (map deed_of (entries_of entry.caller before))) (deed_of entry)
+  deed_by before entry after e worker found =
       let caller = entry.caller in
       let own = lawful.in_order caller worker found in
       let split : map deed_of (entries_of caller before) ++ deed_of entry ∷ map deed_of (entries_of caller after) ≡ deeds_from 0 (call_lines worker.items) =
       sym (map-append deed_of (entries_of caller before) (entry ∷ entries_of caller after)) ∙ ap (map deed_of) (sym (entries_of-split caller before entry after refl)) ∙ ap (λ (h : List Entry). map deed_of (entries_of caller h)) (sym e) ∙ own in
-      let deed = deeds_from-split (call_lines worker.items) 0 (map deed_of (entries_of caller before)) (deed_of entry) (map deed_of (entries_of caller after)) (sym split) in
+      deeds_from-split (call_lines worker.items) 0 (map deed_of (entries_of caller before)) (deed_of entry) (map deed_of (entries_of caller after)) (sym split)
+
+  answers_by : (before : List Entry) (entry : Entry) (after : List Entry) → history ≡ before ++ entry ∷ after → (worker : WorkerLines) → slice_get script.workers entry.caller ≡ Some worker → Answers script entry
+  answers_by before entry after e worker found =
+      let caller = entry.caller in
+      let deed = deed_by before entry after e worker found in
       let line = All-found (IsSoundLine script) (call_lines worker.items) (length (map deed_of (entries_of caller before))) deed.line (All-found (IsSoundWorker script) script.workers caller worker sound.workers found).lines deed.there in
       let calls : calls_of script caller ≡ call_lines worker.items = rw found refl in
       let legal = lawful.legal.legal before entry after e in

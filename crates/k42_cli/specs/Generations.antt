@@ -1,5 +1,5 @@
 -- The processors and generations of a history, as a record of version 2 tells them.
-use Rattle.std.specs.Prelude.{◌≡◌, ℕ, List, count_by, All, Some, slice_get}
+use Rattle.std.specs.Prelude.{◌≡◌, ℕ, ◌≤◌, List, count_by, All, Some, slice_get}
 use Rattle.k42_kinds.specs.Histories.{AtEachPlace, is_carried_out}
 use Rattle.k42_kinds.specs.declared.entry.Entry.{Entry}
 use Rattle.script_text.specs.declared.script.Script.{Script}
@@ -26,3 +26,9 @@ IsOnProcessor script entry =
 pub record CountsGenerations (script : Script) (history : List Entry) : Type 0 where
   pub processors : All (IsOnProcessor script) history
   pub generations : CountsOn history
+
+-- The workers run one after the other: behind an entry stand only entries of its worker and of
+-- later ones.
+abbrev pub RunsInTurn : List Entry → Type 0
+RunsInTurn history = AtEachPlace
+    (λ before entry after. All (λ later. entry.caller ≤ later.caller) after) history

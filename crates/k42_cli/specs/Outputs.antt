@@ -5,7 +5,8 @@ use Rattle.k42_io.specs.Sink.{Grows, GrowsByFront}
 use Rattle.script_text.specs.Language.{byte_limit}
 use Rattle.script_text.specs.Lawful.{IsLawful}
 use Rattle.script_text.specs.declared.script.Script.{Script}
-use Rattle.record_text.specs.Histories.{history_text}
+use Rattle.record_text.specs.Histories.{record_of, history_text}
+use Rattle.record_text.specs.Rules.{IsLawfulRecord}
 use Rattle.k42_cli.specs.Generations.{CountsGenerations}
 use Rattle.k42_cli.specs.Verdicts.{input_limit}
 use Rattle.k42_cli.specs.Program.{IsDue}
@@ -23,11 +24,13 @@ abbrev pub limit_of : Form → ℕ
 limit_of (Run version) = byte_limit
 limit_of Check = input_limit
 
--- the text is the record of a lawful history, in which the generations are counted
+-- The text is the record of a lawful history, in which the generations are counted, and the record
+-- is lawful in all that it tells.
 pub record IsRecordText (script : Script) (version : ℕ) (written : List ℕ) : Type 0 where
   pub history : List Entry
   pub lawful : IsLawful script history
   pub counted : CountsGenerations script history
+  pub judged : IsLawfulRecord script (record_of script history version)
   pub text : written ≡ history_text script history version
 
 -- The output is due for the bytes that the source had left, and the work was done only where they

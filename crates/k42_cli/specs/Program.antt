@@ -7,7 +7,8 @@ use Rattle.script_text.specs.Language.{parsed}
 use Rattle.script_text.specs.Lawful.{IsLawful}
 use Rattle.script_text.specs.declared.fault.ScriptFault.{ScriptFault}
 use Rattle.script_text.specs.declared.script.Script.{Script}
-use Rattle.record_text.specs.Histories.{history_text}
+use Rattle.record_text.specs.Histories.{record_of, history_text}
+use Rattle.record_text.specs.Rules.{IsLawfulRecord}
 use Rattle.k42_io.specs.Sink.{Grows, GrowsByFront, Stays}
 use Rattle.k42_cli.specs.Generations.{CountsGenerations}
 use Rattle.k42_cli.specs.Separation.{script_part}
@@ -28,13 +29,14 @@ refusal_line fault =
     codes "line " ++ decimal fault.line ++ codes ": " ++ cause_word fault.cause ++ codes "\n"
 
 -- The bytes are a script, and the output is the record of one lawful history of it, in which the
--- generations are counted.
+-- generations are counted. The record is lawful in all that it tells.
 pub record IsRecordDue (version : ℕ) (bytes output : List ℕ) : Type 0 where
   pub script : Script
   pub history : List Entry
   pub accepted : parsed bytes ≡ Ok script
   pub lawful : IsLawful script history
   pub counted : CountsGenerations script history
+  pub judged : IsLawfulRecord script (record_of script history version)
   pub text : output ≡ history_text script history version
 
 -- The bytes are no script, and the output is the line that says why.

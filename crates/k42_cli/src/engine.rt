@@ -4,7 +4,7 @@ ghost use Rattle.script_text.specs.Sound.{IsSound, IsSoundLine};
 ghost use Rattle.script_text.specs.Lawful.{IsLawful, kinds_of, call_lines};
 ghost use Rattle.k42_cli.specs.declared.object.Object.{Object};
 ghost use Rattle.k42_cli.specs.Objects.{CanTake};
-ghost use Rattle.k42_cli.specs.Generations.{CountsGenerations};
+ghost use Rattle.k42_cli.specs.Generations.{CountsGenerations, RunsInTurn};
 
 use crate::asked::Asked;
 use crate::gate::Gate;
@@ -118,6 +118,7 @@ pub fn run_alone<G: Gate>(alloc: Global, script: &Script, gate: &G) -> Result<Ve
     requires { IsSound script.now }
     ensures lawful { IfOk result (λ history. IsLawful script.now history.items) }
     ensures counted { IfOk result (λ history. CountsGenerations script.now history.items) }
+    ensures in_turn { IfOk result (λ history. RunsInTurn history.items) }
 {
     let mut run = Run::new(alloc, script.objects.as_slice())?;
     let mut number = 0;

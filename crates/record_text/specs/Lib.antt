@@ -13,4 +13,5 @@ pub mod AnswerParts
 pub mod LineParts
 pub mod Reading
 pub mod Values
+pub mod Told
 pub mod Rules

@@ -160,22 +160,22 @@ fn processors_and_generations_of_version_2_are_judged(rt: HostRuntime) -> Result
 
 #[test]
 fn a_record_that_is_cut_is_none(rt: HostRuntime) -> Result<(), Fail> {
-    let cases: [(usize, Status, &[u8]); 6] = [
-        (13, Status::Unlawful, b"line 1: rule 11\n"),
-        (38, Status::Unlawful, b"line 2: rule 11\n"),
-        (73, Status::Unlawful, b"line 3: rule 11\n"),
-        (95, Status::Unlawful, b"line 4: rule 11\n"),
-        (101, Status::Unlawful, b"line 5: rule 11\n"),
-        (102, Status::Ok, b"lawful 3\n"),
+    let cases: [(usize, usize, Status, &[u8]); 6] = [
+        (0, 12, Status::Unlawful, b"line 1: rule 11\n"),
+        (13, 37, Status::Unlawful, b"line 2: rule 11\n"),
+        (38, 72, Status::Unlawful, b"line 3: rule 11\n"),
+        (73, 94, Status::Unlawful, b"line 4: rule 11\n"),
+        (95, 100, Status::Unlawful, b"line 5: rule 11\n"),
+        (101, 101, Status::Ok, b"lawful 3\n"),
     ];
-    let mut length = 0;
-    for (end, status, line) in cases {
-        for length in length..end {
-            let ran = judge(rt.alloc(), SWAP_BETWEEN, &SWAP_BETWEEN_RECORD[..length])?;
+    for (first, last, status, line) in cases {
+        for length in first..=last {
+            let mut record = SWAP_BETWEEN_RECORD.to_vec(rt.alloc())?;
+            record.truncate(length);
+            let ran = judge(rt.alloc(), SWAP_BETWEEN, &record)?;
             assert_eq!(rt; ran.status, status, "of {length} bytes");
             assert_eq!(rt; ran.text.as_slice(), line, "of {length} bytes");
         }
-        length = end;
     }
     Ok(())
 }

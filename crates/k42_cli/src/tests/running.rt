@@ -161,29 +161,27 @@ fn a_script_that_is_cut_is_what_its_bytes_say(rt: HostRuntime) -> Result<(), Fai
     let none: &[u8] = b"k42 record 1\nend 0\n";
     let one: &[u8] = b"k42 record 1\n1 a 4 hits add 5 = ok @0\nend 1\n";
     let two: &[u8] = b"k42 record 1\n1 a 4 hits add 5 = ok @0\n2 a 5 hits get = 5 @0\nend 2\n";
-    // Of fewer bytes than this, and of no fewer than in the case before.
-    let cases: [(usize, Status, &[u8]); 12] = [
-        (5, Status::Refused, b"line 1: ProcsExpected\n"),
-        (7, Status::Refused, b"line 1: UnknownWord\n"),
-        (9, Status::Ok, none),
-        (34, Status::Refused, b"line 2: UnknownWord\n"),
-        (36, Status::Ok, none),
-        (45, Status::Refused, b"line 3: UnknownWord\n"),
-        (47, Status::Ok, none),
-        (56, Status::Refused, b"line 4: UnknownWord\n"),
-        (58, Status::Ok, one),
-        (65, Status::Refused, b"line 5: UnknownWord\n"),
-        (66, Status::Ok, two),
-        (67, Status::Ok, two),
+    let cases: [(usize, usize, Status, &[u8]); 11] = [
+        (0, 4, Status::Refused, b"line 1: ProcsExpected\n"),
+        (5, 6, Status::Refused, b"line 1: UnknownWord\n"),
+        (7, 8, Status::Ok, none),
+        (9, 33, Status::Refused, b"line 2: UnknownWord\n"),
+        (34, 35, Status::Ok, none),
+        (36, 44, Status::Refused, b"line 3: UnknownWord\n"),
+        (45, 46, Status::Ok, none),
+        (47, 55, Status::Refused, b"line 4: UnknownWord\n"),
+        (56, 57, Status::Ok, one),
+        (58, 64, Status::Refused, b"line 5: UnknownWord\n"),
+        (65, 66, Status::Ok, two),
     ];
-    let mut length = 0;
-    for (end, status, output) in cases {
-        for length in length..end {
-            let ran = run_in_pieces(rt.alloc(), RUN, &ADD_AND_GET[..length], 4096, &[], &[])?;
+    for (first, last, status, output) in cases {
+        for length in first..=last {
+            let mut script = ADD_AND_GET.to_vec(rt.alloc())?;
+            script.truncate(length);
+            let ran = run_in_pieces(rt.alloc(), RUN, &script, 4096, &[], &[])?;
             assert_eq!(rt; ran.status, status, "of {length} bytes");
             assert_eq!(rt; ran.text.as_slice(), output, "of {length} bytes");
         }
-        length = end;
     }
     Ok(())
 }

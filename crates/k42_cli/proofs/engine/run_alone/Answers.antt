@@ -1,8 +1,8 @@
-use Rattle.std.proofs.Common.{◌≡◌, ◌+◌, ◌≤◌, length, refl, sym, ap, ◌∙◌, arith}
+use Rattle.std.proofs.Common.{◌≡◌, ◌≤◌, length, refl, ap, arith}
 use Rattle.std.specs.Prelude.{Some, slice_get}
 use Rattle.std.proofs.lemmas.Option.{slice_get_read}
 use Rattle.script_text.specs.Lawful.{call_lines}
-use Rattle.k42_cli.proofs.Crew.{crewed_at_start, crewed_on, room_for, lawful_at_end, counted_at_end}
+use Rattle.k42_cli.proofs.Crew.{crewed_on, room_for, lawful_at_end, counted_at_end}
 use Rattle.k42_cli.proofs.engine.run_alone.Goals as goal
 
 pub work-requires-clause-few : goal.work-requires-clause-few
@@ -35,3 +35,6 @@ returns-clause-lawful g c =
 
 pub returns-clause-counted : goal.returns-clause-counted
 returns-clause-counted g c = counted_at_end c.args.script.now c.loop-worker.number c.loop-worker.run c.loop-worker.invariant.crewed
+
+pub returns-clause-in_turn : goal.returns-clause-in_turn
+returns-clause-in_turn g c = c.loop-worker.invariant.crewed.in_turn

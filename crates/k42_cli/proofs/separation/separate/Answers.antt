@@ -1,7 +1,6 @@
-use Rattle.std.proofs.Common.{◌≡◌, ◌+◌, ◌≤◌, ◌∷◌, List, ℕ, length, take, drop, true, false, sym, ◌∙◌, ap, arith}
+use Rattle.std.proofs.Common.{◌≡◌, take, drop, true, false, sym, ◌∙◌, arith}
 use Rattle.std.proofs.Math.Nat.{add-sub_cancel_left}
 use Rattle.std.proofs.lemmas.List.{take_rest}
-use Rattle.script_text.specs.Lines.{lines_of}
 use Rattle.k42_cli.specs.Separation as separation
 use Rattle.k42_cli.proofs.Separating.{passed_on, text_behind}
 use Rattle.k42_cli.proofs.separation.separate.Goals as goal

@@ -1,10 +1,9 @@
-use Rattle.std.proofs.Common.{◌≡◌, ◌≤◌, List, ℕ, length, take, sym, ◌∙◌, ap, arith}
+use Rattle.std.proofs.Common.{◌≡◌, List, ℕ, length, take, sym, ◌∙◌, ap, arith}
 use Rattle.std.proofs.lemmas.List.{take_all}
 use Rattle.record_text.specs.Reading.{reading}
 use Rattle.script_text.specs.Lines.{lines_of}
 use Rattle.k42_cli.specs.Separation.{record_part}
 use Rattle.k42_cli.specs.Verdicts.{input_limit, line_refused, spelling_rule}
-use Rattle.k42_cli.specs.declared.verdict.Verdict.{Verdict}
 use Rattle.k42_cli.specs.declared.verdict.Verdict.TheVariants.{Unlawful}
 use Rattle.k42_cli.proofs.verdict.verdict_in.Goals as goal
 
