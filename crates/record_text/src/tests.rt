@@ -102,6 +102,22 @@ fn entries_of(alloc: Global, told: &[Told]) -> Result<Vec<Entry>, Fail> {
     Ok(entries)
 }
 
+/// The text of a record is read as this record.
+fn expect_read_back(
+    rt: &impl Abort,
+    alloc: Global,
+    script: &Script,
+    lines: &Record,
+    text: &[u8],
+) -> Result<(), Fail> {
+    assert!(rt; script.objects.len() <= 16 && script.workers.len() <= 16);
+    assert!(rt; text.len() < 1 << 31);
+    let again = read(alloc, script, text)?;
+    assert_eq!(rt; again.version, lines.version);
+    assert!(rt; again.lines.as_slice() == lines.lines.as_slice());
+    Ok(())
+}
+
 fn text_of(
     rt: &impl Abort,
     alloc: Global,
@@ -120,7 +136,9 @@ fn text_of(
     );
     let lines = lines_of(alloc, &script, &entries, version)?;
     assert!(rt; has_text(&script, &lines), "{}", case.shows);
-    Ok(print(alloc, &script, &lines)?)
+    let text = print(alloc, &script, &lines)?;
+    expect_read_back(rt, alloc, &script, &lines, text.as_slice())?;
+    Ok(text)
 }
 
 fn expect_text(
@@ -595,5 +613,6 @@ fn the_widest_lines(rt: HostRuntime) -> Result<(), Fail> {
         busy 4294967295 @4294967295 p4294967295 g-\n\
         end 5\n";
     assert_eq!(rt; text.as_slice(), want.as_slice());
+    expect_read_back(&rt, alloc, &script, &record, text.as_slice())?;
     Ok(())
 }
