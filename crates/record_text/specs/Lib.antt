@@ -6,4 +6,9 @@ pub mod Spelling
 pub mod Histories
 pub mod LineNumbers
 pub mod Reading
+pub mod Told
+pub mod Marks
+pub mod Doers
+pub mod Seen
+pub mod Courses
 pub mod Rules

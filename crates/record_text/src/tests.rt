@@ -1,4 +1,5 @@
 mod conditions;
+mod judging;
 
 use super::*;
 use conditions::{has_lines, has_text, is_version};

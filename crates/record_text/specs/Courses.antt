@@ -1,0 +1,44 @@
+-- How far a worker has come among its items.
+use Rattle.std.specs.Prelude.{◌≡◌, ◌≢◌, ℕ, ◌≤◌, ◌⊎◌, true, List, length, drop, Option, Some, None, slice_get, slice_index_or, if◌then◌else◌}
+use Rattle.script_text.specs.Lawful.{call_lines}
+use Rattle.script_text.specs.declared.script.Item.{Item}
+use Rattle.record_text.specs.Told.{blocks_from, blocks_of}
+use Rattle.record_text.specs.declared.judging.course.Course.{Course}
+
+-- the block that is open, where so many were begun
+abbrev pub open_block : Course → ℕ → ℕ
+open_block course begun = if course.open then begun else 0
+
+-- a line at this place told this generation
+abbrev pub TellsAt : List (Option ℕ) → ℕ → ℕ → Type 0
+TellsAt told place generation = slice_get told place ≡ Some (Some generation)
+
+-- one of these lines told this generation
+pub record Tells (told : List (Option ℕ)) (generation : ℕ) : Type 0 where
+  pub place : ℕ
+  pub there : TellsAt told place generation
+
+-- one of these lines, in this block, told this generation
+pub record TellsInBlock (items : List Item) (told : List (Option ℕ)) (block generation : ℕ)
+    : Type 0 where
+  pub place : ℕ
+  pub there : TellsAt told place generation
+  pub inside : slice_index_or (blocks_of items) place 0 ≡ block
+
+-- The worker has passed as many lines as have told their generation, or that they have none.
+pub record IsWalked (items : List Item) (told : List (Option ℕ)) (course : Course) : Type 0 where
+  pub begun : ℕ
+  pub calls : call_lines (drop course.at items) ≡ drop (length told) (call_lines items)
+  pub blocks : blocks_from begun (open_block course begun) (drop course.at items)
+      ≡ drop (length told) (blocks_of items)
+  pub opened : course.open ≡ true → begun ≢ 0
+  pub risen : (place generation : ℕ) → TellsAt told place generation
+      → generation ≤ course.last
+  pub reached : (course.last ≡ 0) ⊎ Tells told course.last
+  pub within : (place generation : ℕ) → TellsAt told place generation
+      → slice_index_or (blocks_of items) place 0 ≤ begun
+  pub level : (place generation : ℕ) → TellsAt told place generation
+      → slice_index_or (blocks_of items) place 0 ≡ begun → begun ≢ 0
+      → course.of_block ≡ Some generation
+  pub said : (generation : ℕ) → course.of_block ≡ Some generation
+      → TellsInBlock items told begun generation
