@@ -1,3 +1,5 @@
 pub mod LineLookups
 pub mod Digits
 pub mod LineParts
+pub mod Places
+pub mod Walking

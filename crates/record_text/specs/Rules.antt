@@ -1,5 +1,5 @@
 -- When a record is lawful for a script, and which line breaks which rule first.
-use Rattle.std.specs.Prelude.{◌≡◌, ◌≢◌, ◌⊎◌, ℕ, ◌+◌, ◌<◌, ◌≤◌, List, [], ◌∷◌, length, map, take, drop, Some, IfSome, Result, Ok, Err, slice_get}
+use Rattle.std.specs.Prelude.{◌≡◌, ◌⊎◌, ℕ, ◌+◌, ◌<◌, ◌≤◌, List, [], ◌∷◌, length, map, take, drop, Some, IfSome, Result, Ok, Err, slice_get}
 use Rattle.k42_kinds.specs.declared.entry.Act.{Act}
 use Rattle.k42_kinds.specs.declared.entry.Act.TheVariants.{Call, Swap, Destroy}
 use Rattle.k42_kinds.specs.declared.entry.Answer.{Answer}
@@ -9,7 +9,7 @@ use Rattle.k42_kinds.specs.Legal.{IsLegalAmong}
 use Rattle.script_text.specs.Lawful.{IsLawful, kinds_of}
 use Rattle.script_text.specs.declared.script.Script.{Script}
 use Rattle.record_text.specs.Histories.{calls_of, record_of}
-use Rattle.record_text.specs.Told.{told, answered, lines_by, generations_by, told_generation, block_at, processor_of}
+use Rattle.record_text.specs.Told.{told, answered, lines_by, generations_by, told_generation, block_at, processor_of, AreInStep}
 use Rattle.record_text.specs.declared.ending.CheckEnd.{CheckEnd}
 use Rattle.record_text.specs.declared.ending.CheckEnd.TheVariants as ends
 use Rattle.record_text.specs.declared.record.Record.{Record}
@@ -58,18 +58,6 @@ IsNextLine script before line =
     slice_get (calls_of script line.worker) (length (lines_by line.worker before))
     ≡ Some (answered line)
 
--- both lines of the worker stand in one block
-pub record IsOneBlock (script : Script) (worker place other : ℕ) : Type 0 where
-  pub some : block_at script worker place ≢ 0
-  pub same : block_at script worker other ≡ block_at script worker place
-
--- The generation of a line is not below that of an earlier line of its worker, and in one block it
--- is the same.
-pub record IsInStep (script : Script) (worker place earlier : ℕ) (generation former : ℕ)
-    : Type 0 where
-  pub risen : former ≤ generation
-  pub level : IsOneBlock script worker place earlier → former ≡ generation
-
 -- the line tells its worker's processor, and a generation in step with those before it
 pub record KeepsGenerations (script : Script) (before : List RecordLine) (line : RecordLine)
     : Type 0 where
@@ -77,8 +65,8 @@ pub record KeepsGenerations (script : Script) (before : List RecordLine) (line :
   pub generation : (generation : ℕ) → told_generation line.extra ≡ Some generation
       → (earlier former : ℕ)
       → slice_get (generations_by line.worker before) earlier ≡ Some (Some former)
-      → IsInStep script line.worker (length (lines_by line.worker before)) earlier
-          generation former
+      → AreInStep (block_at script line.worker earlier)
+          (block_at script line.worker (length (lines_by line.worker before))) former generation
 
 -- what each rule asks of a line between those before it and those after it
 abbrev pub Keeps : Script → List RecordLine → RecordLine → List RecordLine → Rule → Type 0

@@ -1,5 +1,5 @@
 -- What the lines of a record tell: of a history, of a script, and of the workers' generations.
-use Rattle.std.specs.Prelude.{ℕ, ◌+◌, ◌==◌, List, [], ◌∷◌, map, filter, Option, Some, None, slice_get, slice_index_or}
+use Rattle.std.specs.Prelude.{◌≡◌, ◌≢◌, ℕ, ◌+◌, ◌≤◌, ◌==◌, List, [], ◌∷◌, map, filter, Option, Some, None, slice_get, slice_index_or}
 use Rattle.std.specs.Option.{option_map_or}
 use Rattle.k42_kinds.specs.declared.entry.Entry.{Entry}
 use Rattle.script_text.specs.declared.script.CallLine.{CallLine}
@@ -60,3 +60,9 @@ abbrev pub block_at : Script → ℕ → ℕ → ℕ
 block_at script worker place =
     option_map_or (λ lines. slice_index_or (blocks_of lines.items) place 0)
         (slice_get script.workers worker) 0
+
+-- Of two lines of a worker the later one's generation is not below the earlier one's, and in one
+-- block it is the same.
+pub record AreInStep (block later_block former generation : ℕ) : Type 0 where
+  pub risen : former ≤ generation
+  pub level : later_block ≢ 0 → block ≡ later_block → former ≡ generation
