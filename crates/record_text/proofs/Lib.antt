@@ -3,3 +3,4 @@ pub mod Digits
 pub mod LineParts
 pub mod Places
 pub mod Walking
+pub mod Swappers

@@ -116,7 +116,7 @@ impl Past {
         Ok(Past {
             objects: new_objects(alloc, script.objects.as_slice())?,
             courses: vec![in alloc; Course::new(); script.workers.len()]?,
-            seen: Marks::new(alloc, 0)?,
+            seen: Marks::new(0),
         })
     }
 

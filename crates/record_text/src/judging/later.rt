@@ -18,7 +18,7 @@ pub fn least_later(alloc: Global, lines: &[RecordLine]) -> Result<Vec<u32>, Memo
     requires { All IsPlaced lines.now }
     ensures { IfOk result (λ later. AreLeast lines.now later.items) }
 {
-    let mut marks = Marks::new(alloc, u32::MAX)?;
+    let mut marks = Marks::new(u32::MAX);
     let mut later = vec![in alloc; u32::MAX; lines.len()]?;
     for place in (0..lines.len()).rev() {
         let line = &lines[place];

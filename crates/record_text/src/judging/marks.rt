@@ -1,8 +1,5 @@
-ghost use Rattle.std.specs.Prelude.{◌≡◌, ◌<◌, ◌&&◌, ◌==◌, ℕ, IfOk, if◌then◌else◌};
+ghost use Rattle.std.specs.Prelude.{◌≡◌, ◌<◌, ◌&&◌, ◌==◌, ℕ, if◌then◌else◌};
 ghost use Rattle.record_text.specs.Marks.{Shows};
-
-use k42_memory::Memory;
-use std::alloc::Global;
 
 /// How many workers and how many objects a script may have.
 const MOST: usize = 16;
@@ -10,17 +7,15 @@ const MOST: usize = 16;
 /// A number for each worker and object.
 #[derive(Debug, Drop)]
 pub struct Marks {
-    pub cells: Vec<u32>,
+    pub cells: [u32; 256],
 }
 
 impl Marks {
     /// The same number for all.
-    pub fn new(alloc: Global, mark: u32) -> Result<Marks, Memory>
-        ensures { IfOk result (λ marks. Shows marks (λ worker object. mark)) }
+    pub fn new(mark: u32) -> Marks
+        ensures { Shows result (λ worker object. mark) }
     {
-        Ok(Marks {
-            cells: vec![in alloc; mark; MOST * MOST]?,
-        })
+        Marks { cells: [mark; 256] }
     }
 
     pub fn get(&self, worker: u32, object: u32) -> u32
