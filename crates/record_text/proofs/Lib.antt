@@ -4,3 +4,4 @@ pub mod LineParts
 pub mod Places
 pub mod Walking
 pub mod Swappers
+pub mod Sight

@@ -11,4 +11,5 @@ pub mod Marks
 pub mod Doers
 pub mod Seen
 pub mod Courses
+pub mod Judged
 pub mod Rules

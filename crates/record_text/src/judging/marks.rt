@@ -30,7 +30,7 @@ impl Marks {
         requires worker { worker < 16 }
         requires object { object < 16 }
         ensures { (shown : ℕ → ℕ → ℕ) → Shows self.old shown →
-            Shows self.new (λ w o. if (w == worker) && (o == object) then mark else shown w o) }
+            Shows self.new (λ w o. if (worker == w) && (object == o) then mark else shown w o) }
     {
         self.cells[worker as usize * MOST + object as usize] = mark;
     }
