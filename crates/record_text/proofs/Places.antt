@@ -1,5 +1,5 @@
 -- What stands at a place of a list, and behind it.
-use Rattle.std.proofs.Common.{◌≡◌, ℕ, zero, suc, ◌+◌, ◌<◌, List, [], ◌∷◌, ◌++◌, length, drop, add-one, refl, sym, ap, ◌∙◌, ◌⊎◌, inl, inr, arith}
+use Rattle.std.proofs.Common.{◌≡◌, ◌≢◌, ℕ, zero, suc, ◌+◌, ◌<◌, List, [], ◌∷◌, ◌++◌, length, drop, set, add-one, refl, sym, ap, ◌∙◌, ◌⊎◌, inl, inr, arith}
 use Rattle.std.specs.Prelude.{Some, None, slice_get, slice_index_or}
 use Rattle.std.proofs.lemmas.Option.{same_Some}
 
@@ -63,3 +63,16 @@ pub get_kept : {X : Type 0} (xs : List X) (x : X) (n : ℕ) (y : X) → slice_ge
 get_kept [] x n y e = cc
 get_kept (z ∷ xs) x zero y e = e
 get_kept (z ∷ xs) x (suc n) y e = get_kept xs x n y e
+
+-- a place that is written has what was written, and the others have what they had
+pub get_written : {X : Type 0} (xs : List X) (n : ℕ) (x : X) → n < length xs → slice_get (set xs n x) n ≡ Some x
+get_written [] n x within = absurd (omega arith)
+get_written (y ∷ xs) zero x within = refl
+get_written (y ∷ xs) (suc n) x within = get_written xs n x (omega arith)
+
+pub get_unwritten : {X : Type 0} (xs : List X) (n m : ℕ) (x : X) → n ≢ m → slice_get (set xs n x) m ≡ slice_get xs m
+get_unwritten [] n m x apart = refl
+get_unwritten (y ∷ xs) zero zero x apart = absurd (apart refl)
+get_unwritten (y ∷ xs) zero (suc m) x apart = refl
+get_unwritten (y ∷ xs) (suc n) zero x apart = refl
+get_unwritten (y ∷ xs) (suc n) (suc m) x apart = get_unwritten xs n m x (λ same. apart (ap suc same))

@@ -1,10 +1,13 @@
 -- What a worker saw of an object before a line and after it, told from the furthest and the least.
-use Rattle.std.proofs.Common.{◌≡◌, ℕ, zero, suc, ◌+◌, ◌<◌, ◌≤◌, Bool, true, false, ◌&&◌, not, List, [], ◌∷◌, ◌++◌, length, drop, fold, map, refl, sym, ap, ◌∙◌, arith}
+use Rattle.std.proofs.Common.{◌≡◌, ℕ, zero, suc, ◌+◌, ◌<◌, ◌≤◌, Bool, true, false, ◌&&◌, not, List, [], ◌∷◌, ◌++◌, length, drop, fold, map, set, refl, sym, ap, ◌∙◌, inl, inr, arith}
 use Rattle.std.specs.Prelude.{◌==◌, nat_lt, Some, slice_get, if◌then◌else◌, All}
 use Rattle.std.specs.Bool.{Decides}
 use Rattle.std.specs.List.{AllByRecursion}
 use Rattle.std.proofs.lemmas.Bool.{eqb-true, eq-eqb, and_parts, and_from}
-use Rattle.std.proofs.lemmas.Bool.Decides.{nat_tests}
+use Rattle.std.proofs.lemmas.Bool.Decides.{nat_tests, eqb_tells}
+use Rattle.std.proofs.lemmas.List.{length-set}
+use Rattle.std.proofs.lemmas.Option.{same_Some, slice_get_within}
+use Rattle.std.proofs.Math.ListN.{drop_of_length-le}
 use Rattle.std.proofs.lemmas.List.Sums.{fold-append}
 use Rattle.std.proofs.lemmas.List.Elements.{All-from_recursion, recursion_from_All}
 use Rattle.k42_kinds.specs.declared.entry.Entry.{Entry}
@@ -14,7 +17,7 @@ use Rattle.record_text.specs.Marks.{Shows}
 use Rattle.record_text.specs.Seen.{is_of, least, greatest, least_of, reach_of, reach_after, furthest_of}
 use Rattle.record_text.specs.declared.record.RecordLine.{RecordLine}
 use Rattle.record_text.specs.declared.judging.marks.Marks.{Marks}
-use Rattle.record_text.proofs.Places.{drop_at}
+use Rattle.record_text.proofs.Places.{drop_at, get_written, get_unwritten}
 
 -- a line is of the worker and the object, or it is not
 own_line : (worker object : ℕ) (line : RecordLine) → is_of worker object line ≡ true → (line.worker ≡ worker) × (line.object ≡ object)
@@ -98,7 +101,7 @@ module _ (entry : Entry) (number : ℕ) where
   late_all lines fits all = late_to fits lines (recursion_from_All IsLateEnough (map told lines) all)
 
   early_split : (reach incarnation carried : ℕ) → greatest reach (greatest incarnation carried) ≤ number → (reach ≤ number) × (incarnation ≤ number) × (carried ≤ number)
-  early_split reach incarnation carried h = (grind (arith, nat_tests, h), (grind (arith, nat_tests, h), grind (arith, nat_tests, h)))
+  early_split reach incarnation carried h = (grind (arith, nat_tests, h), grind (arith, nat_tests, h), grind (arith, nat_tests, h))
 
   early_join : (reach incarnation carried : ℕ) → reach ≤ number → incarnation ≤ number → carried ≤ number → greatest reach (greatest incarnation carried) ≤ number
   early_join reach incarnation carried a b c = grind (arith, nat_tests, a, b, c)
@@ -106,7 +109,7 @@ module _ (entry : Entry) (number : ℕ) where
   early_cons : (line : RecordLine) (reach : ℕ) (b : Bool) → is_of entry.caller entry.object line ≡ b → (if b then greatest reach (reach_of line) else reach) ≤ number → (reach ≤ number) × IsEarlyEnough (told line)
   early_cons line reach true is h =
       let parts = early_split reach line.incarnation (number_carried_out line.answer) h in
-      (parts.0, λ _. record { incarnation = parts.1.0; carried_out = parts.1.1 })
+      (parts.0, λ _. record { incarnation = parts.1; carried_out = parts.2 })
   early_cons line reach false is h = (h, λ own. absurd (not_own line is own))
 
   early_from : (lines : List RecordLine) (reach : ℕ) → fold (reach_after entry.caller entry.object) reach lines ≤ number → (reach ≤ number) × AllByRecursion IsEarlyEnough (map told lines)
@@ -133,3 +136,33 @@ module _ (entry : Entry) (number : ℕ) where
 
   pub early_all : (lines : List RecordLine) → All IsEarlyEnough (map told lines) → furthest_of entry.caller entry.object lines ≤ number
   early_all lines all = early_to lines 0 (omega arith) (recursion_from_All IsEarlyEnough (map told lines) all)
+
+-- what was found for the lines from this place on
+pub record IsBehind (lines : List RecordLine) (place : ℕ) (marks : Marks) (numbers : List ℕ) : Type 0 where
+  pub size : length numbers ≡ length lines
+  pub shows : Shows marks (λ worker object. least_of worker object (drop place lines))
+  pub each : (other : ℕ) (line : RecordLine) → place ≤ other → slice_get lines other ≡ Some line → slice_get numbers other ≡ Some (least_of line.worker line.object (drop (other + 1) lines))
+
+pub behind_at_end : (lines : List RecordLine) (place : ℕ) (marks : Marks) (numbers : List ℕ) → place ≡ length lines → length numbers ≡ length lines → Shows marks (λ worker object. 4294967295) → IsBehind lines place marks numbers
+behind_at_end lines place marks numbers end size shows = record {
+  size = size;
+  shows = rw (drop_of_length-le lines {i = place} (omega (arith, end))) shows;
+  each = λ other line past there. absurd (omega (arith, slice_get_within lines other line there, end, past));
+}
+
+pub behind_more : (lines : List RecordLine) (from place mark : ℕ) (line : RecordLine) (old new : Marks) (numbers : List ℕ) → from ≡ place + 1 → IsBehind lines from old numbers → slice_get lines place ≡ Some line
+    → mark ≡ least_of line.worker line.object (drop from lines)
+    → Shows new (λ w o. if (line.worker == w) && (line.object == o) then least line.incarnation mark else least_of w o (drop from lines))
+    → IsBehind lines place new (set numbers place mark)
+behind_more lines from place mark line old new numbers next behind there mark_is shows =
+    let within = slice_get_within lines place line there in
+    record {
+      size = length-set numbers place mark ∙ behind.size;
+      shows = shows_least lines place line new there (rw (← next, ← mark_is) shows);
+      each = λ other one past here. elim (eqb_tells place other) [
+        | inl same ↦
+            let one_is : one ≡ line = same_Some one line (sym here ∙ ap (slice_get lines) (sym same.1) ∙ there) in
+            ap (slice_get (set numbers place mark)) (sym same.1) ∙ get_written numbers place mark (omega (arith, within, behind.size)) ∙ rw (one_is, ← same.1, ← next) (ap (λ (n : ℕ). Some n) mark_is)
+        | inr apart ↦ get_unwritten numbers place other mark apart.1 ∙ behind.each other one (omega (arith, past, next, apart.1)) here
+        ];
+    }
