@@ -5,3 +5,4 @@ pub mod Places
 pub mod Walking
 pub mod Swappers
 pub mod Sight
+pub mod Verdicts

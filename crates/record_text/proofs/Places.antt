@@ -1,7 +1,9 @@
 -- What stands at a place of a list, and behind it.
 use Rattle.std.proofs.Common.{◌≡◌, ◌≢◌, ℕ, zero, suc, ◌+◌, ◌<◌, List, [], ◌∷◌, ◌++◌, length, drop, set, add-one, refl, sym, ap, ◌∙◌, ◌⊎◌, inl, inr, arith}
 use Rattle.std.specs.Prelude.{Some, None, slice_get, slice_index_or}
-use Rattle.std.proofs.lemmas.Option.{same_Some}
+use Rattle.std.proofs.lemmas.Option.{same_Some, slice_get_within}
+use Rattle.std.proofs.lemmas.List.{length-set}
+use Rattle.std.proofs.lemmas.Bool.Decides.{eqb_tells}
 
 drop_suc : {X : Type 0} (xs : List X) (n : ℕ) (x : X) → slice_get xs n ≡ Some x → drop n xs ≡ x ∷ drop (suc n) xs
 drop_suc [] n x e = cc
@@ -76,3 +78,12 @@ get_unwritten (y ∷ xs) zero zero x apart = absurd (apart refl)
 get_unwritten (y ∷ xs) zero (suc m) x apart = refl
 get_unwritten (y ∷ xs) (suc n) zero x apart = refl
 get_unwritten (y ∷ xs) (suc n) (suc m) x apart = get_unwritten xs n m x (λ same. apart (ap suc same))
+
+-- what stands at a place after one place was written
+pub get_set : {X : Type 0} (xs : List X) (i n : ℕ) (y x : X) → slice_get (set xs i y) n ≡ Some x → ((n ≡ i) × (x ≡ y)) ⊎ ((n ≢ i) × (slice_get xs n ≡ Some x))
+get_set xs i n y x e = elim (eqb_tells i n) [
+  | inl same ↦
+      let within : i < length xs = omega (arith, slice_get_within (set xs i y) n x e, length-set xs i y, same.1) in
+      inl (sym same.1, same_Some x y (sym e ∙ ap (slice_get (set xs i y)) (sym same.1) ∙ get_written xs i y within))
+  | inr apart ↦ inr (λ same. apart.1 (sym same), sym (get_unwritten xs i n y apart.1) ∙ e)
+  ]

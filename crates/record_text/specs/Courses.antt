@@ -4,7 +4,8 @@ use Rattle.script_text.specs.Lawful.{call_lines}
 use Rattle.script_text.specs.declared.script.CallLine.{CallLine}
 use Rattle.script_text.specs.declared.script.Item.{Item}
 use Rattle.script_text.specs.declared.script.Item.TheVariants.{Line}
-use Rattle.record_text.specs.Told.{blocks_from, blocks_of, AreInStep}
+use Rattle.record_text.specs.Told.{blocks_from, blocks_of, told_generation, AreInStep}
+use Rattle.record_text.specs.declared.record.Extra.{Extra}
 use Rattle.record_text.specs.declared.judging.course.Course.{Course}
 
 -- the block that is open, where so many were begun
@@ -42,6 +43,12 @@ IsInStepWith items told generation =
     (earlier former : ℕ) → TellsAt told earlier former
     → AreInStep (slice_index_or (blocks_of items) earlier 0)
         (slice_index_or (blocks_of items) (length told) 0) former generation
+
+-- the line may tell this besides
+pub record MayTell (items : List Item) (earlier : List (Option ℕ)) (proc : ℕ) (extra : Option Extra)
+    : Type 0 where
+  pub processor : IfSome extra (λ extra. extra.proc ≡ proc)
+  pub generation : IfSome (told_generation extra) (IsInStepWith items earlier)
 
 abbrev pub IsNoneOrInStep : List Item → List (Option ℕ) → Option ℕ → Type 0
 IsNoneOrInStep items told generation = IfSome generation (IsInStepWith items told)

@@ -1,5 +1,5 @@
 -- How the object of one thread judges a line.
-use Rattle.std.specs.Prelude.{◌≡◌, ◌≢◌, ℕ, ◌+◌, ◌<◌, Bool, true, IsTrue, List, if◌then◌else◌}
+use Rattle.std.specs.Prelude.{◌≡◌, ◌≢◌, ℕ, ◌+◌, ◌<◌, Bool, true, IsTrue, List, Some, slice_get, if◌then◌else◌}
 use Rattle.k42_kinds.specs.Histories.{state_of, number_of, state_after_act, is_carried_out}
 use Rattle.k42_kinds.specs.Legal.{last_incarnation}
 use Rattle.k42_kinds.specs.Objects.{empty_state, reply_of}
@@ -13,6 +13,8 @@ use Rattle.k42_kinds.specs.declared.entry.Act.TheVariants.{Call, Swap, Destroy}
 use Rattle.k42_kinds.specs.declared.entry.Answer.{Answer}
 use Rattle.k42_kinds.specs.declared.entry.Answer.TheVariants.{Replied, Swapped, Busy, Spent, Gone}
 use Rattle.k42_kinds.specs.declared.entry.Entry.{Entry}
+use Rattle.script_text.specs.Sound.{IsActOn}
+use Rattle.record_text.specs.Spelling.{Ends}
 use Rattle.record_text.specs.declared.record.RecordLine.{RecordLine}
 use Rattle.record_text.specs.declared.judging.object.Object.{Object}
 
@@ -81,3 +83,10 @@ abbrev pub CanTake : Object → Act → Type 0
 CanTake object (Call op) = IsTrue (takes_operation object.plain.kind op)
 CanTake object (Swap layout) = Unit {0}
 CanTake object Destroy = Unit {0}
+
+-- the line is of a declared object, and its act is answered in a form that such an act may have
+pub record HasLegalForm (kinds : List KindName) (line : RecordLine) : Type 0 where
+  pub kind : KindName
+  pub declared : slice_get kinds line.object ≡ Some kind
+  pub asked : IsActOn kind line.act
+  pub answered : Ends line.act line.answer

@@ -12,4 +12,5 @@ pub mod Doers
 pub mod Seen
 pub mod Courses
 pub mod Judged
+pub mod Pasts
 pub mod Rules

@@ -1,6 +1,20 @@
-ghost use Rattle.std.specs.Prelude.{◌≡◌, ◌<◌, ◌^◌, ◌≤◌, length, IfOk};
-ghost use Rattle.record_text.specs.Rules.{Judges};
-ghost use Rattle.record_text.specs.Spelling.{HasText};
+ghost use Rattle.std.specs.Prelude.{◌≡◌, ◌<◌, ◌+◌, ◌^◌, ◌≤◌, [], ◌∷◌, ◌++◌, ℕ, true, List, All, Some, None, IfOk, Option, length, map, take, vec_len, slice_get};
+ghost use Rattle.std.specs.Bool.{Decides};
+ghost use Rattle.k42_kinds.specs.Legal.{IsLegalAmong, IsLegalRefusal};
+ghost use Rattle.k42_kinds.specs.declared.operation.KindName.{KindName as Kinds};
+ghost use Rattle.script_text.specs.Lawful.{call_lines};
+ghost use Rattle.script_text.specs.declared.script.Item.{Item as Said};
+ghost use Rattle.record_text.specs.Courses.{IsWalked, StandsAtLine, MayTell};
+ghost use Rattle.record_text.specs.Judged.{CanTake, HasLegalForm};
+ghost use Rattle.record_text.specs.Marks.{Shows};
+ghost use Rattle.record_text.specs.Pasts.{IsWhole, IsPast, IsRefusable, AreKept, AreWalked, Stands};
+ghost use Rattle.record_text.specs.Rules as table;
+ghost use Rattle.record_text.specs.Rules.{Judges, IsNextLine, KeepsGenerations, HasAllLines, KeepsAt, BreaksFirst, all_rules, rule_number, rule_of_act};
+ghost use Rattle.record_text.specs.Seen as seen;
+ghost use Rattle.record_text.specs.Seen.{IsPlaced, furthest_of};
+ghost use Rattle.record_text.specs.Spelling.{HasText, HasSpelling};
+ghost use Rattle.record_text.specs.Told.{told, told_generation};
+ghost use Rattle.record_text.specs.declared.record.RecordLine.{RecordLine as Line};
 
 mod course;
 mod doers;
@@ -17,26 +31,29 @@ use k42_memory::Memory;
 use later::least_later;
 use marks::Marks;
 use object::Object;
-use script_text::{ObjectLine, Script, WorkerLines};
+use script_text::{Item, ObjectLine, Script};
 use std::alloc::Global;
 
 /// What is known of all lines before the first of them is judged.
 #[derive(Debug, Drop)]
-struct Whole {
-    doers: Doers,
-    later: Vec<u32>,
+pub struct Whole {
+    pub doers: Doers,
+    pub later: Vec<u32>,
 }
 
 /// What came of the lines so far.
 #[derive(Debug, Drop)]
-struct Past {
-    objects: Vec<Object>,
-    courses: Vec<Course>,
+pub struct Past {
+    pub objects: Vec<Object>,
+    pub courses: Vec<Course>,
     /// How far each worker has seen each object's swaps to be.
-    seen: Marks,
+    pub seen: Marks,
 }
 
-fn new_objects(alloc: Global, declared: &[ObjectLine]) -> Result<Vec<Object>, Memory> {
+fn new_objects(alloc: Global, declared: &[ObjectLine]) -> Result<Vec<Object>, Memory>
+    ensures { IfOk result (λ objects.
+        AreKept (map (λ object. object.kind) declared.now) [] objects.items) }
+{
     let mut objects = Vec::new(alloc);
     for object in declared {
         let plain = Plain { kind: object.kind };
@@ -45,20 +62,26 @@ fn new_objects(alloc: Global, declared: &[ObjectLine]) -> Result<Vec<Object>, Me
     Ok(objects)
 }
 
+fn greatest(one: u32, other: u32) -> u32
+    ensures { result ≡ seen.greatest one other }
+{
+    if one < other { other } else { one }
+}
+
 /// The further of the line's incarnation and of the number of its own swap.
-fn reach_of(line: &RecordLine) -> u32 {
+fn reach_of(line: &RecordLine) -> u32
+    ensures { result ≡ seen.reach_of line.now }
+{
     match line.answer {
         Answer::Swapped(number) => greatest(line.incarnation, number),
         _ => line.incarnation,
     }
 }
 
-fn greatest(one: u32, other: u32) -> u32 {
-    if one < other { other } else { one }
-}
-
 /// The rule that says whether an act may be answered as in the line.
-fn rule_of(line: &RecordLine) -> u32 {
+fn rule_of(line: &RecordLine) -> u32
+    ensures { result ≡ rule_number (rule_of_act line.now.act line.now.answer) }
+{
     match line.act {
         Act::Call(_) => 5,
         Act::Swap(_) | Act::Destroy => match line.answer {
@@ -69,7 +92,10 @@ fn rule_of(line: &RecordLine) -> u32 {
 }
 
 impl Whole {
-    fn of(alloc: Global, lines: &[RecordLine]) -> Result<Whole, Memory> {
+    fn of(alloc: Global, lines: &[RecordLine]) -> Result<Whole, Memory>
+        requires { All IsPlaced lines.now }
+        ensures { IfOk result (λ whole. IsWhole lines.now whole) }
+    {
         Ok(Whole {
             doers: Doers::of(alloc, lines)?,
             later: least_later(alloc, lines)?,
@@ -77,21 +103,92 @@ impl Whole {
     }
 
     /// Whether the swap of this number may have refused the line.
-    fn allows_refusal(&self, seen: &Marks, line: &RecordLine, place: usize) -> bool {
+    fn refuses(&self, seen: &Marks, line: &RecordLine, place: usize, number: u32) -> bool
+        requires placed { IsPlaced line.now }
+        requires within { place < vec_len self.now.later }
+        ensures { (lines : List Line) → IsWhole lines self.now →
+            Shows seen.now (λ worker object. furthest_of worker object (take place lines)) →
+            slice_get lines place ≡ Some line.now →
+            Decides result (IsRefusable lines line.now place number) }
+    {
+        line.incarnation as u64 + 1 == number as u64
+            && seen.get(line.worker, line.object) <= number
+            && number as u64 <= self.later[place] as u64 + 1
+            && self.doers.has_rival(line.worker, line.object, number)
+    }
+
+    /// Whether another's swap may have refused the line.
+    fn may_refuse(&self, seen: &Marks, line: &RecordLine, place: usize) -> bool
+        requires placed { IsPlaced line.now }
+        requires within { place < vec_len self.now.later }
+        ensures { (number : ℕ) (lines : List Line) → line.now.answer ≡ Answer.Busy number →
+            IsWhole lines self.now →
+            Shows seen.now (λ worker object. furthest_of worker object (take place lines)) →
+            slice_get lines place ≡ Some line.now →
+            Decides result (IsRefusable lines line.now place number) }
+    {
         match line.answer {
-            Answer::Busy(number) => {
-                line.incarnation as u64 + 1 == number as u64
-                    && seen.get(line.worker, line.object) <= number
-                    && number as u64 <= self.later[place] as u64 + 1
-                    && self.doers.has_rival(line.worker, line.object, number)
-            }
+            Answer::Busy(number) => self.refuses(seen, line, place, number),
             _ => false,
         }
     }
 }
 
-/// Whether the line tells the worker's processor and a generation that it may have next.
-fn keeps_generations(course: &Course, proc: u32, told: &Option<Extra>) -> bool {
+/// Whether the line tells what its object does next, which it then has done.
+fn tells(
+    objects: &mut Vec<Object>,
+    alloc: Global,
+    line: &RecordLine,
+    refusable: bool,
+) -> Result<bool, Memory>
+    requires there { line.now.object < vec_len objects.old }
+    requires taken { (object : Object) →
+        slice_get objects.old.items line.now.object ≡ Some object → CanTake object line.now.act }
+    ensures legal { IfOk result (λ legal. (kinds : List Kinds) (before after : List Line) →
+        AreKept kinds before objects.old.items → HasLegalForm kinds line.now →
+        ((number : ℕ) → line.now.answer ≡ Answer.Busy number →
+            Decides refusable
+                (IsLegalRefusal (map told before) (told line.now) (map told after) number)) →
+        Decides legal (IsLegalAmong kinds (map told before) (told line.now) (map told after))) }
+    ensures kept { IfOk result (λ legal. (kinds : List Kinds) (before : List Line) →
+        legal ≡ true → AreKept kinds before objects.old.items →
+        AreKept kinds (before ++ line.now ∷ []) objects.new.items) }
+{
+    let object = &mut objects[line.object as usize];
+    object.judge(alloc, line, refusable)
+}
+
+/// Whether the line answers the next of its worker's.
+fn follows(courses: &mut Vec<Course>, script: &Script, line: &RecordLine) -> bool
+    requires worker { line.now.worker < length script.now.workers }
+    requires size { vec_len courses.old ≡ length script.now.workers }
+    ensures kept { (before : List Line) → AreWalked script.now before courses.old.items →
+        AreWalked script.now before courses.new.items }
+    ensures next { (before : List Line) → AreWalked script.now before courses.old.items →
+        Decides result (IsNextLine script.now before line.now) }
+    ensures stands { result ≡ true →
+        Stands script.now line.now.worker courses.new.items }
+{
+    let items = script.workers.as_slice()[line.worker as usize].items.as_slice();
+    let course = &mut courses[line.worker as usize];
+    course.walk(items);
+    course.is_next(items, line)
+}
+
+fn generation_of(told: &Option<Extra>) -> Option<u32>
+    ensures { result ≡ told_generation told.now }
+{
+    match told {
+        Some(extra) => extra.generation,
+        None => None,
+    }
+}
+
+/// Whether the worker's next line may tell this processor and generation.
+fn may_tell(course: &Course, proc: u32, told: &Option<Extra>) -> bool
+    ensures { (items : List Said) (earlier : List (Option ℕ)) → IsWalked items earlier course.now →
+        StandsAtLine items course.now → Decides result (MayTell items earlier proc told.now) }
+{
     match told {
         Some(extra) => {
             extra.proc == proc
@@ -104,15 +201,40 @@ fn keeps_generations(course: &Course, proc: u32, told: &Option<Extra>) -> bool {
     }
 }
 
-fn generation_of(told: &Option<Extra>) -> Option<u32> {
-    match told {
-        Some(extra) => extra.generation,
-        None => None,
+/// Whether the line may tell its processor and generation. Where it may, its worker has passed it.
+fn passes(courses: &mut Vec<Course>, script: &Script, line: &RecordLine) -> bool
+    requires worker { line.now.worker < length script.now.workers }
+    requires size { vec_len courses.old ≡ length script.now.workers }
+    requires stands { Stands script.now line.now.worker courses.old.items }
+    ensures told { (before : List Line) → AreWalked script.now before courses.old.items →
+        Decides result (KeepsGenerations script.now before line.now) }
+    ensures kept { (before : List Line) → AreWalked script.now before courses.old.items →
+        result ≡ true → AreWalked script.now (before ++ line.now ∷ []) courses.new.items }
+{
+    let worker = &script.workers.as_slice()[line.worker as usize];
+    let course = &mut courses[line.worker as usize];
+    if !may_tell(course, worker.proc, &line.extra) {
+        return false;
     }
+    course.pass(generation_of(&line.extra));
+    true
+}
+
+/// What a worker has seen of an object after one more line.
+fn see(seen: &mut Marks, line: &RecordLine)
+    requires placed { IsPlaced line.now }
+    ensures { (before : List Line) →
+        Shows seen.old (λ worker object. furthest_of worker object before) →
+        Shows seen.new (λ worker object. furthest_of worker object (before ++ line.now ∷ [])) }
+{
+    let further = greatest(seen.get(line.worker, line.object), reach_of(line));
+    seen.set(line.worker, line.object, further);
 }
 
 impl Past {
-    fn new(alloc: Global, script: &Script) -> Result<Past, Memory> {
+    fn new(alloc: Global, script: &Script) -> Result<Past, Memory>
+        ensures { IfOk result (λ past. IsPast script.now [] past) }
+    {
         Ok(Past {
             objects: new_objects(alloc, script.objects.as_slice())?,
             courses: vec![in alloc; Course::new(); script.workers.len()]?,
@@ -120,55 +242,70 @@ impl Past {
         })
     }
 
-    /// The first rule that the line breaks. Where there is none, the line belongs to the past.
+    /// The first rule that the line at this place breaks. Where there is none, the line belongs to
+    /// the past.
     fn judge(
         &mut self,
         alloc: Global,
         script: &Script,
         whole: &Whole,
-        line: &RecordLine,
+        lines: &[RecordLine],
         place: usize,
-    ) -> Result<Option<u32>, Memory> {
+    ) -> Result<Option<u32>, Memory>
+        requires there { place < length lines.now }
+        requires placed { All IsPlaced lines.now }
+        requires spelled { All (HasSpelling script.now) lines.now }
+        requires whole { IsWhole lines.now whole.now }
+        requires past { IsPast script.now (take place lines.now) self.old }
+        ensures kept { IfOk result (λ broken. broken ≡ None →
+            ((rule : table.Rule) → KeepsAt script.now lines.now place rule)
+            × IsPast script.now (take (place + 1) lines.now) self.new) }
+        ensures broken { IfOk result (λ broken. (rule : ℕ) → broken ≡ Some rule →
+            BreaksFirst (KeepsAt script.now lines.now place) all_rules rule) }
+    {
+        let line = &lines[place];
         if line.stamp != place as u64 + 1 {
             return Ok(Some(2));
         }
-        let worker = &script.workers.as_slice()[line.worker as usize];
-        let course = &mut self.courses[line.worker as usize];
-        course.walk(worker.items.as_slice());
-        if !course.is_next(worker.items.as_slice(), line) {
+        if !follows(&mut self.courses, script, line) {
             return Ok(Some(8));
         }
-        let refusable = whole.allows_refusal(&self.seen, line, place);
-        let object = &mut self.objects[line.object as usize];
-        if !object.judge(alloc, line, refusable)? {
+        let refusable = whole.may_refuse(&self.seen, line, place);
+        if !tells(&mut self.objects, alloc, line, refusable)? {
             return Ok(Some(rule_of(line)));
         }
-        if !keeps_generations(course, worker.proc, &line.extra) {
+        if !passes(&mut self.courses, script, line) {
             return Ok(Some(21));
         }
-        course.pass(generation_of(&line.extra));
-        self.see(line);
+        see(&mut self.seen, line);
         Ok(None)
-    }
-
-    fn see(&mut self, line: &RecordLine) {
-        let seen = self.seen.get(line.worker, line.object);
-        let further = greatest(seen, reach_of(line));
-        self.seen.set(line.worker, line.object, further);
     }
 }
 
-/// Whether no worker has a line that did not come.
-fn has_all(workers: &[WorkerLines], courses: &mut Vec<Course>) -> bool {
-    let mut worker = 0;
-    while worker < workers.len() {
+/// Whether no line of the worker is left.
+fn is_done(course: &mut Course, items: &[Item]) -> bool
+    ensures kept { (told : List (Option ℕ)) → IsWalked items.now told course.old →
+        IsWalked items.now told course.new }
+    ensures done { (told : List (Option ℕ)) → IsWalked items.now told course.old →
+        Decides result (length (call_lines items.now) ≤ length told) }
+{
+    course.walk(items);
+    course.at >= items.len()
+}
+
+/// Whether no line of any worker is left.
+fn all_done(courses: &mut Vec<Course>, script: &Script) -> bool
+    requires size { vec_len courses.old ≡ length script.now.workers }
+    ensures { (lines : List Line) → AreWalked script.now lines courses.old.items →
+        Decides result (HasAllLines script.now lines) }
+{
+    let workers = script.workers.as_slice();
+    for worker in 0..workers.len() {
         let items = workers[worker].items.as_slice();
         let course = &mut courses[worker];
-        course.walk(items);
-        if course.at < items.len() {
+        if !is_done(course, items) {
             return false;
         }
-        worker += 1;
     }
     true
 }
@@ -184,21 +321,19 @@ pub fn check(alloc: Global, script: &Script, lines: &Record) -> Result<(), Check
     let lines = lines.lines.as_slice();
     let whole = Whole::of(alloc, lines)?;
     let mut past = Past::new(alloc, script)?;
-    let mut place = 0;
-    for line in lines {
-        if let Some(rule) = past.judge(alloc, script, &whole, line, place)? {
+    for place in 0..lines.len() {
+        if let Some(rule) = past.judge(alloc, script, &whole, lines, place)? {
             return Err(CheckEnd::Unlawful {
                 line: place as u32 + 2,
                 rule,
             });
         }
-        place += 1;
     }
-    if has_all(script.workers.as_slice(), &mut past.courses) {
+    if all_done(&mut past.courses, script) {
         Ok(())
     } else {
         Err(CheckEnd::Unlawful {
-            line: place as u32 + 2,
+            line: lines.len() as u32 + 2,
             rule: 8,
         })
     }
