@@ -6,3 +6,4 @@ pub mod Walking
 pub mod Swappers
 pub mod Sight
 pub mod Verdicts
+pub mod Crews

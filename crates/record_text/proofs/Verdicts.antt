@@ -49,7 +49,7 @@ fresh_at (line ∷ lines) (suc number) kind object declared made other = fresh_a
 
 pub fresh_kept : (declared : List ObjectLine) → AreKept (map (λ object. object.kind) declared) [] (map fresh_of declared)
 fresh_kept declared = record {
-  size = length-map fresh_of declared ∙ sym (length-map (λ (object : ObjectLine). object.kind) declared);
+  size = length-map declared fresh_of ∙ sym (length-map declared (λ (object : ObjectLine). object.kind));
   each = λ number kind object known made. fresh_at declared number kind object known made number;
 }
 

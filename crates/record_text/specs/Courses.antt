@@ -1,5 +1,5 @@
 -- How far a worker has come among its items.
-use Rattle.std.specs.Prelude.{◌≡◌, ◌≢◌, ℕ, ◌<◌, ◌≤◌, ◌⊎◌, true, List, length, drop, Option, Some, IfSome, slice_get, slice_index_or, if◌then◌else◌}
+use Rattle.std.specs.Prelude.{◌≡◌, ◌≢◌, ℕ, ◌<◌, ◌≤◌, ◌^◌, ◌⊎◌, true, List, length, drop, Option, Some, IfSome, slice_get, slice_index_or, if◌then◌else◌}
 use Rattle.script_text.specs.Lawful.{call_lines}
 use Rattle.script_text.specs.declared.script.CallLine.{CallLine}
 use Rattle.script_text.specs.declared.script.Item.{Item}
@@ -32,6 +32,7 @@ pub record TellsInBlock (items : List Item) (told : List (Option ℕ)) (block ge
 pub record StandsAtLine (items : List Item) (course : Course) : Type 0 where
   pub line : CallLine
   pub here : slice_get items course.at ≡ Some (Line line)
+  pub bounded : course.at < 2 ^ 63
 
 -- a line comes next, or nothing
 abbrev pub IsAtLine : List Item → Course → Type 0

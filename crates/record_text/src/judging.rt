@@ -31,7 +31,7 @@ use k42_memory::Memory;
 use later::least_later;
 use marks::Marks;
 use object::Object;
-use script_text::{Item, ObjectLine, Script};
+use script_text::{Item, ObjectLine, Script, WorkerLines};
 use std::alloc::Global;
 
 /// What is known of all lines before the first of them is judged.
@@ -158,6 +158,13 @@ fn tells(
     object.judge(alloc, line, refusable)
 }
 
+fn lines_of(script: &Script, worker: u32) -> &WorkerLines
+    requires { worker < length script.now.workers }
+    ensures { slice_get script.now.workers worker ≡ Some result.now }
+{
+    &script.workers.as_slice()[worker as usize]
+}
+
 /// Whether the line answers the next of its worker's.
 fn follows(courses: &mut Vec<Course>, script: &Script, line: &RecordLine) -> bool
     requires worker { line.now.worker < length script.now.workers }
@@ -169,7 +176,8 @@ fn follows(courses: &mut Vec<Course>, script: &Script, line: &RecordLine) -> boo
     ensures stands { result ≡ true →
         Stands script.now line.now.worker courses.new.items }
 {
-    let items = script.workers.as_slice()[line.worker as usize].items.as_slice();
+    let worker = lines_of(script, line.worker);
+    let items = worker.items.as_slice();
     let course = &mut courses[line.worker as usize];
     course.walk(items);
     course.is_next(items, line)
@@ -211,7 +219,7 @@ fn passes(courses: &mut Vec<Course>, script: &Script, line: &RecordLine) -> bool
     ensures kept { (before : List Line) → AreWalked script.now before courses.old.items →
         result ≡ true → AreWalked script.now (before ++ line.now ∷ []) courses.new.items }
 {
-    let worker = &script.workers.as_slice()[line.worker as usize];
+    let worker = lines_of(script, line.worker);
     let course = &mut courses[line.worker as usize];
     if !may_tell(course, worker.proc, &line.extra) {
         return false;
@@ -299,11 +307,10 @@ fn all_done(courses: &mut Vec<Course>, script: &Script) -> bool
     ensures { (lines : List Line) → AreWalked script.now lines courses.old.items →
         Decides result (HasAllLines script.now lines) }
 {
-    let workers = script.workers.as_slice();
-    for worker in 0..workers.len() {
-        let items = workers[worker].items.as_slice();
+    for worker in 0..script.workers.len() {
+        let lines = lines_of(script, worker as u32);
         let course = &mut courses[worker];
-        if !is_done(course, items) {
+        if !is_done(course, lines.items.as_slice()) {
             return false;
         }
     }

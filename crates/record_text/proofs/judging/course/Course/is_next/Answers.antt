@@ -1,4 +1,4 @@
-use Rattle.std.proofs.Common.{◌≡◌, length, refl, sym, ◌∙◌, ap}
+use Rattle.std.proofs.Common.{◌≡◌, length, refl, sym, ◌∙◌, ap, arith}
 use Rattle.std.specs.Prelude.{Some, slice_get}
 use Rattle.std.proofs.lemmas.Option.{slice_get_read, same_Some}
 use Rattle.script_text.specs.declared.script.Item.{Item}
@@ -16,7 +16,7 @@ returns-in-Line c =
     let here : slice_get c.args.items.now c.args.self.now.at ≡ Some (Line c.in-Line.call) = read ∙ ap (λ (item : Item). Some item) c.in-Line.is in
     record {
       next = λ told walked at_line. decides_next c.args.items.now told c.args.self.now walked c.in-Line.call (answered c.args.line.now) c.answers.result here c.answers.ensures;
-      here = λ yes. record { line = c.in-Line.call; here = here };
+      here = λ yes. record { line = c.in-Line.call; here = here; bounded = omega (arith, c.if-self-items.false) };
     }
 
 pub returns-in_default-clause-next : goal.returns-in_default-clause-next
