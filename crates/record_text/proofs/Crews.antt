@@ -6,7 +6,7 @@ use Rattle.std.specs.Option.{option_map_or}
 use Rattle.std.proofs.lemmas.Bool.{eq-eqb, ne_eqb}
 use Rattle.std.proofs.lemmas.List.{length-set, length-map, length-drop, map-append, append-nil}
 use Rattle.std.proofs.lemmas.List.Elements.{filter-append}
-use Rattle.std.proofs.lemmas.Option.{same_Some, slice_get_within}
+use Rattle.std.proofs.lemmas.Option.{same_Some, slice_get_within, slice_get_past}
 use Rattle.std.proofs.Math.ListN.{drop_of_length-le}
 use Rattle.script_text.specs.Lawful.{call_lines}
 use Rattle.script_text.specs.declared.script.CallLine.{CallLine}
@@ -21,7 +21,7 @@ use Rattle.record_text.specs.Rules.{IsNextLine, KeepsGenerations}
 use Rattle.record_text.specs.declared.record.Extra.{Extra}
 use Rattle.record_text.specs.declared.record.RecordLine.{RecordLine}
 use Rattle.record_text.specs.declared.judging.course.Course.{Course}
-use Rattle.record_text.proofs.Places.{get_set, get_written}
+use Rattle.record_text.proofs.Places.{get_set, get_written, le_or_lt}
 use Rattle.record_text.proofs.Walking.{next_call}
 
 -- one more line of a worker, or of another
@@ -125,3 +125,44 @@ pub one_left : (items : List Item) (told : List (Option ℕ)) (course : Course) 
 one_left items told course walked at_line before =
     let standing = at_line before in
     slice_get_within (call_lines items) (length told) standing.line (next_call items told course walked standing.line standing.here)
+
+-- where a line of the worker comes next, it comes next for its course
+pub standing_here : (script : Script) (worker : ℕ) (courses : List Course) → Stands script worker courses → (lines : WorkerLines) (course : Course) → slice_get script.workers worker ≡ Some lines → slice_get courses worker ≡ Some course → StandsAtLine lines.items course
+standing_here script worker courses stands lines course found there =
+    let lines_is : stands.lines ≡ lines = same_Some stands.lines lines (sym stands.found ∙ found) in
+    let course_is : stands.course ≡ course = same_Some stands.course course (sym stands.there ∙ there) in
+    rw (← lines_is, ← course_is) stands.standing
+
+-- whether a worker has passed all its lines
+pub done_decided : (items : List Item) (told : List (Option ℕ)) (course : Course) (result : Bool) → IsWalked items told course → IsAtLine items course → Decides result (length items ≤ course.at) → Decides result (length (call_lines items) ≤ length told)
+done_decided items told course result walked at_line decides =
+    (λ yes. none_left items told course walked (decides.0 yes)
+    , λ done. decides.1 (elim (le_or_lt (length items) course.at) [
+      | inl past ↦ past
+      | inr before ↦ absurd (omega (arith, done, one_left items told course walked at_line before))
+      ]))
+module _ (script : Script) (lines : List RecordLine) where
+  -- so many workers have passed all their lines
+  abbrev pub AllDoneBelow : ℕ → Type 0
+  AllDoneBelow number = (worker : ℕ) → worker < number → length (calls_of script worker) ≤ length (lines_by worker lines)
+
+  calls_are : (worker : ℕ) (own : WorkerLines) → slice_get script.workers worker ≡ Some own → calls_of script worker ≡ call_lines own.items
+  calls_are worker own found = ap (λ (l : Option WorkerLines). option_map_or (λ (w : WorkerLines). call_lines w.items) l []) found
+
+  pub done_here : (worker : ℕ) (own : WorkerLines) → slice_get script.workers worker ≡ Some own → length (call_lines own.items) ≤ length (generations_by worker lines) → length (calls_of script worker) ≤ length (lines_by worker lines)
+  done_here worker own found done = rw (calls_are worker own found, ← length_generations worker lines) done
+
+  pub here_done : (worker : ℕ) (own : WorkerLines) → slice_get script.workers worker ≡ Some own → length (calls_of script worker) ≤ length (lines_by worker lines) → length (call_lines own.items) ≤ length (generations_by worker lines)
+  here_done worker own found done = rw (← calls_are worker own found, length_generations worker lines) done
+
+  pub done_more : (number worker : ℕ) → AllDoneBelow number → worker ≡ number → length (calls_of script worker) ≤ length (lines_by worker lines) → AllDoneBelow (number + 1)
+  done_more number worker below is here other within = elim (le_or_lt number other) [
+    | inl past ↦ let same : worker ≡ other = omega (arith, past, within, is) in rw (← same) here
+    | inr before ↦ below other before
+    ]
+
+  pub done_all : (number : ℕ) → length script.workers ≤ number → AllDoneBelow number → (worker : ℕ) → length (calls_of script worker) ≤ length (lines_by worker lines)
+  done_all number past below worker = elim (le_or_lt number worker) [
+    | inl beyond ↦ rw (ap length (ap (λ (l : Option WorkerLines). option_map_or (λ (w : WorkerLines). call_lines w.items) l []) (slice_get_past script.workers worker (omega (arith, past, beyond))))) (omega arith)
+    | inr before ↦ below worker before
+    ]

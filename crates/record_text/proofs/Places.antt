@@ -1,5 +1,5 @@
 -- What stands at a place of a list, and behind it.
-use Rattle.std.proofs.Common.{◌≡◌, ◌≢◌, ℕ, zero, suc, ◌+◌, ◌<◌, List, [], ◌∷◌, ◌++◌, length, drop, set, add-one, refl, sym, ap, ◌∙◌, ◌⊎◌, inl, inr, arith}
+use Rattle.std.proofs.Common.{◌≡◌, ◌≢◌, ℕ, zero, suc, ◌+◌, ◌<◌, ◌≤◌, List, [], ◌∷◌, ◌++◌, length, drop, set, add-one, refl, sym, ap, ◌∙◌, ◌⊎◌, inl, inr, arith}
 use Rattle.std.specs.Prelude.{Some, None, slice_get, slice_index_or}
 use Rattle.std.proofs.lemmas.Option.{same_Some, slice_get_within}
 use Rattle.std.proofs.lemmas.List.{length-set}
@@ -86,4 +86,13 @@ get_set xs i n y x e = elim (eqb_tells i n) [
       let within : i < length xs = omega (arith, slice_get_within (set xs i y) n x e, length-set xs i y, same.1) in
       inl (sym same.1, same_Some x y (sym e ∙ ap (slice_get (set xs i y)) (sym same.1) ∙ get_written xs i y within))
   | inr apart ↦ inr (λ same. apart.1 (sym same), sym (get_unwritten xs i n y apart.1) ∙ e)
+  ]
+
+-- a number is at most another, or above it
+pub le_or_lt : (a b : ℕ) → (a ≤ b) ⊎ (b < a)
+le_or_lt zero b = inl (omega arith)
+le_or_lt (suc a) zero = inr (omega arith)
+le_or_lt (suc a) (suc b) = elim (le_or_lt a b) [
+  | inl le ↦ inl (omega (arith, le))
+  | inr lt ↦ inr (omega (arith, lt))
   ]
