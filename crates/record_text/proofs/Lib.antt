@@ -7,3 +7,4 @@ pub mod Swappers
 pub mod Sight
 pub mod Verdicts
 pub mod Crews
+pub mod Faults

@@ -158,11 +158,11 @@ fn tells(
     object.judge(alloc, line, refusable)
 }
 
-fn lines_of(script: &Script, worker: u32) -> &WorkerLines
+fn lines_of(script: &Script, worker: usize) -> &WorkerLines
     requires { worker < length script.now.workers }
     ensures { slice_get script.now.workers worker ≡ Some result.now }
 {
-    &script.workers.as_slice()[worker as usize]
+    &script.workers.as_slice()[worker]
 }
 
 /// Whether the line answers the next of its worker's.
@@ -176,7 +176,7 @@ fn follows(courses: &mut Vec<Course>, script: &Script, line: &RecordLine) -> boo
     ensures stands { result ≡ true →
         Stands script.now line.now.worker courses.new.items }
 {
-    let worker = lines_of(script, line.worker);
+    let worker = lines_of(script, line.worker as usize);
     let items = worker.items.as_slice();
     let course = &mut courses[line.worker as usize];
     course.walk(items);
@@ -219,7 +219,7 @@ fn passes(courses: &mut Vec<Course>, script: &Script, line: &RecordLine) -> bool
     ensures kept { (before : List Line) → AreWalked script.now before courses.old.items →
         result ≡ true → AreWalked script.now (before ++ line.now ∷ []) courses.new.items }
 {
-    let worker = lines_of(script, line.worker);
+    let worker = lines_of(script, line.worker as usize);
     let course = &mut courses[line.worker as usize];
     if !may_tell(course, worker.proc, &line.extra) {
         return false;
@@ -308,7 +308,7 @@ fn all_done(courses: &mut Vec<Course>, script: &Script) -> bool
         Decides result (HasAllLines script.now lines) }
 {
     for worker in 0..script.workers.len() {
-        let lines = lines_of(script, worker as u32);
+        let lines = lines_of(script, worker);
         let course = &mut courses[worker];
         if !is_done(course, lines.items.as_slice()) {
             return false;
