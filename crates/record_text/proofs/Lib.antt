@@ -8,3 +8,4 @@ pub mod Sight
 pub mod Verdicts
 pub mod Crews
 pub mod Faults
+pub mod Rivalry

@@ -121,7 +121,8 @@ impl Whole {
     fn may_refuse(&self, seen: &Marks, line: &RecordLine, place: usize) -> bool
         requires placed { IsPlaced line.now }
         requires within { place < vec_len self.now.later }
-        ensures { (number : ℕ) (lines : List Line) → line.now.answer ≡ Answer.Busy number →
+        ensures small { (number : ℕ) → line.now.answer ≡ Answer.Busy number → number < 2 ^ 32 }
+        ensures refusable { (number : ℕ) (lines : List Line) → line.now.answer ≡ Answer.Busy number →
             IsWhole lines self.now →
             Shows seen.now (λ worker object. furthest_of worker object (take place lines)) →
             slice_get lines place ≡ Some line.now →
