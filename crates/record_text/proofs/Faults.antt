@@ -18,7 +18,7 @@ end_rules Spent = inl refl
 end_rules Gone = inl refl
 end_rules (Abandoned number) = inl refl
 
-act_rules : (act : Act) (answer : Answer) → (rule_of_act act answer ≡ Calls) ⊎ ((rule_of_act act answer ≡ Swaps) ⊎ (rule_of_act act answer ≡ Refusals))
+pub act_rules : (act : Act) (answer : Answer) → (rule_of_act act answer ≡ Calls) ⊎ ((rule_of_act act answer ≡ Swaps) ⊎ (rule_of_act act answer ≡ Refusals))
 act_rules (Call op) answer = inl refl
 act_rules (Swap layout) answer = inr (end_rules answer)
 act_rules Destroy answer = inr (end_rules answer)

@@ -9,3 +9,5 @@ pub mod Verdicts
 pub mod Crews
 pub mod Faults
 pub mod Rivalry
+pub mod BareEntries
+pub mod Rebuilt

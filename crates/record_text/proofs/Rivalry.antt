@@ -42,7 +42,7 @@ settles_from act Spent number form is = absurd is
 settles_from act Gone number form is = absurd is
 
 not_true : (b : Bool) → not b ≡ true → b ≡ false
-not_true true no = cc
+not_true true is = cc
 not_true false is = refl
 
 and_false : (b : Bool) → (b && false) ≡ false
