@@ -4,6 +4,7 @@ use Rattle.std.specs.Prelude.{Some, slice_get}
 use Rattle.std.specs.List.{fold}
 use Rattle.std.proofs.lemmas.List.{length-map, map-append, get_or-map, get_or_default}
 use Rattle.std.proofs.lemmas.List.Elements.{All-map, All-weaker}
+use Rattle.std.proofs.lemmas.List.Folds.{fold-map}
 use Rattle.k42_kinds.specs.Objects.{empty_state, reply_of}
 use Rattle.k42_kinds.specs.Histories.{state_of, number_of, moved_by, is_carried_out_on}
 use Rattle.k42_kinds.specs.Legal.{IsLegalCall, IsLegalAct, IsLegalAnswer, IsLegalAmong, IsLegalRefusal, IsTimely, IsOwn, IsNotPast, IsRival}
@@ -46,8 +47,7 @@ module _ (script : Script) (version : ℕ) where
   state_same kind object history = states_same object (empty_state kind) history
 
   number_same : (object : ℕ) (history : List Entry) → number_of object (map bare history) ≡ number_of object history
-  number_same object [] = refl
-  number_same object (entry ∷ history) = ap (λ n. cond (is_carried_out_on object entry) 1 0 + n) (number_same object history)
+  number_same object history = fold-map (λ (n : ℕ) (entry : Entry). n + cond (is_carried_out_on object entry) 1 0) bare 0 history
 
   module _ (kind : KindName) (before : List Entry) (entry : Entry) (after : List Entry) where
     abbrev B : List Entry

@@ -11,3 +11,4 @@ pub mod Faults
 pub mod Rivalry
 pub mod BareEntries
 pub mod Rebuilt
+pub mod Reread

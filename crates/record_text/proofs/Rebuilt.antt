@@ -32,12 +32,12 @@ use Rattle.record_text.proofs.Crews.{by-push_own, by-push_other}
 use Rattle.record_text.proofs.Faults.{act_rules}
 use Rattle.record_text.proofs.Places.{drop_at}
 
-told_processor : Option Extra → ℕ
+abbrev told_processor : Option Extra → ℕ
 told_processor (Some extra) = extra.proc
 told_processor None = 0
 
 -- the entry of a line that answers its worker's line of this place
-entry_at : ℕ → RecordLine → Entry
+abbrev entry_at : ℕ → RecordLine → Entry
 entry_at index line = record {
   stamp = line.stamp;
   caller = line.worker;
@@ -52,37 +52,33 @@ entry_at index line = record {
 }
 
 -- the history of the lines behind others
-history_from : List RecordLine → List RecordLine → List Entry
+abbrev history_from : List RecordLine → List RecordLine → List Entry
 history_from front [] = []
 history_from front (line ∷ lines) = entry_at (length (lines_by line.worker front)) line ∷ history_from (front ++ line ∷ []) lines
 
 module _ (script : Script) where
   -- each line answers the next of its worker's
-  AreNext : List RecordLine → List RecordLine → Type 0
+  abbrev AreNext : List RecordLine → List RecordLine → Type 0
   AreNext front [] = Unit {0}
   AreNext front (line ∷ lines) = IsNextLine script front line × AreNext (front ++ line ∷ []) lines
 
   are_next : (front lines : List RecordLine) → ((place : ℕ) (line : RecordLine) → slice_get lines place ≡ Some line → IsNextLine script (front ++ take place lines) line) → AreNext front lines
-  unfolding AreNext
   are_next front [] each = tt
   are_next front (line ∷ lines) each =
       (rw (append-nil front) at (each 0 line refl)
       , are_next (front ++ line ∷ []) lines (λ place other there. rw (append_assoc front (line ∷ []) (take place lines)) (each (suc place) other there)))
 
   extra_same : (version : ℕ) (act : Act) (extra : Option Extra) → MatchOption extra (version ≡ 1) (λ e. (version ≡ 2) × HasGeneration act e.generation) → (if eqb version 2 then Some (record { proc = told_processor extra; generation = told_generation extra }) else None) ≡ extra
-  unfolding told_processor
   extra_same version act (Some extra) is = rw is.0 refl
   extra_same version act None is = rw is refl
 
   line_same : (version : ℕ) (front : List RecordLine) (line : RecordLine) → IsNextLine script front line → IsOfVersion version line → line_of script version (entry_at (length (lines_by line.worker front)) line) ≡ line
-  unfolding entry_at
   line_same version front line next told =
       let number : line_number script line.worker (length (lines_by line.worker front)) ≡ line.line = ap (λ (found : Option CallLine). option_map_or (λ (l : CallLine). l.line) found 0) next in
       rw (number, extra_same version line.act line.extra told.told) refl
 
   -- the history's record is the one that it was made of
   lines_back : (version : ℕ) (front lines : List RecordLine) → AreNext front lines → AllByRecursion (IsOfVersion version) lines → map (line_of script version) (history_from front lines) ≡ lines
-  unfolding history_from, AreNext
   lines_back version front [] next told = refl
   lines_back version front (line ∷ lines) next told =
       ap (λ (l : RecordLine). l ∷ map (line_of script version) (history_from (front ++ line ∷ []) lines)) (line_same version front line next.0 told.0)
@@ -91,7 +87,6 @@ module _ (script : Script) where
   module _ (worker : ℕ) where
     -- the worker does its lines
     deeds_back : (front lines : List RecordLine) → AreNext front lines → length (calls_of script worker) ≤ length (lines_by worker (front ++ lines)) → map deed_of (entries_of worker (history_from front lines)) ≡ deeds_from (length (lines_by worker front)) (drop (length (lines_by worker front)) (calls_of script worker))
-    unfolding history_from, AreNext, entry_at
     deeds_back front [] next complete =
         let none : drop (length (lines_by worker front)) (calls_of script worker) ≡ [] = drop_of_length-le (calls_of script worker) {i = length (lines_by worker front)} (rw (append-nil front) at complete) in
         rw none refl
@@ -110,7 +105,6 @@ module _ (script : Script) where
         ]
 
   known_callers : (front lines : List RecordLine) → AllByRecursion (HasSpelling script) lines → AllByRecursion (λ entry. entry.caller < length script.workers) (history_from front lines)
-  unfolding history_from, entry_at
   known_callers front [] all = tt
   known_callers front (line ∷ lines) all = (all.0.by_worker, known_callers (front ++ line ∷ []) lines all.1)
 
@@ -125,7 +119,6 @@ module _ (script : Script) where
   not_given_up act Gone form = tt
 
   none_given_up : (front lines : List RecordLine) → AllByRecursion (HasSpelling script) lines → AllByRecursion (λ entry. IsNotGivenUp entry.answer) (history_from front lines)
-  unfolding history_from, entry_at
   none_given_up front [] all = tt
   none_given_up front (line ∷ lines) all = (not_given_up line.act line.answer all.0.answered, none_given_up (front ++ line ∷ []) lines all.1)
 

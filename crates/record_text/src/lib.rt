@@ -6,6 +6,7 @@ mod answers;
 mod ending;
 mod history;
 mod judging;
+mod laws;
 mod printing;
 mod reading;
 mod record;
@@ -14,6 +15,9 @@ mod tokens;
 pub use ending::{CheckEnd, RecordEnd};
 pub use history::lines_of;
 pub use judging::check;
+pub use laws::{
+    first_faults_are_one, lawful_records_have_no_fault, rules_make_records_lawful,
+};
 pub use printing::print;
 pub use reading::read;
 pub use record::{Extra, Record, RecordLine};
