@@ -52,7 +52,7 @@ module _ (script : Script) (before : List RecordLine) (courses : List Course) (w
       | inl here ↦ subst (λ (c : Course). IsWalked lines.items (generations_by other before) c) (sym here.1)
           (subst (λ (w : ℕ). IsWalked lines.items (generations_by w before) new) (sym here.0) (own lines (ap (slice_get script.workers) (sym here.0) ∙ found)))
       | inr apart ↦ walked.each other lines course found apart.1
-      ];
+    ];
   }
 
   -- and after one more line
@@ -64,7 +64,7 @@ module _ (script : Script) (before : List RecordLine) (courses : List Course) (w
           (rw (generations-push_own other before line (is ∙ sym here.0))
           (subst (λ (w : ℕ). IsWalked lines.items (generations_by w before ++ told_generation line.extra ∷ []) new) (sym here.0) (own lines (ap (slice_get script.workers) (sym here.0) ∙ found))))
       | inr apart ↦ rw (generations-push_other other before line (λ same. apart.0 (sym same ∙ is))) (walked.each other lines course found apart.1)
-      ];
+    ];
   }
 
 module _ (script : Script) (before : List RecordLine) (line : RecordLine) (lines : WorkerLines) (found : slice_get script.workers line.worker ≡ Some lines) where
@@ -135,12 +135,14 @@ standing_here script worker courses stands lines course found there =
 
 -- whether a worker has passed all its lines
 pub done_decided : (items : List Item) (told : List (Option ℕ)) (course : Course) (result : Bool) → IsWalked items told course → IsAtLine items course → Decides result (length items ≤ course.at) → Decides result (length (call_lines items) ≤ length told)
-done_decided items told course result walked at_line decides =
-    (λ yes. none_left items told course walked (decides.0 yes)
-    , λ done. decides.1 (elim (le_or_lt (length items) course.at) [
-      | inl past ↦ past
-      | inr before ↦ absurd (omega (arith, done, one_left items told course walked at_line before))
-      ]))
+done_decided items told course result walked at_line decides = (
+  λ yes. none_left items told course walked (decides.0 yes),
+  λ done. decides.1 (elim (le_or_lt (length items) course.at) [
+    | inl past ↦ past
+    | inr before ↦ absurd (omega (arith, done, one_left items told course walked at_line before))
+  ]),
+)
+
 module _ (script : Script) (lines : List RecordLine) where
   -- so many workers have passed all their lines
   abbrev pub AllDoneBelow : ℕ → Type 0
@@ -159,10 +161,10 @@ module _ (script : Script) (lines : List RecordLine) where
   done_more number worker below is here other within = elim (le_or_lt number other) [
     | inl past ↦ let same : worker ≡ other = omega (arith, past, within, is) in rw (← same) here
     | inr before ↦ below other before
-    ]
+  ]
 
   pub done_all : (number : ℕ) → length script.workers ≤ number → AllDoneBelow number → (worker : ℕ) → length (calls_of script worker) ≤ length (lines_by worker lines)
   done_all number past below worker = elim (le_or_lt number worker) [
     | inl beyond ↦ rw (ap length (ap (λ (l : Option WorkerLines). option_map_or (λ (w : WorkerLines). call_lines w.items) l []) (slice_get_past script.workers worker (omega (arith, past, beyond))))) (omega arith)
     | inr before ↦ below worker before
-    ]
+  ]

@@ -54,7 +54,7 @@ module _ (script : Script) (lines : List RecordLine) (place : ℕ) (line : Recor
         | inl is ↦ inr (keeps_at Stamps stamped, inr (keeps_at Order next, inl (ap rule_number is, breaks_at Calls (λ keeps. illegal (keeps is)))))
         | inr (inl is) ↦ inr (keeps_at Stamps stamped, inr (keeps_at Order next, inr (keeps_at Calls (other_rule Calls Swaps is (λ e. cc e)), inl (ap rule_number is, breaks_at Swaps (λ keeps. illegal (keeps is))))))
         | inr (inr is) ↦ inr (keeps_at Stamps stamped, inr (keeps_at Order next, inr (keeps_at Calls (other_rule Calls Refusals is (λ e. cc e)), inr (keeps_at Swaps (other_rule Swaps Refusals is (λ e. cc e)), inl (ap rule_number is, breaks_at Refusals (λ keeps. illegal (keeps is)))))))
-        ]
+      ]
 
       module _ (legal : Legal) where
         pub generation_broken : (KeepsGenerations script (take place lines) line → ⊥) → FirstBroken 21

@@ -55,7 +55,7 @@ get-push (z ∷ xs) x zero y e = inl e
 get-push (z ∷ xs) x (suc n) y e = elim (get-push xs x n y e) [
   | inl there ↦ inl there
   | inr last ↦ inr (record { place = ap suc last.place; same = last.same })
-  ]
+]
 
 pub get_last : {X : Type 0} (xs : List X) (x : X) → slice_get (xs ++ x ∷ []) (length xs) ≡ Some x
 get_last [] x = refl
@@ -86,7 +86,7 @@ get_set xs i n y x e = elim (eqb_tells i n) [
       let within : i < length xs = omega (arith, slice_get_within (set xs i y) n x e, length-set xs i y, same.1) in
       inl (sym same.1, same_Some x y (sym e ∙ ap (slice_get (set xs i y)) (sym same.1) ∙ get_written xs i y within))
   | inr apart ↦ inr (λ same. apart.1 (sym same), sym (get_unwritten xs i n y apart.1) ∙ e)
-  ]
+]
 
 -- a number is at most another, or above it
 pub le_or_lt : (a b : ℕ) → (a ≤ b) ⊎ (b < a)
@@ -95,4 +95,4 @@ le_or_lt (suc a) zero = inr (omega arith)
 le_or_lt (suc a) (suc b) = elim (le_or_lt a b) [
   | inl le ↦ inl (omega (arith, le))
   | inr lt ↦ inr (omega (arith, lt))
-  ]
+]

@@ -64,9 +64,10 @@ module _ (script : Script) where
 
   are_next : (front lines : List RecordLine) → ((place : ℕ) (line : RecordLine) → slice_get lines place ≡ Some line → IsNextLine script (front ++ take place lines) line) → AreNext front lines
   are_next front [] each = tt
-  are_next front (line ∷ lines) each =
-      (rw (append-nil front) at (each 0 line refl)
-      , are_next (front ++ line ∷ []) lines (λ place other there. rw (append_assoc front (line ∷ []) (take place lines)) (each (suc place) other there)))
+  are_next front (line ∷ lines) each = (
+    rw (append-nil front) at (each 0 line refl),
+    are_next (front ++ line ∷ []) lines (λ place other there. rw (append_assoc front (line ∷ []) (take place lines)) (each (suc place) other there)),
+  )
 
   extra_same : (version : ℕ) (act : Act) (extra : Option Extra) → MatchOption extra (version ≡ 1) (λ e. (version ≡ 2) × HasGeneration act e.generation) → (if eqb version 2 then Some (record { proc = told_processor extra; generation = told_generation extra }) else None) ≡ extra
   extra_same version act (Some extra) is = rw is.0 refl
@@ -144,7 +145,7 @@ keeps_there script lines keeps before line after split =
       | inl is ↦ keeps.each (length before) Calls line there is
       | inr (inl is) ↦ keeps.each (length before) Swaps line there is
       | inr (inr is) ↦ keeps.each (length before) Refusals line there is
-      ] in
+    ] in
     record {
       stamped = rw front at (keeps.each (length before) Stamps line there);
       legal = rw (front, back) at legal;
@@ -159,8 +160,8 @@ lawful_from_rules script written text keeps =
     let back : map (line_of script version) history ≡ lines = lines_back script version [] lines next (recursion_from_All (IsOfVersion version) lines text.told) in
     let spelled = recursion_from_All (HasSpelling script) lines text.spelled in
     let there : (before : List Entry) (entry : Entry) (after : List Entry) → history ≡ before ++ entry ∷ after → KeepsThere script (map (line_of script version) before) (line_of script version entry) (map (line_of script version) after) =
-        λ before entry after split. keeps_there script lines keeps (map (line_of script version) before) (line_of script version entry) (map (line_of script version) after)
-            (sym back ∙ ap (map (line_of script version)) split ∙ map-append (line_of script version) before (entry ∷ after)) in
+    λ before entry after split. keeps_there script lines keeps (map (line_of script version) before) (line_of script version entry) (map (line_of script version) after)
+    (sym back ∙ ap (map (line_of script version)) split ∙ map-append (line_of script version) before (entry ∷ after)) in
     record {
       history = history;
       lawful = record {

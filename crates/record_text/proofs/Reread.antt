@@ -35,6 +35,9 @@ asked_at (call ∷ calls) from (d ∷ before) deed after e =
     let rest = asked_at calls (from + 1) before deed after cc in
     record { line = rest.line; there = rest.there; same = rest.same ∙ ap (λ (n : ℕ). record { index = n; object = rest.line.object; act = rest.line.act }) (omega arith) }
 
+same_call : (one other : CallLine) → one.line ≡ other.line → one.object ≡ other.object → one.act ≡ other.act → one ≡ other
+same_call one other line object act i = record { line = line i; object = object i; act = act i }
+
 length_deeds : (calls : List CallLine) (from : ℕ) → length (deeds_from from calls) ≡ length calls
 length_deeds [] from = refl
 length_deeds (call ∷ calls) from = ap suc (length_deeds calls (from + 1))
@@ -54,7 +57,7 @@ module _ (script : Script) (version : ℕ) where
   by-map worker (entry ∷ history) = elim (entry.caller == worker) as (λ b. cond b (line_of script version entry ∷ lines_by worker (map (line_of script version) history)) (lines_by worker (map (line_of script version) history)) ≡ map (line_of script version) (cond b (entry ∷ entries_of worker history) (entries_of worker history))) [
     | true ↦ ap (λ (rest : List RecordLine). line_of script version entry ∷ rest) (by-map worker history)
     | false ↦ by-map worker history
-    ]
+  ]
 
   length_by : (worker : ℕ) (history : List Entry) → length (lines_by worker (map (line_of script version) history)) ≡ length (entries_of worker history)
   length_by worker history = ap length (by-map worker history) ∙ length-map (entries_of worker history) (line_of script version)
@@ -68,13 +71,13 @@ module _ (script : Script) (version : ℕ) where
       next_line worker found =
           let calls : calls_of script entry.caller ≡ call_lines worker.items = ap (λ (l : Option WorkerLines). option_map_or (λ (w : WorkerLines). call_lines w.items) l []) found in
           let deeds : deeds_from 0 (call_lines worker.items) ≡ map deed_of (entries_of entry.caller before) ++ deed_of entry ∷ map deed_of (entries_of entry.caller after) =
-              sym (lawful.in_order entry.caller worker found) ∙ ap (map deed_of) own_split ∙ map-append deed_of (entries_of entry.caller before) (entry ∷ entries_of entry.caller after) in
+          sym (lawful.in_order entry.caller worker found) ∙ ap (map deed_of) own_split ∙ map-append deed_of (entries_of entry.caller before) (entry ∷ entries_of entry.caller after) in
           let asked = asked_at (call_lines worker.items) 0 (map deed_of (entries_of entry.caller before)) (deed_of entry) (map deed_of (entries_of entry.caller after)) deeds in
           let count : length (map deed_of (entries_of entry.caller before)) ≡ length (entries_of entry.caller before) = length-map (entries_of entry.caller before) deed_of in
           let there : slice_get (calls_of script entry.caller) (length (entries_of entry.caller before)) ≡ Some asked.line = rw calls (rw count at asked.there) in
-          let index : entry.index ≡ length (entries_of entry.caller before) = ap (λ (d : Deed). d.index) asked.same ∙ count in
+          let index : entry.index ≡ length (entries_of entry.caller before) = omega (arith, ap (λ (d : Deed). d.index) asked.same, count) in
           let number : line_number script entry.caller entry.index ≡ asked.line.line = ap (λ (n : ℕ). line_number script entry.caller n) index ∙ ap (λ (found : Option CallLine). option_map_or (λ (l : CallLine). l.line) found 0) there in
-          let line : asked.line ≡ answered (line_of script version entry) = record { line = sym number; object = ap (λ (d : Deed). d.object) (sym asked.same); act = ap (λ (d : Deed). d.act) (sym asked.same) } in
+          let line : asked.line ≡ answered (line_of script version entry) = same_call asked.line (answered (line_of script version entry)) (sym number) (ap (λ (d : Deed). d.object) (sym asked.same)) (ap (λ (d : Deed). d.act) (sym asked.same)) in
           rw (length_by entry.caller before) (there ∙ ap (λ (l : CallLine). Some l) line)
 
     complete : HasAllLines script (map (line_of script version) history)
@@ -108,11 +111,11 @@ module _ (script : Script) (version : ℕ) (history : List Entry) (lawful : IsLa
       let split : history ≡ take place history ++ made.entry ∷ drop (place + 1) history = sym (take-append-drop place history) ∙ ap (λ (rest : List Entry). take place history ++ rest) (drop_at history place made.entry made.there) in
       let own = caller_found script.workers made.entry.caller (All-at_split (λ (entry : Entry). entry.caller < length script.workers) history lawful.no_stranger (take place history) made.entry (drop (place + 1) history) split) in
       let legal : IsLegalLine script (map (line_of script version) (take place history)) (line_of script version made.entry) (map (line_of script version) (drop (place + 1) history)) =
-          legal_to script version (kinds_of script) (take place history) made.entry (drop (place + 1) history) (lawful.legal.legal (take place history) made.entry (drop (place + 1) history) split) in
+      legal_to script version (kinds_of script) (take place history) made.entry (drop (place + 1) history) (lawful.legal.legal (take place history) made.entry (drop (place + 1) history) split) in
       let there_is : slice_get told_lines place ≡ Some (line_of script version made.entry) = there ∙ ap (λ (l : RecordLine). Some l) (sym made.same) in
       keeps rule made.entry there_is
-          (lawful.legal.numbered (take place history) made.entry (drop (place + 1) history) split ∙ ap (λ (n : ℕ). n + 1) (sym (length-map (take place history) (line_of script version))))
-          (next_line script version history lawful (take place history) made.entry (drop (place + 1) history) split own.0 own.1) legal line there
+      (lawful.legal.numbered (take place history) made.entry (drop (place + 1) history) split ∙ ap (λ (n : ℕ). n + 1) (sym (length-map (take place history) (line_of script version))))
+      (next_line script version history lawful (take place history) made.entry (drop (place + 1) history) split own.0 own.1) legal line there
     where
       keeps : (rule : Rule) (entry : Entry) → slice_get told_lines place ≡ Some (line_of script version entry) → entry.stamp ≡ length (map (line_of script version) (take place history)) + 1 → IsNextLine script (map (line_of script version) (take place history)) (line_of script version entry)
           → IsLegalLine script (map (line_of script version) (take place history)) (line_of script version entry) (map (line_of script version) (drop (place + 1) history)) → KeepsAt script told_lines place rule
@@ -162,7 +165,7 @@ module _ (script : Script) (written : Record) where
     | inl same ↦ same_place line rule other_line other_rule a b same
     | inr (inl before) ↦ absurd (broken_or_kept (KeepsAt script written.lines a.place) all_rules rule (b.before a.place before) a.broken)
     | inr (inr after) ↦ absurd (broken_or_kept (KeepsAt script written.lines b.place) all_rules other_rule (a.before b.place after) b.broken)
-    ]
+  ]
   one_fault line rule other_line other_rule (inl a) (inr b) = absurd (broken_or_kept (KeepsAt script written.lines a.place) all_rules rule (b.before a.place) a.broken)
   one_fault line rule other_line other_rule (inr a) (inl b) = absurd (broken_or_kept (KeepsAt script written.lines b.place) all_rules other_rule (a.before b.place) b.broken)
   one_fault line rule other_line other_rule (inr a) (inr b) = (a.numbered ∙ sym b.numbered, a.order ∙ sym b.order)

@@ -94,20 +94,21 @@ refusal_decided script lines place line number result spelled fits there busy de
     let after = drop (place + 1) lines in
     let whole : lines ≡ before ++ line ∷ after = sym (take-append-drop place lines) ∙ ap (λ (rest : List RecordLine). before ++ rest) (drop_at lines place line there) in
     let known : has_rival lines line.worker line.object number ≡ list_any (rivals line number) (before ++ after) = ap (λ (all : List RecordLine). has_rival all line.worker line.object number) whole ∙ others_any line number before after busy in
-    let forms : All (λ (other : RecordLine). Ends other.act other.answer) (before ++ after) = λ k d within. (All-append (HasSpelling script) before after (All-take (HasSpelling script) place lines spelled) (All-drop (HasSpelling script) (place + 1) lines spelled) k d within).answered in
-    (λ yes.
-        let may = decides.0 yes in
-        record {
-          timely = record {
-            incarnation = may.incarnation;
-            earlier = all_early (told line) number before may.earlier;
-            later = all_late (told line) number after may.later;
-          };
-          rival = rw (← map-append told before after) (any_to line number (before ++ after) (Any-from_list_any (rivals line number) (before ++ after) (sym known ∙ may.rival)));
-        }
-    , λ legal. decides.1 (record {
+    let forms : All (λ (other : RecordLine). Ends other.act other.answer) (before ++ after) = λ k d within. (All-append (HasSpelling script) before after (All-take (HasSpelling script) place lines spelled) (All-drop (HasSpelling script) (place + 1) lines spelled) k d within).answered in (
+      λ yes.
+          let may = decides.0 yes in
+          record {
+            timely = record {
+              incarnation = may.incarnation;
+              earlier = all_early (told line) number before may.earlier;
+              later = all_late (told line) number after may.later;
+            };
+            rival = rw (← map-append told before after) (any_to line number (before ++ after) (Any-from_list_any (rivals line number) (before ++ after) (sym known ∙ may.rival)));
+          },
+      λ legal. decides.1 (record {
         incarnation = legal.timely.incarnation;
         earlier = early_all (told line) number before legal.timely.earlier;
         later = late_all (told line) number after (omega (arith, fits)) legal.timely.later;
         rival = known ∙ list_any-from_Any (rivals line number) (before ++ after) (any_from line number (before ++ after) forms (rw (map-append told before after) legal.rival));
-      }))
+      }),
+    )

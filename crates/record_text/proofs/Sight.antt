@@ -43,7 +43,7 @@ shows_least lines place line marks there shows = record {
   each = λ worker object w o.
       shows.each worker object w o
       ∙ changed (λ w o. least_of w o (drop (place + 1) lines)) (least line.incarnation) line worker object (is_of worker object line) refl
-      ∙ sym (ap (least_of worker object) (drop_at lines place line there))
+      ∙ sym (ap (least_of worker object) (drop_at lines place line there));
 }
 
 -- one line after the others
@@ -54,7 +54,7 @@ shows_furthest lines line marks shows = record {
   each = λ worker object w o.
       shows.each worker object w o
       ∙ changed (λ w o. furthest_of w o lines) (λ n. greatest n (reach_of line)) line worker object (is_of worker object line) refl
-      ∙ sym (fold-append (reach_after worker object) 0 lines (line ∷ []))
+      ∙ sym (fold-append (reach_after worker object) 0 lines (line ∷ []));
 }
 
 module _ (entry : Entry) (number : ℕ) where
@@ -164,5 +164,5 @@ behind_more lines from place mark line old new numbers next behind there mark_is
             let one_is : one ≡ line = same_Some one line (sym here ∙ ap (slice_get lines) (sym same.1) ∙ there) in
             ap (slice_get (set numbers place mark)) (sym same.1) ∙ get_written numbers place mark (omega (arith, within, behind.size)) ∙ rw (one_is, ← same.1, ← next) (ap (λ (n : ℕ). Some n) mark_is)
         | inr apart ↦ get_unwritten numbers place other mark apart.1 ∙ behind.each other one (omega (arith, past, next, apart.1)) here
-        ];
+      ];
     }

@@ -112,13 +112,14 @@ pub legal_decided : (kinds : List KindName) (before : List RecordLine) (line : R
     → ((number : ℕ) → line.answer ≡ Busy number → Decides refusable (IsLegalRefusal (map told before) (told line) (map told after) number))
     → Decides legal (Tells object refusable line line.act) → Decides legal (IsLegalAmong kinds (map told before) (told line) (map told after))
 legal_decided kinds before line after objects object refusable legal all found form refusal decides =
-    let kept = all.each line.object form.kind object form.declared found in
-    (λ yes. record {
-      kind = form.kind;
-      declared = form.declared;
-      legal = act_to form.kind (map told before) line (map told after) object refusable kept refusal line.act form.asked (decides.0 yes);
-    }
-    , λ among. decides.1 (act_from form.kind (map told before) line (map told after) object refusable kept refusal line.act form.answered (legal_at_kind kinds form.kind (map told before) (told line) (map told after) form.declared among)))
+    let kept = all.each line.object form.kind object form.declared found in (
+      λ yes. record {
+        kind = form.kind;
+        declared = form.declared;
+        legal = act_to form.kind (map told before) line (map told after) object refusable kept refusal line.act form.asked (decides.0 yes);
+      },
+      λ among. decides.1 (act_from form.kind (map told before) line (map told after) object refusable kept refusal line.act form.answered (legal_at_kind kinds form.kind (map told before) (told line) (map told after) form.declared among)),
+    )
 
 counted_on : (b : Bool) (number : ℕ) → cond b (number + 1) number ≡ number + cond b 1 0
 counted_on true number = refl

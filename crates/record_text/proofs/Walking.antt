@@ -104,7 +104,7 @@ module _ (items : List Item) (told : List (Option ℕ)) (course : Course) (walke
   not_below generation step = elim walked.reached [
     | inl none ↦ rw none (omega arith)
     | inr tells ↦ (step tells.place course.last tells.there).risen
-    ]
+  ]
 
   open_is : course.in_block ≡ true → open_block course walked.begun ≡ walked.begun
   open_is is = rw is refl
@@ -143,7 +143,7 @@ module _ (items : List Item) (told : List (Option ℕ)) (course : Course) (walke
     within_on generation place former there = elim (get-push told generation place (Some former) there) [
       | inl before ↦ walked.within place former before
       | inr last ↦ rw last.place here_within
-      ]
+    ]
 
     -- a line that tells no generation is passed
     pub passed_silent : IsWalked items (told ++ None ∷ []) (record { at = course.at + 1; in_block = course.in_block; last = course.last; of_block = course.of_block })
@@ -152,10 +152,10 @@ module _ (items : List Item) (told : List (Option ℕ)) (course : Course) (walke
       calls = calls_on None;
       blocks = blocks_on None;
       opened = walked.opened;
-      risen = λ place former there. elim (get-push told None place (Some former) there) [ | inl before ↦ walked.risen place former before | inr last ↦ cc last.same ];
-      reached = elim walked.reached [ | inl none ↦ inl none | inr tells ↦ inr (told_more None course.last tells) ];
+      risen = λ place former there. elim (get-push told None place (Some former) there) [ inl before ↦ walked.risen place former before | inr last ↦ cc last.same ];
+      reached = elim walked.reached [ inl none ↦ inl none | inr tells ↦ inr (told_more None course.last tells) ];
       within = within_on None;
-      level = λ place former there same some. elim (get-push told None place (Some former) there) [ | inl before ↦ walked.level place former before same some | inr last ↦ cc last.same ];
+      level = λ place former there same some. elim (get-push told None place (Some former) there) [ inl before ↦ walked.level place former before same some | inr last ↦ cc last.same ];
       said = λ former of. tells_more None walked.begun former (walked.said former of);
     }
 
@@ -167,7 +167,7 @@ module _ (items : List Item) (told : List (Option ℕ)) (course : Course) (walke
       risen_on place former there = elim (get-push told (Some generation) place (Some former) there) [
         | inl before ↦ (step place former before).risen
         | inr last ↦ omega (arith, same_number generation former last.same)
-        ]
+      ]
 
       last_tells : Tells (told ++ Some generation ∷ []) generation
       last_tells = record { place = length told; there = get_last told (Some generation) }
@@ -187,7 +187,7 @@ module _ (items : List Item) (told : List (Option ℕ)) (course : Course) (walke
             level = λ place former there same some. elim (get-push told (Some generation) place (Some former) there) [
               | inl before ↦ ap (λ (n : ℕ). Some n) (sym ((step place former before).level (λ none. some (sym block ∙ none)) (same ∙ sym block)))
               | inr last ↦ last.same
-              ];
+            ];
             said = λ former of. record { place = length told; there = get_last told (Some generation) ∙ ap (λ (g : Option ℕ). Some g) of; inside = block };
           }
 
@@ -207,6 +207,6 @@ module _ (items : List Item) (told : List (Option ℕ)) (course : Course) (walke
             level = λ place former there same some. elim (get-push told (Some generation) place (Some former) there) [
               | inl before ↦ walked.level place former before same some
               | inr last ↦ absurd (some (sym same ∙ ap (λ (n : ℕ). slice_index_or (blocks_of items) n 0) last.place ∙ block))
-              ];
+            ];
             said = λ former of. tells_more (Some generation) walked.begun former (walked.said former of);
           }

@@ -43,7 +43,7 @@ abbrev pub IsInStepWith : List Item → List (Option ℕ) → ℕ → Type 0
 IsInStepWith items told generation =
     (earlier former : ℕ) → TellsAt told earlier former
     → AreInStep (slice_index_or (blocks_of items) earlier 0)
-        (slice_index_or (blocks_of items) (length told) 0) former generation
+    (slice_index_or (blocks_of items) (length told) 0) former generation
 
 -- the line may tell this besides
 pub record MayTell (items : List Item) (earlier : List (Option ℕ)) (proc : ℕ) (extra : Option Extra)

@@ -148,8 +148,8 @@ fn tells(
     ensures legal { IfOk result (λ legal. (kinds : List Kinds) (before after : List Line) →
         AreKept kinds before objects.old.items → HasLegalForm kinds line.now →
         ((number : ℕ) → line.now.answer ≡ Answer.Busy number →
-            Decides refusable
-                (IsLegalRefusal (map told before) (told line.now) (map told after) number)) →
+        Decides refusable
+        (IsLegalRefusal (map told before) (told line.now) (map told after) number)) →
         Decides legal (IsLegalAmong kinds (map told before) (told line.now) (map told after))) }
     ensures kept { IfOk result (λ legal. (kinds : List Kinds) (before : List Line) →
         legal ≡ true → AreKept kinds before objects.old.items →

@@ -15,9 +15,7 @@ mod tokens;
 pub use ending::{CheckEnd, RecordEnd};
 pub use history::lines_of;
 pub use judging::check;
-pub use laws::{
-    first_faults_are_one, lawful_records_have_no_fault, rules_make_records_lawful,
-};
+pub use laws::{first_faults_are_one, lawful_records_have_no_fault, rules_make_records_lawful};
 pub use printing::print;
 pub use reading::read;
 pub use record::{Extra, Record, RecordLine};

@@ -25,7 +25,12 @@ fn replied(reply: Reply) -> Answer {
     Answer::Replied(reply)
 }
 
-fn worker_with(alloc: Global, number: u32, letter: u8, asked: &[Asked]) -> Result<WorkerLines, Fail> {
+fn worker_with(
+    alloc: Global,
+    number: u32,
+    letter: u8,
+    asked: &[Asked],
+) -> Result<WorkerLines, Fail> {
     let mut items = Items::new(alloc);
     for (worker, line, act) in asked {
         if *worker == number {
@@ -125,8 +130,17 @@ const SPREAD: Act = Act::Swap(LayoutName::Spread);
 
 const THREE: [Asked; 3] = [(0, 4, Act::Call(Op::Add(5))), (0, 5, SPREAD), (0, 6, GET)];
 
-const FIRST: Said = (1, 0, 4, Act::Call(Op::Add(5)), Answer::Replied(Reply::Done), 0);
+const FIRST: Said = (
+    1,
+    0,
+    4,
+    Act::Call(Op::Add(5)),
+    Answer::Replied(Reply::Done),
+    0,
+);
+
 const SECOND: Said = (2, 0, 5, SPREAD, Answer::Swapped(1), 0);
+
 const THIRD: Said = (3, 0, 6, GET, Answer::Replied(Reply::Number(5)), 1);
 
 #[test]
@@ -196,7 +210,14 @@ fn lines_come_once_each(rt: HostRuntime) -> Result<(), Fail> {
     ];
     expect(&rt, alloc, "a line twice", &THREE, &twice, Some((3, 8)))?;
     let missing = [FIRST, SECOND];
-    expect(&rt, alloc, "a line left out", &THREE, &missing, Some((4, 8)))?;
+    expect(
+        &rt,
+        alloc,
+        "a line left out",
+        &THREE,
+        &missing,
+        Some((4, 8)),
+    )?;
     expect(&rt, alloc, "no line at all", &THREE, &[], Some((2, 8)))?;
     expect(&rt, alloc, "none asked, none done", &[], &[], None)?;
     Ok(())
@@ -263,7 +284,13 @@ fn a_swap_is_refused_for_a_reason(rt: HostRuntime) -> Result<(), Fail> {
         ],
         None,
     )?;
-    let twice = [(0, 4, SPREAD), (0, 5, SPREAD), (1, 7, GET), (1, 8, SPREAD), (1, 9, GET)];
+    let twice = [
+        (0, 4, SPREAD),
+        (0, 5, SPREAD),
+        (1, 7, GET),
+        (1, 8, SPREAD),
+        (1, 9, GET),
+    ];
     expect(
         &rt,
         alloc,
@@ -374,7 +401,11 @@ fn processors_and_generations(rt: HostRuntime) -> Result<(), Fail> {
     let alloc = rt.alloc();
     let script = script_with(alloc, &THREE)?;
     let cases: [(&'static str, [(u32, Option<u32>); 3], Due); 4] = [
-        ("as it was done", [(0, Some(0)), (0, None), (0, Some(1))], None),
+        (
+            "as it was done",
+            [(0, Some(0)), (0, None), (0, Some(1))],
+            None,
+        ),
         (
             "a generation that falls",
             [(0, Some(2)), (0, None), (0, Some(1))],

@@ -32,8 +32,8 @@ loop-worker-preserved c =
       walked = λ lines walked.
           let before = c.loop-worker.invariant.walked lines walked in
           walked_set script lines courses.items worker c.is_done.new.course before (λ other same.
-              let one : own ≡ other = same_Some own other (sym c.lines_of-lines.ensures ∙ same) in
-              rw (← one) (rw c.as_slice.ensures at (c.is_done.ensures.kept (generations_by worker lines) (rw c.as_slice.ensures (before.each worker own course c.lines_of-lines.ensures there)))));
+          let one : own ≡ other = same_Some own other (sym c.lines_of-lines.ensures ∙ same) in
+          rw (← one) (rw c.as_slice.ensures at (c.is_done.ensures.kept (generations_by worker lines) (rw c.as_slice.ensures (before.each worker own course c.lines_of-lines.ensures there)))));
       done = λ lines walked.
           let before = c.loop-worker.invariant.walked lines walked in
           let done = (c.is_done.ensures.done (generations_by worker lines) (rw c.as_slice.ensures (before.each worker own course c.lines_of-lines.ensures there))).0 (grind (arith, c.if-not-is_done.false)) in

@@ -14,9 +14,9 @@ use Rattle.record_text.proofs.judging.check.Goals as goal
 
 placed : (script : Script) (lines : List RecordLine) → length script.workers ≤ 16 → length script.objects ≤ 16 → All (HasSpelling script) lines → All IsPlaced lines
 placed script lines workers objects spelled = All-weaker (HasSpelling script) IsPlaced (λ line one. record {
-    worker = omega (arith, one.by_worker, workers);
-    object = omega (arith, slice_get_within (kinds_of script) line.object one.kind one.of_object, length-map script.objects (λ object. object.kind), objects);
-  }) lines spelled
+  worker = omega (arith, one.by_worker, workers);
+  object = omega (arith, slice_get_within (kinds_of script) line.object one.kind one.of_object, length-map script.objects (λ object. object.kind), objects);
+}) lines spelled
 
 module _ (script : Script) (lines : List RecordLine) (place : ℕ) (kept : (earlier : ℕ) → earlier < place → (rule : Rule) → KeepsAt script lines earlier rule) where
   fault_here : (rule : ℕ) → BreaksFirst (KeepsAt script lines place) all_rules rule → IsFaultOfLine script lines (place + 2) rule

@@ -18,8 +18,8 @@ returns-clause-kept c = λ before walked.
     let here : slice_get script.workers worker ≡ Some lines = c.lines_of-worker.ensures in
     let there : slice_get courses.items worker ≡ Some c.index_mut-course.result.now = slice_get_read courses.items (length courses.items) worker c.index_mut-course.result.now refl (omega (arith, c.requires.worker, c.requires.size, courses.ok.0)) c.index_mut-course.ensures.value in
     walked_set script before courses.items worker c.walk.new.self walked (λ own same.
-        let one : lines ≡ own = same_Some lines own (sym here ∙ same) in
-        rw (← one) (rw c.as_slice-items.ensures at (c.walk.ensures.kept (generations_by worker before) (rw c.as_slice-items.ensures (walked.each worker lines c.index_mut-course.result.now here there)))))
+    let one : lines ≡ own = same_Some lines own (sym here ∙ same) in
+    rw (← one) (rw c.as_slice-items.ensures at (c.walk.ensures.kept (generations_by worker before) (rw c.as_slice-items.ensures (walked.each worker lines c.index_mut-course.result.now here there)))))
 
 pub returns-clause-next : goal.returns-clause-next
 returns-clause-next c = λ before walked.

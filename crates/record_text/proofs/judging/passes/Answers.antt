@@ -58,5 +58,5 @@ returns-clause-kept c = λ before walked yes.
     let here = walked.each line.worker lines course c.lines_of-worker.ensures there in
     let may : MayTell lines.items told lines.proc line.extra = (c.may_tell.ensures lines.items told here standing).0 (grind (arith, c.if-not-may_tell.false)) in
     walked_more script before courses.items line.worker c.pass.new.self walked line refl (λ own same.
-        let one : lines ≡ own = same_Some lines own (sym c.lines_of-worker.ensures ∙ same) in
-        rw (← one) (rw c.generation_of.ensures at (c.pass.ensures lines.items told here standing (rw c.generation_of.ensures may.generation))))
+    let one : lines ≡ own = same_Some lines own (sym c.lines_of-worker.ensures ∙ same) in
+    rw (← one) (rw c.generation_of.ensures at (c.pass.ensures lines.items told here standing (rw c.generation_of.ensures may.generation))))

@@ -91,7 +91,7 @@ returns-then-not-branch-clause-broken c = λ rule e.
     let past = c.requires.past in
     let next = (c.follows.ensures.next (take place lines) past.courses).0 c.if-not-follows.false in
     let legal : Decides c.in_ok-tells.field-0 (IsLegalLine script (take place lines) line (drop (place + 1) lines)) = c.in_ok-tells.ensures.legal (kinds_of script) (take place lines) (drop (place + 1) lines) past.objects (form_of lines place line within is script c.requires.spelled)
-        (λ number busy. refusal_decided script lines place line number c.may_refuse-refusable.result c.requires.spelled (c.may_refuse-refusable.ensures.small number busy) there busy (c.may_refuse-refusable.ensures.refusable number lines busy c.requires.whole past.seen there)) in
+    (λ number busy. refusal_decided script lines place line number c.may_refuse-refusable.result c.requires.spelled (c.may_refuse-refusable.ensures.small number busy) there busy (c.may_refuse-refusable.ensures.refusable number lines busy c.requires.whole past.seen there)) in
     first_is script lines place c.rule_of.result rule e (rw c.rule_of.ensures (legal_broken script lines place line there stamped next (λ yes. cc (legal.1 yes, c.if-not-branch.true))))
 
 pub passes-requires-clause-size : goal.passes-requires-clause-size
@@ -112,7 +112,7 @@ returns-then-not-passes-clause-broken c = λ rule e.
     let past = c.requires.past in
     let next = (c.follows.ensures.next (take place lines) past.courses).0 c.if-not-follows.false in
     let legal : Decides c.in_ok-tells.field-0 (IsLegalLine script (take place lines) line (drop (place + 1) lines)) = c.in_ok-tells.ensures.legal (kinds_of script) (take place lines) (drop (place + 1) lines) past.objects (form_of lines place line within is script c.requires.spelled)
-        (λ number busy. refusal_decided script lines place line number c.may_refuse-refusable.result c.requires.spelled (c.may_refuse-refusable.ensures.small number busy) there busy (c.may_refuse-refusable.ensures.refusable number lines busy c.requires.whole past.seen there)) in
+    (λ number busy. refusal_decided script lines place line number c.may_refuse-refusable.result c.requires.spelled (c.may_refuse-refusable.ensures.small number busy) there busy (c.may_refuse-refusable.ensures.refusable number lines busy c.requires.whole past.seen there)) in
     let told = c.passes.ensures.told (take place lines) (c.follows.ensures.kept (take place lines) past.courses) in
     first_is script lines place 21 rule e (generation_broken script lines place line there stamped next (legal.0 c.if-not-branch.false) (λ yes. cc (told.1 yes, c.if-not-passes.true)))
 
@@ -129,12 +129,13 @@ returns-clause-kept c = λ none.
     let past = c.requires.past in
     let next = (c.follows.ensures.next (take place lines) past.courses).0 c.if-not-follows.false in
     let legal : Decides c.in_ok-tells.field-0 (IsLegalLine script (take place lines) line (drop (place + 1) lines)) = c.in_ok-tells.ensures.legal (kinds_of script) (take place lines) (drop (place + 1) lines) past.objects (form_of lines place line within is script c.requires.spelled)
-        (λ number busy. refusal_decided script lines place line number c.may_refuse-refusable.result c.requires.spelled (c.may_refuse-refusable.ensures.small number busy) there busy (c.may_refuse-refusable.ensures.refusable number lines busy c.requires.whole past.seen there)) in
+    (λ number busy. refusal_decided script lines place line number c.may_refuse-refusable.result c.requires.spelled (c.may_refuse-refusable.ensures.small number busy) there busy (c.may_refuse-refusable.ensures.refusable number lines busy c.requires.whole past.seen there)) in
     let walked = c.follows.ensures.kept (take place lines) past.courses in
-    let told = c.passes.ensures.told (take place lines) walked in
-    (all_kept script lines place line there stamped next (legal.0 c.if-not-branch.false) (told.0 c.if-not-passes.false)
-    , rw (more_of lines place line within is) (record {
+    let told = c.passes.ensures.told (take place lines) walked in (
+      all_kept script lines place line there stamped next (legal.0 c.if-not-branch.false) (told.0 c.if-not-passes.false),
+      rw (more_of lines place line within is) (record {
         objects = c.in_ok-tells.ensures.kept (kinds_of script) (take place lines) c.if-not-branch.false past.objects;
         courses = c.passes.ensures.kept (take place lines) walked c.if-not-passes.false;
         seen = c.see.ensures (take place lines) past.seen;
-      }))
+      }),
+    )

@@ -18,4 +18,4 @@ loop-place-preserved c =
     let within : place < length c.args.lines.now = omega (arith, c.loop-place.auto.place, c.loop-place-test.true) in
     let there : slice_get c.args.lines.now place ≡ Some line = slice_get_read c.args.lines.now (length c.args.lines.now) place line refl within c.index-lines-place.is in
     behind_more c.args.lines.now c.loop-place.place place c.get-mark.result line c.loop-place.marks c.set.new.self c.loop-place.later.items (omega arith) c.loop-place.invariant there (c.get-mark.ensures _ c.loop-place.invariant.shows)
-        (rw (← c.least.ensures) (c.set.ensures (λ worker object. least_of worker object (drop c.loop-place.place c.args.lines.now)) c.loop-place.invariant.shows))
+    (rw (← c.least.ensures) (c.set.ensures (λ worker object. least_of worker object (drop c.loop-place.place c.args.lines.now)) c.loop-place.invariant.shows))
