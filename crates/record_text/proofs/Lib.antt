@@ -13,3 +13,14 @@ pub mod ReadEntries
 pub mod SolidTokens
 pub mod SolidLines
 pub mod ReadRecords
+pub mod Places
+pub mod Walking
+pub mod Swappers
+pub mod Sight
+pub mod Verdicts
+pub mod Crews
+pub mod Faults
+pub mod Rivalry
+pub mod BareEntries
+pub mod Rebuilt
+pub mod Reread

@@ -14,4 +14,10 @@ pub mod LineParts
 pub mod Reading
 pub mod Values
 pub mod Told
+pub mod Marks
+pub mod Doers
+pub mod Seen
+pub mod Courses
+pub mod Judged
+pub mod Pasts
 pub mod Rules

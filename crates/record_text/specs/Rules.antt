@@ -66,7 +66,7 @@ pub record KeepsGenerations (script : Script) (before : List RecordLine) (line :
       → (earlier former : ℕ)
       → slice_get (generations_by line.worker before) earlier ≡ Some (Some former)
       → AreInStep (block_at script line.worker earlier)
-          (block_at script line.worker (length (lines_by line.worker before))) former generation
+      (block_at script line.worker (length (lines_by line.worker before))) former generation
 
 -- what each rule asks of a line between those before it and those after it
 abbrev pub Keeps : Script → List RecordLine → RecordLine → List RecordLine → Rule → Type 0

@@ -59,7 +59,7 @@ blocks_of items = blocks_from 0 0 items
 abbrev pub block_at : Script → ℕ → ℕ → ℕ
 block_at script worker place =
     option_map_or (λ lines. slice_index_or (blocks_of lines.items) place 0)
-        (slice_get script.workers worker) 0
+    (slice_get script.workers worker) 0
 
 -- Of two lines of a worker the later one's generation is not below the earlier one's, and in one
 -- block it is the same.

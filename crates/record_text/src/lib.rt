@@ -15,7 +15,10 @@ mod tokens;
 pub use ending::{CheckEnd, RecordEnd};
 pub use history::lines_of;
 pub use judging::check;
-pub use laws::{printed_is_read, read_is_printed, two_records_have_two_texts};
+pub use laws::{
+    first_faults_are_one, lawful_records_have_no_fault, printed_is_read, read_is_printed,
+    rules_make_records_lawful, two_records_have_two_texts,
+};
 pub use printing::print;
 pub use reading::read;
 pub use record::{Extra, Record, RecordLine};

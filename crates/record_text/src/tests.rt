@@ -1,4 +1,5 @@
 mod conditions;
+mod judging;
 mod reading;
 
 use super::*;

@@ -1,0 +1,44 @@
+use Rattle.std.proofs.Common.{◌≡◌, ◌<◌, ◌∙◌, length, refl, sym, arith}
+use Rattle.std.specs.Prelude.{Some, slice_get}
+use Rattle.std.proofs.lemmas.Option.{slice_get_read, same_Some}
+use Rattle.script_text.specs.declared.script.WorkerLines.{WorkerLines}
+use Rattle.record_text.specs.Told.{generations_by}
+use Rattle.record_text.specs.Courses.{IsWalked}
+use Rattle.record_text.proofs.Crews.{walked_set, done_here, here_done, done_more, done_all}
+use Rattle.record_text.proofs.judging.all_done.Goals as goal
+
+pub returns-then-not-is_done : goal.returns-then-not-is_done
+returns-then-not-is_done c = λ lines walked.
+    let script = c.args.script.now in
+    let worker = c.loop-worker.worker in
+    let own = c.lines_of-lines.result.now in
+    let courses = c.loop-worker.courses in
+    let course = c.index_mut-course.result.now in
+    let there : slice_get courses.items worker ≡ Some course = slice_get_read courses.items (length courses.items) worker course refl (omega (arith, c.loop-worker-test.true, c.loop-worker.invariant.size, courses.ok.0, c.len-worker-end.ensures)) c.index_mut-course.ensures.value in
+    let here = (c.loop-worker.invariant.walked lines walked).each worker own course c.lines_of-lines.ensures there in
+    let done = c.is_done.ensures.done (generations_by worker lines) (rw c.as_slice.ensures here) in
+    (λ no. cc no, λ all. absurd (grind (arith, c.if-not-is_done.true, done.1 (rw c.as_slice.ensures (here_done script lines worker own c.lines_of-lines.ensures (all worker))))))
+
+pub loop-worker-preserved : goal.loop-worker-preserved
+loop-worker-preserved c =
+    let script = c.args.script.now in
+    let worker = c.loop-worker.worker in
+    let own = c.lines_of-lines.result.now in
+    let courses = c.loop-worker.courses in
+    let course = c.index_mut-course.result.now in
+    let there : slice_get courses.items worker ≡ Some course = slice_get_read courses.items (length courses.items) worker course refl (omega (arith, c.loop-worker-test.true, c.loop-worker.invariant.size, courses.ok.0, c.len-worker-end.ensures)) c.index_mut-course.ensures.value in
+    record {
+      size = c.loop-worker.invariant.size;
+      walked = λ lines walked.
+          let before = c.loop-worker.invariant.walked lines walked in
+          walked_set script lines courses.items worker c.is_done.new.course before (λ other same.
+          let one : own ≡ other = same_Some own other (sym c.lines_of-lines.ensures ∙ same) in
+          rw (← one) (rw c.as_slice.ensures at (c.is_done.ensures.kept (generations_by worker lines) (rw c.as_slice.ensures (before.each worker own course c.lines_of-lines.ensures there)))));
+      done = λ lines walked.
+          let before = c.loop-worker.invariant.walked lines walked in
+          let done = (c.is_done.ensures.done (generations_by worker lines) (rw c.as_slice.ensures (before.each worker own course c.lines_of-lines.ensures there))).0 (grind (arith, c.if-not-is_done.false)) in
+          done_more script lines worker worker (c.loop-worker.invariant.done lines walked) refl (done_here script lines worker own c.lines_of-lines.ensures (rw c.as_slice.ensures at done));
+    }
+
+pub returns : goal.returns
+returns c = λ lines walked. (λ _. done_all c.args.script.now lines c.loop-worker.worker (omega (arith, c.loop-worker-test.false, c.len-worker-end.ensures)) (c.loop-worker.invariant.done lines walked), λ _. refl)

@@ -1,0 +1,5 @@
+use Rattle.record_text.proofs.Walking.{walked_begin}
+use Rattle.record_text.proofs.judging.course.Course.begin_block.Goals as goal
+
+pub returns-clause-kept : goal.returns-clause-kept
+returns-clause-kept c = λ items told walked here. walked_begin items told c.args.self.now walked here

@@ -1,0 +1,496 @@
+//! Records that are judged: lawful ones, and the first line and rule of others.
+use super::conditions::has_text;
+use super::{add, call, name, swap};
+use crate::*;
+use k42_items::Items;
+use k42_kinds::{Act, Answer, KindName, LayoutName, Op, Reply};
+use k42_memory::Memory;
+use script_text::{CallLine, Item, ObjectLine, Script, WorkerLines};
+use std::alloc::Global;
+use std::process::Abort;
+use std::test::Fail;
+
+const GET: Act = Act::Call(Op::Get);
+
+/// A line of a record: its stamp, worker, number in the script, act, answer and incarnation.
+type Said = (u64, u32, u32, Act, Answer, u32);
+
+/// A line of a script: its worker, its number and its act.
+type Asked = (u32, u32, Act);
+
+/// What is due: nothing, or a line and a rule.
+type Due = Option<(u32, u32)>;
+
+fn replied(reply: Reply) -> Answer {
+    Answer::Replied(reply)
+}
+
+fn worker_with(
+    alloc: Global,
+    number: u32,
+    letter: u8,
+    asked: &[Asked],
+) -> Result<WorkerLines, Fail> {
+    let mut items = Items::new(alloc);
+    for (worker, line, act) in asked {
+        if *worker == number {
+            items.push(Item::Line(CallLine {
+                line: *line,
+                object: 0,
+                act: *act,
+            }))?;
+        }
+    }
+    Ok(WorkerLines {
+        name: name(&[letter])?,
+        proc: number,
+        items,
+    })
+}
+
+/// A script with the counter `hits` and the workers `a` and `b`, each on its own processor.
+fn script_with(alloc: Global, asked: &[Asked]) -> Result<Script, Fail> {
+    let mut objects = Items::new(alloc);
+    objects.push(ObjectLine {
+        name: name(b"hits")?,
+        kind: KindName::Counter,
+        layout: LayoutName::Shared,
+    })?;
+    let mut workers = Items::new(alloc);
+    workers.push(worker_with(alloc, 0, b'a', asked)?)?;
+    workers.push(worker_with(alloc, 1, b'b', asked)?)?;
+    Ok(Script {
+        procs: 2,
+        objects,
+        workers,
+    })
+}
+
+fn line_of(said: &Said, extra: Option<Extra>) -> RecordLine {
+    RecordLine {
+        stamp: said.0,
+        worker: said.1,
+        line: said.2,
+        object: 0,
+        act: said.3,
+        answer: said.4,
+        incarnation: said.5,
+        extra,
+    }
+}
+
+fn first_version(alloc: Global, said: &[Said]) -> Result<Record, Fail> {
+    let mut lines = Items::new(alloc);
+    for one in said {
+        lines.push(line_of(one, None))?;
+    }
+    Ok(Record { lines, version: 1 })
+}
+
+fn second_version(
+    alloc: Global,
+    said: &[Said],
+    extras: &[(u32, Option<u32>)],
+) -> Result<Record, Fail> {
+    let mut lines = Items::new(alloc);
+    for (place, one) in said.iter().enumerate() {
+        let (proc, generation) = extras[place];
+        lines.push(line_of(one, Some(Extra { proc, generation })))?;
+    }
+    Ok(Record { lines, version: 2 })
+}
+
+fn verdict(rt: &impl Abort, alloc: Global, script: &Script, record: &Record) -> Result<Due, Fail> {
+    assert!(rt; has_text(script, record));
+    assert!(rt; script.workers.len() <= 16 && script.objects.len() <= 16);
+    assert!(rt; record.lines.len() < 1 << 31);
+    match check(alloc, script, record) {
+        Ok(()) => Ok(None),
+        Err(CheckEnd::Unlawful { line, rule }) => Ok(Some((line, rule))),
+        Err(CheckEnd::Memory) => Err(Fail::from(Memory)),
+    }
+}
+
+fn expect(
+    rt: &impl Abort,
+    alloc: Global,
+    shows: &'static str,
+    asked: &[Asked],
+    said: &[Said],
+    due: Due,
+) -> Result<(), Fail> {
+    let script = script_with(alloc, asked)?;
+    let record = first_version(alloc, said)?;
+    let found = verdict(rt, alloc, &script, &record)?;
+    assert_eq!(rt; found, due, "{}", shows);
+    Ok(())
+}
+
+const SPREAD: Act = Act::Swap(LayoutName::Spread);
+
+const THREE: [Asked; 3] = [(0, 4, Act::Call(Op::Add(5))), (0, 5, SPREAD), (0, 6, GET)];
+
+const FIRST: Said = (
+    1,
+    0,
+    4,
+    Act::Call(Op::Add(5)),
+    Answer::Replied(Reply::Done),
+    0,
+);
+
+const SECOND: Said = (2, 0, 5, SPREAD, Answer::Swapped(1), 0);
+
+const THIRD: Said = (3, 0, 6, GET, Answer::Replied(Reply::Number(5)), 1);
+
+#[test]
+fn one_change_breaks_one_rule(rt: HostRuntime) -> Result<(), Fail> {
+    let alloc = rt.alloc();
+    let cases: [(&'static str, [Said; 3], Due); 9] = [
+        ("as it was done", [FIRST, SECOND, THIRD], None),
+        (
+            "another reply",
+            [FIRST, SECOND, (3, 0, 6, GET, replied(Reply::Number(6)), 1)],
+            Some((4, 5)),
+        ),
+        (
+            "two lines exchanged",
+            [
+                (1, 0, 5, SPREAD, Answer::Swapped(1), 0),
+                (2, 0, 4, add(5), replied(Reply::Done), 1),
+                THIRD,
+            ],
+            Some((2, 8)),
+        ),
+        (
+            "another stamp",
+            [FIRST, (3, 0, 5, SPREAD, Answer::Swapped(1), 0), THIRD],
+            Some((3, 2)),
+        ),
+        (
+            "a later swap's number",
+            [FIRST, (2, 0, 5, SPREAD, Answer::Swapped(2), 0), THIRD],
+            Some((3, 6)),
+        ),
+        (
+            "another line's number",
+            [(1, 0, 9, add(5), replied(Reply::Done), 0), SECOND, THIRD],
+            Some((2, 8)),
+        ),
+        (
+            "another amount",
+            [(1, 0, 4, add(6), replied(Reply::Done), 0), SECOND, THIRD],
+            Some((2, 8)),
+        ),
+        (
+            "another form of reply",
+            [FIRST, SECOND, (3, 0, 6, GET, replied(Reply::Done), 1)],
+            Some((4, 5)),
+        ),
+        (
+            "an earlier incarnation",
+            [FIRST, SECOND, (3, 0, 6, GET, replied(Reply::Number(5)), 0)],
+            Some((4, 5)),
+        ),
+    ];
+    for (shows, said, due) in &cases {
+        expect(&rt, alloc, shows, &THREE, said, *due)?;
+    }
+    Ok(())
+}
+
+#[test]
+fn lines_come_once_each(rt: HostRuntime) -> Result<(), Fail> {
+    let alloc = rt.alloc();
+    let twice = [
+        FIRST,
+        (2, 0, 4, add(5), replied(Reply::Done), 0),
+        (3, 0, 5, SPREAD, Answer::Swapped(1), 0),
+        (4, 0, 6, GET, replied(Reply::Number(10)), 1),
+    ];
+    expect(&rt, alloc, "a line twice", &THREE, &twice, Some((3, 8)))?;
+    let missing = [FIRST, SECOND];
+    expect(
+        &rt,
+        alloc,
+        "a line left out",
+        &THREE,
+        &missing,
+        Some((4, 8)),
+    )?;
+    expect(&rt, alloc, "no line at all", &THREE, &[], Some((2, 8)))?;
+    expect(&rt, alloc, "none asked, none done", &[], &[], None)?;
+    Ok(())
+}
+
+#[test]
+fn a_swap_is_refused_for_a_reason(rt: HostRuntime) -> Result<(), Fail> {
+    let alloc = rt.alloc();
+    let alone = [(0, 4, SPREAD)];
+    expect(
+        &rt,
+        alloc,
+        "no other swap",
+        &alone,
+        &[(1, 0, 4, SPREAD, Answer::Busy(1), 0)],
+        Some((2, 7)),
+    )?;
+    expect(
+        &rt,
+        alloc,
+        "incarnations are left",
+        &[(0, 4, swap(LayoutName::Shared))],
+        &[(1, 0, 4, swap(LayoutName::Shared), Answer::Spent, 0)],
+        Some((2, 6)),
+    )?;
+    let both = [(0, 4, SPREAD), (1, 6, SPREAD)];
+    let done = (1, 0, 4, SPREAD, Answer::Swapped(1), 0);
+    expect(
+        &rt,
+        alloc,
+        "after the other",
+        &both,
+        &[done, (2, 1, 6, SPREAD, Answer::Busy(1), 0)],
+        None,
+    )?;
+    expect(
+        &rt,
+        alloc,
+        "before the other",
+        &both,
+        &[
+            (1, 1, 6, SPREAD, Answer::Busy(1), 0),
+            (2, 0, 4, SPREAD, Answer::Swapped(1), 0),
+        ],
+        None,
+    )?;
+    expect(
+        &rt,
+        alloc,
+        "its own swap alone",
+        &[(0, 4, SPREAD), (0, 5, SPREAD)],
+        &[done, (2, 0, 5, SPREAD, Answer::Busy(1), 0)],
+        Some((3, 7)),
+    )?;
+    expect(
+        &rt,
+        alloc,
+        "it had seen that swap done",
+        &[(0, 4, SPREAD), (1, 6, GET), (1, 7, SPREAD)],
+        &[
+            done,
+            (2, 1, 6, GET, replied(Reply::Number(0)), 1),
+            (3, 1, 7, SPREAD, Answer::Busy(1), 0),
+        ],
+        None,
+    )?;
+    let twice = [
+        (0, 4, SPREAD),
+        (0, 5, SPREAD),
+        (1, 7, GET),
+        (1, 8, SPREAD),
+        (1, 9, GET),
+    ];
+    expect(
+        &rt,
+        alloc,
+        "it had seen a later swap done",
+        &twice,
+        &[
+            done,
+            (2, 0, 5, SPREAD, Answer::Swapped(2), 1),
+            (3, 1, 7, GET, replied(Reply::Number(0)), 2),
+            (4, 1, 8, SPREAD, Answer::Busy(1), 0),
+            (5, 1, 9, GET, replied(Reply::Number(0)), 2),
+        ],
+        Some((5, 7)),
+    )?;
+    expect(
+        &rt,
+        alloc,
+        "it saw an earlier incarnation later",
+        &twice,
+        &[
+            (1, 1, 7, GET, replied(Reply::Number(0)), 0),
+            (2, 1, 8, SPREAD, Answer::Busy(2), 1),
+            (3, 1, 9, GET, replied(Reply::Number(0)), 0),
+            (4, 0, 4, SPREAD, Answer::Swapped(1), 0),
+            (5, 0, 5, SPREAD, Answer::Swapped(2), 1),
+        ],
+        Some((3, 7)),
+    )?;
+    expect(
+        &rt,
+        alloc,
+        "the number behind its incarnation",
+        &both,
+        &[done, (2, 1, 6, SPREAD, Answer::Busy(1), 1)],
+        Some((3, 7)),
+    )
+}
+
+#[test]
+fn objects_that_are_gone(rt: HostRuntime) -> Result<(), Fail> {
+    let alloc = rt.alloc();
+    let asked = [(0, 4, Act::Destroy), (0, 5, SPREAD), (0, 6, GET)];
+    let destroyed = (1, 0, 4, Act::Destroy, Answer::Swapped(1), 0);
+    let cases: [(&'static str, [Said; 3], Due); 4] = [
+        (
+            "all is gone",
+            [
+                destroyed,
+                (2, 0, 5, SPREAD, Answer::Gone, 1),
+                (3, 0, 6, GET, replied(Reply::Gone), 1),
+            ],
+            None,
+        ),
+        (
+            "a swap of what is gone",
+            [
+                destroyed,
+                (2, 0, 5, SPREAD, Answer::Swapped(2), 1),
+                (3, 0, 6, GET, replied(Reply::Gone), 2),
+            ],
+            Some((3, 6)),
+        ),
+        (
+            "a call of what is gone",
+            [
+                destroyed,
+                (2, 0, 5, SPREAD, Answer::Gone, 1),
+                (3, 0, 6, GET, replied(Reply::Number(0)), 1),
+            ],
+            Some((4, 5)),
+        ),
+        (
+            "gone too early",
+            [
+                (1, 0, 4, Act::Destroy, Answer::Gone, 0),
+                (2, 0, 5, SPREAD, Answer::Gone, 0),
+                (3, 0, 6, GET, replied(Reply::Gone), 0),
+            ],
+            Some((2, 6)),
+        ),
+    ];
+    for (shows, said, due) in &cases {
+        expect(&rt, alloc, shows, &asked, said, *due)?;
+    }
+    Ok(())
+}
+
+#[test]
+fn workers_take_turns(rt: HostRuntime) -> Result<(), Fail> {
+    let alloc = rt.alloc();
+    expect(
+        &rt,
+        alloc,
+        "two workers",
+        &[(0, 4, add(5)), (0, 5, GET), (1, 7, add(7)), (1, 8, GET)],
+        &[
+            FIRST,
+            (2, 1, 7, add(7), replied(Reply::Done), 0),
+            (3, 1, 8, GET, replied(Reply::Number(12)), 0),
+            (4, 0, 5, GET, replied(Reply::Number(12)), 0),
+        ],
+        None,
+    )
+}
+
+#[test]
+fn processors_and_generations(rt: HostRuntime) -> Result<(), Fail> {
+    let alloc = rt.alloc();
+    let script = script_with(alloc, &THREE)?;
+    let cases: [(&'static str, [(u32, Option<u32>); 3], Due); 4] = [
+        (
+            "as it was done",
+            [(0, Some(0)), (0, None), (0, Some(1))],
+            None,
+        ),
+        (
+            "a generation that falls",
+            [(0, Some(2)), (0, None), (0, Some(1))],
+            Some((4, 21)),
+        ),
+        (
+            "another processor",
+            [(1, Some(0)), (0, None), (0, Some(1))],
+            Some((2, 21)),
+        ),
+        (
+            "another processor of a swap",
+            [(0, Some(0)), (1, None), (0, Some(1))],
+            Some((3, 21)),
+        ),
+    ];
+    for (shows, extras, due) in &cases {
+        let record = second_version(alloc, &[FIRST, SECOND, THIRD], extras)?;
+        let found = verdict(&rt, alloc, &script, &record)?;
+        assert_eq!(rt; found, *due, "{}", *shows);
+    }
+    Ok(())
+}
+
+/// The worker `a` adds twice in one block, and once more in another.
+fn script_of_blocks(alloc: Global) -> Result<Script, Fail> {
+    let mut items = Items::new(alloc);
+    for block in [[5, 6], [9, 10]] {
+        items.push(Item::Begin)?;
+        for line in block {
+            items.push(Item::Line(CallLine {
+                line,
+                object: 0,
+                act: add(1),
+            }))?;
+        }
+        items.push(Item::End)?;
+    }
+    let mut script = script_with(alloc, &[])?;
+    let mut workers = Items::new(alloc);
+    workers.push(WorkerLines {
+        name: name(b"a")?,
+        proc: 0,
+        items,
+    })?;
+    script.workers = workers;
+    Ok(script)
+}
+
+#[test]
+fn a_block_is_in_one_generation(rt: HostRuntime) -> Result<(), Fail> {
+    let alloc = rt.alloc();
+    let script = script_of_blocks(alloc)?;
+    let cases: [(&'static str, [u32; 4], Due); 4] = [
+        ("each block in one", [1, 1, 3, 3], None),
+        ("both in the same", [1, 1, 1, 1], None),
+        ("the first in two", [1, 2, 3, 3], Some((3, 21))),
+        ("the second in two", [1, 1, 2, 3], Some((5, 21))),
+    ];
+    let done = replied(Reply::Done);
+    let said = [
+        (1, 0, 5, add(1), done, 0),
+        (2, 0, 6, add(1), done, 0),
+        (3, 0, 9, add(1), done, 0),
+        (4, 0, 10, add(1), done, 0),
+    ];
+    for (shows, told, due) in &cases {
+        let extras = told.map(|generation| (0, Some(generation)));
+        let record = second_version(alloc, &said, &extras)?;
+        let found = verdict(&rt, alloc, &script, &record)?;
+        assert_eq!(rt; found, *due, "{}", *shows);
+    }
+    Ok(())
+}
+
+#[test]
+fn a_record_of_many_refusals(rt: HostRuntime) -> Result<(), Fail> {
+    let alloc = rt.alloc();
+    let mut asked = Vec::new(alloc);
+    let mut said = Vec::new(alloc);
+    asked.push((0, 4, SPREAD))?;
+    for i in 0u32..32768 {
+        asked.push((1, i + 7, SPREAD))?;
+        said.push((i as u64 + 1, 1, i + 7, SPREAD, Answer::Busy(1), 0))?;
+    }
+    said.push((32769, 0, 4, SPREAD, Answer::Swapped(1), 0))?;
+    expect(&rt, alloc, "many", asked.as_slice(), said.as_slice(), None)
+}
