@@ -1,16 +1,14 @@
 -- What is legal of a history is legal of the lines that tell of it, and the other way round.
-use Rattle.std.proofs.Common.{◌≡◌, ◌≢◌, ℕ, ◌+◌, ◌<◌, ◌≤◌, List, [], ◌∷◌, ◌++◌, length, map, get_or, cond, refl, sym, ap, ◌∙◌, subst, All, Any, arith}
-use Rattle.std.specs.Prelude.{Some, slice_get}
+use Rattle.std.proofs.Common.{◌≡◌, ℕ, ◌+◌, ◌<◌, ◌≤◌, List, [], ◌∷◌, ◌++◌, length, map, get_or, cond, refl, sym, ap, ◌∙◌, subst, All, Any, arith}
 use Rattle.std.specs.List.{fold}
 use Rattle.std.proofs.lemmas.List.{length-map, map-append, get_or-map, get_or_default}
 use Rattle.std.proofs.lemmas.List.Elements.{All-map, All-weaker}
 use Rattle.std.proofs.lemmas.List.Folds.{fold-map}
 use Rattle.k42_kinds.specs.Objects.{empty_state, reply_of}
 use Rattle.k42_kinds.specs.Histories.{state_of, number_of, moved_by, is_carried_out_on}
-use Rattle.k42_kinds.specs.Legal.{IsLegalCall, IsLegalAct, IsLegalAnswer, IsLegalAmong, IsLegalRefusal, IsTimely, IsOwn, IsNotPast, IsRival}
+use Rattle.k42_kinds.specs.Legal.{IsLegalAct, IsLegalAnswer, IsLegalAmong, IsLegalRefusal, IsTimely, IsOwn, IsNotPast, IsRival}
 use Rattle.k42_kinds.specs.declared.operation.KindName.{KindName}
 use Rattle.k42_kinds.specs.declared.states.AnyState.{AnyState}
-use Rattle.k42_kinds.specs.declared.states.AnyState.TheVariants as states
 use Rattle.k42_kinds.specs.declared.entry.Act.{Act}
 use Rattle.k42_kinds.specs.declared.entry.Act.TheVariants.{Call, Swap, Destroy}
 use Rattle.k42_kinds.specs.declared.entry.Answer.{Answer}
@@ -19,7 +17,6 @@ use Rattle.k42_kinds.specs.declared.entry.Entry.{Entry}
 use Rattle.script_text.specs.declared.script.Script.{Script}
 use Rattle.record_text.specs.Histories.{line_of}
 use Rattle.record_text.specs.Told.{told}
-use Rattle.record_text.specs.declared.record.RecordLine.{RecordLine}
 
 any_map : {X Y : Type 0} (P : X → Type 0) (Q : Y → Type 0) (f : X → Y) (xs : List X) → ((x : X) → P x → Q (f x)) → Any P xs → Any Q (map f xs)
 any_map P Q f xs each any = (any.0, f any.1, omega (arith, any.2, length-map xs f), get_or-map f xs any.0 any.1 (f any.1) any.2 ∙ ap f any.3, each any.1 any.4)

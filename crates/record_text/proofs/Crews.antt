@@ -1,5 +1,5 @@
 -- What a worker's course says of a line is what the record and the script say.
-use Rattle.std.proofs.Common.{◌≡◌, ◌≢◌, ℕ, zero, suc, ◌+◌, ◌<◌, ◌≤◌, Bool, true, false, List, [], ◌∷◌, ◌++◌, length, drop, map, filter, set, refl, sym, ap, ◌∙◌, subst, inl, inr, ◌⊎◌, arith}
+use Rattle.std.proofs.Common.{◌≡◌, ◌≢◌, ℕ, ◌+◌, ◌<◌, ◌≤◌, Bool, List, [], ◌∷◌, ◌++◌, length, drop, map, set, refl, sym, ap, ◌∙◌, subst, inl, inr, arith}
 use Rattle.std.specs.Prelude.{Option, Some, None, IfSome, slice_get, slice_index_or}
 use Rattle.std.specs.Bool.{Decides}
 use Rattle.std.specs.Option.{option_map_or}
@@ -9,19 +9,18 @@ use Rattle.std.proofs.lemmas.List.Elements.{filter-append}
 use Rattle.std.proofs.lemmas.Option.{same_Some, slice_get_within, slice_get_past}
 use Rattle.std.proofs.Math.ListN.{drop_of_length-le}
 use Rattle.script_text.specs.Lawful.{call_lines}
-use Rattle.script_text.specs.declared.script.CallLine.{CallLine}
 use Rattle.script_text.specs.declared.script.Item.{Item}
 use Rattle.script_text.specs.declared.script.Script.{Script}
 use Rattle.script_text.specs.declared.script.WorkerLines.{WorkerLines}
 use Rattle.record_text.specs.Histories.{calls_of}
-use Rattle.record_text.specs.Told.{answered, lines_by, generations_by, told_generation, block_at, blocks_of, processor_of, AreInStep}
-use Rattle.record_text.specs.Courses.{IsWalked, IsAtLine, StandsAtLine, IsInStepWith, IsNoneOrInStep, MayTell}
+use Rattle.record_text.specs.Told.{answered, lines_by, generations_by, told_generation, block_at, blocks_of, processor_of}
+use Rattle.record_text.specs.Courses.{IsWalked, IsAtLine, StandsAtLine, IsInStepWith, MayTell}
 use Rattle.record_text.specs.Pasts.{AreWalked, Stands}
 use Rattle.record_text.specs.Rules.{IsNextLine, KeepsGenerations}
 use Rattle.record_text.specs.declared.record.Extra.{Extra}
 use Rattle.record_text.specs.declared.record.RecordLine.{RecordLine}
 use Rattle.record_text.specs.declared.judging.course.Course.{Course}
-use Rattle.record_text.proofs.Places.{get_set, get_written, le_or_lt}
+use Rattle.record_text.proofs.Places.{get_set, le_or_lt}
 use Rattle.record_text.proofs.Walking.{next_call}
 
 -- one more line of a worker, or of another

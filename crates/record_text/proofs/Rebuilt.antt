@@ -1,14 +1,13 @@
 -- A record whose lines keep all rules is that of a lawful history.
-use Rattle.std.proofs.Common.{◌≡◌, ◌≢◌, ℕ, zero, suc, ◌+◌, ◌<◌, ◌≤◌, cond, List, [], ◌∷◌, ◌++◌, length, map, take, drop, add-one, refl, sym, ap, ◌∙◌, subst, inl, inr, ◌⊎◌, All, arith}
+use Rattle.std.proofs.Common.{◌≡◌, ℕ, suc, ◌+◌, ◌<◌, ◌≤◌, List, [], ◌∷◌, ◌++◌, length, map, take, drop, add-one, refl, sym, ap, ◌∙◌, inl, inr}
 use Rattle.std.proofs.Math.Dec.{eqb}
 use Rattle.std.specs.Prelude.{Option, Some, None, MatchOption, slice_get, if◌then◌else◌}
 use Rattle.std.specs.Option.{option_map_or}
 use Rattle.std.specs.List.{AllByRecursion}
-use Rattle.std.proofs.lemmas.Bool.{eq-eqb, ne_eqb}
 use Rattle.std.proofs.lemmas.Bool.Decides.{eqb_tells}
 use Rattle.std.proofs.lemmas.List.{length-map, length-append, map-append, append-nil, append_assoc}
 use Rattle.std.proofs.lemmas.List.Elements.{All-from_recursion, recursion_from_All}
-use Rattle.std.proofs.Math.Seq.{take-append_seam, drop-append_seam}
+use Rattle.std.proofs.Math.Seq.{take-append_seam}
 use Rattle.std.proofs.Math.ListN.{drop_of_length-le}
 use Rattle.k42_kinds.specs.declared.entry.Act.{Act}
 use Rattle.k42_kinds.specs.declared.entry.Act.TheVariants.{Call, Swap, Destroy}
@@ -16,14 +15,14 @@ use Rattle.k42_kinds.specs.declared.entry.Answer.{Answer}
 use Rattle.k42_kinds.specs.declared.entry.Answer.TheVariants.{Replied, Swapped, Busy, Spent, Gone, Abandoned}
 use Rattle.k42_kinds.specs.declared.entry.Entry.{Entry}
 use Rattle.k42_kinds.specs.Histories.{entries_of}
-use Rattle.script_text.specs.Lawful.{IsLawful, IsNotGivenUp, Deed, deed_of, deeds_from, call_lines, kinds_of}
+use Rattle.script_text.specs.Lawful.{IsNotGivenUp, Deed, deed_of, deeds_from, call_lines, kinds_of}
 use Rattle.script_text.specs.declared.script.CallLine.{CallLine}
 use Rattle.script_text.specs.declared.script.Script.{Script}
 use Rattle.script_text.specs.declared.script.WorkerLines.{WorkerLines}
-use Rattle.record_text.specs.Histories.{calls_of, line_number, line_of, extra_of, record_of}
+use Rattle.record_text.specs.Histories.{calls_of, line_number, line_of}
 use Rattle.record_text.specs.Spelling.{HasText, HasSpelling, IsOfVersion, Ends, HasGeneration}
 use Rattle.record_text.specs.Told.{told, answered, lines_by, told_generation}
-use Rattle.record_text.specs.Rules.{Rule, Stamps, Order, Calls, Swaps, Refusals, Generations, rule_of_act, IsLegalLine, IsNextLine, KeepsAt, KeepsRules, HasAllLines, IsLawfulRecord}
+use Rattle.record_text.specs.Rules.{Stamps, Order, Calls, Swaps, Refusals, Generations, IsLegalLine, IsNextLine, KeepsRules, IsLawfulRecord}
 use Rattle.record_text.specs.declared.record.Extra.{Extra}
 use Rattle.record_text.specs.declared.record.Record.{Record}
 use Rattle.record_text.specs.declared.record.RecordLine.{RecordLine}

@@ -1,19 +1,17 @@
 -- What an object says of a line is what the history says.
-use Rattle.std.proofs.Common.{◌≡◌, ◌≢◌, ℕ, zero, suc, ◌+◌, ◌<◌, Bool, true, false, cond, List, [], ◌∷◌, ◌++◌, length, map, set, add-zero, refl, sym, ap, ◌∙◌, subst, inl, inr, ◌⊎◌, arith}
-use Rattle.std.specs.Prelude.{Some, slice_get, if◌then◌else◌}
+use Rattle.std.proofs.Common.{◌≡◌, ◌≢◌, ℕ, zero, suc, ◌+◌, Bool, true, false, cond, List, [], ◌∷◌, ◌++◌, map, set, add-zero, refl, sym, ap, ◌∙◌, subst, inl, inr, ◌⊎◌, arith}
+use Rattle.std.specs.Prelude.{Some, slice_get}
 use Rattle.std.specs.Bool.{Decides}
 use Rattle.std.proofs.lemmas.Bool.{eq-eqb, ne_eqb}
 use Rattle.std.proofs.lemmas.List.{length-set, length-map, map-append}
 use Rattle.std.proofs.lemmas.Option.{same_Some}
 use Rattle.k42_kinds.specs.Objects.{reply_of, empty_state}
 use Rattle.k42_kinds.specs.Operations.{kind_of_op, same_kind}
-use Rattle.k42_kinds.specs.Histories.{state_of, number_of, state_after_act, is_carried_out}
+use Rattle.k42_kinds.specs.Histories.{number_of, state_after_act, is_carried_out}
 use Rattle.k42_kinds.specs.Legal.{IsLegalAct, IsLegalAnswer, IsLegalAmong, IsLegalRefusal}
 use Rattle.k42_kinds.specs.declared.operation.KindName.{KindName}
 use Rattle.k42_kinds.specs.declared.operation.KindName.TheVariants as kinds
-use Rattle.k42_kinds.specs.declared.plain.Plain.{Plain}
 use Rattle.k42_kinds.specs.declared.states.AnyState.{AnyState}
-use Rattle.k42_kinds.specs.declared.states.AnyState.TheVariants as states
 use Rattle.k42_kinds.specs.declared.entry.Act.{Act}
 use Rattle.k42_kinds.specs.declared.entry.Act.TheVariants.{Call, Swap, Destroy}
 use Rattle.k42_kinds.specs.declared.entry.Answer.{Answer}
@@ -25,7 +23,7 @@ use Rattle.script_text.specs.Sound.{IsActOn}
 use Rattle.script_text.specs.declared.script.ObjectLine.{ObjectLine}
 use Rattle.record_text.specs.Spelling.{Ends, EndsSwap}
 use Rattle.record_text.specs.Told.{told}
-use Rattle.record_text.specs.Judged.{IsKept, IsReply, IsNextSwap, EndsAs, Tells, CanTake, HasLegalForm, object_after, number_after, fresh}
+use Rattle.record_text.specs.Judged.{IsKept, EndsAs, Tells, CanTake, HasLegalForm, object_after, fresh}
 use Rattle.record_text.specs.Pasts.{AreKept}
 use Rattle.record_text.specs.declared.record.RecordLine.{RecordLine}
 use Rattle.record_text.specs.declared.judging.object.Object.{Object}

@@ -1,16 +1,16 @@
 -- A worker's way through its items.
-use Rattle.std.proofs.Common.{◌≡◌, ◌≢◌, ℕ, zero, suc, ◌+◌, ◌<◌, ◌≤◌, Bool, true, false, List, [], ◌∷◌, ◌++◌, length, drop, refl, sym, ap, ◌∙◌, ◌⊎◌, inl, inr, arith}
+use Rattle.std.proofs.Common.{◌≡◌, ◌≢◌, ℕ, ◌+◌, ◌≤◌, Bool, true, false, List, [], ◌∷◌, ◌++◌, length, drop, refl, sym, ap, ◌∙◌, inl, inr, arith}
 use Rattle.std.specs.Prelude.{Option, Some, None, slice_get, slice_index_or, if◌then◌else◌}
 use Rattle.std.specs.Bool.{Decides}
 use Rattle.std.proofs.lemmas.List.{length-append}
 use Rattle.std.proofs.Math.ListN.{drop_of_length-le}
-use Rattle.std.proofs.lemmas.Option.{same_Some, slice_get_within, slice_get_past}
+use Rattle.std.proofs.lemmas.Option.{same_Some}
 use Rattle.script_text.specs.Lawful.{call_lines}
 use Rattle.script_text.specs.declared.script.CallLine.{CallLine}
 use Rattle.script_text.specs.declared.script.Item.{Item}
 use Rattle.script_text.specs.declared.script.Item.TheVariants.{Begin, End, Line}
-use Rattle.record_text.specs.Told.{blocks_from, blocks_of, AreInStep}
-use Rattle.record_text.specs.Courses.{IsWalked, StandsAtLine, IsInStepWith, IsNoneOrInStep, TellsAt, Tells, TellsInBlock, open_block}
+use Rattle.record_text.specs.Told.{blocks_from, blocks_of}
+use Rattle.record_text.specs.Courses.{IsWalked, StandsAtLine, IsInStepWith, TellsAt, Tells, TellsInBlock, open_block}
 use Rattle.record_text.specs.declared.judging.course.Course.{Course}
 use Rattle.record_text.proofs.Places.{drop_at, at_drop, rest_drop, none_drop, index_drop, get-push, get_last, get_kept}
 

@@ -1,9 +1,7 @@
-use Rattle.std.proofs.Common.{◌≡◌, ◌<◌, ◌∙◌, length, refl, sym, arith}
+use Rattle.std.proofs.Common.{◌≡◌, ◌∙◌, length, refl, sym, arith}
 use Rattle.std.specs.Prelude.{Some, slice_get}
 use Rattle.std.proofs.lemmas.Option.{slice_get_read, same_Some}
-use Rattle.script_text.specs.declared.script.WorkerLines.{WorkerLines}
 use Rattle.record_text.specs.Told.{generations_by}
-use Rattle.record_text.specs.Courses.{IsWalked}
 use Rattle.record_text.proofs.Crews.{walked_set, done_here, here_done, done_more, done_all}
 use Rattle.record_text.proofs.judging.all_done.Goals as goal
 

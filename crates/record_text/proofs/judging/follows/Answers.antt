@@ -1,10 +1,7 @@
-use Rattle.std.proofs.Common.{◌≡◌, ◌<◌, ◌∙◌, ℕ, get_or, length, refl, sym, ap, arith}
-use Rattle.std.specs.Prelude.{List, Some, slice_get}
+use Rattle.std.proofs.Common.{◌≡◌, ◌∙◌, length, refl, sym, arith}
+use Rattle.std.specs.Prelude.{Some, slice_get}
 use Rattle.std.proofs.lemmas.Option.{slice_get_read, same_Some}
-use Rattle.script_text.specs.declared.script.WorkerLines.{WorkerLines}
 use Rattle.record_text.specs.Told.{generations_by}
-use Rattle.record_text.specs.Courses.{IsWalked}
-use Rattle.record_text.specs.declared.judging.course.Course.{Course}
 use Rattle.record_text.proofs.Crews.{walked_set, next_of}
 use Rattle.record_text.proofs.Places.{get_written}
 use Rattle.record_text.proofs.judging.follows.Goals as goal

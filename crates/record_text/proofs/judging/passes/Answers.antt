@@ -1,13 +1,8 @@
-use Rattle.std.proofs.Common.{◌≡◌, ◌<◌, ◌^◌, ◌∙◌, List, ℕ, length, refl, sym, ap, arith}
+use Rattle.std.proofs.Common.{◌≡◌, ◌∙◌, length, refl, sym, arith}
 use Rattle.std.specs.Prelude.{Some, slice_get}
-use Rattle.std.specs.Bool.{Decides}
 use Rattle.std.proofs.lemmas.Option.{slice_get_read, same_Some}
-use Rattle.script_text.specs.declared.script.Script.{Script}
-use Rattle.script_text.specs.declared.script.WorkerLines.{WorkerLines}
-use Rattle.record_text.specs.Told.{generations_by, told_generation}
-use Rattle.record_text.specs.Courses.{IsWalked, StandsAtLine, IsNoneOrInStep, MayTell}
-use Rattle.record_text.specs.Pasts.{Stands}
-use Rattle.record_text.specs.declared.judging.course.Course.{Course}
+use Rattle.record_text.specs.Told.{generations_by}
+use Rattle.record_text.specs.Courses.{MayTell}
 use Rattle.record_text.proofs.Crews.{walked_more, tells_decided, standing_here}
 use Rattle.record_text.proofs.judging.passes.Goals as goal
 

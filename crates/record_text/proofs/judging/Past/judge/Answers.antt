@@ -1,16 +1,13 @@
-use Rattle.std.proofs.Common.{◌≡◌, ◌<◌, ◌+◌, ◌++◌, [], ◌∷◌, ◌∙◌, ℕ, true, get_or, List, Option, Some, length, map, take, drop, refl, sym, ap, subst, arith}
-use Rattle.std.specs.Prelude.{slice_get, vec_len, All}
+use Rattle.std.proofs.Common.{◌≡◌, ◌<◌, ◌+◌, ◌++◌, [], ◌∷◌, ◌∙◌, ℕ, get_or, List, Option, Some, length, take, drop, refl, sym, ap, subst, arith}
+use Rattle.std.specs.Prelude.{slice_get, All}
 use Rattle.std.specs.Bool.{Decides}
-use Rattle.std.proofs.lemmas.List.{length-map, length-take-le, take_more}
+use Rattle.std.proofs.lemmas.List.{length-take-le, take_more}
 use Rattle.std.proofs.lemmas.Option.{slice_get_read, slice_get_within, same_Some}
 use Rattle.script_text.specs.Lawful.{kinds_of}
 use Rattle.script_text.specs.declared.script.Script.{Script}
-use Rattle.k42_kinds.specs.Legal.{IsLegalRefusal}
-use Rattle.k42_kinds.specs.declared.entry.Answer.TheVariants.{Busy}
-use Rattle.record_text.specs.Told.{told}
 use Rattle.record_text.specs.Judged.{HasLegalForm}
 use Rattle.record_text.specs.Spelling.{HasSpelling}
-use Rattle.record_text.specs.Rules.{BreaksFirst, KeepsAt, IsLegalLine, IsNextLine, KeepsGenerations, all_rules}
+use Rattle.record_text.specs.Rules.{BreaksFirst, KeepsAt, IsLegalLine, all_rules}
 use Rattle.record_text.specs.declared.record.RecordLine.{RecordLine}
 use Rattle.record_text.proofs.Faults.{order_broken, legal_broken, generation_broken, all_kept}
 use Rattle.record_text.proofs.Rivalry.{refusal_decided}
