@@ -1,5 +1,5 @@
 -- The record of a lawful history keeps all rules, and a record has one first fault at most.
-use Rattle.std.proofs.Common.{◌≡◌, ℕ, zero, suc, ◌+◌, ◌<◌, ◌≤◌, add-zero, cond, true, false, List, [], ◌∷◌, ◌++◌, length, map, take, drop, refl, sym, ap, ◌∙◌, subst, inl, inr, arith}
+use Rattle.std.proofs.Common.{◌≡◌, ◌≢◌, ℕ, zero, suc, ◌+◌, ◌<◌, ◌≤◌, cond, true, false, List, [], ◌∷◌, ◌++◌, length, map, take, drop, refl, sym, ap, ◌∙◌, subst, inl, inr, ◌⊎◌, arith}
 use Rattle.std.specs.Prelude.{◌==◌, Option, Some, None, slice_get}
 use Rattle.std.specs.Option.{option_map, option_map_or}
 use Rattle.std.proofs.lemmas.Bool.{eq-eqb, cases_order}
@@ -8,14 +8,14 @@ use Rattle.std.proofs.lemmas.List.Elements.{filter-append}
 use Rattle.std.proofs.lemmas.Option.{same_Some, slice_get-map}
 use Rattle.k42_kinds.specs.declared.entry.Entry.{Entry}
 use Rattle.k42_kinds.specs.Histories.{entries_of}
-use Rattle.k42_kinds.proofs.Splits.{All-at_split}
+use Rattle.k42_kinds.proofs.Splits.{All-at_split, heads}
 use Rattle.script_text.specs.Lawful.{IsLawful, Deed, deed_of, deeds_from, call_lines, kinds_of}
 use Rattle.script_text.specs.declared.script.CallLine.{CallLine}
 use Rattle.script_text.specs.declared.script.Script.{Script}
 use Rattle.script_text.specs.declared.script.WorkerLines.{WorkerLines}
 use Rattle.record_text.specs.Histories.{calls_of, line_number, line_of}
 use Rattle.record_text.specs.Told.{answered, lines_by}
-use Rattle.record_text.specs.Rules.{Rule, Stamps, Order, Calls, Swaps, Refusals, Generations, all_rules, IsLegalLine, IsNextLine, Keeps, KeepsAt, KeepsRules, HasAllLines, IsLawfulRecord, BreaksFirst, IsFaultOfLine, IsFirstFault}
+use Rattle.record_text.specs.Rules.{Rule, Stamps, Order, Calls, Swaps, Refusals, Generations, rule_number, all_rules, IsLegalLine, IsNextLine, Keeps, KeepsAt, KeepsRules, HasAllLines, IsLawfulRecord, BreaksFirst, IsFaultOfLine, IsFaultOfEnd, IsFirstFault}
 use Rattle.record_text.specs.declared.record.Record.{Record}
 use Rattle.record_text.specs.declared.record.RecordLine.{RecordLine}
 use Rattle.record_text.proofs.BareEntries.{legal_to}
@@ -30,9 +30,13 @@ record IsAsked (calls : List CallLine) (from place : ℕ) (deed : Deed) : Type 0
 asked_at : (calls : List CallLine) (from : ℕ) (before : List Deed) (deed : Deed) (after : List Deed) → deeds_from from calls ≡ before ++ deed ∷ after → IsAsked calls from (length before) deed
 asked_at [] from [] deed after e = cc
 asked_at [] from (d ∷ before) deed after e = cc
-asked_at (call ∷ calls) from [] deed after e = record { line = call; there = refl; same = rw (add-zero from) cc }
+asked_at (call ∷ calls) from [] deed after e = record {
+  line = call;
+  there = refl;
+  same = sym (heads (record { index = from; object = call.object; act = call.act }) deed (deeds_from (from + 1) calls) after e).head ∙ ap (λ (n : ℕ). record { index = n; object = call.object; act = call.act }) (omega arith);
+}
 asked_at (call ∷ calls) from (d ∷ before) deed after e =
-    let rest = asked_at calls (from + 1) before deed after cc in
+    let rest = asked_at calls (from + 1) before deed after (heads (record { index = from; object = call.object; act = call.act }) d (deeds_from (from + 1) calls) (before ++ deed ∷ after) e).tail in
     record { line = rest.line; there = rest.there; same = rest.same ∙ ap (λ (n : ℕ). record { index = n; object = rest.line.object; act = rest.line.act }) (omega arith) }
 
 same_call : (one other : CallLine) → one.line ≡ other.line → one.object ≡ other.object → one.act ≡ other.act → one ≡ other

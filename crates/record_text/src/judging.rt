@@ -35,14 +35,14 @@ use script_text::{Item, ObjectLine, Script, WorkerLines};
 use std::alloc::Global;
 
 /// What is known of all lines before the first of them is judged.
-#[derive(Debug, Drop)]
+#[derive(Drop)]
 pub struct Whole {
     pub doers: Doers,
     pub later: Vec<u32>,
 }
 
 /// What came of the lines so far.
-#[derive(Debug, Drop)]
+#[derive(Drop)]
 pub struct Past {
     pub objects: Vec<Object>,
     pub courses: Vec<Course>,

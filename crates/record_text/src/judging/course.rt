@@ -9,7 +9,7 @@ use crate::record::RecordLine;
 use script_text::{CallLine, Item};
 
 /// How far a worker has come among its items, and in which generations.
-#[derive(Clone, Copy, Debug, Drop)]
+#[derive(Clone, Copy, Drop)]
 pub struct Course {
     /// The item that comes next.
     pub at: usize,

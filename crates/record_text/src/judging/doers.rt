@@ -11,7 +11,7 @@ use std::alloc::Global;
 use std::collections::BTreeMap;
 
 /// Whose swaps of one object had one number.
-#[derive(Clone, Copy, Debug, PartialEq, Eq)]
+#[derive(Clone, Copy)]
 pub struct Doer {
     /// The worker of the first of them.
     pub first: u32,
@@ -20,7 +20,7 @@ pub struct Doer {
 }
 
 /// Who carried out which swap, of all lines of a record.
-#[derive(Debug, Drop)]
+#[derive(Drop)]
 pub struct Doers {
     pub known: BTreeMap<u64, Doer>,
 }

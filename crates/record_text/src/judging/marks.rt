@@ -5,7 +5,7 @@ ghost use Rattle.record_text.specs.Marks.{Shows};
 const MOST: usize = 16;
 
 /// A number for each worker and object.
-#[derive(Debug, Drop)]
+#[derive(Drop)]
 pub struct Marks {
     pub cells: [u32; 256],
 }

@@ -15,7 +15,7 @@ use std::alloc::Global;
 const LAST_INCARNATION: u32 = 1_048_575;
 
 /// An object of one thread, after the lines so far.
-#[derive(Debug, Drop)]
+#[derive(Drop)]
 pub struct Object {
     pub plain: Plain,
     pub state: AnyState,

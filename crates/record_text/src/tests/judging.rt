@@ -93,9 +93,12 @@ fn second_version(
     extras: &[(u32, Option<u32>)],
 ) -> Result<Record, Fail> {
     let mut lines = Items::new(alloc);
-    for (place, one) in said.iter().enumerate() {
-        let (proc, generation) = extras[place];
-        lines.push(line_of(one, Some(Extra { proc, generation })))?;
+    for (one, (proc, generation)) in said.iter().zip(extras.iter()) {
+        let extra = Extra {
+            proc: *proc,
+            generation: *generation,
+        };
+        lines.push(line_of(one, Some(extra)))?;
     }
     Ok(Record { lines, version: 2 })
 }
@@ -142,6 +145,10 @@ const FIRST: Said = (
 const SECOND: Said = (2, 0, 5, SPREAD, Answer::Swapped(1), 0);
 
 const THIRD: Said = (3, 0, 6, GET, Answer::Replied(Reply::Number(5)), 1);
+
+const SWAPPED: Said = (1, 0, 4, SPREAD, Answer::Swapped(1), 0);
+
+const DESTROYED: Said = (1, 0, 4, Act::Destroy, Answer::Swapped(1), 0);
 
 #[test]
 fn one_change_breaks_one_rule(rt: HostRuntime) -> Result<(), Fail> {
@@ -244,13 +251,12 @@ fn a_swap_is_refused_for_a_reason(rt: HostRuntime) -> Result<(), Fail> {
         Some((2, 6)),
     )?;
     let both = [(0, 4, SPREAD), (1, 6, SPREAD)];
-    let done = (1, 0, 4, SPREAD, Answer::Swapped(1), 0);
     expect(
         &rt,
         alloc,
         "after the other",
         &both,
-        &[done, (2, 1, 6, SPREAD, Answer::Busy(1), 0)],
+        &[SWAPPED, (2, 1, 6, SPREAD, Answer::Busy(1), 0)],
         None,
     )?;
     expect(
@@ -269,16 +275,22 @@ fn a_swap_is_refused_for_a_reason(rt: HostRuntime) -> Result<(), Fail> {
         alloc,
         "its own swap alone",
         &[(0, 4, SPREAD), (0, 5, SPREAD)],
-        &[done, (2, 0, 5, SPREAD, Answer::Busy(1), 0)],
+        &[SWAPPED, (2, 0, 5, SPREAD, Answer::Busy(1), 0)],
         Some((3, 7)),
     )?;
+    Ok(())
+}
+
+#[test]
+fn a_refused_worker_has_seen_nothing_later(rt: HostRuntime) -> Result<(), Fail> {
+    let alloc = rt.alloc();
     expect(
         &rt,
         alloc,
         "it had seen that swap done",
         &[(0, 4, SPREAD), (1, 6, GET), (1, 7, SPREAD)],
         &[
-            done,
+            SWAPPED,
             (2, 1, 6, GET, replied(Reply::Number(0)), 1),
             (3, 1, 7, SPREAD, Answer::Busy(1), 0),
         ],
@@ -297,7 +309,7 @@ fn a_swap_is_refused_for_a_reason(rt: HostRuntime) -> Result<(), Fail> {
         "it had seen a later swap done",
         &twice,
         &[
-            done,
+            SWAPPED,
             (2, 0, 5, SPREAD, Answer::Swapped(2), 1),
             (3, 1, 7, GET, replied(Reply::Number(0)), 2),
             (4, 1, 8, SPREAD, Answer::Busy(1), 0),
@@ -323,8 +335,8 @@ fn a_swap_is_refused_for_a_reason(rt: HostRuntime) -> Result<(), Fail> {
         &rt,
         alloc,
         "the number behind its incarnation",
-        &both,
-        &[done, (2, 1, 6, SPREAD, Answer::Busy(1), 1)],
+        &[(0, 4, SPREAD), (1, 6, SPREAD)],
+        &[SWAPPED, (2, 1, 6, SPREAD, Answer::Busy(1), 1)],
         Some((3, 7)),
     )
 }
@@ -333,12 +345,11 @@ fn a_swap_is_refused_for_a_reason(rt: HostRuntime) -> Result<(), Fail> {
 fn objects_that_are_gone(rt: HostRuntime) -> Result<(), Fail> {
     let alloc = rt.alloc();
     let asked = [(0, 4, Act::Destroy), (0, 5, SPREAD), (0, 6, GET)];
-    let destroyed = (1, 0, 4, Act::Destroy, Answer::Swapped(1), 0);
     let cases: [(&'static str, [Said; 3], Due); 4] = [
         (
             "all is gone",
             [
-                destroyed,
+                DESTROYED,
                 (2, 0, 5, SPREAD, Answer::Gone, 1),
                 (3, 0, 6, GET, replied(Reply::Gone), 1),
             ],
@@ -347,7 +358,7 @@ fn objects_that_are_gone(rt: HostRuntime) -> Result<(), Fail> {
         (
             "a swap of what is gone",
             [
-                destroyed,
+                DESTROYED,
                 (2, 0, 5, SPREAD, Answer::Swapped(2), 1),
                 (3, 0, 6, GET, replied(Reply::Gone), 2),
             ],
@@ -356,7 +367,7 @@ fn objects_that_are_gone(rt: HostRuntime) -> Result<(), Fail> {
         (
             "a call of what is gone",
             [
-                destroyed,
+                DESTROYED,
                 (2, 0, 5, SPREAD, Answer::Gone, 1),
                 (3, 0, 6, GET, replied(Reply::Number(0)), 1),
             ],
@@ -459,22 +470,36 @@ fn script_of_blocks(alloc: Global) -> Result<Script, Fail> {
 fn a_block_is_in_one_generation(rt: HostRuntime) -> Result<(), Fail> {
     let alloc = rt.alloc();
     let script = script_of_blocks(alloc)?;
-    let cases: [(&'static str, [u32; 4], Due); 4] = [
-        ("each block in one", [1, 1, 3, 3], None),
-        ("both in the same", [1, 1, 1, 1], None),
-        ("the first in two", [1, 2, 3, 3], Some((3, 21))),
-        ("the second in two", [1, 1, 2, 3], Some((5, 21))),
+    let cases: [(&'static str, [(u32, Option<u32>); 4], Due); 4] = [
+        (
+            "each block in one",
+            [(0, Some(1)), (0, Some(1)), (0, Some(3)), (0, Some(3))],
+            None,
+        ),
+        (
+            "both in the same",
+            [(0, Some(1)), (0, Some(1)), (0, Some(1)), (0, Some(1))],
+            None,
+        ),
+        (
+            "the first in two",
+            [(0, Some(1)), (0, Some(2)), (0, Some(3)), (0, Some(3))],
+            Some((3, 21)),
+        ),
+        (
+            "the second in two",
+            [(0, Some(1)), (0, Some(1)), (0, Some(2)), (0, Some(3))],
+            Some((5, 21)),
+        ),
     ];
-    let done = replied(Reply::Done);
     let said = [
-        (1, 0, 5, add(1), done, 0),
-        (2, 0, 6, add(1), done, 0),
-        (3, 0, 9, add(1), done, 0),
-        (4, 0, 10, add(1), done, 0),
+        (1, 0, 5, add(1), replied(Reply::Done), 0),
+        (2, 0, 6, add(1), replied(Reply::Done), 0),
+        (3, 0, 9, add(1), replied(Reply::Done), 0),
+        (4, 0, 10, add(1), replied(Reply::Done), 0),
     ];
-    for (shows, told, due) in &cases {
-        let extras = told.map(|generation| (0, Some(generation)));
-        let record = second_version(alloc, &said, &extras)?;
+    for (shows, extras, due) in &cases {
+        let record = second_version(alloc, &said, extras)?;
         let found = verdict(&rt, alloc, &script, &record)?;
         assert_eq!(rt; found, *due, "{}", *shows);
     }
