@@ -1,5 +1,5 @@
 -- The record of a lawful history keeps all rules, and a record has one first fault at most.
-use Rattle.std.proofs.Common.{◌≡◌, ◌≢◌, ℕ, zero, suc, ◌+◌, ◌<◌, ◌≤◌, cond, true, false, List, [], ◌∷◌, ◌++◌, length, map, take, drop, refl, sym, ap, ◌∙◌, subst, inl, inr, ◌⊎◌, arith}
+use Rattle.std.proofs.Common.{◌≡◌, ℕ, zero, suc, ◌+◌, ◌<◌, ◌≤◌, cond, true, false, List, [], ◌∷◌, ◌++◌, length, map, take, drop, refl, sym, ap, ◌∙◌, subst, inl, inr, arith}
 use Rattle.std.specs.Prelude.{◌==◌, Option, Some, None, slice_get}
 use Rattle.std.specs.Option.{option_map, option_map_or}
 use Rattle.std.proofs.lemmas.Bool.{eq-eqb, cases_order}
@@ -15,7 +15,7 @@ use Rattle.script_text.specs.declared.script.Script.{Script}
 use Rattle.script_text.specs.declared.script.WorkerLines.{WorkerLines}
 use Rattle.record_text.specs.Histories.{calls_of, line_number, line_of}
 use Rattle.record_text.specs.Told.{answered, lines_by}
-use Rattle.record_text.specs.Rules.{Rule, Stamps, Order, Calls, Swaps, Refusals, Generations, rule_number, all_rules, IsLegalLine, IsNextLine, Keeps, KeepsAt, KeepsRules, HasAllLines, IsLawfulRecord, BreaksFirst, IsFaultOfLine, IsFaultOfEnd, IsFirstFault}
+use Rattle.record_text.specs.Rules.{Rule, Stamps, Order, Calls, Swaps, Refusals, Generations, all_rules, IsLegalLine, IsNextLine, Keeps, KeepsAt, KeepsRules, HasAllLines, IsLawfulRecord, BreaksFirst, IsFaultOfLine, IsFirstFault}
 use Rattle.record_text.specs.declared.record.Record.{Record}
 use Rattle.record_text.specs.declared.record.RecordLine.{RecordLine}
 use Rattle.record_text.proofs.BareEntries.{legal_to}
