@@ -90,7 +90,8 @@ impl Run {
         items: &[Item],
         gate: &G,
     ) -> Result<(), Memory>
-        requires running { IsRunning (kinds_of script.now) self.old.entries.items self.old.objects.items }
+        requires running { IsRunning (kinds_of script.now)
+            self.old.entries.items self.old.objects.items }
         requires sound { All (IsSoundLine script.now) (call_lines items.now) }
         requires few { vec_len self.old.entries + length (call_lines items.now) ≤ 65536 }
         requires counted { IsCounted self.old }

@@ -94,9 +94,9 @@ fn deliver<K: Sink>(sink: &mut K, text: &[u8], status: Status) -> Status
 ///
 /// `run` reads a script, runs it, and writes its record, and `run 2` its record of version 2.
 /// `check` reads a script, a line `---` and a record, and writes `lawful N`, or the first line of
-/// the record that breaks a rule. A script that is refused is answered by one line, `line N: CAUSE`.
-/// Other words are answered by the line that names the forms. The work is done first, and the whole
-/// output is then written at once.
+/// the record that breaks a rule. A script that is refused is answered by one line,
+/// `line N: CAUSE`. Other words are answered by the line that names the forms. The work is done
+/// first, and the whole output is then written at once.
 pub fn k42_main<S: Source, K: Sink, G: Gate>(
     alloc: Global,
     words: &[String],

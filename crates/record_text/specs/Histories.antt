@@ -12,20 +12,24 @@ use Rattle.record_text.specs.declared.record.Record.{Record}
 
 -- the lines of a worker that ask something of an object
 abbrev pub calls_of : Script → ℕ → List CallLine
-calls_of script worker = option_map_or (λ lines. call_lines lines.items) (slice_get script.workers worker) []
+calls_of script worker =
+    option_map_or (λ lines. call_lines lines.items) (slice_get script.workers worker) []
 
 -- the number, in the script, of the line with this place among the worker's
 abbrev pub line_number : Script → ℕ → ℕ → ℕ
-line_number script worker index = option_map_or (λ line. line.line) (slice_get (calls_of script worker) index) 0
+line_number script worker index =
+    option_map_or (λ line. line.line) (slice_get (calls_of script worker) index) 0
 
--- the entry's caller is a worker of the script, and its index is the place of one of that worker's lines
+-- the entry's caller is a worker of the script, and its index is the place of one of that worker's
+-- lines
 pub record HasLine (script : Script) (entry : Entry) : Type 0 where
   pub caller : entry.caller < length script.workers
   pub index : entry.index < length (calls_of script entry.caller)
 
 -- what version 2 tells of an entry besides
 abbrev pub extra_of : ℕ → Entry → Option Extra
-extra_of version entry = if version == 2 then Some (record { proc = entry.proc; generation = entry.generation }) else None
+extra_of version entry =
+    if version == 2 then Some (record { proc = entry.proc; generation = entry.generation }) else None
 
 -- the line of an entry that answers the script's line of this number
 abbrev pub line_at : ℕ → ℕ → Entry → RecordLine
@@ -46,7 +50,8 @@ line_of script version entry = line_at version (line_number script entry.caller 
 
 -- the record of a history, one line for each entry in its order
 abbrev pub record_of : Script → List Entry → ℕ → Record
-record_of script history version = record { lines = map (line_of script version) history; version = version }
+record_of script history version =
+    record { lines = map (line_of script version) history; version = version }
 
 -- the text of a history
 abbrev pub history_text : Script → List Entry → ℕ → List ℕ

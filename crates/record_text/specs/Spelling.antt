@@ -30,8 +30,8 @@ Ends (Call op) answer = EndsCall answer
 Ends (Swap layout) answer = EndsSwap answer
 Ends Destroy answer = EndsSwap answer
 
--- a line has a spelling where its worker and its object are in the script, its act may be asked of that object, and
--- its answer is one of the act
+-- a line has a spelling where its worker and its object are in the script, its act may be asked of
+-- that object, and its answer is one of the act
 pub record HasSpelling (script : Script) (line : RecordLine) : Type 0 where
   pub by_worker : line.worker < length script.workers
   pub kind : KindName
@@ -47,13 +47,15 @@ HasGeneration Destroy generation = IsNone generation
 
 -- version 1 tells nothing besides of a line, version 2 its processor and its generation
 pub record IsOfVersion (version : ℕ) (line : RecordLine) : Type 0 where
-  pub told : MatchOption line.extra (version ≡ 1) (λ extra. (version ≡ 2) × HasGeneration line.act extra.generation)
+  pub told : MatchOption line.extra (version ≡ 1)
+      (λ extra. (version ≡ 2) × HasGeneration line.act extra.generation)
 
 -- a record is of one of two versions
 abbrev pub IsVersion : ℕ → Type 0
 IsVersion version = (version ≡ 1) ⊎ (version ≡ 2)
 
--- a record has a text where its version is one of the two, and each line has a spelling and is of that version
+-- a record has a text where its version is one of the two, and each line has a spelling and is of
+-- that version
 pub record HasText (script : Script) (written : Record) : Type 0 where
   pub version : IsVersion written.version
   pub spelled : All (HasSpelling script) written.lines

@@ -26,7 +26,8 @@ generation_token None = codes "g-"
 
 -- what version 2 tells besides: `pP`, and the generation
 abbrev pub extra_tokens : Option Extra → List (List ℕ)
-extra_tokens (Some extra) = (codes "p" ++ decimal extra.proc) ∷ generation_token extra.generation ∷ []
+extra_tokens (Some extra) =
+    (codes "p" ++ decimal extra.proc) ∷ generation_token extra.generation ∷ []
 extra_tokens None = []
 
 -- `STAMP WORKER LINE ACT = ANSWER @INCARNATION`, and what version 2 tells besides

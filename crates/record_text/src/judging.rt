@@ -122,7 +122,8 @@ impl Whole {
         requires placed { IsPlaced line.now }
         requires within { place < vec_len self.now.later }
         ensures small { (number : ℕ) → line.now.answer ≡ Answer.Busy number → number < 2 ^ 32 }
-        ensures refusable { (number : ℕ) (lines : List Line) → line.now.answer ≡ Answer.Busy number →
+        ensures refusable { (number : ℕ) (lines : List Line) →
+            line.now.answer ≡ Answer.Busy number →
             IsWhole lines self.now →
             Shows seen.now (λ worker object. furthest_of worker object (take place lines)) →
             slice_get lines place ≡ Some line.now →

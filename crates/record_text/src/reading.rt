@@ -106,8 +106,8 @@ fn read_all(alloc: Global, script: &Script, bytes: &[u8]) -> Result<Record, Reco
 
 /// The record whose text the bytes are.
 ///
-/// A record is a line `k42 record VERSION`, a line for each entry, and a line `end COUNT`, each with
-/// its line feed. `Misspelt` names the first line that is not such a line or that is missing.
+/// A record is a line `k42 record VERSION`, a line for each entry, and a line `end COUNT`, each
+/// with its line feed. `Misspelt` names the first line that is not such a line or that is missing.
 pub fn read(alloc: Global, script: &Script, bytes: &[u8]) -> Result<Record, RecordEnd>
     requires objects { length script.now.objects ≤ 16 }
     requires workers { length script.now.workers ≤ 16 }

@@ -79,7 +79,8 @@ impl Course {
     pub fn is_next(&self, items: &[Item], line: &RecordLine) -> bool
         ensures next { (told : List (Option ℕ)) → IsWalked items.now told self.now →
             IsAtLine items.now self.now →
-            Decides result (slice_get (call_lines items.now) (length told) ≡ Some (answered line.now)) }
+            Decides result
+            (slice_get (call_lines items.now) (length told) ≡ Some (answered line.now)) }
         ensures here { result ≡ true → StandsAtLine items.now self.now }
     {
         if self.at >= items.len() {
