@@ -1,4 +1,5 @@
 ghost use Rattle.std.specs.Prelude.{◌≡◌, ℕ, ◌+◌, ◌-◌, ◌^◌, ◌<◌, ◌⊎◌, ◌↔◌, List, take, Some, None, IfOk, OnOk, IsErrOf, map, string_bytes};
+ghost use Rattle.k42_io.specs.Source.{LosesAtMost};
 ghost use Rattle.k42_cli.specs.Program as program;
 ghost use Rattle.k42_cli.specs.Words as asked;
 ghost use Rattle.k42_cli.specs.Words.{HasVersion};
@@ -73,6 +74,7 @@ fn work_out<S: Source, G: Gate>(
     ensures quiet { OnOk result (S.faults source.new ≡ S.faults source.old) }
     ensures fault { IsErrOf result WorkEnd.ReadFault → S.faults source.old < S.faults source.new }
     ensures memory { IsErrOf result WorkEnd.Memory → S.faults source.new ≡ S.faults source.old }
+    ensures within { LosesAtMost (limit_of form) (S.left source.old) (S.left source.new) }
 {
     let bytes = read_all(alloc, source, most_bytes(form))?;
     Ok(work(alloc, form, &bytes, gate)?)
@@ -126,6 +128,9 @@ pub fn k42_main<S: Source, K: Sink, G: Gate>(
     ensures enough { (form : Form) (bytes output : List ℕ) (status : Status) →
         program.IsDue (Some form) (take (limit_of form) bytes) status output
         ↔ program.IsDue (Some form) bytes status output }
+    // No more is read than the first byte that is one too many.
+    ensures within { (form : Form) → asked.form_of (map string_bytes words.now) ≡ Some form →
+        LosesAtMost (limit_of form) (S.left source.old) (S.left source.new) }
     // Without a form nothing is read, and only a write can fail.
     ensures unread { asked.form_of (map string_bytes words.now) ≡ None →
         source.new ≡ source.old }
