@@ -5,6 +5,7 @@ pub mod LongerHistories
 pub mod ExampleLines
 pub mod AcceptedHistories
 pub mod RefusedHistories
+pub mod Implementations
 pub mod SeenMaps
 pub mod FiniteMaps
 pub mod ObjectLaws

@@ -7,21 +7,21 @@ use Rattle.k42_kinds.specs.declared.operation.LayoutName.TheVariants.{Shared, Sp
 use Rattle.k42_kinds.specs.declared.operation.Op.TheVariants.{Add, Get, Size}
 use Rattle.k42_kinds.specs.declared.operation.Reply.TheVariants as replies
 use Rattle.k42_kinds.specs.declared.entry.Act.TheVariants.{Call, Swap, Destroy}
-use Rattle.k42_kinds.specs.declared.entry.Answer.TheVariants.{Replied, Swapped, Busy, Spent, Gone}
+use Rattle.k42_kinds.specs.declared.entry.Answer.TheVariants.{Replied, Swapped, Busy, Spent, Gone, Abandoned}
 use Rattle.k42_kinds.specs.declared.entry.Entry.{Entry}
 use Rattle.k42_kinds.specs.declared.states.AnyState.TheVariants as states
-use Rattle.k42_kinds.specs.Histories.{IsInOrder, state_of}
+use Rattle.k42_kinds.specs.Histories.{IsInOrder, state_of, number_of}
 use Rattle.k42_kinds.specs.Legal.{IsLegalHistory, IsLegal, IsLegallySpent, IsRival}
 use Rattle.k42_kinds.proofs.Splits.{none-Any}
 use Rattle.k42_kinds.proofs.LegalHistories.{illegal_at, refusal_of_swap}
-use Rattle.k42_kinds.proofs.ExampleLines.{line}
+use Rattle.k42_kinds.proofs.ExampleLines.{line, on}
 
--- no history of one counter that has this entry between these is legal
+-- no history of two counters that has this entry between these is legal
 record IsRefused (before : List Entry) (entry : Entry) (after : List Entry) : Type 0 where
-  refused : IsLegalHistory (Counter ∷ []) (before ++ entry ∷ after) → ⊥
+  refused : IsLegalHistory (Counter ∷ Counter ∷ []) (before ++ entry ∷ after) → ⊥
 
 illegal : {before : List Entry} {entry : Entry} {after : List Entry} → entry.object ≡ 0 → (IsLegal Counter before entry after → ⊥) → IsRefused before entry after
-illegal {before} {entry} {after} declared not_legal = record { refused = illegal_at (Counter ∷ []) Counter before entry after (rw declared) not_legal }
+illegal {before} {entry} {after} declared not_legal = record { refused = illegal_at (Counter ∷ Counter ∷ []) Counter before entry after (rw declared) not_legal }
 
 no_rival : {before : List Entry} {entry : Entry} {after : List Entry} (layout : LayoutName) (number : ℕ) → entry.object ≡ 0 → entry.act ≡ Swap layout → entry.answer ≡ Busy number → AllByRecursion (λ other. IsRival entry number other → ⊥) (before ++ after) → IsRefused before entry after
 no_rival {before} {entry} {after} layout number declared act answer none = illegal declared (λ legal. none-Any (IsRival entry number) (before ++ after) none (refusal_of_swap Counter before entry after layout number act answer legal).rival)
@@ -54,6 +54,14 @@ skipped_number = illegal refl (λ legal. grind arith)
 no_other_swap : IsRefused (line 1 0 0 0 (Swap Spread) (Swapped 1) ∷ []) (line 2 0 1 0 (Swap Spread) (Busy 1)) (line 3 1 0 1 (Swap Spread) (Swapped 2) ∷ [])
 no_other_swap = no_rival Spread 1 refl refl refl (search arith)
 
+-- nor for the sake of a swap of another object
+no_swap_of_the_object : IsRefused (on 1 (line 1 1 0 0 (Swap Spread) (Swapped 1)) ∷ []) (line 2 0 0 0 (Swap Spread) (Busy 1)) (on 1 (line 3 2 0 1 (Swap Spread) (Abandoned 1)) ∷ [])
+no_swap_of_the_object = no_rival Spread 1 refl refl refl (search arith)
+
+-- nor of one that was given up under another number, or that it gave up itself
+no_other_abandoned : IsRefused (line 1 0 0 0 (Swap Spread) (Abandoned 1) ∷ []) (line 2 0 1 0 (Swap Spread) (Busy 1)) (line 3 1 0 1 (Swap Spread) (Abandoned 2) ∷ [])
+no_other_abandoned = no_rival Spread 1 refl refl refl (search arith)
+
 -- nor if it had been in a later implementation than the one that the swap made
 late_refusal : IsRefused (line 1 1 0 0 (Swap Spread) (Swapped 1) ∷ line 2 1 1 1 (Swap Spread) (Swapped 2) ∷ line 3 0 0 2 (Call Get) (Replied (replies.Number 0)) ∷ []) (line 4 0 1 0 (Swap Spread) (Busy 1)) []
 late_refusal = illegal refl (λ legal. let past = legal.timely.earlier 2 added (omega arith) (record { caller = refl; object = refl }) in grind arith)
@@ -66,8 +74,26 @@ refused_behind_its_own = illegal refl (λ legal. let past = legal.timely.earlier
 early_refusal : IsRefused [] (line 1 0 0 2 (Swap Spread) (Busy 3)) (line 2 1 0 0 (Swap Spread) (Swapped 1) ∷ line 3 0 1 1 (Call Get) (Replied (replies.Number 0)) ∷ line 4 1 1 1 (Swap Spread) (Swapped 2) ∷ line 5 1 2 2 (Swap Spread) (Swapped 3) ∷ [])
 early_refusal = illegal refl (λ legal. let past = legal.timely.later 1 added (omega arith) (record { caller = refl; object = refl }) in grind arith)
 
+-- what is given up bears the number that was to come, which is at least 1
+abandoned_under_a_later_number : IsRefused [] (line 1 0 0 0 (Swap Spread) (Abandoned 2)) []
+abandoned_under_a_later_number = illegal refl (λ legal. grind arith)
+
+abandoned_under_no_number : IsRefused [] (line 1 0 0 0 (Swap Spread) (Abandoned 0)) []
+abandoned_under_no_number = illegal refl (λ legal. grind arith)
+
+-- and its caller had not been past it
+late_abandoned : IsRefused (line 1 1 0 0 (Swap Spread) (Swapped 1) ∷ line 2 1 1 1 (Swap Spread) (Swapped 2) ∷ line 3 0 0 2 (Call Get) (Replied (replies.Number 0)) ∷ []) (line 4 0 1 0 (Swap Spread) (Abandoned 1)) []
+late_abandoned = illegal refl (λ legal. let past = legal.earlier 2 added (omega arith) (record { caller = refl; object = refl }) in grind arith)
+
 spent_too_early : IsRefused [] (line 1 0 0 0 (Swap Shared) Spent) []
 spent_too_early = illegal refl (λ legal. grind arith)
+
+-- whatever came before: no swap goes past the last incarnation, and none is spent before it
+swap_past_the_last : (before : List Entry) (number : ℕ) → number_of 0 before ≡ 1048575 → IsLegal Counter before (line 1 0 0 1048575 (Swap Shared) (Swapped number)) [] → ⊥
+swap_past_the_last before number counted legal = omega (arith, counted, legal.unspent)
+
+spent_before_the_last : (before : List Entry) → number_of 0 before ≡ 1048574 → IsLegal Counter before (line 1 0 0 1048574 (Swap Shared) Spent) [] → ⊥
+spent_before_the_last before counted legal = omega (arith, counted, legal.spent)
 
 gone_while_alive : IsRefused [] (line 1 0 0 0 (Swap Shared) Gone) []
 gone_while_alive = illegal refl (λ legal. grind arith)

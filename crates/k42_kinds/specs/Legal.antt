@@ -1,5 +1,6 @@
 -- When an entry of a history is legal, and when a history is.
 use Rattle.std.specs.Prelude.{◌≡◌, ◌≢◌, ℕ, ◌+◌, ◌<◌, ◌≤◌, List, ◌++◌, All, Any, Some, slice_get}
+use Rattle.k42_limits.specs.declared.TheConstants.{LAST_INCARNATION}
 use Rattle.k42_kinds.specs.declared.operation.KindName.{KindName}
 use Rattle.k42_kinds.specs.declared.operation.Op.{Op}
 use Rattle.k42_kinds.specs.declared.states.AnyState.TheVariants as states
@@ -11,10 +12,6 @@ use Rattle.k42_kinds.specs.declared.entry.Entry.{Entry}
 use Rattle.k42_kinds.specs.Objects.{reply_of}
 use Rattle.k42_kinds.specs.Operations.{kind_of_op}
 use Rattle.k42_kinds.specs.Histories.{AtEachPlace, IsNumbered, state_of, number_of}
-
--- the number of an object's last incarnation, and so how many swaps it can go through
-abbrev pub last_incarnation : ℕ
-last_incarnation = 1048575
 
 -- A call of an operation of the object's kind is legal where it has the reply that the object of
 -- one thread gives after the entries before it, in the implementation that the swaps before it
@@ -37,13 +34,13 @@ pub record IsLegalSwap
     : Type 0 where
   pub next : number ≡ number_of entry.object before + 1
   pub alive : IsAlive kind entry.object before
-  pub unspent : number_of entry.object before < last_incarnation
+  pub unspent : number_of entry.object before < LAST_INCARNATION
   pub incarnation : entry.incarnation ≡ number_of entry.object before
 
 -- it is answered `spent` where the object is alive and has no incarnation left
 pub record IsLegallySpent (kind : KindName) (before : List Entry) (entry : Entry) : Type 0 where
   pub alive : IsAlive kind entry.object before
-  pub spent : number_of entry.object before ≡ last_incarnation
+  pub spent : number_of entry.object before ≡ LAST_INCARNATION
   pub incarnation : entry.incarnation ≡ number_of entry.object before
 
 -- it is answered `gone` where the object is dead

@@ -8,12 +8,10 @@ ghost use Rattle.std.specs.Hash as fed;
 ghost use Rattle.std.proofs.Common.{rules};
 ghost use Rattle.k42_kinds.specs.Words.{is_name, continues_name};
 
+use k42_limits::NAME_BYTES;
 use std::cmp::Ordering;
 use std::hash::{Hash, Hasher};
 use std::marker::Model;
-
-/// The most bytes that a name has.
-pub const NAME_BYTES: usize = 16;
 
 /// The name of an object, of a worker, or a key of a directory: 1 to 16 bytes, a lowercase letter
 /// first, then lowercase letters, digits and `_`. Names are ordered as their bytes are.
@@ -28,17 +26,18 @@ impl Model for Name {
 
     ghost Value = { List ℕ };
 
+    ghost use Rattle.k42_limits.specs.declared.TheConstants.{NAME_BYTES};
     ghost use Rattle.k42_kinds.specs.Padded.{IsPadded, padded, padded_back};
 
     ghost view = { λ name. take name.len name.bytes };
 
-    ghost invariant = { λ name. IsPadded 16 name.len name.bytes };
+    ghost invariant = { λ name. IsPadded NAME_BYTES name.len name.bytes };
 
-    ghost inverse = { λ bytes. record { bytes = (padded 16 bytes).cells; len = (padded 16 bytes).len } };
+    ghost inverse = { λ bytes. record { bytes = (padded NAME_BYTES bytes).cells; len = (padded NAME_BYTES bytes).len } };
 
     ghost inverse_ok = { λ name whole i. record {
-      bytes = (padded_back 16 name.len name.bytes whole i).cells;
-      len = (padded_back 16 name.len name.bytes whole i).len;
+      bytes = (padded_back NAME_BYTES name.len name.bytes whole i).cells;
+      len = (padded_back NAME_BYTES name.len name.bytes whole i).len;
     } };
 }
 

@@ -8,12 +8,10 @@ ghost use Rattle.std.specs.Hash as fed;
 ghost use Rattle.std.proofs.Common.{rules};
 ghost use Rattle.k42_kinds.specs.Words.{is_text, is_visible};
 
+use k42_limits::TEXT_BYTES;
 use std::cmp::Ordering;
 use std::hash::{Hash, Hasher};
 use std::marker::Model;
-
-/// The most bytes that the text of a page has.
-pub const TEXT_BYTES: usize = 32;
 
 /// What a page holds: 1 to 32 bytes from 33 to 126. Texts are ordered as their bytes are.
 #[derive(Clone, Copy, Debug)]
@@ -27,17 +25,18 @@ impl Model for Text {
 
     ghost Value = { List ℕ };
 
+    ghost use Rattle.k42_limits.specs.declared.TheConstants.{TEXT_BYTES};
     ghost use Rattle.k42_kinds.specs.Padded.{IsPadded, padded, padded_back};
 
     ghost view = { λ text. take text.len text.bytes };
 
-    ghost invariant = { λ text. IsPadded 32 text.len text.bytes };
+    ghost invariant = { λ text. IsPadded TEXT_BYTES text.len text.bytes };
 
-    ghost inverse = { λ bytes. record { bytes = (padded 32 bytes).cells; len = (padded 32 bytes).len } };
+    ghost inverse = { λ bytes. record { bytes = (padded TEXT_BYTES bytes).cells; len = (padded TEXT_BYTES bytes).len } };
 
     ghost inverse_ok = { λ text whole i. record {
-      bytes = (padded_back 32 text.len text.bytes whole i).cells;
-      len = (padded_back 32 text.len text.bytes whole i).len;
+      bytes = (padded_back TEXT_BYTES text.len text.bytes whole i).cells;
+      len = (padded_back TEXT_BYTES text.len text.bytes whole i).len;
     } };
 }
 
