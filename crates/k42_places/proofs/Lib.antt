@@ -1,0 +1,5 @@
+pub mod Written
+pub mod EachPlaces
+pub mod Counts
+pub mod Rests
+pub mod Appended
