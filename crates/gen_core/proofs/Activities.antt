@@ -10,7 +10,7 @@ use Rattle.gen_core.specs.Plain.{Caller, Generations}
 use Rattle.gen_core.specs.State.{put_proc, put_caller}
 use Rattle.gen_core.specs.Events.{is_even, exits_of, caller_entered, proc_entered, caller_left}
 use Rattle.gen_core.specs.Sound.{Course, is_flipped, is_passed, is_next, is_active_in, active_in, generation_of, IsOfStep, IsInCourse}
-use Rattle.gen_core.proofs.Places.{count_by-set_same, count_by-set_more, count_by-set_less, count_by_some}
+use Rattle.k42_places.proofs.Counts.{count_by-set_same, count_by-set_more, count_by-set_less, count_by_some}
 use Rattle.gen_core.proofs.Stages.{is_even-next, CountsExit, exits_fit, exits_fit_both}
 use Rattle.gen_core.proofs.Frames.{with_active, no_holder_active, no_holder_idle, keeps_activity}
 

@@ -1,17 +1,16 @@
 -- What an event leaves alone, and that no generation falls, for those who cite an event and not its parts.
-use Rattle.std.proofs.Common.{◌≡◌, ℕ, ◌<◌, ◌≤◌, ◌≢◌, ◌∙◌, Bool, true, false, cond, List, Option, Some, None, length, get_or, set, length-set, sym, refl, ap, ⊎_elim, arith}
-use Rattle.std.proofs.Math.Nat.{le_refl}
+use Rattle.std.proofs.Common.{◌≡◌, ℕ, ◌<◌, ◌≤◌, ◌≢◌, ◌∙◌, Bool, true, false, cond, List, [], ◌∷◌, Option, Some, None, length, set, length-set, refl, ap, arith}
+use Rattle.std.proofs.Math.Nat.{le_refl, le_trans}
 use Rattle.std.specs.List.{slice_get}
 use Rattle.std.proofs.lemmas.List.{get_or-set_same}
-use Rattle.std.proofs.lemmas.Option.{same_Some, get_or_from_slice_get}
 use Rattle.gen_core.specs.declared.event.GenEvent.{GenEvent}
 use Rattle.gen_core.specs.declared.event.GenEvent.TheVariants.{Enter, Leave, TakeRole, LookAhead, Flip, Look, GiveRole}
 use Rattle.gen_core.specs.declared.state.GenProc.{GenProc}
 use Rattle.gen_core.specs.Plain.{Caller, Generations}
-use Rattle.gen_core.specs.State.{fresh_proc, caller_at, put_caller}
-use Rattle.gen_core.specs.Events.{is_even, place_of, caller_entered, proc_entered, caller_left, proc_left, role_taken, looked_ahead, caller_flipped, proc_flipped, caller_passed, role_given, is_drained, home_of, turn_of, taken, is_possible, effect, caller_of}
-use Rattle.gen_core.specs.Runs.{happens}
-use Rattle.gen_core.proofs.Places.{slice_get-set_else, at_set}
+use Rattle.gen_core.specs.State.{fresh_proc, proc_at, caller_at, put_proc, put_caller}
+use Rattle.gen_core.specs.Events.{is_even, place_of, caller_entered, proc_entered, caller_left, proc_left, role_taken, looked_ahead, caller_flipped, proc_flipped, caller_passed, role_given, is_drained, home_of, turn_of, taken, is_possible, effect, happens, caller_of}
+use Rattle.k42_places.proofs.Written.{slice_get-set_else, get_or-set_related}
+use Rattle.gen_core.specs.Runs.{run}
 use Rattle.gen_core.proofs.Stages.{exit_is_counted}
 
 -- the processor at which an event stands
@@ -96,46 +95,40 @@ happens_only s event there = by_test (is_possible s event) where
 
 -- no processor's generation falls
 
-set_rises : (procs : List GenProc) (i p : ℕ) (k l l' : GenProc) → slice_get procs p ≡ Some l
-    → slice_get (set procs i k) p ≡ Some l'
-    → (get_or procs i fresh_proc).generation ≤ k.generation → l.generation ≤ l'.generation
-set_rises procs i p k l l' before after rises =
-    ⊎_elim
-    (λ (here : (p ≡ i) × (k ≡ l')).
-    let was : slice_get procs i ≡ Some l = rw (← (here.0)) before in
-    let old : get_or procs i fresh_proc ≡ l = get_or_from_slice_get procs i l fresh_proc was in
-    rw (← (here.1), ← old) rises)
-    (λ (else : (p ≢ i) × (slice_get procs p ≡ Some l')).
-    let same : l ≡ l' = same_Some l l' (sym before ∙ else.1) in rw same (le_refl l'.generation))
-    (at_set procs i p k l' after)
+abbrev RisesTo : GenProc → GenProc → Type 0
+RisesTo k l = k.generation ≤ l.generation
 
-same_rises : (procs : List GenProc) (p : ℕ) (l l' : GenProc) → slice_get procs p ≡ Some l
-    → slice_get procs p ≡ Some l' → l.generation ≤ l'.generation
-same_rises procs p l l' before after = let same : l ≡ l' = same_Some l l' (sym before ∙ after) in rw same (le_refl l'.generation)
+rises_at : (s : Generations) (q p : ℕ) (l : GenProc) → RisesTo (proc_at s q) l
+    → RisesTo (proc_at s p) (proc_at (put_proc s q l) p)
+rises_at s q p l here = get_or-set_related RisesTo (λ k. le_refl k.generation) s.procs q p l fresh_proc here
 
-left_rises : (k : GenProc) (active : Option ℕ) → k.generation ≤ (proc_left k active).generation
+left_rises : (k : GenProc) (active : Option ℕ) → RisesTo k (proc_left k active)
 left_rises k None = le_refl k.generation
 left_rises k (Some generation) = rw (exit_is_counted k (is_even generation)).generation (le_refl k.generation)
 
-pub generation_rises : (s : Generations) (event : GenEvent) (p : ℕ) (l l' : GenProc) → slice_get s.procs p ≡ Some l
-    → slice_get (effect s event).procs p ≡ Some l' → l.generation ≤ l'.generation
-generation_rises s (Enter c) p l l' before after =
-    set_rises s.procs (caller_at s c).proc p (proc_entered (home_of s c)) l l' before after (le_refl (home_of s c).generation)
-generation_rises s (Leave c) p l l' before after =
-    set_rises s.procs (caller_at s c).proc p (proc_left (home_of s c) (caller_at s c).active) l l' before after
-    (left_rises (home_of s c) (caller_at s c).active)
-generation_rises s (TakeRole c) p l l' before after = by_role s.role after where
-  by_role : (role : Option ℕ) → slice_get (taken s c role).procs p ≡ Some l' → l.generation ≤ l'.generation
-  by_role None after = same_rises s.procs p l l' before after
-  by_role (Some holder) after = same_rises s.procs p l l' before after
-generation_rises s (LookAhead c) p l l' before after = same_rises s.procs p l l' before after
-generation_rises s (Flip c) p l l' before after =
-    set_rises s.procs (place_of (caller_at s c).grace) p (proc_flipped (turn_of s c) (caller_at s c).coming) l l' before after
-    (omega arith)
-generation_rises s (Look c) p l l' before after = by_test (is_drained (caller_at s c) (turn_of s c)) after where
+effect_rises : (s : Generations) (event : GenEvent) (p : ℕ) → RisesTo (proc_at s p) (proc_at (effect s event) p)
+effect_rises s (Enter c) p = rises_at s (caller_at s c).proc p (proc_entered (home_of s c)) (le_refl (home_of s c).generation)
+effect_rises s (Leave c) p =
+    rises_at s (caller_at s c).proc p (proc_left (home_of s c) (caller_at s c).active) (left_rises (home_of s c) (caller_at s c).active)
+effect_rises s (TakeRole c) p = by_role s.role where
+  by_role : (role : Option ℕ) → RisesTo (proc_at s p) (proc_at (taken s c role) p)
+  by_role None = le_refl (proc_at s p).generation
+  by_role (Some holder) = le_refl (proc_at s p).generation
+effect_rises s (LookAhead c) p = le_refl (proc_at s p).generation
+effect_rises s (Flip c) p =
+    rises_at s (place_of (caller_at s c).grace) p (proc_flipped (turn_of s c) (caller_at s c).coming) (omega arith)
+effect_rises s (Look c) p = by_test (is_drained (caller_at s c) (turn_of s c)) where
   by_test : (drained : Bool)
-      → slice_get (cond drained (put_caller s c (caller_passed (caller_at s c) (length s.procs))) s).procs p ≡ Some l'
-      → l.generation ≤ l'.generation
-  by_test true after = same_rises s.procs p l l' before after
-  by_test false after = same_rises s.procs p l l' before after
-generation_rises s (GiveRole c) p l l' before after = same_rises s.procs p l l' before after
+      → RisesTo (proc_at s p) (proc_at (cond drained (put_caller s c (caller_passed (caller_at s c) (length s.procs))) s) p)
+  by_test true = le_refl (proc_at s p).generation
+  by_test false = le_refl (proc_at s p).generation
+effect_rises s (GiveRole c) p = le_refl (proc_at s p).generation
+
+pub no_generation_falls : (events : List GenEvent) (s : Generations) (p : ℕ)
+    → (proc_at s p).generation ≤ (proc_at (run events s) p).generation
+no_generation_falls [] s p = le_refl (proc_at s p).generation
+no_generation_falls (event ∷ events) s p =
+    le_trans (by_test (is_possible s event)) (no_generation_falls events (happens s event) p) where
+      by_test : (b : Bool) → (proc_at s p).generation ≤ (proc_at (cond b (effect s event) s) p).generation
+      by_test true = effect_rises s event p
+      by_test false = le_refl (proc_at s p).generation

@@ -1,7 +1,6 @@
 -- The greatest counts and generations at which an event is possible, and the next ones, at which it is not.
-use Rattle.std.proofs.Common.{◌≡◌, ℕ, refl}
-use Rattle.std.specs.Prelude.{◌-◌, ◌^◌, true, false, List, [], ◌∷◌, None, Some}
-use Rattle.gen_core.specs.declared.state.GenProc.{GenProc}
+use Rattle.std.proofs.Common.{◌≡◌, refl}
+use Rattle.std.specs.Prelude.{true, false, [], ◌∷◌, Some}
 use Rattle.gen_core.specs.Plain.{Caller}
 use Rattle.gen_core.specs.State.{fresh_proc, fresh_caller}
 use Rattle.gen_core.specs.Events.{can_enter, can_leave, can_take_role}

@@ -8,9 +8,9 @@ use Rattle.gen_core.specs.declared.event.GenEvent.TheVariants.{Enter, Leave, Tak
 use Rattle.gen_core.specs.declared.state.GraceAt.TheVariants.{Idle, Quiet}
 use Rattle.gen_core.specs.Plain.{Generations}
 use Rattle.gen_core.specs.State.{caller_at, put_caller}
-use Rattle.gen_core.specs.Events.{is_idle, is_drained, caller_passed, looked_ahead, caller_flipped, role_taken, role_given, turn_of, taken, is_possible, effect, caller_of}
+use Rattle.gen_core.specs.Events.{is_idle, is_drained, caller_passed, looked_ahead, caller_flipped, role_taken, role_given, turn_of, taken, is_possible, effect, happens, caller_of}
 use Rattle.gen_core.specs.Sound.{Course, IsInCourse, IsSound}
-use Rattle.gen_core.specs.Runs.{happens, run, AreInRange, Occurs, FindsRoleFree, IsActive, IsQuiet, IsQuietGrace, HasLeft}
+use Rattle.gen_core.specs.Runs.{run, AreInRange, Occurs, FindsRoleFree, IsActive, IsQuiet, IsQuietGrace, HasLeft}
 use Rattle.gen_core.proofs.Stages.{from_is_quiet, from_is_none, from_is_some}
 use Rattle.gen_core.proofs.Frames.{holder_from_grace}
 use Rattle.gen_core.proofs.Courses.{course_taken, course_looked, course_after, at_caller, keeps_effect}

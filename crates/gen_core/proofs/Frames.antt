@@ -7,9 +7,10 @@ use Rattle.gen_core.specs.declared.state.GenProc.{GenProc}
 use Rattle.gen_core.specs.declared.state.GraceAt.{GraceAt}
 use Rattle.gen_core.specs.declared.state.GraceAt.TheVariants.{Idle, Flipping, Looking, Quiet}
 use Rattle.gen_core.specs.Plain.{Caller, Generations}
-use Rattle.gen_core.specs.Places.{EachPlace}
+use Rattle.k42_places.specs.Places.{EachPlace}
 use Rattle.gen_core.specs.Sound.{Course, holds_role, is_active_in, active_in, IsPlaced, StageFits, IsHolder, IsNoHolder, IsHolderOrIdle, IsComing, IsInStep, IsActiveInStep, IsCounted, FitsFields, IsInCourse}
-use Rattle.gen_core.proofs.Places.{EachPlace-set, EachPlace-set_else, EachPlace-then, count_by-set_same}
+use Rattle.k42_places.proofs.EachPlaces.{EachPlace-set, EachPlace-set_else, EachPlace-then}
+use Rattle.k42_places.proofs.Counts.{count_by-set_same}
 
 -- a caller whose activity alone changes
 abbrev pub with_active : Caller → Option ℕ → Caller

@@ -6,7 +6,8 @@ use Rattle.gen_core.specs.declared.state.GraceAt.TheVariants.{Idle}
 use Rattle.gen_core.specs.Plain.{Generations}
 use Rattle.gen_core.specs.State.{fresh_proc, fresh_caller, fresh, IsPlan}
 use Rattle.gen_core.specs.Sound.{Course, is_active_in, active_in, IsPlaced, IsHolderOrIdle, IsComing, IsInStep, IsActiveInStep, IsCounted, FitsFields, IsInCourse, IsSound}
-use Rattle.gen_core.proofs.Places.{EachPlace-map, EachPlace-replicate, count_by_none}
+use Rattle.k42_places.proofs.EachPlaces.{EachPlace-map, EachPlace-replicate}
+use Rattle.k42_places.proofs.Counts.{count_by_none}
 
 -- nobody holds the role, and all processors are at generation 0
 abbrev pub fresh_course : ℕ → List ℕ → Course
@@ -24,7 +25,7 @@ pub fresh_in_course : (procs : ℕ) (callers : List ℕ) → IsPlan procs caller
 fresh_in_course procs callers plan =
     let course : Course = fresh_course procs callers in
     record {
-      limits = record { some_procs = plan.some_procs; few_procs = plan.few_procs; some_callers = plan.some_callers; few_callers = plan.few_callers };
+      limits = plan.limits;
       many_procs = length-replicate procs fresh_proc;
       many_callers = length-map callers (fresh_caller procs);
       role = refl;

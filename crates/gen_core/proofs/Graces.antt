@@ -10,11 +10,12 @@ use Rattle.gen_core.specs.declared.state.GenProc.{GenProc}
 use Rattle.gen_core.specs.declared.state.GraceAt.{GraceAt}
 use Rattle.gen_core.specs.declared.state.GraceAt.TheVariants.{Idle, Flipping, Looking, Quiet}
 use Rattle.gen_core.specs.Plain.{Caller, Generations}
-use Rattle.gen_core.specs.Places.{EachPlace}
+use Rattle.k42_places.specs.Places.{EachPlace}
 use Rattle.gen_core.specs.State.{fresh_proc, put_proc, put_caller}
 use Rattle.gen_core.specs.Events.{is_even, exits_of, other_exits, role_taken, looked_ahead, after_flip, proc_flipped, after_look, role_given}
 use Rattle.gen_core.specs.Sound.{Course, is_flipped, is_passed, holds_role, is_in, is_active_in, active_in, StageFits, IsHolderOrIdle, IsInStep, IsOfStep, IsActiveInStep, IsCounted, FitsFields, IsInCourse}
-use Rattle.gen_core.proofs.Places.{EachPlace-set, EachPlace-set_else, EachPlace-list_all, count_by_none, count_by_zero}
+use Rattle.k42_places.proofs.EachPlaces.{EachPlace-set, EachPlace-set_else, EachPlace-list_all}
+use Rattle.k42_places.proofs.Counts.{count_by_none, count_by_zero}
 use Rattle.gen_core.proofs.Stages.{is_even-next, exits_fit, passed-after_flip, flipped-after_flip_here, flipped-after_flip_else, flipped-after_look, passed-after_look_here, passed-after_look_else}
 use Rattle.gen_core.proofs.Frames.{with_grace, steered, holder_from_grace, keeps_grace}
 

@@ -1,4 +1,3 @@
-pub mod Places
 pub mod Stages
 pub mod Frames
 pub mod Activities
@@ -8,5 +7,8 @@ pub mod Ranges
 pub mod Fresh
 pub mod Alone
 pub mod Reached
+pub mod Holding
+pub mod Entries
 pub mod Ended
 pub mod AtTheBounds
+pub mod AGrace

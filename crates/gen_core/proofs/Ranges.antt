@@ -1,17 +1,15 @@
 -- What the code of an event needs: that places are there, and that numbers fit.
-use Rattle.std.proofs.Common.{◌≡◌, ℕ, ◌+◌, ◌^◌, ◌<◌, ◌≤◌, ◌∙◌, Bool, true, false, not, Some, length, sym, refl, eq-eqb, arith}
-use Rattle.std.specs.Bool.{OnTrue, OnFalse}
+use Rattle.std.proofs.Common.{◌≡◌, ℕ, ◌+◌, ◌^◌, ◌<◌, ◌≤◌, ◌∙◌, not, Some, length, sym, refl, eq-eqb, arith}
 use Rattle.std.proofs.lemmas.Bool.{le-ltb}
-use Rattle.gen_core.specs.declared.event.GenEvent.{GenEvent}
+use Rattle.k42_limits.specs.declared.TheConstants.{PROCESSORS}
 use Rattle.gen_core.specs.declared.state.GraceAt.TheVariants.{Flipping, Looking}
 use Rattle.gen_core.specs.Plain.{Generations}
 use Rattle.gen_core.specs.State.{proc_at, caller_at}
-use Rattle.gen_core.specs.Events.{is_even, is_possible, effect, caller_of}
+use Rattle.gen_core.specs.Events.{is_even}
 use Rattle.gen_core.specs.Sound.{IsHolder, IsSound}
 use Rattle.gen_core.proofs.Stages.{exits_fit}
 use Rattle.gen_core.proofs.Frames.{holder_from_grace}
-use Rattle.gen_core.proofs.Alone.{ChangesOnly, ChangesOnly-refl, proc_of, only_caller}
-use Rattle.gen_core.proofs.Courses.{at_caller, proc_there, place_there, at_turn, course_after, keeps_effect}
+use Rattle.gen_core.proofs.Courses.{at_caller, proc_there, place_there, at_turn}
 
 module _ (s : Generations) (c : ℕ) (sound : IsSound s) (there : c < length s.callers) where
   pub home_there : (caller_at s c).proc < length s.procs
@@ -21,7 +19,7 @@ module _ (s : Generations) (c : ℕ) (sound : IsSound s) (there : c < length s.c
   pub length-waits : length (caller_at s c).waits ≡ length s.procs
   length-waits = (sound.in_course.placed c (caller_at s c) (at_caller sound.course s sound.in_course c there)).waits ∙ sym sound.in_course.many_procs
 
-  pub few_procs : length s.procs ≤ 8
+  pub few_procs : length s.procs ≤ PROCESSORS
   few_procs = rw sound.in_course.many_procs sound.in_course.limits.few_procs
 
   pub flipping_there : (p : ℕ) → (caller_at s c).grace ≡ Flipping p → p < length s.procs
@@ -58,18 +56,3 @@ module _ (s : Generations) (c : ℕ) (sound : IsSound s) (there : c < length s.c
 pub ruleset flipping = (flipping_there, few_procs, length-waits, next_fits, coming_fits)
 
 pub ruleset looking = (looking_there, few_procs, length-waits)
-
--- an event that answered b keeps every fact
-pub IsSound-after : (s t : Generations) (event : GenEvent) (b : Bool) → b ≡ is_possible s event
-    → OnTrue b (t ≡ effect s event) → OnFalse b (t ≡ s)
-    → IsSound s → caller_of event < length s.callers → IsSound t
-IsSound-after s t event true possible moved stays sound there =
-    rw moved (record { course = course_after sound.course s event; in_course = keeps_effect sound.course s event sound.in_course there (sym possible) })
-IsSound-after s t event false possible moved stays sound there = rw stays sound
-
--- nor does it change more than its caller and one processor
-pub ChangesOnly-after : (s t : Generations) (event : GenEvent) (b : Bool) → OnTrue b (t ≡ effect s event)
-    → OnFalse b (t ≡ s)
-    → caller_of event < length s.callers → ChangesOnly s t (caller_of event) (proc_of s event)
-ChangesOnly-after s t event true moved stays there = rw moved (only_caller s event there)
-ChangesOnly-after s t event false moved stays there = rw stays (ChangesOnly-refl s (caller_of event) (proc_of s event))

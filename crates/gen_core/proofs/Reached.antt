@@ -9,9 +9,10 @@ use Rattle.gen_core.specs.declared.state.GraceAt.{GraceAt}
 use Rattle.gen_core.specs.declared.state.GraceAt.TheVariants.{Idle, Flipping, Looking, Quiet}
 use Rattle.gen_core.specs.Plain.{Generations}
 use Rattle.gen_core.specs.State.{proc_at, caller_at, fresh}
-use Rattle.gen_core.specs.Events.{is_possible, effect, caller_of}
+use Rattle.gen_core.specs.Events.{is_possible, effect, happens, caller_of}
 use Rattle.gen_core.specs.Sound.{Course, is_flipped, is_passed, holds_role, StageFits, IsHolder, IsNoHolder, IsInCourse, IsSound}
-use Rattle.gen_core.specs.Runs.{happens, run, AreInRange, IsReached, HasOneHolder, CountsAgree}
+use Rattle.gen_core.specs.Runs.{run, AreInRange, IsReached}
+use Rattle.gen_core.specs.Consequences.{HasOneHolder, CountsAgree}
 use Rattle.gen_core.proofs.Frames.{holder_from_grace}
 use Rattle.gen_core.proofs.Courses.{course_after, at_caller, keeps_effect}
 use Rattle.gen_core.proofs.Fresh.{IsSound-fresh}

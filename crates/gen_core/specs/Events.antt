@@ -1,5 +1,5 @@
 -- For each event where it is possible and what its effect is.
-use Rattle.std.specs.Prelude.{ℕ, ◌+◌, ◌-◌, ◌^◌, ◌%◌, Bool, true, false, not, ◌&&◌, ◌==◌, nat_lt, if◌then◌else◌, List, Option, Some, None, length, unwrap_or, is_some, is_none, slice_index, slice_set}
+use Rattle.std.specs.Prelude.{ℕ, ◌≡◌, ◌+◌, ◌-◌, ◌^◌, ◌%◌, Bool, true, false, not, ◌&&◌, ◌==◌, nat_lt, if◌then◌else◌, List, Option, Some, None, length, unwrap_or, is_some, is_none, slice_index, slice_set}
 use Rattle.std.specs.List.{list_all}
 use Rattle.gen_core.specs.declared.event.GenEvent.{GenEvent}
 use Rattle.gen_core.specs.declared.event.GenEvent.TheVariants.{Enter, Leave, TakeRole, LookAhead, Flip, Look, GiveRole}
@@ -180,3 +180,12 @@ caller_of (LookAhead c) = c
 caller_of (Flip c) = c
 caller_of (Look c) = c
 caller_of (GiveRole c) = c
+
+-- the state after an event; one that is not possible changes nothing
+abbrev pub happens : Generations → GenEvent → Generations
+happens s event = if is_possible s event then effect s event else s
+
+-- an event is answered by whether it was possible, and has happened
+pub record Applies (result : Bool) (old new : Generations) (event : GenEvent) : Type 0 where
+  pub answer : result ≡ is_possible old event
+  pub state : new ≡ happens old event

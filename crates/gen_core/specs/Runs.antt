@@ -1,16 +1,11 @@
--- Lists of events from a state, and what is true after each.
-use Rattle.std.specs.Prelude.{ℕ, ◌≡◌, ◌≢◌, ◌+◌, ◌<◌, if◌then◌else◌, List, [], ◌∷◌, ◌++◌, Some, None, length, slice_index, IsTrue, IsFalse, IsSome}
+-- Lists of events from a state, and the grace that one of its callers has among them.
+use Rattle.std.specs.Prelude.{ℕ, ◌≡◌, ◌<◌, List, [], ◌∷◌, ◌++◌, None, length, IsTrue, IsSome}
 use Rattle.gen_core.specs.declared.event.GenEvent.{GenEvent}
 use Rattle.gen_core.specs.declared.event.GenEvent.TheVariants.{Leave, TakeRole, GiveRole}
-use Rattle.gen_core.specs.declared.state.GraceAt.TheVariants.{Idle, Quiet}
+use Rattle.gen_core.specs.declared.state.GraceAt.TheVariants.{Quiet}
 use Rattle.gen_core.specs.Plain.{Generations}
-use Rattle.gen_core.specs.State.{proc_at, caller_at, fresh, IsPlan}
-use Rattle.gen_core.specs.Events.{is_even, exits_of, is_possible, effect, caller_of}
-use Rattle.gen_core.specs.Sound.{is_flipped, is_passed, active_in}
-
--- the state after an event; one that is not possible changes nothing
-abbrev pub happens : Generations → GenEvent → Generations
-happens s event = if is_possible s event then effect s event else s
+use Rattle.gen_core.specs.State.{caller_at, fresh, IsPlan}
+use Rattle.gen_core.specs.Events.{is_possible, happens, caller_of}
 
 -- the state after each of the events in turn
 abbrev pub run : List GenEvent → Generations → Generations
@@ -58,27 +53,3 @@ pub record IsQuietGrace (s : Generations) (events : List GenEvent) (holder : ℕ
 -- the caller leaves among the events that follow the taking of the role
 abbrev pub HasLeft : Generations → List GenEvent → ℕ → ℕ → Type 0
 HasLeft s events holder caller = Occurs (Leave caller) events (happens s (TakeRole holder))
-
--- the holder is the one caller with a grace under way, and it is in no activity
-pub record HasOneHolder (s : Generations) : Type 0 where
-  pub holder : (c : ℕ) → c < length s.callers → (caller_at s c).grace ≢ Idle → s.role ≡ Some c
-  pub under_way : (c : ℕ) → s.role ≡ Some c → (caller_at s c).grace ≢ Idle
-  pub inactive : (c : ℕ) → s.role ≡ Some c → (caller_at s c).active ≡ None
-
--- so many entries of a generation are the exits of its parity and the callers active in it
-abbrev pub EntriesAre : Generations → ℕ → ℕ → ℕ → Type 0
-EntriesAre s p generation entries =
-    entries ≡ exits_of (proc_at s p) (is_even generation) + active_in s.callers p generation
-
--- the holder's grace has flipped processor p and not passed it
-abbrev pub WaitsFor : Generations → ℕ → ℕ → Type 0
-WaitsFor s holder p =
-    let grace = (caller_at s holder).grace in
-    (s.role ≡ Some holder) × IsTrue (is_flipped grace p) × IsFalse (is_passed grace p)
-
--- the counts of each processor agree for its present generation, and for its former one where the holder waits for it
-pub record CountsAgree (s : Generations) : Type 0 where
-  pub present : (p : ℕ) → p < length s.procs → EntriesAre s p (proc_at s p).generation (proc_at s p).entered
-  pub former : (p holder generation : ℕ) → p < length s.procs → WaitsFor s holder p
-      → generation + 1 ≡ (proc_at s p).generation
-      → EntriesAre s p generation (slice_index (caller_at s holder).waits p)

@@ -1,11 +1,12 @@
 -- What stays true in every state that events reach from a new one.
-use Rattle.std.specs.Prelude.{ℕ, ◌≡◌, ◌+◌, ◌^◌, ◌<◌, ◌≤◌, ◌⊎◌, Bool, true, false, ◌&&◌, ◌==◌, nat_lt, List, Option, Some, None, IsSomeAnd, length, slice_index, count_by}
+use Rattle.std.specs.Prelude.{ℕ, ◌≡◌, ◌+◌, ◌^◌, ◌<◌, ◌⊎◌, Bool, true, false, ◌&&◌, ◌==◌, nat_lt, List, Option, Some, None, IsSomeAnd, length, slice_index, count_by}
 use Rattle.std.specs.Bool.{MatchBool}
 use Rattle.gen_core.specs.declared.state.GenProc.{GenProc}
 use Rattle.gen_core.specs.declared.state.GraceAt.{GraceAt}
 use Rattle.gen_core.specs.declared.state.GraceAt.TheVariants.{Idle, Flipping, Looking, Quiet}
 use Rattle.gen_core.specs.Plain.{Caller, Generations}
-use Rattle.gen_core.specs.Places.{EachPlace}
+use Rattle.k42_places.specs.Places.{EachPlace}
+use Rattle.gen_core.specs.State.{IsWithinLimits}
 use Rattle.gen_core.specs.Events.{is_even, exits_of, other_exits}
 
 -- what all processors and callers of a state share
@@ -54,13 +55,6 @@ is_active_in p generation x = (x.proc == p) && is_in x.active generation
 -- how many callers are active on a processor in a generation
 abbrev pub active_in : List Caller → ℕ → ℕ → ℕ
 active_in callers p generation = count_by (is_active_in p generation) callers
-
--- one to eight processors, one to sixteen callers
-pub record IsWithinLimits (procs callers : ℕ) : Type 0 where
-  pub some_procs : 0 < procs
-  pub few_procs : procs ≤ 8
-  pub some_callers : 0 < callers
-  pub few_callers : callers ≤ 16
 
 -- the caller's processor is there, and it has a number to note for each
 pub record IsPlaced (procs : ℕ) (c : ℕ) (x : Caller) : Type 0 where

@@ -3,7 +3,8 @@ use Rattle.std.specs.Prelude.{ℕ, ◌<◌, ◌≤◌, List, [], map, length, re
 use Rattle.gen_core.specs.declared.state.GenProc.{GenProc}
 use Rattle.gen_core.specs.declared.state.GraceAt.TheVariants.{Idle}
 use Rattle.gen_core.specs.Plain.{Caller, Generations}
-use Rattle.gen_core.specs.Places.{EachPlace}
+use Rattle.k42_limits.specs.declared.TheConstants.{PROCESSORS, CALLERS}
+use Rattle.k42_places.specs.Places.{EachPlace}
 
 -- a processor that nobody has entered
 abbrev pub fresh_proc : GenProc
@@ -38,10 +39,14 @@ fresh procs callers = record {
   role = None;
 }
 
--- one to eight processors, one to sixteen callers, each on a processor that is there
-pub record IsPlan (procs : ℕ) (callers : List ℕ) : Type 0 where
+-- a system has one processor or more and one caller or more, and not too many
+pub record IsWithinLimits (procs callers : ℕ) : Type 0 where
   pub some_procs : 0 < procs
-  pub few_procs : procs ≤ 8
-  pub some_callers : 0 < length callers
-  pub few_callers : length callers ≤ 16
+  pub few_procs : procs ≤ PROCESSORS
+  pub some_callers : 0 < callers
+  pub few_callers : callers ≤ CALLERS
+
+-- so many processors, and callers on processors that are there
+pub record IsPlan (procs : ℕ) (callers : List ℕ) : Type 0 where
+  pub limits : IsWithinLimits procs (length callers)
   pub placed : EachPlace (λ c p. p < procs) callers

@@ -7,7 +7,10 @@ mod machine;
 mod state;
 
 pub use event::GenEvent;
-pub use laws::{counts_agree, one_holder, quiet_means_ended, stays_sound};
+pub use laws::{
+    counts_agree, entries_rise_at_an_entry, no_generation_falls, one_holder, only_the_holder_moves,
+    quiet_means_ended, quiet_means_present, stays_sound,
+};
 pub use machine::apply;
 pub use state::{GenCaller, GenProc, GenState, GraceAt};
 

@@ -1,6 +1,5 @@
 ghost use Rattle.std.specs.Prelude.{◌≡◌, ◌<◌, length};
-ghost use Rattle.std.specs.Bool.{OnTrue, OnFalse};
-ghost use Rattle.gen_core.specs.Events.{caller_of, is_possible, effect};
+ghost use Rattle.gen_core.specs.Events.{caller_of, Applies};
 ghost use Rattle.gen_core.specs.Sound.{IsSound};
 
 use crate::event::GenEvent;
@@ -10,9 +9,7 @@ use crate::state::{GenProc, GenState, GraceAt};
 fn enter(state: &mut GenState, c: usize) -> bool
     requires sound { IsSound state.old }
     requires in_range { c < length state.old.callers }
-    ensures possible { result ≡ is_possible state.old (GenEvent.Enter c) }
-    ensures effect { OnTrue result (state.new ≡ effect state.old (GenEvent.Enter c)) }
-    ensures stays { OnFalse result (state.new ≡ state.old) }
+    ensures { Applies result state.old state.new (GenEvent.Enter c) }
 {
     let caller = state.caller(c);
     let p = caller.proc as usize;
@@ -36,9 +33,7 @@ fn enter(state: &mut GenState, c: usize) -> bool
 fn leave(state: &mut GenState, c: usize) -> bool
     requires sound { IsSound state.old }
     requires in_range { c < length state.old.callers }
-    ensures possible { result ≡ is_possible state.old (GenEvent.Leave c) }
-    ensures effect { OnTrue result (state.new ≡ effect state.old (GenEvent.Leave c)) }
-    ensures stays { OnFalse result (state.new ≡ state.old) }
+    ensures { Applies result state.old state.new (GenEvent.Leave c) }
 {
     let caller = state.caller(c);
     let p = caller.proc as usize;
@@ -58,9 +53,7 @@ fn leave(state: &mut GenState, c: usize) -> bool
 fn take_role(state: &mut GenState, c: u32) -> bool
     requires sound { IsSound state.old }
     requires in_range { c < length state.old.callers }
-    ensures possible { result ≡ is_possible state.old (GenEvent.TakeRole c) }
-    ensures effect { OnTrue result (state.new ≡ effect state.old (GenEvent.TakeRole c)) }
-    ensures stays { OnFalse result (state.new ≡ state.old) }
+    ensures { Applies result state.old state.new (GenEvent.TakeRole c) }
 {
     if !state.caller(c as usize).is_free() || !state.can_flip_all() {
         return false;
@@ -76,9 +69,7 @@ fn take_role(state: &mut GenState, c: u32) -> bool
 fn look_ahead(state: &mut GenState, c: usize) -> bool
     requires sound { IsSound state.old }
     requires in_range { c < length state.old.callers }
-    ensures possible { result ≡ is_possible state.old (GenEvent.LookAhead c) }
-    ensures effect { OnTrue result (state.new ≡ effect state.old (GenEvent.LookAhead c)) }
-    ensures stays { OnFalse result (state.new ≡ state.old) }
+    ensures { Applies result state.old state.new (GenEvent.LookAhead c) }
 {
     let caller = state.caller(c);
     let GraceAt::Flipping(p) = caller.grace else {
@@ -96,9 +87,7 @@ fn look_ahead(state: &mut GenState, c: usize) -> bool
 fn flip(state: &mut GenState, c: usize) -> bool
     requires sound { IsSound state.old }
     requires in_range { c < length state.old.callers }
-    ensures possible { result ≡ is_possible state.old (GenEvent.Flip c) }
-    ensures effect { OnTrue result (state.new ≡ effect state.old (GenEvent.Flip c)) }
-    ensures stays { OnFalse result (state.new ≡ state.old) }
+    ensures { Applies result state.old state.new (GenEvent.Flip c) }
 {
     let caller = state.caller(c);
     let GraceAt::Flipping(p) = caller.grace else {
@@ -123,9 +112,7 @@ fn flip(state: &mut GenState, c: usize) -> bool
 fn look(state: &mut GenState, c: usize) -> bool
     requires sound { IsSound state.old }
     requires in_range { c < length state.old.callers }
-    ensures possible { result ≡ is_possible state.old (GenEvent.Look c) }
-    ensures effect { OnTrue result (state.new ≡ effect state.old (GenEvent.Look c)) }
-    ensures stays { OnFalse result (state.new ≡ state.old) }
+    ensures { Applies result state.old state.new (GenEvent.Look c) }
 {
     let caller = state.caller(c);
     let GraceAt::Looking(p) = caller.grace else {
@@ -142,9 +129,7 @@ fn look(state: &mut GenState, c: usize) -> bool
 fn give_role(state: &mut GenState, c: usize) -> bool
     requires sound { IsSound state.old }
     requires in_range { c < length state.old.callers }
-    ensures possible { result ≡ is_possible state.old (GenEvent.GiveRole c) }
-    ensures effect { OnTrue result (state.new ≡ effect state.old (GenEvent.GiveRole c)) }
-    ensures stays { OnFalse result (state.new ≡ state.old) }
+    ensures { Applies result state.old state.new (GenEvent.GiveRole c) }
 {
     let GraceAt::Quiet = state.caller(c).grace else {
         return false;
@@ -157,9 +142,7 @@ fn give_role(state: &mut GenState, c: usize) -> bool
 fn step(state: &mut GenState, event: &GenEvent) -> bool
     requires sound { IsSound state.old }
     requires in_range { caller_of event.now < length state.old.callers }
-    ensures possible { result ≡ is_possible state.old event.now }
-    ensures effect { OnTrue result (state.new ≡ effect state.old event.now) }
-    ensures stays { OnFalse result (state.new ≡ state.old) }
+    ensures { Applies result state.old state.new event.now }
 {
     match *event {
         GenEvent::Enter(c) => enter(state, c as usize),
@@ -176,9 +159,7 @@ fn step(state: &mut GenState, event: &GenEvent) -> bool
 pub fn apply(state: &mut GenState, event: &GenEvent) -> bool
     requires sound { IsSound state.old }
     requires in_range { caller_of event.now < length state.old.callers }
-    ensures possible { result ≡ is_possible state.old event.now }
-    ensures effect { OnTrue result (state.new ≡ effect state.old event.now) }
-    ensures stays { OnFalse result (state.new ≡ state.old) }
+    ensures applies { Applies result state.old state.new event.now }
     ensures sound { IsSound state.new }
     ensures callers { length state.new.callers ≡ length state.old.callers }
     ensures procs { length state.new.procs ≡ length state.old.procs }

@@ -1,5 +1,6 @@
 ghost use Rattle.std.specs.Prelude.{◌≡◌, ℕ, ◌-◌, ◌^◌, ◌<◌, ◌≤◌, nat_lt, length, slice_set, IfOk};
 ghost use Rattle.std.specs.List.{list_all};
+ghost use Rattle.k42_limits.specs.declared.TheConstants.{PROCESSORS};
 ghost use Rattle.gen_core.specs.State.{proc_at, caller_at, put_proc, change_caller, fresh, IsPlan};
 ghost use Rattle.gen_core.specs.Sound.{IsSound};
 ghost use Rattle.gen_core.specs.Events.{exits_of, other_exits, exit_counted, is_free, after_flip, after_look};
@@ -56,7 +57,7 @@ impl Model for GenCaller {
     } };
 }
 
-/// One to eight processors and one to sixteen callers, each named by its place.
+/// The processors and the callers, each named by its place.
 #[derive(Debug, Drop)]
 pub struct GenState {
     pub procs: Vec<GenProc>,
@@ -115,7 +116,7 @@ impl GraceAt {
     /// Where a grace is once it has flipped p of so many processors.
     pub(crate) fn after_flip(p: u32, procs: usize) -> GraceAt
         requires there { p < procs }
-        requires few { procs ≤ 8 }
+        requires few { procs ≤ PROCESSORS }
         ensures { result ≡ after_flip p procs }
     {
         if p as usize + 1 < procs {
@@ -128,7 +129,7 @@ impl GraceAt {
     /// Where a grace is once it has passed p of so many processors.
     pub(crate) fn after_look(p: u32, procs: usize) -> GraceAt
         requires there { p < procs }
-        requires few { procs ≤ 8 }
+        requires few { procs ≤ PROCESSORS }
         ensures { result ≡ after_look p procs }
     {
         if p as usize + 1 < procs {

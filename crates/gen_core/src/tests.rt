@@ -104,3 +104,123 @@ fn a_grace_of_eight_processors_and_sixteen_callers_becomes_quiet(
     assert_eq!(rt; state.role, Some(0));
     Ok(())
 }
+
+// Sixty events of two processors and three callers, each with whether it is possible.
+const EVENTS: [(GenEvent, bool); 60] = [
+    (GenEvent::Enter(1), true),
+    (GenEvent::TakeRole(0), true),
+    (GenEvent::LookAhead(0), true),
+    (GenEvent::Flip(0), true),
+    (GenEvent::LookAhead(0), true),
+    (GenEvent::Enter(0), false),
+    (GenEvent::Leave(1), true),
+    (GenEvent::Flip(0), true),
+    (GenEvent::Enter(1), true),
+    (GenEvent::Enter(2), true),
+    (GenEvent::Look(0), true),
+    (GenEvent::Look(0), true),
+    (GenEvent::GiveRole(0), true),
+    (GenEvent::Enter(0), true),
+    (GenEvent::Leave(0), true),
+    (GenEvent::TakeRole(0), true),
+    (GenEvent::TakeRole(0), false),
+    (GenEvent::LookAhead(0), true),
+    (GenEvent::Flip(0), true),
+    (GenEvent::LookAhead(0), true),
+    (GenEvent::Flip(0), true),
+    (GenEvent::Leave(1), true),
+    (GenEvent::Leave(2), true),
+    (GenEvent::TakeRole(0), false),
+    (GenEvent::Enter(2), true),
+    (GenEvent::Look(0), true),
+    (GenEvent::Look(0), true),
+    (GenEvent::Look(0), false),
+    (GenEvent::GiveRole(0), true),
+    (GenEvent::TakeRole(0), true),
+    (GenEvent::LookAhead(0), true),
+    (GenEvent::GiveRole(0), false),
+    (GenEvent::Flip(0), true),
+    (GenEvent::TakeRole(1), true),
+    (GenEvent::LookAhead(0), true),
+    (GenEvent::Flip(0), true),
+    (GenEvent::Look(0), true),
+    (GenEvent::Look(0), true),
+    (GenEvent::Look(0), true),
+    (GenEvent::TakeRole(1), true),
+    (GenEvent::Leave(2), true),
+    (GenEvent::Look(0), true),
+    (GenEvent::Look(0), true),
+    (GenEvent::TakeRole(0), false),
+    (GenEvent::GiveRole(0), true),
+    (GenEvent::Leave(0), false),
+    (GenEvent::TakeRole(1), true),
+    (GenEvent::GiveRole(2), false),
+    (GenEvent::Enter(2), true),
+    (GenEvent::Leave(2), true),
+    (GenEvent::Look(1), false),
+    (GenEvent::LookAhead(1), true),
+    (GenEvent::Enter(2), true),
+    (GenEvent::LookAhead(1), false),
+    (GenEvent::Flip(1), true),
+    (GenEvent::Flip(1), false),
+    (GenEvent::LookAhead(1), true),
+    (GenEvent::TakeRole(0), true),
+    (GenEvent::LookAhead(2), false),
+    (GenEvent::Enter(0), true),
+];
+
+fn number_of(event: &GenEvent) -> u32
+    ensures { result ≡ caller_of event.now }
+{
+    match *event {
+        GenEvent::Enter(c) => c,
+        GenEvent::Leave(c) => c,
+        GenEvent::TakeRole(c) => c,
+        GenEvent::LookAhead(c) => c,
+        GenEvent::Flip(c) => c,
+        GenEvent::Look(c) => c,
+        GenEvent::GiveRole(c) => c,
+    }
+}
+
+// Whether events of three callers are answered as they are listed.
+fn answers(state: &mut GenState, events: &[(GenEvent, bool)]) -> bool
+    requires sound { IsSound state.old }
+    requires two { length state.old.procs ≡ 2 }
+    requires three { length state.old.callers ≡ 3 }
+    ensures two { length state.new.procs ≡ 2 }
+{
+    for (event, possible) in events {
+        if number_of(event) >= 3 || apply(state, event) != *possible {
+            return false;
+        }
+    }
+    true
+}
+
+#[test]
+fn graces_and_activities_of_three_callers_go_as_listed(rt: HostRuntime) -> Result<(), Fail> {
+    let callers = vec![in rt.alloc(); 0, 1, 0]?;
+    let mut state = GenState::new(rt.alloc(), 2, callers)?;
+    assert!(rt; answers(&mut state, EVENTS.as_slice()));
+    assert_eq!(rt; state.role, Some(1));
+    assert_eq!(rt;
+        state.procs[0],
+        GenProc {
+            generation: 4,
+            entered: 2,
+            exits_even: 1,
+            exits_odd: 3
+        }
+    );
+    assert_eq!(rt;
+        state.procs[1],
+        GenProc {
+            generation: 3,
+            entered: 1,
+            exits_even: 1,
+            exits_odd: 1
+        }
+    );
+    Ok(())
+}

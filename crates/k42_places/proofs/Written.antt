@@ -1,5 +1,5 @@
 -- What stands at a place after one place was written.
-use Rattle.std.proofs.Common.{◌≡◌, ◌≢◌, ℕ, zero, suc, ◌<◌, ◌⊎◌, List, [], ◌∷◌, length, set, Some, refl, ap, inl, inr, ⊎_elim, arith}
+use Rattle.std.proofs.Common.{◌≡◌, ◌≢◌, ℕ, zero, suc, ◌<◌, ◌⊎◌, List, [], ◌∷◌, length, get_or, set, Some, refl, ap, inl, inr, ⊎_elim, arith}
 use Rattle.std.specs.List.{slice_get}
 use Rattle.std.proofs.lemmas.Option.{same_Some}
 
@@ -25,3 +25,12 @@ module _ {A : Type 0} where
   at_set (x ∷ xs) (suc i) zero a b e = inr ((λ h. omega arith), e)
   at_set (x ∷ xs) (suc i) (suc j) a b e =
       ⊎_elim (λ t. inl (ap suc t.0, t.1)) (λ t. let n = t.0 in inr ((λ h. n (omega arith)), t.1)) (at_set xs i j a b e)
+
+  -- what is read at a place before and after one was written is related where the written place is
+  pub get_or-set_related : (R : A → A → Type 0) → ((x : A) → R x x) → (l : List A) (i j : ℕ) (a d : A)
+      → R (get_or l i d) a → R (get_or l j d) (get_or (set l i a) j d)
+  get_or-set_related R same [] i j a d here = same (get_or [] j d)
+  get_or-set_related R same (x ∷ xs) zero zero a d here = here
+  get_or-set_related R same (x ∷ xs) zero (suc j) a d here = same (get_or xs j d)
+  get_or-set_related R same (x ∷ xs) (suc i) zero a d here = same x
+  get_or-set_related R same (x ∷ xs) (suc i) (suc j) a d here = get_or-set_related R same xs i j a d here

@@ -1,6 +1,0 @@
--- What holds of a list place by place.
-use Rattle.std.specs.Prelude.{ℕ, ◌≡◌, List, Some, slice_get}
-
--- each element of the list, with its place, has the fact
-abbrev pub EachPlace : {A : Type 0} → (ℕ → A → Type 0) → List A → Type 0
-EachPlace {A} P xs = (i : ℕ) (x : A) → slice_get xs i ≡ Some x → P i x
