@@ -3,17 +3,17 @@ use Rattle.std.proofs.Common.{◌≡◌, ℕ, ◌<◌, ◌≤◌, ◌^◌, Bool,
 use Rattle.std.specs.Prelude.{nat_le}
 use Rattle.std.specs.List.{list_all}
 use Rattle.std.specs.Fmt.{decimal}
+use Rattle.std.proofs.lemmas.Bool.{and_parts}
 use Rattle.std.proofs.lemmas.Bool.Decides.{nat_tests}
 use Rattle.std.proofs.lemmas.Fmt.{length-decimal-le}
 use Rattle.k42_kinds.specs.Words.{is_digit, is_lower, is_visible, continues_name, is_name, is_text}
 use Rattle.script_text.proofs.DecimalNumbers.{list_all_digits-decimal}
-use Rattle.script_text.proofs.Spacing.{both}
 
 -- what holds of every digit holds of a number
 list_all-digits : (p : ℕ → Bool) → ((b : ℕ) → is_digit b ≡ true → p b ≡ true) → (bytes : List ℕ) → list_all is_digit bytes ≡ true → list_all p bytes ≡ true
 list_all-digits p each [] all = refl
 list_all-digits p each (b ∷ bytes) all =
-    let parts = both (is_digit b) (list_all is_digit bytes) all in
+    let parts = and_parts (is_digit b) (list_all is_digit bytes) all in
     rw (each b parts.0) (list_all-digits p each bytes parts.1)
 
 digit_continues : (b : ℕ) → is_digit b ≡ true → continues_name b ≡ true
