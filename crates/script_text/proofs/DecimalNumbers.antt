@@ -4,6 +4,7 @@ use Rattle.std.specs.Prelude.{Option, Some, None, ◌↔◌}
 use Rattle.std.specs.List.{list_all}
 use Rattle.std.specs.Fmt.{decimal}
 use Rattle.std.specs.Str.Parse.{digits_value}
+use Rattle.std.proofs.lemmas.Bool.{and_parts}
 use Rattle.std.proofs.lemmas.Bool.Decides.{nat_tests}
 use Rattle.std.proofs.lemmas.Option.{same_Some}
 use Rattle.std.proofs.lemmas.Str.Parse.{IsNumeralModel, IsDigitsTest, numerals_by_value}
@@ -14,15 +15,11 @@ use Rattle.script_text.specs.Numbers.{is_number, number_of}
 AreDigits : List ℕ → Type 0
 AreDigits ds = list_all is_digit ds ≡ true
 
-both : (a b : Bool) → (a && b) ≡ true → (a ≡ true) × (b ≡ true)
-both true b e = (refl, e)
-both false b e = cc
-
 digits_test : IsDigitsTest AreDigits
 unfolding AreDigits
 digits_test = record {
   empty = refl;
-  parts = λ c cs e. let parts = both (is_digit c) (list_all is_digit cs) e in (grind (arith, nat_tests, parts.0), parts.1);
+  parts = λ c cs e. let parts = and_parts (is_digit c) (list_all is_digit cs) e in (grind (arith, nat_tests, parts.0), parts.1);
   more = λ c cs digit rest. let first : is_digit c ≡ true = grind (arith, nat_tests, digit) in rw (first, rest) refl;
 }
 
@@ -38,7 +35,7 @@ record IsPlain (ds : List ℕ) : Type 0 where
 plain-number : (ds : List ℕ) → IsPlain ds → is_number ds ≡ true
 unfolding AreDigits
 plain-number [] plain = absurd (omega (arith, plain.some))
-plain-number (d ∷ []) plain = (both (is_digit d) true plain.digits).0
+plain-number (d ∷ []) plain = (and_parts (is_digit d) true plain.digits).0
 plain-number (d ∷ e ∷ ds) plain =
     let front : d ≢ 48 = λ zero_first. omega (arith, plain.lead zero_first) in
     rw (ne_eqb d 48 front) plain.digits
@@ -47,7 +44,7 @@ number-plain : (ds : List ℕ) → is_number ds ≡ true → IsPlain ds
 unfolding AreDigits
 number-plain [] e = cc
 number-plain (d ∷ []) e = record { digits = rw e refl; some = omega arith; lead = λ zero_first. refl }
-number-plain (d ∷ e ∷ ds) is = let parts = both (not (eqb d 48)) (list_all is_digit (d ∷ e ∷ ds)) is in record {
+number-plain (d ∷ e ∷ ds) is = let parts = and_parts (not (eqb d 48)) (list_all is_digit (d ∷ e ∷ ds)) is in record {
   digits = parts.1;
   some = omega arith;
   lead = λ zero_first. grind (arith, nat_tests, parts.0, zero_first);

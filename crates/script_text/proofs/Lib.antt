@@ -9,6 +9,7 @@ pub mod SoundSteps
 pub mod SoundRequests
 pub mod SoundScripts
 pub mod Underway
+pub mod FirstBytes
 pub mod Truncated
 pub mod DecimalNumbers
 pub mod Spellings

@@ -3,17 +3,18 @@ use Rattle.std.proofs.Common.{◌≡◌, ℕ, ◌<◌, ◌≤◌, ◌^◌, Bool,
 use Rattle.std.specs.Prelude.{nat_le}
 use Rattle.std.specs.List.{list_all}
 use Rattle.std.specs.Fmt.{decimal}
+use Rattle.std.proofs.lemmas.Bool.{and_parts}
 use Rattle.std.proofs.lemmas.Bool.Decides.{nat_tests}
 use Rattle.std.proofs.lemmas.Fmt.{length-decimal-le}
 use Rattle.k42_kinds.specs.Words.{is_digit, is_lower, is_visible, continues_name, is_name, is_text}
+use Rattle.k42_limits.specs.declared.TheConstants.{NAME_BYTES, TEXT_BYTES}
 use Rattle.script_text.proofs.DecimalNumbers.{list_all_digits-decimal}
-use Rattle.script_text.proofs.Spacing.{both}
 
 -- what holds of every digit holds of a number
 list_all-digits : (p : ℕ → Bool) → ((b : ℕ) → is_digit b ≡ true → p b ≡ true) → (bytes : List ℕ) → list_all is_digit bytes ≡ true → list_all p bytes ≡ true
 list_all-digits p each [] all = refl
 list_all-digits p each (b ∷ bytes) all =
-    let parts = both (is_digit b) (list_all is_digit bytes) all in
+    let parts = and_parts (is_digit b) (list_all is_digit bytes) all in
     rw (each b parts.0) (list_all-digits p each bytes parts.1)
 
 digit_continues : (b : ℕ) → is_digit b ≡ true → continues_name b ≡ true
@@ -32,10 +33,10 @@ pub name-numbered : (letter n : ℕ) → is_lower letter ≡ true → n < 2 ^ 32
 name-numbered letter n lower small =
     let short = length-decimal-le 10 n (omega arith) (omega (arith, small)) (omega (arith, small)) in
     let digits = list_all-digits continues_name digit_continues (decimal n) (list_all_digits-decimal n (omega (arith, small))) in
-    rw (within (length (letter ∷ decimal n)) 16 (omega (arith, short)), lower, digits) refl
+    rw (within (length (letter ∷ decimal n)) NAME_BYTES (omega (arith, short)), lower, digits) refl
 
 pub text-numbered : (letter n : ℕ) → is_lower letter ≡ true → n < 2 ^ 32 → is_text (letter ∷ decimal n) ≡ true
 text-numbered letter n lower small =
     let short = length-decimal-le 10 n (omega arith) (omega (arith, small)) (omega (arith, small)) in
     let digits = list_all-digits is_visible digit_visible (decimal n) (list_all_digits-decimal n (omega (arith, small))) in
-    rw (within 1 (length (letter ∷ decimal n)) (omega arith), within (length (letter ∷ decimal n)) 32 (omega (arith, short)), lower_visible letter lower, digits) refl
+    rw (within 1 (length (letter ∷ decimal n)) (omega arith), within (length (letter ∷ decimal n)) TEXT_BYTES (omega (arith, short)), lower_visible letter lower, digits) refl

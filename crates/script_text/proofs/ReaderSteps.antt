@@ -4,16 +4,17 @@ use Rattle.std.specs.Prelude.{Option, Some, None, is_some, sum_by, Result, OnOk}
 use Rattle.std.proofs.lemmas.List.{length-append}
 use Rattle.indexmap.proofs.MapLemmas.{OnOk-map}
 use Rattle.std.proofs.lemmas.List.Sums.{sum_by-append}
+use Rattle.k42_limits.specs.declared.TheConstants.{CALL_LINES}
 use Rattle.script_text.specs.Lawful.{call_lines}
-use Rattle.script_text.specs.Offences.{is_open_behind, is_last_open, call_limit}
+use Rattle.script_text.specs.Offences.{is_open_behind, is_last_open}
 use Rattle.script_text.specs.Language.{with_item, with_last_item, with_worker}
 use Rattle.script_text.specs.Reading.{last_worker, script_so_far, StartsEmpty, IsKept, Shows}
-use Rattle.script_text.specs.declared.script.CallLine.{CallLine}
 use Rattle.script_text.specs.declared.script.Item.{Item}
 use Rattle.script_text.specs.declared.script.Item.TheVariants.{Begin, End, Line}
 use Rattle.script_text.specs.declared.script.WorkerHead.{WorkerHead}
 use Rattle.script_text.specs.declared.script.WorkerLines.{WorkerLines}
 use Rattle.script_text.specs.declared.reading.Reading.{Reading}
+use Rattle.script_text.proofs.SoundLists.{call_lines-push}
 
 -- one more item of the last worker
 pub with_item-last : (item : Item) (workers : List WorkerLines) (worker : WorkerLines) → with_item item (workers ++ worker ∷ []) ≡ workers ++ record worker { items = worker.items ++ item ∷ [] } ∷ []
@@ -32,12 +33,6 @@ is_open_behind-push in_block [] item = refl
 is_open_behind-push in_block (Begin ∷ items) item = is_open_behind-push true items item
 is_open_behind-push in_block (End ∷ items) item = is_open_behind-push false items item
 is_open_behind-push in_block (Line line ∷ items) item = is_open_behind-push in_block items item
-
-pub call_lines-push : (items : List Item) (item : Item) → call_lines (items ++ item ∷ []) ≡ call_lines items ++ call_lines (item ∷ [])
-call_lines-push [] item = refl
-call_lines-push (Begin ∷ items) item = call_lines-push items item
-call_lines-push (End ∷ items) item = call_lines-push items item
-call_lines-push (Line line ∷ items) item = ap (λ (rest : List CallLine). line ∷ rest) (call_lines-push items item)
 
 asked_of : List WorkerLines → ℕ
 asked_of workers = sum_by (λ worker. length (call_lines worker.items)) workers
@@ -72,7 +67,7 @@ starts_some (Some head) workers items some = tt
 abbrev pub reading_with_item : Reading → Item → Bool → ℕ → Reading
 reading_with_item r item in_block asked = record r { items = r.items ++ item ∷ []; in_block = in_block; asked = asked }
 
-pub shows_item : (r : Reading) (item : Item) (in_block : Bool) (asked : ℕ) → IsKept r → is_some r.worker ≡ true → in_block ≡ is_open_behind r.in_block (item ∷ []) → asked ≡ r.asked + length (call_lines (item ∷ [])) → asked ≤ call_limit
+pub shows_item : (r : Reading) (item : Item) (in_block : Bool) (asked : ℕ) → IsKept r → is_some r.worker ≡ true → in_block ≡ is_open_behind r.in_block (item ∷ []) → asked ≡ r.asked + length (call_lines (item ∷ [])) → asked ≤ CALL_LINES
     → Shows (with_last_item (script_so_far r) item) (reading_with_item r item in_block asked)
 unfolding asked_of names_of
 shows_item r item in_block asked kept some opens counts within = record {
@@ -119,7 +114,7 @@ shows_worker r head kept closed = record {
 }
 
 -- the same, where the item was pushed unless memory ran out
-pub shows_pushed : {X E : Type 0} (pushed : Result X E) (r : Reading) (item given : Item) (items : List Item) (in_block : Bool) (asked : ℕ) → given ≡ item → IsKept r → is_some r.worker ≡ true → in_block ≡ is_open_behind r.in_block (item ∷ []) → asked ≡ r.asked + length (call_lines (item ∷ [])) → asked ≤ call_limit
+pub shows_pushed : {X E : Type 0} (pushed : Result X E) (r : Reading) (item given : Item) (items : List Item) (in_block : Bool) (asked : ℕ) → given ≡ item → IsKept r → is_some r.worker ≡ true → in_block ≡ is_open_behind r.in_block (item ∷ []) → asked ≡ r.asked + length (call_lines (item ∷ [])) → asked ≤ CALL_LINES
     → OnOk pushed (items ≡ r.items ++ item ∷ []) → OnOk pushed (Shows (with_last_item (script_so_far r) given) (record r { items = items; in_block = in_block; asked = asked }))
 shows_pushed pushed r item given items in_block asked is kept some opens counts within all =
     rw is (OnOk-map pushed (items ≡ r.items ++ item ∷ []) _ (λ are. subst (λ (list : List Item). Shows (with_last_item (script_so_far r) item) (record r { items = list; in_block = in_block; asked = asked })) (sym are) (shows_item r item in_block asked kept some opens counts within)) all)

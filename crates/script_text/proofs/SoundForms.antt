@@ -2,14 +2,16 @@
 use Rattle.std.proofs.Common.{◌≡◌, ℕ, ◌<◌, ◌≤◌, Bool, true, false, cond, not, ◌&&◌, List, [], ◌∷◌, refl, arith}
 use Rattle.std.specs.Prelude.{Option, Some, None, IfSome, option_map, nat_le, nat_lt, codes}
 use Rattle.std.specs.Str.{bytes_eq}
+use Rattle.std.proofs.lemmas.Bool.{and_parts, not-true}
 use Rattle.std.proofs.lemmas.Bool.Decides.{nat_tests}
 use Rattle.std.proofs.lemmas.Option.{cond_some, option_and_then_some}
 use Rattle.k42_kinds.specs.Words.{is_name}
 use Rattle.k42_kinds.specs.declared.operation.KindName.{KindName}
 use Rattle.k42_kinds.specs.declared.operation.LayoutName.{LayoutName}
+use Rattle.k42_limits.specs.declared.TheConstants.{PROCESSORS, PAGES}
 use Rattle.script_text.specs.Numbers.{number_of, number_within, number_below}
 use Rattle.script_text.specs.Forms.{is_reserved, free_name, name_of, page_of, page_text_of, kind_named, layout_named, head_of, procs_form, object_declared, request_of, form_behind, form_of, begins_procs}
-use Rattle.script_text.specs.Sound.{IsFreeName, page_count}
+use Rattle.script_text.specs.Sound.{IsFreeName}
 use Rattle.script_text.specs.declared.form.Form.{Form}
 use Rattle.script_text.specs.declared.form.Form.TheVariants as forms
 use Rattle.script_text.specs.declared.form.Head.{Head}
@@ -19,13 +21,13 @@ use Rattle.script_text.specs.declared.form.Request.TheVariants.{Swap, Write, Rea
 
 -- a page that the request names is there
 abbrev pub HasPage : Request → Type 0
-HasPage (Write (Some page) text) = page < page_count
-HasPage (Read (Some page)) = page < page_count
+HasPage (Write (Some page) text) = page < PAGES
+HasPage (Read (Some page)) = page < PAGES
 HasPage _ = Unit {0}
 
 -- each part that there is is one that a line may say, where there are so many processors
 abbrev pub IsFormed : ℕ → Form → Type 0
-IsFormed procs (forms.Procs (Some number)) = (1 ≤ number) × (number ≤ 8)
+IsFormed procs (forms.Procs (Some number)) = (1 ≤ number) × (number ≤ PROCESSORS)
 IsFormed procs (forms.Object (Some name) kind layout) = IsFreeName name
 IsFormed procs (forms.Worker (Some name) (Some proc)) = IsFreeName name × (proc < procs)
 IsFormed procs (forms.Asks object request) = HasPage request
@@ -44,30 +46,30 @@ below-range : (bound : ℕ) (bytes : List ℕ) (n : ℕ) → number_below bound 
 below-range bound bytes n e = option_and_then_some (λ number. cond (nat_lt number bound) (Some number) None) (number_of bytes) n e (λ number of in_range.
     let test = cond_some (nat_lt number bound) number n in_range in grind (arith, nat_tests, test.0, test.1))
 
-both_true : (a b : Bool) → (not a && b) ≡ true → (b ≡ true) × (a ≡ false)
-both_true true b e = cc
-both_true false b e = (e, refl)
-
-free_name-free : (word name : List ℕ) → free_name word ≡ Some name → IsFreeName name
-free_name-free word name e =
+-- a word that may be declared is a free name, and a free name may be declared
+pub free_name-is_free : (word name : List ℕ) → free_name word ≡ Some name → IsFreeName name
+free_name-is_free word name e =
     let test = cond_some (not (is_reserved word) && is_name word) word name e in
-    let both = both_true (is_reserved word) (is_name word) test.0 in
-    record { formed = rw (← test.1) both.0; free = rw (← test.1) both.1 }
+    let parts = and_parts (not (is_reserved word)) (is_name word) test.0 in
+    record { formed = rw (← test.1) parts.1; free = rw (← test.1) (not-true (is_reserved word) parts.0) }
+
+pub free_name-of_free : (name : List ℕ) → IsFreeName name → free_name name ≡ Some name
+free_name-of_free name free = rw (free.free, free.formed) refl
 
 module _ (procs : ℕ) where
-  procs_formed : (number : Option ℕ) (word : List ℕ) → number_within 1 8 word ≡ number → IsFormed procs (forms.Procs number)
+  procs_formed : (number : Option ℕ) (word : List ℕ) → number_within 1 PROCESSORS word ≡ number → IsFormed procs (forms.Procs number)
   procs_formed None word e = tt
-  procs_formed (Some number) word e = within-range 1 8 word number e
+  procs_formed (Some number) word e = within-range 1 PROCESSORS word number e
 
   object_formed : (name : Option (List ℕ)) (kind : KindName) (layout : LayoutName) (word : List ℕ) → free_name word ≡ name → IsFormed procs (forms.Object name kind layout)
   object_formed None kind layout word e = tt
-  object_formed (Some name) kind layout word e = free_name-free word name e
+  object_formed (Some name) kind layout word e = free_name-is_free word name e
 
   worker_formed : (name : Option (List ℕ)) (proc : Option ℕ) (word number : List ℕ) → free_name word ≡ name → number_below procs number ≡ proc → IsFormed procs (forms.Worker name proc)
   worker_formed None None word number named placed = tt
   worker_formed None (Some proc) word number named placed = tt
   worker_formed (Some name) None word number named placed = tt
-  worker_formed (Some name) (Some proc) word number named placed = (free_name-free word name named, below-range procs number proc placed)
+  worker_formed (Some name) (Some proc) word number named placed = (free_name-is_free word name named, below-range procs number proc placed)
 
   declared_formed : (word : List ℕ) (kind : Option KindName) (layout : Option LayoutName) → IfSome (object_declared word kind layout) (IsFormed procs)
   declared_formed word None None = tt
@@ -85,11 +87,11 @@ if_some_map P Q f (Some x) each holds = each x holds
 
 read_page : (page : Option ℕ) (word : List ℕ) → page_of word ≡ page → HasPage (Read page)
 read_page None word e = tt
-read_page (Some page) word e = below-range 1024 word page e
+read_page (Some page) word e = below-range PAGES word page e
 
 write_page : (page : Option ℕ) (text : Option (List ℕ)) (word : List ℕ) → page_of word ≡ page → HasPage (Write page text)
 write_page None text word e = tt
-write_page (Some page) text word e = below-range 1024 word page e
+write_page (Some page) text word e = below-range PAGES word page e
 
 request_of-page : (tokens : List (List ℕ)) → IfSome (request_of tokens) HasPage
 request_of-page [] = tt
@@ -112,7 +114,7 @@ request_of-page (word ∷ first ∷ second ∷ third ∷ tokens) = tt
 module _ (procs : ℕ) where
   form_behind-formed : (head : Head) (word : List ℕ) (tokens : List (List ℕ)) → IfSome (form_behind procs head word tokens) (IsFormed procs)
   form_behind-formed heads.Procs word [] = tt
-  form_behind-formed heads.Procs word (number ∷ []) = procs_formed procs (number_within 1 8 number) number refl
+  form_behind-formed heads.Procs word (number ∷ []) = procs_formed procs (number_within 1 PROCESSORS number) number refl
   form_behind-formed heads.Procs word (a ∷ b ∷ tokens) = tt
   form_behind-formed heads.Object word [] = tt
   form_behind-formed heads.Object word (name ∷ []) = tt

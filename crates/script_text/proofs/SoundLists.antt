@@ -1,12 +1,14 @@
 -- What stays true of names, lines and workers with one more behind them.
-use Rattle.std.proofs.Common.{◌≡◌, ℕ, zero, suc, ◌+◌, ◌<◌, ◌≤◌, Bool, true, false, ◌||◌, List, [], ◌∷◌, ◌++◌, length, ◌⊎◌, inl, inr, refl, sym, ap, subst, ◌∙◌, length-append, arith}
+use Rattle.std.proofs.Common.{◌≡◌, ℕ, zero, suc, ◌+◌, ◌<◌, ◌≤◌, Bool, true, false, List, [], ◌∷◌, ◌++◌, length, ◌⊎◌, inl, inr, refl, sym, ap, subst, ◌∙◌, length-append, arith}
 use Rattle.std.specs.Prelude.{Some, All, map, slice_get, sum_by}
 use Rattle.std.specs.Str.{bytes_eq}
 use Rattle.std.specs.List.{list_any, AllByRecursion}
-use Rattle.std.proofs.lemmas.List.Elements.{All-get_or}
+use Rattle.std.proofs.lemmas.Bool.{or_parts}
 use Rattle.std.proofs.lemmas.List.Sums.{sum_by-cons}
-use Rattle.std.proofs.lemmas.Option.{same_Some, none-some, slice_get_within, get_or_from_slice_get}
+use Rattle.std.proofs.lemmas.Option.{same_Some, none-some}
 use Rattle.std.proofs.lemmas.Slice.Eq.{bytes_eq-Decides}
+use Rattle.k42_places.proofs.Appended.{at_push}
+use Rattle.k42_places.proofs.EachPlaces.{EachPlace-All}
 use Rattle.script_text.specs.Language.{with_item}
 use Rattle.script_text.specs.Lawful.{call_lines}
 use Rattle.script_text.specs.Offences.{is_open_behind, is_last_open}
@@ -16,45 +18,23 @@ use Rattle.script_text.specs.declared.script.Item.{Item}
 use Rattle.script_text.specs.declared.script.Item.TheVariants.{Begin, End, Line}
 use Rattle.script_text.specs.declared.script.WorkerLines.{WorkerLines}
 
-pub slice_get-append_left : {X : Type 0} (xs ys : List X) (i : ℕ) (x : X) → slice_get xs i ≡ Some x → slice_get (xs ++ ys) i ≡ Some x
-slice_get-append_left [] ys i x there = absurd (none-some x there)
-slice_get-append_left (y ∷ xs) ys zero x there = there
-slice_get-append_left (y ∷ xs) ys (suc i) x there = slice_get-append_left xs ys i x there
-
--- what stands in a list with one more behind it stands in the list, or is the one more
-slice_get-push : {X : Type 0} (xs : List X) (y x : X) (i : ℕ) → slice_get (xs ++ y ∷ []) i ≡ Some x → ((i < length xs) × (slice_get xs i ≡ Some x)) ⊎ ((i ≡ length xs) × (x ≡ y))
-slice_get-push [] y x zero there = inr (refl, sym (same_Some y x there))
-slice_get-push [] y x (suc i) there = absurd (none-some x there)
-slice_get-push (z ∷ xs) y x zero there = inl (omega arith, there)
-slice_get-push (z ∷ xs) y x (suc i) there = elim (slice_get-push xs y x i there) [
-  | inl inside ↦ inl (omega (arith, inside.0), inside.1)
-  | inr last ↦ inr (ap suc last.0, last.1)
-]
-
-All-slice_get : {X : Type 0} (P : X → Type 0) (xs : List X) (i : ℕ) (x : X) → All P xs → slice_get xs i ≡ Some x → P x
-All-slice_get P xs i x all there = subst P (get_or_from_slice_get xs i x x there) (All-get_or P xs i x (slice_get_within xs i x there) all)
-
-or_false : (a b : Bool) → (a || b) ≡ false → (a ≡ false) × (b ≡ false)
-or_false true b neither = cc
-or_false false b neither = (refl, neither)
-
 -- a name that is not among the names is at none of their places
-absent : (names : List (List ℕ)) (name : List ℕ) (i : ℕ) → list_any (bytes_eq name) names ≡ false → slice_get names i ≡ Some name → ⊥
+pub absent : (names : List (List ℕ)) (name : List ℕ) (i : ℕ) → list_any (bytes_eq name) names ≡ false → slice_get names i ≡ Some name → ⊥
 absent [] name i none there = none-some name there
 absent (first ∷ names) name zero none there =
     let equal : bytes_eq name first ≡ true = (bytes_eq-Decides name first).1 (sym (same_Some first name there)) in
-    let not_first : bytes_eq name first ≡ false = (or_false (bytes_eq name first) (list_any (bytes_eq name) names) none).0 in cc
-absent (first ∷ names) name (suc i) none there = absent names name i (or_false (bytes_eq name first) (list_any (bytes_eq name) names) none).1 there
+    let not_first : bytes_eq name first ≡ false = (or_parts (bytes_eq name first) (list_any (bytes_eq name) names) none).0 in cc
+absent (first ∷ names) name (suc i) none there = absent names name i (or_parts (bytes_eq name first) (list_any (bytes_eq name) names) none).1 there
 
 -- a name that is not among distinct names is distinct from them
 pub distinct-push : (names : List (List ℕ)) (name : List ℕ) → AreDistinct names → list_any (bytes_eq name) names ≡ false → AreDistinct (names ++ name ∷ [])
-distinct-push names name distinct none i j found at_i at_j = elim (slice_get-push names name found i at_i) [
-  | inl a ↦ elim (slice_get-push names name found j at_j) [
+distinct-push names name distinct none i j found at_i at_j = elim (at_push names name i found at_i) [
+  | inl a ↦ elim (at_push names name j found at_j) [
     | inl b ↦ distinct i j found a.1 b.1
-    | inr b ↦ absurd (absent names name i none (a.1 ∙ ap Some b.1))
+    | inr b ↦ absurd (absent names name i none (a.1 ∙ ap Some (sym b.1)))
   ]
-  | inr a ↦ elim (slice_get-push names name found j at_j) [
-    | inl b ↦ absurd (absent names name j none (b.1 ∙ ap Some a.1))
+  | inr a ↦ elim (at_push names name j found at_j) [
+    | inl b ↦ absurd (absent names name j none (b.1 ∙ ap Some (sym a.1)))
     | inr b ↦ a.0 ∙ sym b.0
   ]
 ]
@@ -65,12 +45,12 @@ AreRising lines = (i j : ℕ) (earlier later : CallLine) → i < j → slice_get
 
 -- lines that rise do so with a line of a higher number behind them
 pub rising-push : (lines : List CallLine) (line : CallLine) → AreRising lines → All (λ earlier. earlier.line < line.line) lines → AreRising (lines ++ line ∷ [])
-rising-push lines line rising below i j earlier later before at_i at_j = elim (slice_get-push lines line earlier i at_i) [
-  | inl a ↦ elim (slice_get-push lines line later j at_j) [
+rising-push lines line rising below i j earlier later before at_i at_j = elim (at_push lines line i earlier at_i) [
+  | inl a ↦ elim (at_push lines line j later at_j) [
     | inl b ↦ rising i j earlier later before a.1 b.1
-    | inr b ↦ subst (λ (last : CallLine). earlier.line < last.line) (sym b.1) (All-slice_get (λ (front : CallLine). front.line < line.line) lines i earlier below a.1)
+    | inr b ↦ subst (λ (last : CallLine). earlier.line < last.line) b.1 (EachPlace-All (λ (front : CallLine). front.line < line.line) lines below i earlier a.1)
   ]
-  | inr a ↦ elim (slice_get-push lines line later j at_j) [
+  | inr a ↦ elim (at_push lines line j later at_j) [
     | inl b ↦ absurd (omega (arith, a.0, b.0, before))
     | inr b ↦ absurd (omega (arith, a.0, b.0, before))
   ]

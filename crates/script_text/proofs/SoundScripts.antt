@@ -1,5 +1,5 @@
 -- Every script that can be read is sound.
-use Rattle.std.proofs.Common.{◌≡◌, ℕ, suc, ◌+◌, ◌==◌, Bool, true, false, cond, not, ◌&&◌, List, [], ◌∷◌, ◌++◌, length, add-zero, length-append, refl, sym, subst, arith}
+use Rattle.std.proofs.Common.{◌≡◌, ℕ, suc, ◌+◌, ◌==◌, Bool, true, false, cond, not, ◌&&◌, List, [], ◌∷◌, ◌++◌, length, length-append, refl, sym, subst, arith}
 use Rattle.std.specs.Prelude.{Option, Some, None, Result, Ok, Err, IfOk, IfSome}
 use Rattle.std.specs.List.{AllByRecursion}
 use Rattle.std.proofs.lemmas.Bool.Decides.{nat_tests}
@@ -24,6 +24,7 @@ use Rattle.script_text.proofs.SoundForms.{IsFormed, IsProcs, form_of-formed, for
 use Rattle.script_text.proofs.SoundLists.{EarlierAreClosed}
 use Rattle.script_text.proofs.SoundSteps.{HoldsWorker, IsSoundSoFar, same_script}
 use Rattle.script_text.proofs.SoundRequests.{keeps_form}
+use Rattle.script_text.proofs.Underway.{with_lines-push}
 
 none_cond : {A : Type 0} (b : Bool) (x : A) (other : Option A) → cond b (Some x) other ≡ None → (b ≡ false) × (other ≡ None)
 none_cond true x other e = absurd (none-some x (sym e))
@@ -60,12 +61,6 @@ module _ (next : ℕ) (script : Script) (sound : IsSoundSoFar next script) (toke
         few = accepted.1.1.1.1.1.1.1.1.0;
         in_place = accepted.1.1.1.1.1.1.1.1.1.0;
       })
-
-with_lines-push : (script : Script) (number : ℕ) (before : List (List ℕ)) (line : List ℕ) → with_lines script number (before ++ line ∷ []) ≡ with_line (with_lines script number before) (number + length before) (text_of line)
-with_lines-push script number [] line = rw add-zero refl
-with_lines-push script number (first ∷ before) line =
-    let next : (number + 1) + length before ≡ number + suc (length before) = omega arith in
-    rw (← next) (with_lines-push (with_line script number (text_of first)) (number + 1) before line)
 
 -- one more line that is not refused
 keeps_line : (before : List (List ℕ)) (line : List ℕ) → IsSoundSoFar (1 + length before) (script_after before) → cause_of before line ≡ None → IsSoundSoFar (1 + length (before ++ line ∷ [])) (script_after (before ++ line ∷ []))

@@ -8,9 +8,11 @@ use Rattle.std.proofs.lemmas.List.Elements.{All-nil, All-push, All-weaker, All-f
 use Rattle.std.proofs.lemmas.List.Sums.{sum_by_push}
 use Rattle.std.proofs.lemmas.Option.{none-some}
 use Rattle.k42_kinds.specs.declared.operation.KindName.{KindName}
+use Rattle.k42_limits.specs.declared.TheConstants.{PROCESSORS, OBJECTS, CALLERS, CALL_LINES}
+use Rattle.k42_places.proofs.Appended.{slice_get-append_left}
 use Rattle.script_text.specs.Language.{with_item, with_object, with_worker, with_last_item}
 use Rattle.script_text.specs.Lawful.{kinds_of, call_lines}
-use Rattle.script_text.specs.Offences.{call_limit, call_count, object_names, worker_names, is_open_behind, is_in_block}
+use Rattle.script_text.specs.Offences.{call_count, object_names, worker_names, is_open_behind, is_in_block}
 use Rattle.script_text.specs.Sound.{IsSoundLine, IsFreeName, HasDistinctNames}
 use Rattle.script_text.specs.declared.script.CallLine.{CallLine}
 use Rattle.script_text.specs.declared.script.Item.{Item}
@@ -19,7 +21,7 @@ use Rattle.script_text.specs.declared.script.ObjectLine.{ObjectLine}
 use Rattle.script_text.specs.declared.script.Script.{Script}
 use Rattle.script_text.specs.declared.script.WorkerHead.{WorkerHead}
 use Rattle.script_text.specs.declared.script.WorkerLines.{WorkerLines}
-use Rattle.script_text.proofs.SoundLists.{slice_get-append_left, distinct-push, AreRising, rising-push, BlocksMatchSoFar, blocks-push, EarlierAreClosed, closed-push, with_item-closed, call_lines-push, with_one, with_item-each, with_item-names, with_item-length, asked_by, with_item-count}
+use Rattle.script_text.proofs.SoundLists.{distinct-push, AreRising, rising-push, BlocksMatchSoFar, blocks-push, EarlierAreClosed, closed-push, with_item-closed, call_lines-push, with_one, with_item-each, with_item-names, with_item-length, asked_by, with_item-count}
 
 -- The lines are sound for the script, their numbers rise, and each is below that of the next line.
 pub record HoldsLines (next : ℕ) (script : Script) (lines : List CallLine) : Type 0 where
@@ -34,14 +36,14 @@ pub record HoldsWorker (next : ℕ) (script : Script) (worker : WorkerLines) : T
 
 -- what is true of the script where the next line has this number
 pub record IsSoundSoFar (next : ℕ) (script : Script) : Type 0 where
-  pub processors : script.procs ≤ 8
+  pub processors : script.procs ≤ PROCESSORS
   pub start : script.procs ≡ 0 → (script.objects ≡ []) × (script.workers ≡ [])
-  pub objects : length script.objects ≤ 16
-  pub callers : length script.workers ≤ 16
+  pub objects : length script.objects ≤ OBJECTS
+  pub callers : length script.workers ≤ CALLERS
   pub workers : AllByRecursion (HoldsWorker next script) script.workers
   pub closed : EarlierAreClosed script.workers
   pub names : HasDistinctNames script
-  pub few : call_count script ≤ call_limit
+  pub few : call_count script ≤ CALL_LINES
 
 -- the new script has the processors and the objects of the old one, and may have more objects
 record Extends (old new : Script) : Type 0 where
@@ -104,7 +106,7 @@ module _ (next : ℕ) (script : Script) (sound : IsSoundSoFar next script) where
     few = sound.few;
   }
 
-  pub keeps_procs : (procs : ℕ) → script.procs ≡ 0 → (1 ≤ procs) × (procs ≤ 8) → IsSoundSoFar (next + 1) (record script { procs = procs })
+  pub keeps_procs : (procs : ℕ) → script.procs ≡ 0 → (1 ≤ procs) × (procs ≤ PROCESSORS) → IsSoundSoFar (next + 1) (record script { procs = procs })
   keeps_procs procs none range = record {
     processors = range.1;
     start = λ zero. absurd (omega (arith, zero, range.0));
@@ -116,7 +118,7 @@ module _ (next : ℕ) (script : Script) (sound : IsSoundSoFar next script) where
     few = sound.few;
   }
 
-  pub keeps_object : (object : ObjectLine) → (script.procs ≡ 0 → ⊥) → IsFreeName object.name → list_any (bytes_eq object.name) (object_names script) ≡ false → length script.objects < 16 → IsSoundSoFar (next + 1) (with_object script object)
+  pub keeps_object : (object : ObjectLine) → (script.procs ≡ 0 → ⊥) → IsFreeName object.name → list_any (bytes_eq object.name) (object_names script) ≡ false → length script.objects < OBJECTS → IsSoundSoFar (next + 1) (with_object script object)
   keeps_object object some free new few = record {
     processors = sound.processors;
     start = λ zero. absurd (some zero);
@@ -141,7 +143,7 @@ module _ (next : ℕ) (script : Script) (sound : IsSoundSoFar next script) where
   workers_push P [] worker each last = (last, tt)
   workers_push P (first ∷ workers) worker each last = (each.0, workers_push P workers worker each.1 last)
 
-  pub keeps_worker : (head : WorkerHead) → (script.procs ≡ 0 → ⊥) → IsFreeName head.name → head.proc < script.procs → list_any (bytes_eq head.name) (worker_names script) ≡ false → length script.workers < 16 → is_in_block script ≡ false
+  pub keeps_worker : (head : WorkerHead) → (script.procs ≡ 0 → ⊥) → IsFreeName head.name → head.proc < script.procs → list_any (bytes_eq head.name) (worker_names script) ≡ false → length script.workers < CALLERS → is_in_block script ≡ false
       → IsSoundSoFar (next + 1) (with_worker script head)
   keeps_worker head some free placed new few outside =
       let idle : WorkerLines = record { name = head.name; proc = head.proc; items = [] } in
@@ -167,7 +169,7 @@ module _ (next : ℕ) (script : Script) (sound : IsSoundSoFar next script) where
         few = omega (arith, sound.few, sum_by_push asked_by script.workers idle);
       }
 
-  pub keeps_item : (item : Item) → (script.procs ≡ 0 → ⊥) → IsNextItem next script item → BlocksMatchSoFar (is_in_block script) (item ∷ []) → call_count script + length (call_lines (item ∷ [])) ≤ call_limit → IsSoundSoFar (next + 1) (with_last_item script item)
+  pub keeps_item : (item : Item) → (script.procs ≡ 0 → ⊥) → IsNextItem next script item → BlocksMatchSoFar (is_in_block script) (item ∷ []) → call_count script + length (call_lines (item ∷ [])) ≤ CALL_LINES → IsSoundSoFar (next + 1) (with_last_item script item)
   keeps_item item some may fits few =
       let new : Script = with_last_item script item in
       let kept : Extends script new = record { procs = refl; kinds = λ place kind e. e } in

@@ -4,17 +4,17 @@ use Rattle.std.specs.Prelude.{Some, codes, slice_get}
 use Rattle.std.specs.List.{AllByRecursion, list_any}
 use Rattle.std.specs.Fmt.{decimal}
 use Rattle.std.specs.Str.{bytes_eq}
+use Rattle.std.proofs.lemmas.Bool.{and_parts, not-true}
 use Rattle.std.proofs.lemmas.Fmt.{decimal_digit}
 use Rattle.std.proofs.lemmas.Option.{same_Some}
 use Rattle.std.proofs.lemmas.List.Elements.{All-from_recursion}
-use Rattle.std.proofs.lemmas.Slice.Eq.{bytes_eq-Decides}
 use Rattle.k42_kinds.specs.declared.operation.KindName.TheVariants.{Counter, Directory, Pages}
 use Rattle.script_text.specs.Generated.{hits, names, cache, value_at, swap_line, call_line, step_line, steps_of, step_items, worker_line, worker_lines, generated}
 use Rattle.script_text.specs.Lawful.{call_lines}
 use Rattle.script_text.specs.Sound.{IsSoundLine, IsSoundWorker, IsFreeName, AreDistinct, BlocksMatch, IsSound}
 use Rattle.script_text.specs.declared.script.CallLine.{CallLine}
 use Rattle.script_text.proofs.GeneratedSteps.{few_steps}
-use Rattle.script_text.proofs.Spacing.{both, neither, refuted}
+use Rattle.script_text.proofs.SoundLists.{absent}
 
 -- what holds of both holds of the one that is chosen
 either : {X : Type 0} (P : X → Type 0) (test : Bool) (x y : X) → P x → P y → P (cond test x y)
@@ -77,21 +77,13 @@ sound_worker n number worker known = record {
   blocks = outside_blocks n (number + 1) (steps_of worker n);
 }
 
-absent : (name : List ℕ) (others : List (List ℕ)) → list_any (bytes_eq name) others ≡ false → (i : ℕ) → slice_get others i ≡ Some name → ⊥
-absent name [] none i at = cc
-absent name (other ∷ others) none zero at =
-    let same : bytes_eq name other ≡ true = (bytes_eq-Decides name other).1 (sym (same_Some other name at)) in
-    let differ = (neither (bytes_eq name other) _ none).0 in
-    cc
-absent name (other ∷ others) none (suc i) at = absent name others (neither (bytes_eq name other) _ none).1 i at
-
 distinct_none : AreDistinct []
 distinct_none = λ i j name at_i at_j. cc
 
 distinct_more : (first : List ℕ) (others : List (List ℕ)) → list_any (bytes_eq first) others ≡ false → AreDistinct others → AreDistinct (first ∷ others)
 distinct_more first others none distinct zero zero name at_i at_j = refl
-distinct_more first others none distinct zero (suc j) name at_i at_j = absurd (absent first others none j (at_j ∙ sym at_i))
-distinct_more first others none distinct (suc i) zero name at_i at_j = absurd (absent first others none i (at_i ∙ sym at_j))
+distinct_more first others none distinct zero (suc j) name at_i at_j = absurd (absent others first j none (at_j ∙ sym at_i))
+distinct_more first others none distinct (suc i) zero name at_i at_j = absurd (absent others first i none (at_i ∙ sym at_j))
 distinct_more first others none distinct (suc i) (suc j) name at_i at_j = ap suc (distinct i j name at_i at_j)
 
 all_differ : List (List ℕ) → Bool
@@ -102,8 +94,8 @@ distinct-differ : (words : List (List ℕ)) → all_differ words ≡ true → Ar
 unfolding all_differ
 distinct-differ [] differ = distinct_none
 distinct-differ (name ∷ others) differ =
-    let parts = both (not (list_any (bytes_eq name) others)) (all_differ others) differ in
-    distinct_more name others (refuted (list_any (bytes_eq name) others) parts.0) (distinct-differ others parts.1)
+    let parts = and_parts (not (list_any (bytes_eq name) others)) (all_differ others) differ in
+    distinct_more name others (not-true (list_any (bytes_eq name) others) parts.0) (distinct-differ others parts.1)
 
 object_names_differ : AreDistinct (codes "hits" ∷ codes "names" ∷ codes "cache" ∷ [])
 unfolding all_differ

@@ -4,6 +4,7 @@ use Rattle.std.specs.Prelude.{Option, Some, None, codes, nat_le, nat_lt}
 use Rattle.std.specs.List.{AllByRecursion, list_all}
 use Rattle.std.specs.Fmt.{decimal}
 use Rattle.std.specs.Str.{bytes_eq}
+use Rattle.std.proofs.lemmas.Bool.{and_parts, or_parts}
 use Rattle.std.proofs.lemmas.Bool.Decides.{nat_tests}
 use Rattle.std.proofs.lemmas.Fmt.{decimal_nonempty}
 use Rattle.std.proofs.lemmas.Option.{same_Some}
@@ -16,6 +17,7 @@ use Rattle.k42_kinds.specs.declared.operation.LayoutName.{LayoutName}
 use Rattle.k42_kinds.specs.declared.operation.LayoutName.TheVariants.{Shared, Spread}
 use Rattle.k42_kinds.specs.declared.operation.Op.{Op}
 use Rattle.k42_kinds.specs.declared.operation.Op.TheVariants.{Add, Get, Drain, Bind, Find, Unbind, Size, Write, Read, Dirty, Clean}
+use Rattle.k42_limits.specs.declared.TheConstants.{PROCESSORS, PAGES, AMOUNTS}
 use Rattle.script_text.specs.Acts.{layout_word, operation_word, argument_tokens, act_tokens}
 use Rattle.script_text.specs.Forms.{is_reserved, free_name, kind_named, layout_named, head_of, request_of, form_of}
 use Rattle.script_text.specs.Language.{act_of, with_line, with_said, with_object, with_worker, with_last_item}
@@ -34,7 +36,8 @@ use Rattle.script_text.specs.declared.script.ObjectLine.{ObjectLine}
 use Rattle.script_text.specs.declared.script.Script.{Script}
 use Rattle.script_text.specs.declared.script.WorkerHead.{WorkerHead}
 use Rattle.script_text.proofs.DecimalNumbers.{list_all_digits-decimal, number_of-decimal}
-use Rattle.script_text.proofs.Spacing.{tokens_of-spaced, list_any_no_space, both, neither}
+use Rattle.script_text.proofs.SoundForms.{free_name-of_free}
+use Rattle.script_text.proofs.Spacing.{tokens_of-spaced, list_any_no_space}
 
 -- a line that is spelled with one space between each two tokens says what they say
 pub with_line-spaced : (script : Script) (number : ℕ) (tokens : List (List ℕ)) → AllByRecursion IsToken tokens → says_nothing tokens ≡ false → with_line script number (spaced tokens) ≡ with_said script number (form_of script.procs tokens)
@@ -56,14 +59,14 @@ solid_lower b e = grind (arith, nat_tests, e)
 pub token_name : (name : List ℕ) → is_name name ≡ true → IsToken name
 token_name [] is = cc
 token_name (b ∷ name) is =
-    let parts = both _ (list_all continues_name name) is in
-    let first = both _ (is_lower b) parts.0 in
+    let parts = and_parts _ (list_all continues_name name) is in
+    let first = and_parts _ (is_lower b) parts.0 in
     rw (solid_lower b first.1, list_any_no_space continues_name solid_name name parts.1) refl
 
 pub token_text : (text : List ℕ) → is_text text ≡ true → IsToken text
 token_text [] is = cc
 token_text (b ∷ text) is =
-    let parts = both _ (list_all is_visible (b ∷ text)) is in
+    let parts = and_parts _ (list_all is_visible (b ∷ text)) is in
     rw (list_any_no_space is_visible solid_text (b ∷ text) parts.1) refl
 
 digits_token : (bytes : List ℕ) → list_all is_digit bytes ≡ true → 0 < length bytes → IsToken bytes
@@ -85,10 +88,10 @@ number_below-decimal bound n below small =
     rw ((number_of-decimal (decimal n) n small).1 refl, inside) refl
 
 -- `procs N`
-pub procs_line : (script : Script) (number procs : ℕ) → 1 ≤ procs → procs ≤ 8 → with_line script number (spaced (procs_tokens procs)) ≡ record script { procs = procs }
+pub procs_line : (script : Script) (number procs : ℕ) → 1 ≤ procs → procs ≤ PROCESSORS → with_line script number (spaced (procs_tokens procs)) ≡ record script { procs = procs }
 procs_line script number procs some few =
     with_line-spaced script number (procs_tokens procs) (refl, (token_decimal procs (omega (arith, few)), tt)) refl
-    ∙ rw (number_within-decimal 1 8 procs some few (omega (arith, few))) refl
+    ∙ rw (number_within-decimal 1 PROCESSORS procs some few (omega (arith, few))) refl
 
 kind_named-word : (kind : KindName) → kind_named (kind_word kind) ≡ Some kind
 kind_named-word Counter = refl
@@ -108,20 +111,17 @@ layout_token : (layout : LayoutName) → IsToken (layout_word layout)
 layout_token Shared = refl
 layout_token Spread = refl
 
-free_name-free : (name : List ℕ) → IsFreeName name → free_name name ≡ Some name
-free_name-free name free = rw (free.free, free.formed) refl
-
 -- `object NAME KIND LAYOUT`
 pub object_line : (script : Script) (number : ℕ) (object : ObjectLine) → IsFreeName object.name → with_line script number (spaced (object_tokens object)) ≡ with_object script object
 object_line script number object free =
     with_line-spaced script number (object_tokens object) (refl, (token_name object.name free.formed, (kind_token object.kind, (layout_token object.layout, tt)))) refl
-    ∙ rw (kind_named-word object.kind, layout_named-word object.layout, free_name-free object.name free) refl
+    ∙ rw (kind_named-word object.kind, layout_named-word object.layout, free_name-of_free object.name free) refl
 
 -- `worker NAME PROC`
-pub worker_line : (script : Script) (number : ℕ) (worker : WorkerHead) → IsFreeName worker.name → worker.proc < script.procs → script.procs ≤ 8 → with_line script number (spaced (worker_tokens worker)) ≡ with_worker script worker
+pub worker_line : (script : Script) (number : ℕ) (worker : WorkerHead) → IsFreeName worker.name → worker.proc < script.procs → script.procs ≤ PROCESSORS → with_line script number (spaced (worker_tokens worker)) ≡ with_worker script worker
 worker_line script number worker free there few =
     with_line-spaced script number (worker_tokens worker) (refl, (token_name worker.name free.formed, (token_decimal worker.proc (omega (arith, there, few)), tt))) refl
-    ∙ rw (free_name-free worker.name free, number_below-decimal script.procs worker.proc there (omega (arith, there, few))) refl
+    ∙ rw (free_name-of_free worker.name free, number_below-decimal script.procs worker.proc there (omega (arith, there, few))) refl
 
 -- `begin`
 pub begin_line : (script : Script) (number : ℕ) → with_line script number (spaced begin_tokens) ≡ with_last_item script items.Begin
@@ -134,13 +134,13 @@ end_line script number = with_line-spaced script number end_tokens (refl, tt) re
 -- a name that may be declared begins no form
 head_of-free : (name : List ℕ) → is_reserved name ≡ false → head_of name ≡ heads.Call
 head_of-free name free =
-    let procs = neither (bytes_eq name (codes "procs")) _ free in
-    let object = neither (bytes_eq name (codes "object")) _ procs.1 in
-    let worker = neither (bytes_eq name (codes "worker")) _ object.1 in
-    let begin = neither (bytes_eq name (codes "begin")) _ worker.1 in
-    let end = neither (bytes_eq name (codes "end")) _ begin.1 in
-    let swap = neither (bytes_eq name (codes "swap")) _ end.1 in
-    let destroy = neither (bytes_eq name (codes "destroy")) _ swap.1 in
+    let procs = or_parts (bytes_eq name (codes "procs")) _ free in
+    let object = or_parts (bytes_eq name (codes "object")) _ procs.1 in
+    let worker = or_parts (bytes_eq name (codes "worker")) _ object.1 in
+    let begin = or_parts (bytes_eq name (codes "begin")) _ worker.1 in
+    let end = or_parts (bytes_eq name (codes "end")) _ begin.1 in
+    let swap = or_parts (bytes_eq name (codes "swap")) _ end.1 in
+    let destroy = or_parts (bytes_eq name (codes "destroy")) _ swap.1 in
     rw (procs.0, object.0, worker.0, begin.0, end.0, swap.0, destroy.0) refl
 
 unmarked_lower : (b : ℕ) → is_lower b ≡ true → eqb b 35 ≡ false
@@ -150,8 +150,8 @@ unmarked_lower b e = grind (arith, nat_tests, e)
 says-name : (name : List ℕ) → is_name name ≡ true → is_remark name ≡ false
 says-name [] is = cc
 says-name (b ∷ name) is =
-    let parts = both _ (list_all continues_name name) is in
-    unmarked_lower b (both _ (is_lower b) parts.0).1
+    let parts = and_parts _ (list_all continues_name name) is in
+    unmarked_lower b (and_parts _ (is_lower b) parts.0).1
 
 -- the tokens of an operation
 op_tokens : (op : Op) → IsOpInRange op → AllByRecursion IsToken (operation_word op ∷ argument_tokens op)
@@ -197,15 +197,15 @@ act_of-request Clean = refl
 
 request_of-op : (op : Op) → IsOpInRange op → request_of (operation_word op ∷ argument_tokens op) ≡ Some (request_of_op op)
 unfolding request_of_op
-request_of-op (Add amount) in_range = rw (number_below-decimal (2 ^ 32) amount in_range (omega (arith, in_range))) refl
+request_of-op (Add amount) in_range = rw (number_below-decimal AMOUNTS amount in_range (omega (arith, in_range))) refl
 request_of-op Get in_range = refl
 request_of-op Drain in_range = refl
 request_of-op (Bind key number) in_range = rw (in_range.0, number_below-decimal (2 ^ 64) number in_range.1 in_range.1) refl
 request_of-op (Find key) in_range = rw in_range refl
 request_of-op (Unbind key) in_range = rw in_range refl
 request_of-op Size in_range = refl
-request_of-op (Write page text) in_range = rw (in_range.1, number_below-decimal 1024 page in_range.0 (omega (arith, in_range.0))) refl
-request_of-op (Read page) in_range = rw (number_below-decimal 1024 page in_range (omega (arith, in_range))) refl
+request_of-op (Write page text) in_range = rw (in_range.1, number_below-decimal PAGES page in_range.0 (omega (arith, in_range.0))) refl
+request_of-op (Read page) in_range = rw (number_below-decimal PAGES page in_range (omega (arith, in_range))) refl
 request_of-op Dirty in_range = refl
 request_of-op Clean in_range = refl
 

@@ -7,6 +7,7 @@ use Rattle.k42_kinds.specs.declared.operation.KindName.{KindName}
 use Rattle.k42_kinds.specs.declared.operation.KindName.TheVariants.{Counter, Directory, Pages}
 use Rattle.k42_kinds.specs.declared.operation.LayoutName.{LayoutName}
 use Rattle.k42_kinds.specs.declared.operation.LayoutName.TheVariants.{Shared, Spread}
+use Rattle.k42_limits.specs.declared.TheConstants.{PROCESSORS, PAGES, AMOUNTS}
 use Rattle.script_text.specs.Numbers.{number_within, number_below}
 use Rattle.script_text.specs.declared.form.Form.{Form}
 use Rattle.script_text.specs.declared.form.Form.TheVariants as forms
@@ -36,7 +37,7 @@ page_text_of word = if is_text word then Some word else None
 
 -- the number of a page
 abbrev pub page_of : List ℕ → Option ℕ
-page_of = number_below 1024
+page_of = number_below PAGES
 
 abbrev pub kind_named : List ℕ → Option KindName
 kind_named word =
@@ -62,7 +63,7 @@ head_of word =
 
 -- `N`: the number of processors, 1 to 8
 abbrev pub procs_form : List (List ℕ) → Option Form
-procs_form (number ∷ []) = Some (forms.Procs (number_within 1 8 number))
+procs_form (number ∷ []) = Some (forms.Procs (number_within 1 PROCESSORS number))
 procs_form _ = None
 
 -- an object of this name, where its kind and its layout are known
@@ -111,7 +112,7 @@ plain_request word =
 -- an operation with one: `add U32`, `find KEY`, `unbind KEY`, `read PAGE`
 abbrev pub request_with : List ℕ → List ℕ → Option Request
 request_with word argument =
-    if bytes_eq word (codes "add") then Some (Add (number_below (2 ^ 32) argument))
+    if bytes_eq word (codes "add") then Some (Add (number_below AMOUNTS argument))
     else if bytes_eq word (codes "find") then Some (Find (name_of argument))
     else if bytes_eq word (codes "unbind") then Some (Unbind (name_of argument))
     else if bytes_eq word (codes "read") then Some (Read (page_of argument)) else None

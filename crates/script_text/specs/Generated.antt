@@ -7,6 +7,7 @@ use Rattle.k42_kinds.specs.declared.operation.KindName.TheVariants.{Counter, Dir
 use Rattle.k42_kinds.specs.declared.operation.LayoutName.{LayoutName}
 use Rattle.k42_kinds.specs.declared.operation.LayoutName.TheVariants.{Shared, Spread}
 use Rattle.k42_kinds.specs.declared.operation.Op.TheVariants.{Add, Bind, Write}
+use Rattle.k42_limits.specs.declared.TheConstants.{PAGES}
 use Rattle.script_text.specs.declared.script.CallLine.{CallLine}
 use Rattle.script_text.specs.declared.script.Item.{Item}
 use Rattle.script_text.specs.declared.script.Item.TheVariants.{Line}
@@ -67,7 +68,7 @@ call_line number k value =
     else record {
       line = number;
       object = cache;
-      act = Call (Write (value % 1024) (codes "v" ++ decimal k));
+      act = Call (Write (value % PAGES) (codes "v" ++ decimal k));
     }
 
 -- the line of this number, which is step k with this value: of a thousand, three are swaps

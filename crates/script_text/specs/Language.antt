@@ -3,6 +3,7 @@ use Rattle.std.specs.Prelude.{◌≡◌, ℕ, ◌+◌, Bool, false, not, ◌&&�
 use Rattle.k42_kinds.specs.declared.operation.Op.TheVariants as operations
 use Rattle.k42_kinds.specs.declared.entry.Act.{Act}
 use Rattle.k42_kinds.specs.declared.entry.Act.TheVariants as acts
+use Rattle.k42_limits.specs.declared.TheConstants.{SCRIPT_BYTES}
 use Rattle.script_text.specs.Lines.{lines_of, text_of, is_printable_text, holds_byte}
 use Rattle.script_text.specs.Tokens.{tokens_of, says_nothing}
 use Rattle.script_text.specs.Forms.{form_of}
@@ -23,7 +24,7 @@ use Rattle.script_text.specs.declared.fault.ScriptFault.{ScriptFault}
 
 -- the number of the first byte that is one too many for a script, counted from 1
 abbrev pub byte_limit : ℕ
-byte_limit = 1048577
+byte_limit = SCRIPT_BYTES + 1
 
 -- the act that a request spells, where no part of it is missing
 abbrev pub act_of : Request → Option Act

@@ -1,10 +1,7 @@
 -- The lines of a text.
 use Rattle.std.specs.Prelude.{ℕ, ◌+◌, Bool, ◌&&◌, ◌==◌, nat_lt, nat_le, if◌then◌else◌, List, [], ◌∷◌, length, sum_by}
 use Rattle.std.specs.List.{list_all}
-
--- the byte that ends a line
-abbrev pub line_feed : ℕ
-line_feed = 10
+use Rattle.k42_limits.specs.declared.TheConstants.{LINE_FEED, SPACE}
 
 -- a byte more at the front of the first line
 abbrev pub onto_first_line : ℕ → List (List ℕ) → List (List ℕ)
@@ -15,18 +12,18 @@ onto_first_line byte (line ∷ lines) = (byte ∷ line) ∷ lines
 abbrev pub lines_of : List ℕ → List (List ℕ)
 lines_of [] = []
 lines_of (byte ∷ bytes) =
-    if byte == line_feed
+    if byte == LINE_FEED
     then (byte ∷ []) ∷ lines_of bytes
     else onto_first_line byte (lines_of bytes)
 
 -- what stands on a line, without its line feed
 abbrev pub text_of : List ℕ → List ℕ
 text_of [] = []
-text_of (byte ∷ bytes) = if byte == line_feed then [] else byte ∷ text_of bytes
+text_of (byte ∷ bytes) = if byte == LINE_FEED then [] else byte ∷ text_of bytes
 
 -- a byte from the space to the tilde
 abbrev pub is_printable : ℕ → Bool
-is_printable byte = nat_le 32 byte && nat_le byte 126
+is_printable byte = nat_le SPACE byte && nat_le byte 126
 
 -- every byte may stand in a script
 abbrev pub is_printable_text : List ℕ → Bool

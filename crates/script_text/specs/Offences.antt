@@ -6,6 +6,7 @@ use Rattle.std.specs.Str.{bytes_eq}
 use Rattle.k42_kinds.specs.declared.operation.KindName.{KindName}
 use Rattle.k42_kinds.specs.declared.operation.KindName.TheVariants.{Counter, Directory, Pages}
 use Rattle.k42_kinds.specs.Operations.{same_kind}
+use Rattle.k42_limits.specs.declared.TheConstants.{OBJECTS, CALLERS, CALL_LINES}
 use Rattle.script_text.specs.Lawful.{kinds_of, call_lines}
 use Rattle.script_text.specs.Forms.{begins_procs}
 use Rattle.script_text.specs.declared.form.Form.{Form}
@@ -17,15 +18,7 @@ use Rattle.script_text.specs.declared.script.Item.TheVariants as items
 use Rattle.script_text.specs.declared.script.Script.{Script}
 use Rattle.script_text.specs.declared.script.WorkerLines.{WorkerLines}
 
--- how many objects a script may have, and as many workers
-abbrev pub name_limit : ℕ
-name_limit = 16
-
--- how many lines of a script may ask something of an object
-abbrev pub call_limit : ℕ
-call_limit = 65536
-
--- how many do
+-- how many lines of a script ask something of an object
 abbrev pub call_count : Script → ℕ
 call_count script = sum_by (λ worker. length (call_lines worker.items)) script.workers
 
@@ -157,9 +150,9 @@ wants_worker script _ = false
 
 -- it is an object, a worker or a line that asks something, and there may be no more of them
 abbrev pub is_too_many : Script → Form → Bool
-is_too_many script (forms.Object name kind layout) = nat_le name_limit (length script.objects)
-is_too_many script (forms.Worker name proc) = nat_le name_limit (length script.workers)
-is_too_many script (forms.Asks object request) = nat_le call_limit (call_count script)
+is_too_many script (forms.Object name kind layout) = nat_le OBJECTS (length script.objects)
+is_too_many script (forms.Worker name proc) = nat_le CALLERS (length script.workers)
+is_too_many script (forms.Asks object request) = nat_le CALL_LINES (call_count script)
 is_too_many script _ = false
 
 -- it may not stand in an activity and does, or `end` stands in none

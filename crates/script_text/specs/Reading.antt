@@ -1,9 +1,10 @@
 -- What a reader of lines keeps of those that it has read.
 use Rattle.std.specs.Prelude.{◌≡◌, ℕ, ◌≤◌, not, if◌then◌else◌, List, [], ◌∷◌, ◌++◌, length, Option, Some, None, Result, Ok, Err}
 use Rattle.k42_memory.specs.declared.Memory.{Memory}
+use Rattle.k42_limits.specs.declared.TheConstants.{OBJECTS, CALL_LINES}
 use Rattle.script_text.specs.Lines.{is_printable_text}
 use Rattle.script_text.specs.Tokens.{tokens_of, says_nothing}
-use Rattle.script_text.specs.Offences.{object_names, worker_names, is_in_block, name_limit, call_limit, call_count}
+use Rattle.script_text.specs.Offences.{object_names, worker_names, is_in_block, call_count}
 use Rattle.script_text.specs.Forms.{form_of}
 use Rattle.script_text.specs.Language.{with_said, with_line, first_of, is_refused_for, refuses, causes_of_form}
 use Rattle.script_text.specs.declared.form.Form.{Form}
@@ -40,8 +41,8 @@ pub record IsKept (r : Reading) : Type 0 where
   pub workers : r.worker_names ≡ worker_names (script_so_far r)
   pub block : r.in_block ≡ is_in_block (script_so_far r)
   pub asked : r.asked ≡ call_count (script_so_far r)
-  pub few : r.asked ≤ call_limit
-  pub named : length r.object_names ≤ name_limit
+  pub few : r.asked ≤ CALL_LINES
+  pub named : length r.object_names ≤ OBJECTS
   pub start : StartsEmpty r.worker r.workers r.items
 
 -- the reader has read this script

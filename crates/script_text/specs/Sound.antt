@@ -7,6 +7,7 @@ use Rattle.k42_kinds.specs.declared.operation.Op.{Op}
 use Rattle.k42_kinds.specs.declared.operation.Op.TheVariants.{Write, Read}
 use Rattle.k42_kinds.specs.Operations.{kind_of_op}
 use Rattle.k42_kinds.specs.Words.{is_name}
+use Rattle.k42_limits.specs.declared.TheConstants.{PROCESSORS, OBJECTS, CALLERS, CALL_LINES, PAGES}
 use Rattle.script_text.specs.Forms.{is_reserved}
 use Rattle.script_text.specs.Lawful.{kinds_of, call_lines}
 use Rattle.script_text.specs.declared.script.CallLine.{CallLine}
@@ -15,14 +16,10 @@ use Rattle.script_text.specs.declared.script.Item.TheVariants.{Begin, End, Line}
 use Rattle.script_text.specs.declared.script.Script.{Script}
 use Rattle.script_text.specs.declared.script.WorkerLines.{WorkerLines}
 
--- how many pages an object has
-abbrev pub page_count : ℕ
-page_count = 1024
-
 -- the page that an operation names, if it names one, is there
 abbrev pub NamesPage : Op → Type 0
-NamesPage (Write page text) = page < page_count
-NamesPage (Read page) = page < page_count
+NamesPage (Write page text) = page < PAGES
+NamesPage (Read page) = page < PAGES
 NamesPage _ = Unit {0}
 
 -- The act may be asked of an object of this kind: an operation of its kind, or a swap or destroy of
@@ -91,9 +88,9 @@ pub record HasDistinctNames (script : Script) : Type 0 where
 -- that may be declared and differ, and at most 65,536 lines that ask something.
 pub record IsSound (script : Script) : Type 0 where
   pub some_processor : 1 ≤ script.procs
-  pub processors : script.procs ≤ 8
-  pub objects : length script.objects ≤ 16
-  pub callers : length script.workers ≤ 16
+  pub processors : script.procs ≤ PROCESSORS
+  pub objects : length script.objects ≤ OBJECTS
+  pub callers : length script.workers ≤ CALLERS
   pub workers : All (IsSoundWorker script) script.workers
   pub names : HasDistinctNames script
-  pub few : sum_by (λ worker. length (call_lines worker.items)) script.workers ≤ 65536
+  pub few : sum_by (λ worker. length (call_lines worker.items)) script.workers ≤ CALL_LINES

@@ -1,5 +1,5 @@
 -- How the lines of a script are spelled: by their tokens, with one space between each two.
-use Rattle.std.specs.Prelude.{◌≡◌, ℕ, ◌<◌, ◌^◌, true, not, ◌&&◌, List, [], ◌∷◌, replicate, codes}
+use Rattle.std.specs.Prelude.{◌≡◌, ℕ, ◌<◌, ◌^◌, true, not, ◌&&◌, List, [], ◌∷◌, ◌++◌, replicate, codes}
 use Rattle.std.specs.List.{join_by, list_any}
 use Rattle.std.specs.Fmt.{decimal}
 use Rattle.k42_kinds.specs.Words.{is_name, is_text}
@@ -9,22 +9,23 @@ use Rattle.k42_kinds.specs.declared.operation.KindName.{KindName}
 use Rattle.k42_kinds.specs.declared.operation.KindName.TheVariants.{Counter, Directory, Pages}
 use Rattle.k42_kinds.specs.declared.operation.Op.{Op}
 use Rattle.k42_kinds.specs.declared.operation.Op.TheVariants.{Add, Bind, Find, Unbind, Write, Read}
+use Rattle.k42_limits.specs.declared.TheConstants.{AMOUNTS, PAGES, LINE_FEED, SPACE}
 use Rattle.script_text.specs.Acts.{layout_word}
-use Rattle.script_text.specs.Sound.{page_count}
 use Rattle.script_text.specs.Tokens.{is_space, has_bytes}
 use Rattle.script_text.specs.declared.script.ObjectLine.{ObjectLine}
 use Rattle.script_text.specs.declared.script.WorkerHead.{WorkerHead}
 
-abbrev pub space : ℕ
-space = 32
-
 -- so many spaces
 abbrev pub spaces : ℕ → List ℕ
-spaces n = replicate n space
+spaces n = replicate n SPACE
 
 -- tokens in a row, with one space between each two
 abbrev pub spaced : List (List ℕ) → List ℕ
-spaced tokens = join_by (λ token. token) (space ∷ []) tokens
+spaced tokens = join_by (λ token. token) (SPACE ∷ []) tokens
+
+-- the line of these tokens, with its line feed
+abbrev pub line_with : List (List ℕ) → List ℕ
+line_with tokens = spaced tokens ++ LINE_FEED ∷ []
 
 -- The bytes are a token: there are some, and no space is among them.
 abbrev pub IsToken : List ℕ → Type 0
@@ -58,12 +59,12 @@ end_tokens = codes "end" ∷ []
 -- Each argument of an operation is in its range: an amount of 32 bits, a number of 64, a key that
 -- is a name, a page that is there, a text that a page can hold.
 abbrev pub IsOpInRange : Op → Type 0
-IsOpInRange (Add amount) = amount < 2 ^ 32
+IsOpInRange (Add amount) = amount < AMOUNTS
 IsOpInRange (Bind key number) = (is_name key ≡ true) × (number < 2 ^ 64)
 IsOpInRange (Find key) = is_name key ≡ true
 IsOpInRange (Unbind key) = is_name key ≡ true
-IsOpInRange (Write page text) = (page < page_count) × (is_text text ≡ true)
-IsOpInRange (Read page) = page < page_count
+IsOpInRange (Write page text) = (page < PAGES) × (is_text text ≡ true)
+IsOpInRange (Read page) = page < PAGES
 IsOpInRange _ = Unit {0}
 
 -- The same of what an act asks.

@@ -1,10 +1,11 @@
 -- The tokens of a line.
 use Rattle.std.specs.Prelude.{ℕ, Bool, true, false, ◌==◌, List, [], ◌∷◌, filter}
 use Rattle.std.specs.List.{slice_split}
+use Rattle.k42_limits.specs.declared.TheConstants.{SPACE}
 
 -- the byte between tokens
 abbrev pub is_space : ℕ → Bool
-is_space byte = byte == 32
+is_space byte = byte == SPACE
 
 -- a piece with a byte in it
 abbrev pub has_bytes : List ℕ → Bool

@@ -1,11 +1,12 @@
 ghost use Rattle.std.specs.Prelude.{◌≡◌, ◌<◌, ◌≤◌, ◌∷◌, ◌++◌, ℕ, List, [], All, Some, codes};
 ghost use Rattle.k42_kinds.specs.declared.entry.Act.{Act};
+ghost use Rattle.k42_limits.specs.declared.TheConstants.{PROCESSORS, SPACE};
 ghost use Rattle.script_text.specs.Acts.{act_tokens};
 ghost use Rattle.script_text.specs.Language.{with_line, with_object, with_worker, with_last_item};
 ghost use Rattle.script_text.specs.Offences.{object_names, place_among};
 ghost use Rattle.script_text.specs.Sound.{IsFreeName};
 ghost use Rattle.script_text.specs.Spelled as spelled;
-ghost use Rattle.script_text.specs.Spelled.{space, spaces, spaced, IsToken, IsInRange};
+ghost use Rattle.script_text.specs.Spelled.{spaces, spaced, IsToken, IsInRange};
 ghost use Rattle.script_text.specs.Tokens.{tokens_of};
 ghost use Rattle.script_text.specs.declared.script.Item.TheVariants as items;
 ghost use Rattle.script_text.specs.declared.script.ObjectLine.{ObjectLine};
@@ -15,7 +16,7 @@ ghost use Rattle.script_text.specs.declared.script.WorkerHead.{WorkerHead};
 /// A space parts the tokens in front of it from those behind it.
 pub fn a_space_parts_tokens()
     ensures { (text rest : List ℕ) →
-        tokens_of (text ++ space ∷ rest) ≡ tokens_of text ++ tokens_of rest }
+        tokens_of (text ++ SPACE ∷ rest) ≡ tokens_of text ++ tokens_of rest }
 {}
 
 /// Tokens with one space between each two are these tokens, and more spaces change nothing.
@@ -25,12 +26,12 @@ pub fn spaced_tokens_are_tokens()
     ensures in_front { (n : ℕ) (text : List ℕ) → tokens_of (spaces n ++ text) ≡ tokens_of text }
     ensures at_the_end { (n : ℕ) (text : List ℕ) → tokens_of (text ++ spaces n) ≡ tokens_of text }
     ensures between { (n : ℕ) (text rest : List ℕ) → 0 < n →
-        tokens_of (text ++ (spaces n ++ rest)) ≡ tokens_of (text ++ space ∷ rest) }
+        tokens_of (text ++ (spaces n ++ rest)) ≡ tokens_of (text ++ SPACE ∷ rest) }
 {}
 
 /// A line that declares something, or begins or ends an activity, adds just that to the script.
 pub fn a_form_adds_what_it_says()
-    ensures procs { (script : Script) (number procs : ℕ) → 1 ≤ procs → procs ≤ 8 →
+    ensures procs { (script : Script) (number procs : ℕ) → 1 ≤ procs → procs ≤ PROCESSORS →
         with_line script number (spaced (spelled.procs_tokens procs))
         ≡ record script { procs = procs } }
     ensures object { (script : Script) (number : ℕ) (object : ObjectLine) →
@@ -38,7 +39,7 @@ pub fn a_form_adds_what_it_says()
         with_line script number (spaced (spelled.object_tokens object))
         ≡ with_object script object }
     ensures worker { (script : Script) (number : ℕ) (worker : WorkerHead) →
-        IsFreeName worker.name → worker.proc < script.procs → script.procs ≤ 8 →
+        IsFreeName worker.name → worker.proc < script.procs → script.procs ≤ PROCESSORS →
         with_line script number (spaced (spelled.worker_tokens worker))
         ≡ with_worker script worker }
     ensures begin { (script : Script) (number : ℕ) →

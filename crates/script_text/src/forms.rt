@@ -7,12 +7,7 @@ use crate::form::{Form, Head, Request};
 use crate::numbers::number_up_to;
 use crate::tokens::{Words, first_token, is_word, words_of};
 use k42_kinds::{KindName, LayoutName, Name, Text};
-
-/// The most processors.
-const PROCS: u64 = 8;
-
-/// The number of the last page of an object.
-const LAST_PAGE: u64 = 1023;
+use k42_limits::{AMOUNTS, PAGES, PROCESSORS};
 
 /// Whether the word is no name of an object or a worker.
 fn is_reserved(word: &[u8]) -> bool
@@ -54,14 +49,14 @@ fn page_text_of(word: &[u8]) -> Option<Text>
 fn page_of(word: &[u8]) -> Option<u16>
     ensures { result ≡ spelling.page_of word.now }
 {
-    let page = number_up_to(word, LAST_PAGE)?;
+    let page = number_up_to(word, u64::from(PAGES - 1))?;
     Some(page as u16)
 }
 
 fn amount_of(word: &[u8]) -> Option<u32>
-    ensures { result ≡ number_below (2 ^ 32) word.now }
+    ensures { result ≡ number_below AMOUNTS word.now }
 {
-    let amount = number_up_to(word, u64::from(u32::MAX))?;
+    let amount = number_up_to(word, AMOUNTS - 1)?;
     Some(amount as u32)
 }
 
@@ -73,9 +68,9 @@ fn value_of(word: &[u8]) -> Option<u64>
 
 /// A number from 1 to 8.
 fn procs_of(word: &[u8]) -> Option<u32>
-    ensures { result ≡ number_within 1 8 word.now }
+    ensures { result ≡ number_within 1 PROCESSORS word.now }
 {
-    match number_up_to(word, PROCS) {
+    match number_up_to(word, u64::from(PROCESSORS)) {
         Some(procs) if procs >= 1 => Some(procs as u32),
         _ => None,
     }

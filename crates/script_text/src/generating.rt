@@ -8,6 +8,7 @@ ghost use Rattle.script_text.specs.Sound.{IsSound};
 use crate::script::{CallLine, Item, ObjectLine, Script, WorkerLines};
 use k42_items::Items;
 use k42_kinds::{Act, KindName, LayoutName, Name, Op, Text};
+use k42_limits::PAGES;
 use k42_memory::Memory;
 use std::alloc::Global;
 
@@ -137,7 +138,7 @@ fn call_line(alloc: Global, line: u32, step: u32, value: u32) -> Result<CallLine
         ),
         _ => (
             2,
-            Op::Write((value % 1024) as u16, numbered_text(alloc, b'v', step)?),
+            Op::Write((value % PAGES) as u16, numbered_text(alloc, b'v', step)?),
         ),
     };
     Ok(CallLine {

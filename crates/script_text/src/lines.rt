@@ -3,7 +3,7 @@ ghost use Rattle.std.specs.List.{list_all};
 ghost use Rattle.script_text.specs.Lines.{lines_of, text_of, is_printable};
 ghost use Rattle.script_text.specs.Cuts.{CutsLine};
 
-const LINE_FEED: u8 = b'\n';
+use k42_limits::LINE_FEED;
 
 /// The first line of a text, and what stands after it.
 #[derive(Clone, Copy)]

@@ -8,10 +8,8 @@ use crate::fault::{ParseEnd, ScriptCause, ScriptFault};
 use crate::lines::next_line;
 use crate::reading::Reading;
 use crate::script::Script;
+use k42_limits::SCRIPT_BYTES;
 use std::alloc::Global;
-
-/// The most bytes that a script has.
-const SCRIPT_BYTES: usize = 1_048_576;
 
 /// The script that the bytes spell, or the first line that offends.
 ///

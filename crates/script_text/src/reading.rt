@@ -15,15 +15,10 @@ use crate::script::{CallLine, Item, ObjectLine, Script, WorkerHead, WorkerLines}
 use crate::tokens::is_skipped;
 use k42_items::Items;
 use k42_kinds::{KindName, Name};
+use k42_limits::{CALL_LINES, CALLERS, OBJECTS};
 use k42_memory::Memory;
 use std::alloc::Global;
 use std::mem;
-
-/// How many objects a script may have, and how many workers.
-const NAMES: usize = 16;
-
-/// How many lines of a script may ask something of an object.
-const CALLS: usize = 65_536;
 
 /// What the lines so far said. There are no processors until a line names their number.
 #[derive(Debug, Drop)]
@@ -200,9 +195,9 @@ impl Reading {
         ensures { result ≡ offences.is_too_many (script_so_far self.now) form.now }
     {
         match form {
-            Form::Object(_, _, _) => self.objects.len() >= NAMES,
-            Form::Worker(_, _) => self.worker_names.len() >= NAMES,
-            Form::Asks(_, _) => self.asked >= CALLS,
+            Form::Object(_, _, _) => self.objects.len() >= OBJECTS,
+            Form::Worker(_, _) => self.worker_names.len() >= CALLERS,
+            Form::Asks(_, _) => self.asked >= CALL_LINES,
             _ => false,
         }
     }
@@ -258,7 +253,7 @@ impl Reading {
     fn add_object(&mut self, object: ObjectLine) -> Result<(), Memory>
         requires kept { IsKept self.old }
         requires new { offences.is_among self.old.object_names (Some object.name) ≡ false }
-        requires few { length self.old.object_names < 16 }
+        requires few { length self.old.object_names < OBJECTS }
         ensures { OnOk result (Shows (with_object (script_so_far self.old) object) self.new) }
     {
         self.object_names.declare(&object.name)?;
@@ -282,7 +277,7 @@ impl Reading {
     fn add_item(&mut self, item: &Item) -> Result<(), Memory>
         requires kept { IsKept self.old }
         requires worker { is_some self.old.worker ≡ true }
-        requires few { self.old.asked + length (call_lines (item.now ∷ [])) ≤ 65536 }
+        requires few { self.old.asked + length (call_lines (item.now ∷ [])) ≤ CALL_LINES }
         ensures { OnOk result (Shows (with_last_item (script_so_far self.old) item.now) self.new) }
     {
         match item {
@@ -309,7 +304,7 @@ impl Reading {
     ) -> Result<(), Memory>
         requires kept { IsKept self.old }
         requires worker { is_some self.old.worker ≡ true }
-        requires few { self.old.asked < 65536 }
+        requires few { self.old.asked < CALL_LINES }
         ensures { OnOk result
             (Shows (with_request (script_so_far self.old) number object.now request.now) self.new) }
     {

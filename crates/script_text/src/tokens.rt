@@ -3,7 +3,7 @@ ghost use Rattle.std.specs.Str.{bytes_eq};
 ghost use Rattle.script_text.specs.Tokens.{tokens_of, says_nothing};
 ghost use Rattle.script_text.specs.Words.{IsWords, with_token};
 
-const SPACE: u8 = b' ';
+use k42_limits::SPACE;
 
 /// Tokens, of which no form has more than three behind its first word.
 #[derive(Clone, Copy)]

@@ -1,5 +1,6 @@
 use Rattle.std.proofs.Common.{◌≡◌, ℕ, ◌<◌, get_or}
+use Rattle.k42_limits.specs.declared.TheConstants.{SPACE}
 use Rattle.script_text.proofs.tokens.blank_len.Given as goal
 
 abbrev pub invariant-loop-i : goal.invariant-loop-i
-invariant-loop-i l = (k : ℕ) → k < l.i → get_or l.text k 0 ≡ 32
+invariant-loop-i l = (k : ℕ) → k < l.i → get_or l.text k 0 ≡ SPACE
