@@ -1,4 +1,4 @@
-ghost use Rattle.std.specs.Prelude.{◌≡◌, ◌-◌, ◌^◌, ◌<◌, ◌↔◌, min, length, take, Contains, IsOk, IsErr, IfOk, OnOk, OnErr};
+ghost use Rattle.std.specs.Prelude.{◌≡◌, ◌-◌, ◌^◌, ◌<◌, ◌↔◌, ⊤, min, length, take, Contains, IsOk, IsErr, IfOk, OnOk, OnErr};
 ghost use Rattle.std.specs.Io.{WritesAtMost};
 ghost use Rattle.k42_io.specs.Schedule.{next_number};
 ghost use Rattle.k42_io.specs.Sink.{Stays, WriteGrows};
@@ -55,6 +55,8 @@ impl MemSink {
 
 impl Sink for MemSink {
     ghost taken = { λ s. told s.shelf };
+
+    ghost flushed = { λ _. ⊤ };
 
     ghost faults = { λ s. s.writes.faults };
 

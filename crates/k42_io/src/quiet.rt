@@ -1,4 +1,4 @@
-ghost use Rattle.std.specs.Prelude.{◌≡◌, ◌<◌, min, length, drop, Some, IsOk, IfOk};
+ghost use Rattle.std.specs.Prelude.{◌≡◌, ◌<◌, ⊤, min, length, drop, Some, IsOk, IfOk};
 ghost use Rattle.std.specs.Io.{ReadsAtMost};
 ghost use Rattle.std.specs.Io.KnownBytes.{ReadConsumes};
 ghost use Rattle.k42_io.specs.Sink.{Stays, WriteGrows};
@@ -86,6 +86,8 @@ impl QuietSink {
 
 impl Sink for QuietSink {
     ghost taken = { told };
+
+    ghost flushed = { λ _. ⊤ };
 
     ghost faults = { λ _. 0 };
 

@@ -9,6 +9,9 @@ pub trait Sink {
     /// The bytes taken so far, where the sink tells them. Once it stops, it tells no more.
     ghost taken: { Self → Option (List ℕ) };
 
+    /// Nothing that was taken is held back.
+    ghost flushed: { Self → Type 0 };
+
     /// The count of faults. It never falls.
     ghost faults: { Self → ℕ };
 
@@ -25,6 +28,7 @@ pub trait Sink {
     fn flush(&mut self) -> Result<(), Failed>
         requires { faults self.old < 2 ^ 64 - 1 }
         ensures bytes { Stays (taken self.old) (taken self.new) }
+        ensures done { OnOk result (flushed self.new) }
         ensures failed { OnErr result (faults self.old < faults self.new) }
         ensures quiet { OnOk result (faults self.new ≡ faults self.old) };
 }

@@ -1,5 +1,6 @@
 ghost use Rattle.std.specs.Prelude.{◌≡◌, ◌+◌, ◌-◌, ◌^◌, ◌<◌, ◌↔◌, length, Ok, IsErr, IfOk, OnOk, OnErr};
 ghost use Rattle.std.specs.Io.{ReadsAtMost, WritesAtMost};
+ghost use Rattle.std.specs.Io.KnownBytes.{Keeps, ReadConsumes, WriteAppends};
 
 use crate::sink::Sink;
 use crate::source::{Failed, Source};
@@ -27,6 +28,43 @@ fn passed_on<T: Drop>(answer: io::Result<T>, faults: &mut u64) -> Result<T, Fail
         Ok(value) => Ok(value),
         Err(_) => Err(counted(faults)),
     }
+}
+
+/// One read of a stream, with a fault counted where it failed.
+fn read_from<R: Read>(stream: &mut R, buf: &mut [u8], faults: &mut u64) -> Result<usize, Failed>
+    requires { faults.old < 2 ^ 64 - 1 }
+    ensures bound { ReadsAtMost result buf.new }
+    ensures bytes { ReadConsumes (R.remaining stream.old) (R.remaining stream.new) result buf.new }
+    ensures failed { OnErr result (faults.new ≡ faults.old + 1) }
+    ensures quiet { OnOk result (faults.new ≡ faults.old) }
+{
+    passed_on(stream.read(buf), faults)
+}
+
+/// One write to a stream, with a fault counted where it failed or took nothing of a piece.
+fn write_to<W: Write>(stream: &mut W, piece: &[u8], faults: &mut u64) -> Result<usize, Failed>
+    requires { faults.old < 2 ^ 64 - 1 }
+    ensures bound { WritesAtMost result piece.now }
+    ensures progress { 0 < length piece.now → IfOk result (λ n. 0 < n) }
+    ensures bytes { WriteAppends (W.contents stream.old) (W.contents stream.new) result piece.now }
+    ensures failed { OnErr result (faults.new ≡ faults.old + 1) }
+    ensures quiet { OnOk result (faults.new ≡ faults.old) }
+{
+    match passed_on(stream.write(piece), faults) {
+        // A device that takes nothing of a piece would be asked for ever.
+        Ok(0) if !piece.is_empty() => Err(counted(faults)),
+        answer => answer,
+    }
+}
+
+/// One flush of a stream, with a fault counted where it failed.
+fn flush_of<W: Write>(stream: &mut W, faults: &mut u64) -> Result<(), Failed>
+    requires { faults.old < 2 ^ 64 - 1 }
+    ensures bytes { Keeps (W.contents stream.old) (W.contents stream.new) }
+    ensures failed { OnErr result (faults.new ≡ faults.old + 1) }
+    ensures quiet { OnOk result (faults.new ≡ faults.old) }
+{
+    passed_on(stream.flush(), faults)
 }
 
 /// Standard input. It tells no bytes, and contracts see its count of faults.
@@ -65,7 +103,7 @@ impl Source for InputSource {
         ensures failed { OnErr result (self.new ≡ self.old + 1) }
         ensures quiet { OnOk result (self.new ≡ self.old) }
     {
-        passed_on(self.input.read(buf), &mut self.faults)
+        read_from(&mut self.input, buf, &mut self.faults)
     }
 }
 
@@ -93,9 +131,12 @@ impl OutputSink {
 }
 
 impl Sink for OutputSink {
-    ghost use Rattle.std.specs.Prelude.{None};
+    ghost use Rattle.std.specs.Prelude.{None, ⊤};
 
     ghost taken = { λ _. None };
+
+    // What the system holds back no contract sees.
+    ghost flushed = { λ _. ⊤ };
 
     ghost faults = { λ count. count };
 
@@ -106,11 +147,7 @@ impl Sink for OutputSink {
         ensures failed { OnErr result (self.new ≡ self.old + 1) }
         ensures quiet { OnOk result (self.new ≡ self.old) }
     {
-        match passed_on(self.output.write(piece), &mut self.faults) {
-            // A device that takes nothing of a piece would be asked for ever.
-            Ok(0) if !piece.is_empty() => Err(counted(&mut self.faults)),
-            answer => answer,
-        }
+        write_to(&mut self.output, piece, &mut self.faults)
     }
 
     fn flush(&mut self) -> Result<(), Failed>
@@ -118,6 +155,6 @@ impl Sink for OutputSink {
         ensures failed { OnErr result (self.new ≡ self.old + 1) }
         ensures quiet { OnOk result (self.new ≡ self.old) }
     {
-        passed_on(self.output.flush(), &mut self.faults)
+        flush_of(&mut self.output, &mut self.faults)
     }
 }

@@ -32,6 +32,8 @@ impl Watched {
 impl Sink for Watched {
     ghost taken = { λ _. None };
 
+    ghost flushed = { λ w. w.written_at_flush ≡ w.written };
+
     ghost faults = { λ w. w.faults };
 
     fn write(&mut self, piece: &[u8]) -> Result<usize, Failed> {

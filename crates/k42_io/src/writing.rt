@@ -8,6 +8,7 @@ use crate::source::Failed;
 pub fn write_all<K: Sink>(sink: &mut K, bytes: &[u8]) -> Result<(), Failed>
     requires { K.faults sink.old < 2 ^ 64 - 1 }
     ensures ok { OnOk result (Grows (K.taken sink.old) (K.taken sink.new) bytes.now) }
+    ensures flushed { OnOk result (K.flushed sink.new) }
     ensures err { OnErr result (GrowsByFront (K.taken sink.old) (K.taken sink.new) bytes.now) }
     ensures failed { OnErr result (K.faults sink.old < K.faults sink.new) }
     ensures quiet { OnOk result (K.faults sink.new ≡ K.faults sink.old) }
