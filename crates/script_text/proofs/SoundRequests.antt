@@ -27,7 +27,7 @@ use Rattle.script_text.proofs.SoundForms.{HasPage, IsFormed, IsProcs}
 use Rattle.script_text.proofs.SoundSteps.{IsSoundSoFar, same_script, keeps_procs, keeps_object, keeps_worker, keeps_item}
 
 -- a kind that does not differ is the same
-same_when_not_different : (asked kind : KindName) → not (same_kind asked kind) ≡ false → asked ≡ kind
+pub same_when_not_different : (asked kind : KindName) → not (same_kind asked kind) ≡ false → asked ≡ kind
 same_when_not_different Counter Counter e = refl
 same_when_not_different Counter Directory e = cc
 same_when_not_different Counter Pages e = cc

@@ -1,5 +1,5 @@
 -- Every script that can be read is sound.
-use Rattle.std.proofs.Common.{◌≡◌, ℕ, suc, ◌+◌, ◌==◌, Bool, true, false, cond, not, ◌&&◌, List, [], ◌∷◌, ◌++◌, length, length-append, refl, sym, subst, arith}
+use Rattle.std.proofs.Common.{◌≡◌, ℕ, ◌+◌, ◌==◌, Bool, true, false, cond, not, ◌&&◌, List, [], ◌∷◌, ◌++◌, length, length-append, refl, subst, arith}
 use Rattle.std.specs.Prelude.{Option, Some, None, Result, Ok, Err, IfOk, IfSome}
 use Rattle.std.specs.List.{AllByRecursion}
 use Rattle.std.proofs.lemmas.Bool.Decides.{nat_tests}
@@ -9,7 +9,7 @@ use Rattle.script_text.specs.Lines.{lines_of, text_of}
 use Rattle.script_text.specs.Tokens.{tokens_of, says_nothing}
 use Rattle.script_text.specs.Forms.{form_of, begins_procs}
 use Rattle.script_text.specs.Offences.{is_open_behind, is_last_open, is_in_block, wants_procs}
-use Rattle.script_text.specs.Language.{with_said, with_line, with_lines, no_script, script_after, is_refused_for, offends_by, causes, first_of, cause_of, fault_at, last_number, script_at_end, unless_refused, read_on, parsed}
+use Rattle.script_text.specs.Language.{with_said, no_script, script_after, is_refused_for, offends_by, causes, cause_of, fault_at, last_number, script_at_end, unless_refused, read_on, parsed}
 use Rattle.script_text.specs.Sound.{BlocksMatch, IsSoundWorker, IsFreeName, IsSound}
 use Rattle.script_text.specs.Outcome.{Answers}
 use Rattle.script_text.specs.declared.form.Form.{Form}
@@ -23,19 +23,9 @@ use Rattle.script_text.specs.declared.script.WorkerLines.{WorkerLines}
 use Rattle.script_text.proofs.SoundForms.{IsFormed, IsProcs, form_of-formed, form_of-procs}
 use Rattle.script_text.proofs.SoundLists.{EarlierAreClosed}
 use Rattle.script_text.proofs.SoundSteps.{HoldsWorker, IsSoundSoFar, same_script}
+use Rattle.script_text.proofs.Refusals.{first_of-none}
 use Rattle.script_text.proofs.SoundRequests.{keeps_form}
 use Rattle.script_text.proofs.Underway.{with_lines-push}
-
-none_cond : {A : Type 0} (b : Bool) (x : A) (other : Option A) → cond b (Some x) other ≡ None → (b ≡ false) × (other ≡ None)
-none_cond true x other e = absurd (none-some x (sym e))
-none_cond false x other e = (refl, e)
-
--- where the first is none, each of the tests fails
-first_of-none : (test : ScriptCause → Bool) (causes : List ScriptCause) → first_of test causes ≡ None → AllByRecursion (λ cause. test cause ≡ false) causes
-first_of-none test [] e = tt
-first_of-none test (cause ∷ rest) e =
-    let parts = none_cond (test cause) cause (first_of test rest) e in
-    (parts.0, first_of-none test rest parts.1)
 
 -- a line with these tokens and this form says nothing, or what no test refuses
 IsAccepted : Script → Bool → List (List ℕ) → Option Form → Type 0
@@ -63,7 +53,7 @@ module _ (next : ℕ) (script : Script) (sound : IsSoundSoFar next script) (toke
       })
 
 -- one more line that is not refused
-keeps_line : (before : List (List ℕ)) (line : List ℕ) → IsSoundSoFar (1 + length before) (script_after before) → cause_of before line ≡ None → IsSoundSoFar (1 + length (before ++ line ∷ [])) (script_after (before ++ line ∷ []))
+pub keeps_line : (before : List (List ℕ)) (line : List ℕ) → IsSoundSoFar (1 + length before) (script_after before) → cause_of before line ≡ None → IsSoundSoFar (1 + length (before ++ line ∷ [])) (script_after (before ++ line ∷ []))
 unfolding IsAccepted
 keeps_line before line sound none =
     let tokens : List (List ℕ) = tokens_of (text_of line) in
@@ -83,7 +73,7 @@ module _ (next : ℕ) (script : Script) where
     blocks = subst (BlocksMatch false worker.items) closed holds.blocks;
   }
 
-  sound_workers : (workers : List WorkerLines) → AllByRecursion (HoldsWorker next script) workers → EarlierAreClosed workers → is_last_open workers ≡ false → AllByRecursion (IsSoundWorker script) workers
+  pub sound_workers : (workers : List WorkerLines) → AllByRecursion (HoldsWorker next script) workers → EarlierAreClosed workers → is_last_open workers ≡ false → AllByRecursion (IsSoundWorker script) workers
   sound_workers [] holds earlier last = tt
   sound_workers (worker ∷ []) holds earlier last = (sound_worker worker holds.0 last, tt)
   sound_workers (worker ∷ other ∷ workers) holds earlier last = (sound_worker worker holds.0 earlier.0, sound_workers (other ∷ workers) holds.1 earlier.1 last)
@@ -125,7 +115,7 @@ read_on-sound before (line ∷ lines) script sound e =
     (λ none found. read_on-sound (before ++ line ∷ []) lines script (keeps_line before line sound none) found) e
 
 -- before the first line
-nothing_read : IsSoundSoFar 1 no_script
+pub nothing_read : IsSoundSoFar 1 no_script
 nothing_read = record {
   processors = omega arith;
   start = λ none. (refl, refl);

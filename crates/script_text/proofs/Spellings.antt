@@ -19,7 +19,7 @@ use Rattle.k42_kinds.specs.declared.operation.Op.{Op}
 use Rattle.k42_kinds.specs.declared.operation.Op.TheVariants.{Add, Get, Drain, Bind, Find, Unbind, Size, Write, Read, Dirty, Clean}
 use Rattle.k42_limits.specs.declared.TheConstants.{PROCESSORS, PAGES, AMOUNTS}
 use Rattle.script_text.specs.Acts.{layout_word, operation_word, argument_tokens, act_tokens}
-use Rattle.script_text.specs.Forms.{is_reserved, free_name, kind_named, layout_named, head_of, request_of, form_of}
+use Rattle.script_text.specs.Forms.{is_reserved, kind_named, layout_named, head_of, request_of, form_of}
 use Rattle.script_text.specs.Language.{act_of, with_line, with_said, with_object, with_worker, with_last_item}
 use Rattle.script_text.specs.Numbers.{number_within, number_below}
 use Rattle.script_text.specs.Offences.{object_names, place_among}
@@ -93,12 +93,12 @@ procs_line script number procs some few =
     with_line-spaced script number (procs_tokens procs) (refl, (token_decimal procs (omega (arith, few)), tt)) refl
     ∙ rw (number_within-decimal 1 PROCESSORS procs some few (omega (arith, few))) refl
 
-kind_named-word : (kind : KindName) → kind_named (kind_word kind) ≡ Some kind
+pub kind_named-word : (kind : KindName) → kind_named (kind_word kind) ≡ Some kind
 kind_named-word Counter = refl
 kind_named-word Directory = refl
 kind_named-word Pages = refl
 
-layout_named-word : (layout : LayoutName) → layout_named (layout_word layout) ≡ Some layout
+pub layout_named-word : (layout : LayoutName) → layout_named (layout_word layout) ≡ Some layout
 layout_named-word Shared = refl
 layout_named-word Spread = refl
 
@@ -132,7 +132,7 @@ pub end_line : (script : Script) (number : ℕ) → with_line script number (spa
 end_line script number = with_line-spaced script number end_tokens (refl, tt) refl
 
 -- a name that may be declared begins no form
-head_of-free : (name : List ℕ) → is_reserved name ≡ false → head_of name ≡ heads.Call
+pub head_of-free : (name : List ℕ) → is_reserved name ≡ false → head_of name ≡ heads.Call
 head_of-free name free =
     let procs = or_parts (bytes_eq name (codes "procs")) _ free in
     let object = or_parts (bytes_eq name (codes "object")) _ procs.1 in
@@ -221,10 +221,10 @@ act_of-act (Swap layout) = refl
 act_of-act Destroy = refl
 
 -- a line that asks something of an object, as its tokens, which are no remark
-act_says : (name : List ℕ) (act : Act) → IsFreeName name → IsInRange act → says_nothing (act_tokens name act) ≡ false
-act_says name (Call op) free in_range = says-name name free.formed
-act_says name (Swap layout) free in_range = refl
-act_says name Destroy free in_range = refl
+pub act_says : (name : List ℕ) (act : Act) → IsFreeName name → says_nothing (act_tokens name act) ≡ false
+act_says name (Call op) free = says-name name free.formed
+act_says name (Swap layout) free = refl
+act_says name Destroy free = refl
 
 all_tokens : (name : List ℕ) (act : Act) → IsFreeName name → IsInRange act → AllByRecursion IsToken (act_tokens name act)
 all_tokens name (Call op) free in_range = (token_name name free.formed, op_tokens op in_range)
@@ -240,7 +240,7 @@ form_of-act procs name Destroy free in_range = rw free.formed refl
 -- a line that asks something of an object
 pub act_line : (script : Script) (number place : ℕ) (name : List ℕ) (act : Act) → IsFreeName name → place_among (object_names script) (Some name) ≡ Some place → IsInRange act → with_line script number (spaced (act_tokens name act)) ≡ with_last_item script (items.Line (record { line = number; object = place; act = act }))
 act_line script number place name act free declared in_range =
-    with_line-spaced script number (act_tokens name act) (all_tokens name act free in_range) (act_says name act free in_range)
+    with_line-spaced script number (act_tokens name act) (all_tokens name act free in_range) (act_says name act free)
     ∙ rw (form_of-act script.procs name act free in_range, declared, act_of-act act) refl
 
 -- the name and the act that a form says

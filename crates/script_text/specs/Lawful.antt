@@ -1,11 +1,12 @@
 -- Which histories a script may have.
 use Rattle.std.specs.Prelude.{◌≡◌, ℕ, ◌+◌, ◌<◌, List, [], ◌∷◌, length, map, All, Some, slice_get}
+use Rattle.std.specs.List.{AllZip}
 use Rattle.k42_kinds.specs.declared.operation.KindName.{KindName}
 use Rattle.k42_kinds.specs.declared.entry.Act.{Act}
 use Rattle.k42_kinds.specs.declared.entry.Answer.{Answer}
 use Rattle.k42_kinds.specs.declared.entry.Answer.TheVariants.{Abandoned}
 use Rattle.k42_kinds.specs.declared.entry.Entry.{Entry}
-use Rattle.k42_kinds.specs.Histories.{entries_of}
+use Rattle.k42_kinds.specs.Histories.{entries_of, IsInOrder}
 use Rattle.k42_kinds.specs.Legal.{IsLegalHistory}
 use Rattle.script_text.specs.declared.script.CallLine.{CallLine}
 use Rattle.script_text.specs.declared.script.Item.{Item}
@@ -49,6 +50,18 @@ IsNotGivenUp _ = Unit {0}
 abbrev pub DoesItsLines : List Entry → ℕ → WorkerLines → Type 0
 DoesItsLines history number worker =
     map deed_of (entries_of number history) ≡ deeds_from 0 (call_lines worker.items)
+
+-- the entry has the object and the act of the line
+pub record IsOfLine (line : CallLine) (entry : Entry) : Type 0 where
+  pub object : entry.object ≡ line.object
+  pub act : entry.act ≡ line.act
+
+-- The entries of the worker of this number are in order for a list with one entry for each of these
+-- lines.
+pub record DoesInOrder (history : List Entry) (number : ℕ) (lines : List CallLine) : Type 0 where
+  pub list : List Entry
+  pub of_lines : AllZip IsOfLine lines list
+  pub in_order : IsInOrder history number list
 
 -- A history is lawful for a script where it is a legal history of the script's objects in which
 -- each worker does what its lines ask, nobody else does anything, and no swap was given up.

@@ -10,6 +10,7 @@ pub mod Outcome
 pub mod Lawful
 pub mod Sound
 pub mod Spelled
+pub mod Accepted
 pub mod Generated
 pub mod Cuts
 pub mod Words

@@ -1,5 +1,5 @@
 -- The lines of a text.
-use Rattle.std.specs.Prelude.{ℕ, ◌+◌, Bool, ◌&&◌, ◌==◌, nat_lt, nat_le, if◌then◌else◌, List, [], ◌∷◌, length, sum_by}
+use Rattle.std.specs.Prelude.{◌≡◌, ◌≢◌, ℕ, ◌+◌, ◌<◌, ◌⊎◌, Bool, ◌&&◌, ◌==◌, nat_lt, nat_le, if◌then◌else◌, List, [], ◌∷◌, ◌++◌, length, sum_by, All}
 use Rattle.std.specs.List.{list_all}
 use Rattle.k42_limits.specs.declared.TheConstants.{LINE_FEED, SPACE}
 
@@ -20,6 +20,23 @@ lines_of (byte ∷ bytes) =
 abbrev pub text_of : List ℕ → List ℕ
 text_of [] = []
 text_of (byte ∷ bytes) = if byte == LINE_FEED then [] else byte ∷ text_of bytes
+
+-- the line ends in its only line feed
+pub record IsWholeLine (line : List ℕ) : Type 0 where
+  pub body : List ℕ
+  pub ended : line ≡ body ++ LINE_FEED ∷ []
+  pub only : All (λ byte. byte ≢ LINE_FEED) body
+
+-- some bytes, of which none is a line feed
+pub record IsLastPiece (line : List ℕ) : Type 0 where
+  pub some : 0 < length line
+  pub none : All (λ byte. byte ≢ LINE_FEED) line
+
+-- Each line is whole, but for the last, which may be a piece without a line feed.
+abbrev pub AreLines : List (List ℕ) → Type 0
+AreLines [] = Unit {0}
+AreLines (line ∷ []) = IsWholeLine line ⊎ IsLastPiece line
+AreLines (line ∷ next ∷ lines) = IsWholeLine line × AreLines (next ∷ lines)
 
 -- a byte from the space to the tilde
 abbrev pub is_printable : ℕ → Bool

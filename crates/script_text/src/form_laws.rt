@@ -1,4 +1,4 @@
-ghost use Rattle.std.specs.Prelude.{◌≡◌, ◌<◌, ◌≤◌, ◌∷◌, ◌++◌, ℕ, List, [], All, Some, codes};
+ghost use Rattle.std.specs.Prelude.{◌≡◌, ◌<◌, ◌≤◌, ◌∷◌, ◌++◌, ℕ, List, [], length, All, Some, codes};
 ghost use Rattle.k42_kinds.specs.declared.entry.Act.{Act};
 ghost use Rattle.k42_limits.specs.declared.TheConstants.{PROCESSORS, SPACE};
 ghost use Rattle.script_text.specs.Acts.{act_tokens};
@@ -8,10 +8,12 @@ ghost use Rattle.script_text.specs.Sound.{IsFreeName};
 ghost use Rattle.script_text.specs.Spelled as spelled;
 ghost use Rattle.script_text.specs.Spelled.{spaces, spaced, IsToken, IsInRange};
 ghost use Rattle.script_text.specs.Tokens.{tokens_of};
+ghost use Rattle.script_text.specs.declared.script.Item.{Item};
 ghost use Rattle.script_text.specs.declared.script.Item.TheVariants as items;
 ghost use Rattle.script_text.specs.declared.script.ObjectLine.{ObjectLine};
 ghost use Rattle.script_text.specs.declared.script.Script.{Script};
 ghost use Rattle.script_text.specs.declared.script.WorkerHead.{WorkerHead};
+ghost use Rattle.script_text.specs.declared.script.WorkerLines.{WorkerLines};
 
 /// A space parts the tokens in front of it from those behind it.
 pub fn a_space_parts_tokens()
@@ -42,17 +44,28 @@ pub fn a_form_adds_what_it_says()
         IsFreeName worker.name → worker.proc < script.procs → script.procs ≤ PROCESSORS →
         with_line script number (spaced (spelled.worker_tokens worker))
         ≡ with_worker script worker }
-    ensures begin { (script : Script) (number : ℕ) →
+    ensures begin { (script : Script) (number : ℕ) → 0 < length script.workers →
         with_line script number (spaced spelled.begin_tokens) ≡ with_last_item script items.Begin }
-    ensures end { (script : Script) (number : ℕ) →
+    ensures end { (script : Script) (number : ℕ) → 0 < length script.workers →
         with_line script number (spaced spelled.end_tokens) ≡ with_last_item script items.End }
+{}
+
+/// What is added to a script's last worker stands behind all else that it does, and the workers
+/// before it stay as they are.
+pub fn an_item_is_added_to_the_last_worker()
+    ensures { (script : Script) (item : Item) (earlier : List WorkerLines) (worker : WorkerLines) →
+        script.workers ≡ earlier ++ worker ∷ [] →
+        with_last_item script item
+        ≡ record script {
+          workers = earlier ++ record worker { items = worker.items ++ item ∷ [] } ∷ [];
+        } }
 {}
 
 /// A line that asks something of a declared object adds just that to the last worker, and what it
 /// asks of which object can be told from its bytes.
 pub fn an_act_is_spelled_once()
     ensures adds { (script : Script) (number place : ℕ) (name : List ℕ) (act : Act) →
-        IsFreeName name → place_among (object_names script) (Some name) ≡ Some place →
+        0 < length script.workers → IsFreeName name → place_among (object_names script) (Some name) ≡ Some place →
         IsInRange act →
         with_line script number (spaced (act_tokens name act))
         ≡ with_last_item script

@@ -1,5 +1,6 @@
 use super::*;
 use crate::parsing::parse;
+use std::alloc::AllocError;
 use std::process::Abort;
 use std::test::Fail;
 
@@ -13,6 +14,10 @@ const TWELVE_STEPS: &[u8] = b"procs 4\nobject hits counter shared\n\
     worker w1 1\nhits add 937225630\nnames bind n90 5\ncache write 649 v9\n\
     worker w2 2\nhits add 4270069161\nnames bind n75 6\ncache write 38 v10\n\
     worker w3 3\nhits add 522938805\nnames bind n99 7\ncache write 703 v11\n";
+
+/// The processors and the objects of every trial.
+const DECLARED: &[u8] = b"procs 4\nobject hits counter shared\n\
+    object names directory shared\nobject cache pages shared\n";
 
 fn compare(rt: &impl Abort, left: &Script, right: &Script) {
     assert_eq!(rt; left.procs, right.procs);
@@ -29,6 +34,57 @@ fn a_generated_script_is_what_its_text_says(rt: HostRuntime) -> Result<(), Fail>
     for (steps, text) in [(1, ONE_STEP), (12, TWELVE_STEPS)] {
         let script = generate(rt.alloc(), steps)?;
         compare(&rt, &script, &parse(rt.alloc(), text)?);
+    }
+    Ok(())
+}
+
+/// The text of a step, by the rule.
+fn step_text(alloc: Global, step: u32, value: u32) -> Result<String, AllocError> {
+    let layout = if step / 1000 % 2 == 0 {
+        "spread"
+    } else {
+        "shared"
+    };
+    match (step % 1000, step / 4 % 3) {
+        (0, _) => format!(in alloc; "swap hits {layout}\n"),
+        (252, _) => format!(in alloc; "swap cache {layout}\n"),
+        (500, _) => format!(in alloc; "swap names {layout}\n"),
+        (_, 0) => format!(in alloc; "hits add {value}\n"),
+        (_, 1) => format!(in alloc; "names bind n{} {step}\n", value % 100),
+        _ => format!(in alloc; "cache write {} v{step}\n", value % 1024),
+    }
+}
+
+/// The text of so many steps, by the rule.
+fn trial_text(alloc: Global, steps: u32) -> Result<Vec<u8>, AllocError> {
+    let mut text = Vec::new(alloc);
+    text.extend_from_slice(DECLARED)?;
+    for worker in 0..4u32 {
+        text.extend_from_slice(format!(in alloc; "worker w{worker} {worker}\n")?.as_bytes())?;
+        let mut number = u64::from(steps);
+        for before in 0..steps {
+            let step = before + 1;
+            number = number
+                .wrapping_mul(6_364_136_223_846_793_005)
+                .wrapping_add(1_442_695_040_888_963_407);
+            if step % 4 == worker {
+                let line = step_text(alloc, step, (number >> 32) as u32)?;
+                text.extend_from_slice(line.as_bytes())?;
+            }
+        }
+    }
+    Ok(text)
+}
+
+#[test]
+fn the_text_of_long_trials_is_read_as_they_are(rt: HostRuntime) -> Result<(), Fail> {
+    for steps in [1u32, 1000, 10_000] {
+        let text = trial_text(rt.alloc(), steps)?;
+        compare(
+            &rt,
+            &generate(rt.alloc(), steps)?,
+            &parse(rt.alloc(), &text)?,
+        );
     }
     Ok(())
 }

@@ -345,8 +345,8 @@ fn there_are_at_most_16_objects_and_16_workers(rt: HostRuntime) -> Result<(), Fa
 
 #[test]
 fn each_worker_has_the_lines_behind_its_own(rt: HostRuntime) -> Result<(), Fail> {
-    let text = b"procs 2\nobject hits counter spread\nworker a 0\nbegin\nhits add 5\nend\n\
-        object d directory shared\nswap hits shared\nworker hits 1\nd bind end 7\n\
+    let text = b"procs 2\nobject hits counter spread\nworker a 0\nbegin\nhits add 5\n\
+        object d directory shared\nend\nswap hits shared\nworker hits 1\nd bind end 7\n\
         destroy d\nobject p pages shared\np write 1023 !~\n";
     let script = parse(rt.alloc(), text)?;
     let end = Name::of(b"end").ok_or("no name")?;
