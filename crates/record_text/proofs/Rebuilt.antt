@@ -27,9 +27,10 @@ use Rattle.record_text.specs.declared.record.Extra.{Extra}
 use Rattle.record_text.specs.declared.record.Record.{Record}
 use Rattle.record_text.specs.declared.record.RecordLine.{RecordLine}
 use Rattle.record_text.proofs.BareEntries.{legal_from}
-use Rattle.record_text.proofs.Crews.{by-push_own, by-push_other}
-use Rattle.record_text.proofs.Faults.{act_rules}
-use Rattle.record_text.proofs.Places.{drop_at}
+use Rattle.record_text.proofs.Referee.Crews.{by-push_own, by-push_other}
+use Rattle.record_text.proofs.Referee.Faults.{act_rules}
+use Rattle.k42_places.proofs.Appended.{slice_get-append_seam}
+use Rattle.k42_places.proofs.Rests.{drop_at}
 
 abbrev told_processor : Option Extra → ℕ
 told_processor (Some extra) = extra.proc
@@ -127,17 +128,13 @@ pub record KeepsThere (script : Script) (before : List RecordLine) (line : Recor
   pub stamped : line.stamp ≡ length before + 1
   pub legal : IsLegalLine script before line after
 
-at_seam : {X : Type 0} (before : List X) (x : X) (after : List X) → slice_get (before ++ x ∷ after) (length before) ≡ Some x
-at_seam [] x after = refl
-at_seam (y ∷ before) x after = at_seam before x after
-
 behind_seam : {X : Type 0} (before : List X) (x : X) (after : List X) → drop (length before + 1) (before ++ x ∷ after) ≡ after
 behind_seam [] x after = refl
 behind_seam (y ∷ before) x after = rw add-one (rw add-one at (behind_seam before x after))
 
 keeps_there : (script : Script) (lines : List RecordLine) → KeepsRules script lines → (before : List RecordLine) (line : RecordLine) (after : List RecordLine) → lines ≡ before ++ line ∷ after → KeepsThere script before line after
 keeps_there script lines keeps before line after split =
-    let there : slice_get lines (length before) ≡ Some line = rw split (at_seam before line after) in
+    let there : slice_get lines (length before) ≡ Some line = rw split (slice_get-append_seam before line after) in
     let front : take (length before) lines ≡ before = rw split (take-append_seam before (line ∷ after)) in
     let back : drop (length before + 1) lines ≡ after = rw split (behind_seam before line after) in
     let legal : IsLegalLine script (take (length before) lines) line (drop (length before + 1) lines) = elim (act_rules line.act line.answer) [

@@ -1,5 +1,5 @@
 -- The record of a lawful history keeps all rules, and a record has one first fault at most.
-use Rattle.std.proofs.Common.{◌≡◌, ℕ, zero, suc, ◌+◌, ◌<◌, ◌≤◌, cond, true, false, List, [], ◌∷◌, ◌++◌, length, map, take, drop, refl, sym, ap, ◌∙◌, subst, inl, inr, arith}
+use Rattle.std.proofs.Common.{◌≡◌, ℕ, zero, suc, ◌+◌, ◌<◌, ◌≤◌, cond, true, false, List, [], ◌∷◌, ◌++◌, length, map, take, drop, refl, sym, ap, ◌∙◌, inl, inr, arith}
 use Rattle.std.specs.Prelude.{◌==◌, Option, Some, None, slice_get}
 use Rattle.std.specs.Option.{option_map, option_map_or}
 use Rattle.std.proofs.lemmas.Bool.{eq-eqb, cases_order}
@@ -19,7 +19,8 @@ use Rattle.record_text.specs.Rules.{Rule, Stamps, Order, Calls, Swaps, Refusals,
 use Rattle.record_text.specs.declared.record.Record.{Record}
 use Rattle.record_text.specs.declared.record.RecordLine.{RecordLine}
 use Rattle.record_text.proofs.BareEntries.{legal_to}
-use Rattle.record_text.proofs.Places.{drop_at}
+use Rattle.k42_places.proofs.Rests.{drop_at}
+use Rattle.record_text.proofs.Referee.Faults.{keeps_at}
 
 -- a deed among those that the lines ask is what the line of its place asks
 record IsAsked (calls : List CallLine) (from place : ℕ) (deed : Deed) : Type 0 where
@@ -63,7 +64,7 @@ module _ (script : Script) (version : ℕ) where
     | false ↦ by-map worker history
   ]
 
-  length_by : (worker : ℕ) (history : List Entry) → length (lines_by worker (map (line_of script version) history)) ≡ length (entries_of worker history)
+  pub length_by : (worker : ℕ) (history : List Entry) → length (lines_by worker (map (line_of script version) history)) ≡ length (entries_of worker history)
   length_by worker history = ap length (by-map worker history) ∙ length-map (entries_of worker history) (line_of script version)
 
   module _ (history : List Entry) (lawful : IsLawful script history) where
@@ -71,18 +72,28 @@ module _ (script : Script) (version : ℕ) where
       own_split : entries_of entry.caller history ≡ entries_of entry.caller before ++ entry ∷ entries_of entry.caller after
       own_split = ap (entries_of entry.caller) split ∙ filter-append (λ (other : Entry). other.caller == entry.caller) before (entry ∷ after) ∙ rw (eq-eqb entry.caller entry.caller refl) refl
 
-      next_line : (worker : WorkerLines) → slice_get script.workers entry.caller ≡ Some worker → IsNextLine script (map (line_of script version) before) (line_of script version entry)
-      next_line worker found =
-          let calls : calls_of script entry.caller ≡ call_lines worker.items = ap (λ (l : Option WorkerLines). option_map_or (λ (w : WorkerLines). call_lines w.items) l []) found in
-          let deeds : deeds_from 0 (call_lines worker.items) ≡ map deed_of (entries_of entry.caller before) ++ deed_of entry ∷ map deed_of (entries_of entry.caller after) =
-          sym (lawful.in_order entry.caller worker found) ∙ ap (map deed_of) own_split ∙ map-append deed_of (entries_of entry.caller before) (entry ∷ entries_of entry.caller after) in
-          let asked = asked_at (call_lines worker.items) 0 (map deed_of (entries_of entry.caller before)) (deed_of entry) (map deed_of (entries_of entry.caller after)) deeds in
-          let count : length (map deed_of (entries_of entry.caller before)) ≡ length (entries_of entry.caller before) = length-map (entries_of entry.caller before) deed_of in
-          let there : slice_get (calls_of script entry.caller) (length (entries_of entry.caller before)) ≡ Some asked.line = rw calls (rw count at asked.there) in
-          let index : entry.index ≡ length (entries_of entry.caller before) = omega (arith, ap (λ (d : Deed). d.index) asked.same, count) in
-          let number : line_number script entry.caller entry.index ≡ asked.line.line = ap (λ (n : ℕ). line_number script entry.caller n) index ∙ ap (λ (found : Option CallLine). option_map_or (λ (l : CallLine). l.line) found 0) there in
-          let line : asked.line ≡ answered (line_of script version entry) = same_call asked.line (answered (line_of script version entry)) (sym number) (ap (λ (d : Deed). d.object) (sym asked.same)) (ap (λ (d : Deed). d.act) (sym asked.same)) in
-          rw (length_by entry.caller before) (there ∙ ap (λ (l : CallLine). Some l) line)
+      module _ (worker : WorkerLines) (found : slice_get script.workers entry.caller ≡ Some worker) where
+        own_asked : IsAsked (call_lines worker.items) 0 (length (map deed_of (entries_of entry.caller before))) (deed_of entry)
+        own_asked =
+            let deeds : deeds_from 0 (call_lines worker.items) ≡ map deed_of (entries_of entry.caller before) ++ deed_of entry ∷ map deed_of (entries_of entry.caller after) =
+            sym (lawful.in_order entry.caller worker found) ∙ ap (map deed_of) own_split ∙ map-append deed_of (entries_of entry.caller before) (entry ∷ entries_of entry.caller after) in
+            asked_at (call_lines worker.items) 0 (map deed_of (entries_of entry.caller before)) (deed_of entry) (map deed_of (entries_of entry.caller after)) deeds
+
+        own_count : length (map deed_of (entries_of entry.caller before)) ≡ length (entries_of entry.caller before)
+        own_count = length-map (entries_of entry.caller before) deed_of
+
+        -- an entry's index counts the entries of its caller before it
+        pub own_index : entry.index ≡ length (entries_of entry.caller before)
+        own_index = omega (arith, ap (λ (d : Deed). d.index) own_asked.same, own_count)
+
+        next_line : IsNextLine script (map (line_of script version) before) (line_of script version entry)
+        next_line =
+            let calls : calls_of script entry.caller ≡ call_lines worker.items = ap (λ (l : Option WorkerLines). option_map_or (λ (w : WorkerLines). call_lines w.items) l []) found in
+            let asked = own_asked in
+            let there : slice_get (calls_of script entry.caller) (length (entries_of entry.caller before)) ≡ Some asked.line = rw calls (rw own_count at asked.there) in
+            let number : line_number script entry.caller entry.index ≡ asked.line.line = ap (λ (n : ℕ). line_number script entry.caller n) own_index ∙ ap (λ (found : Option CallLine). option_map_or (λ (l : CallLine). l.line) found 0) there in
+            let line : asked.line ≡ answered (line_of script version entry) = same_call asked.line (answered (line_of script version entry)) (sym number) (ap (λ (d : Deed). d.object) (sym asked.same)) (ap (λ (d : Deed). d.act) (sym asked.same)) in
+            rw (length_by entry.caller before) (there ∙ ap (λ (l : CallLine). Some l) line)
 
     complete : HasAllLines script (map (line_of script version) history)
     complete worker = at (slice_get script.workers worker) refl
@@ -93,14 +104,11 @@ module _ (script : Script) (version : ℕ) where
             let done : length (entries_of worker history) ≡ length (call_lines own.items) = sym (length-map (entries_of worker history) deed_of) ∙ ap length (lawful.in_order worker own is) ∙ length_deeds (call_lines own.items) 0 in
             omega (arith, done, length_by worker history, ap length (ap (λ (l : Option WorkerLines). option_map_or (λ (w : WorkerLines). call_lines w.items) l []) is))
 
-keeps_from : (script : Script) (lines : List RecordLine) (place : ℕ) (line : RecordLine) (rule : Rule) → slice_get lines place ≡ Some line → Keeps script (take place lines) line (drop (place + 1) lines) rule → KeepsAt script lines place rule
-keeps_from script lines place line rule there keeps other here = subst (λ (l : RecordLine). Keeps script (take place lines) l (drop (place + 1) lines) rule) (same_Some line other (sym there ∙ here)) keeps
-
 -- what holds behind the entries of a history holds behind its lines
 keeps_mapped : (script : Script) (version : ℕ) (history : List Entry) (place : ℕ) (entry : Entry) (rule : Rule) → Keeps script (map (line_of script version) (take place history)) (line_of script version entry) (map (line_of script version) (drop (place + 1) history)) rule → Keeps script (take place (map (line_of script version) history)) (line_of script version entry) (drop (place + 1) (map (line_of script version) history)) rule
 keeps_mapped script version history place entry rule keeps = rw (take-map (line_of script version) place history, drop-map (line_of script version) (place + 1) history) keeps
 
-caller_found : (workers : List WorkerLines) (caller : ℕ) → caller < length workers → (worker : WorkerLines) × (slice_get workers caller ≡ Some worker)
+pub caller_found : (workers : List WorkerLines) (caller : ℕ) → caller < length workers → (worker : WorkerLines) × (slice_get workers caller ≡ Some worker)
 caller_found [] caller within = absurd (omega arith)
 caller_found (worker ∷ workers) zero within = (worker, refl)
 caller_found (worker ∷ workers) (suc caller) within = caller_found workers caller (omega arith)
@@ -123,11 +131,11 @@ module _ (script : Script) (version : ℕ) (history : List Entry) (lawful : IsLa
     where
       keeps : (rule : Rule) (entry : Entry) → slice_get told_lines place ≡ Some (line_of script version entry) → entry.stamp ≡ length (map (line_of script version) (take place history)) + 1 → IsNextLine script (map (line_of script version) (take place history)) (line_of script version entry)
           → IsLegalLine script (map (line_of script version) (take place history)) (line_of script version entry) (map (line_of script version) (drop (place + 1) history)) → KeepsAt script told_lines place rule
-      keeps Stamps entry here stamped next legal = keeps_from script told_lines place (line_of script version entry) Stamps here (keeps_mapped script version history place entry Stamps stamped)
-      keeps Order entry here stamped next legal = keeps_from script told_lines place (line_of script version entry) Order here (keeps_mapped script version history place entry Order next)
-      keeps Calls entry here stamped next legal = keeps_from script told_lines place (line_of script version entry) Calls here (keeps_mapped script version history place entry Calls (λ _. legal))
-      keeps Swaps entry here stamped next legal = keeps_from script told_lines place (line_of script version entry) Swaps here (keeps_mapped script version history place entry Swaps (λ _. legal))
-      keeps Refusals entry here stamped next legal = keeps_from script told_lines place (line_of script version entry) Refusals here (keeps_mapped script version history place entry Refusals (λ _. legal))
+      keeps Stamps entry here stamped next legal = keeps_at script told_lines place (line_of script version entry) here Stamps (keeps_mapped script version history place entry Stamps stamped)
+      keeps Order entry here stamped next legal = keeps_at script told_lines place (line_of script version entry) here Order (keeps_mapped script version history place entry Order next)
+      keeps Calls entry here stamped next legal = keeps_at script told_lines place (line_of script version entry) here Calls (keeps_mapped script version history place entry Calls (λ _. legal))
+      keeps Swaps entry here stamped next legal = keeps_at script told_lines place (line_of script version entry) here Swaps (keeps_mapped script version history place entry Swaps (λ _. legal))
+      keeps Refusals entry here stamped next legal = keeps_at script told_lines place (line_of script version entry) here Refusals (keeps_mapped script version history place entry Refusals (λ _. legal))
       keeps Generations entry here stamped next legal = generations
 
 -- a lawful record keeps all rules

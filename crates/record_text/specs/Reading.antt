@@ -3,8 +3,8 @@ use Rattle.std.specs.Prelude.{◌≡◌, ℕ, ◌+◌, Bool, false, ◌==◌, if
 use Rattle.std.specs.Option.{option_map_or}
 use Rattle.script_text.specs.Lines.{lines_of}
 use Rattle.script_text.specs.declared.script.Script.{Script}
-use Rattle.record_text.specs.Lines.{tokens_on}
-use Rattle.record_text.specs.LineParts.{version_on, line_on, count_on}
+use Rattle.record_text.specs.Reader.Lines.{tokens_on}
+use Rattle.record_text.specs.Reader.LineParts.{version_on, line_on, count_on}
 use Rattle.record_text.specs.declared.ending.RecordEnd.{RecordEnd}
 use Rattle.record_text.specs.declared.ending.RecordEnd.TheVariants as ends
 use Rattle.record_text.specs.declared.record.RecordLine.{RecordLine}

@@ -10,20 +10,14 @@ use Rattle.script_text.specs.Lawful.{IsLawful, kinds_of}
 use Rattle.script_text.specs.declared.script.Script.{Script}
 use Rattle.record_text.specs.Histories.{calls_of, record_of}
 use Rattle.record_text.specs.Told.{told, answered, lines_by, generations_by, told_generation, block_at, processor_of, AreInStep}
+pub use Rattle.record_text.specs.declared.judging.rule.Rule.{Rule}
+pub use Rattle.record_text.specs.declared.judging.rule.Rule.TheVariants.{Stamps, Order, Calls, Swaps, Refusals, Generations}
 use Rattle.record_text.specs.declared.ending.CheckEnd.{CheckEnd}
 use Rattle.record_text.specs.declared.ending.CheckEnd.TheVariants as ends
 use Rattle.record_text.specs.declared.record.Record.{Record}
 use Rattle.record_text.specs.declared.record.RecordLine.{RecordLine}
 
--- what a line is tested for
-pub data Rule : Type 0 where
-  Stamps : Rule
-  Order : Rule
-  Calls : Rule
-  Swaps : Rule
-  Refusals : Rule
-  Generations : Rule
-
+-- the number of each rule
 abbrev pub rule_number : Rule → ℕ
 rule_number Stamps = 2
 rule_number Order = 8

@@ -8,6 +8,8 @@ use Rattle.k42_kinds.specs.declared.entry.Answer.TheVariants.{Replied, Swapped, 
 use Rattle.script_text.specs.Lawful.{kinds_of}
 use Rattle.script_text.specs.Sound.{IsActOn}
 use Rattle.script_text.specs.declared.script.Script.{Script}
+use Rattle.record_text.specs.declared.version.Version.{Version}
+use Rattle.record_text.specs.declared.version.Version.TheVariants.{One, Two}
 use Rattle.record_text.specs.declared.record.RecordLine.{RecordLine}
 use Rattle.record_text.specs.declared.record.Record.{Record}
 
@@ -49,6 +51,11 @@ HasGeneration Destroy generation = IsNone generation
 pub record IsOfVersion (version : ℕ) (line : RecordLine) : Type 0 where
   pub told : MatchOption line.extra (version ≡ 1)
       (λ extra. (version ≡ 2) × HasGeneration line.act extra.generation)
+
+-- the number of each version
+abbrev pub version_number : Version → ℕ
+version_number One = 1
+version_number Two = 2
 
 -- a record is of one of two versions
 abbrev pub IsVersion : ℕ → Type 0

@@ -1,9 +1,10 @@
 ghost use Rattle.std.specs.Prelude.{◌≡◌, All, IfOk, slice_index};
-ghost use Rattle.record_text.specs.Spelling.{IsVersion};
+ghost use Rattle.record_text.specs.Spelling.{IsVersion, version_number};
 ghost use Rattle.record_text.specs.Histories as told;
-ghost use Rattle.record_text.specs.LineNumbers.{HasNumber, line_numbers, all_line_numbers, numbers_at};
+ghost use Rattle.record_text.specs.Printer.LineNumbers.{HasNumber, line_numbers, all_line_numbers, numbers_at};
 
 use crate::record::{Extra, Record, RecordLine};
+use crate::version::Version;
 use k42_items::Items;
 use k42_kinds::Entry;
 use k42_memory::Memory;
@@ -42,22 +43,21 @@ fn number_of(numbers: &Items<Items<u32>>, entry: &Entry) -> u32
     numbers.as_slice()[entry.caller as usize].as_slice()[entry.index as usize]
 }
 
-fn extra_of(entry: &Entry, version: u32) -> Option<Extra>
-    ensures { result ≡ told.extra_of version entry.now }
+fn extra_of(entry: &Entry, version: Version) -> Option<Extra>
+    ensures { result ≡ told.extra_of (version_number version) entry.now }
 {
-    if version == 2 {
-        Some(Extra {
+    match version {
+        Version::One => None,
+        Version::Two => Some(Extra {
             proc: entry.proc,
             generation: entry.generation,
-        })
-    } else {
-        None
+        }),
     }
 }
 
 /// The line of an entry that answers the script's line of this number.
-fn line_at(entry: &Entry, number: u32, version: u32) -> RecordLine
-    ensures { result ≡ told.line_at version number entry.now }
+fn line_at(entry: &Entry, number: u32, version: Version) -> RecordLine
+    ensures { result ≡ told.line_at (version_number version) number entry.now }
 {
     RecordLine {
         stamp: entry.stamp,
@@ -83,11 +83,12 @@ pub fn lines_of(
     ensures { IfOk result (λ lines.
         lines ≡ told.record_of script.now entries.now.items version) }
 {
+    let told_version = Version::of(version);
     let numbers = numbers_of_all(alloc, script)?;
     let mut lines = Vec::with_capacity(alloc, entries.len())?;
     for entry in entries {
         let number = number_of(&numbers, entry);
-        lines.push(line_at(entry, number, version))?;
+        lines.push(line_at(entry, number, told_version))?;
     }
     Ok(Record {
         lines: Items::of(lines),

@@ -1,17 +1,18 @@
 ghost use Rattle.std.specs.Prelude.{◌≡◌, ◌<◌, ◌+◌, ◌^◌, ◌≤◌, [], ◌∷◌, ◌++◌, ℕ, true, List, All, Some, None, IfOk, Option, length, map, take, vec_len, slice_get};
 ghost use Rattle.std.specs.Bool.{Decides};
+ghost use Rattle.k42_limits.specs.declared.TheConstants.{CALLERS, OBJECTS};
 ghost use Rattle.k42_kinds.specs.Legal.{IsLegalAmong, IsLegalRefusal};
 ghost use Rattle.k42_kinds.specs.declared.operation.KindName.{KindName as Kinds};
 ghost use Rattle.script_text.specs.Lawful.{call_lines};
 ghost use Rattle.script_text.specs.declared.script.Item.{Item as Said};
-ghost use Rattle.record_text.specs.Courses.{IsWalked, StandsAtLine, MayTell};
-ghost use Rattle.record_text.specs.Judged.{CanTake, HasLegalForm};
-ghost use Rattle.record_text.specs.Marks.{Shows};
-ghost use Rattle.record_text.specs.Pasts.{IsWhole, IsPast, IsRefusable, AreKept, AreWalked, Stands};
+ghost use Rattle.record_text.specs.Referee.Courses.{IsWalked, StandsAtLine, MayTell};
+ghost use Rattle.record_text.specs.Referee.Judged.{CanTake, HasLegalForm};
+ghost use Rattle.record_text.specs.Referee.Marks.{Shows};
+ghost use Rattle.record_text.specs.Referee.Pasts.{IsWhole, IsPast, IsRefusable, AreKept, AreWalked, Stands};
 ghost use Rattle.record_text.specs.Rules as table;
-ghost use Rattle.record_text.specs.Rules.{Judges, IsNextLine, KeepsGenerations, HasAllLines, KeepsAt, BreaksFirst, all_rules, rule_number, rule_of_act};
-ghost use Rattle.record_text.specs.Seen as seen;
-ghost use Rattle.record_text.specs.Seen.{IsPlaced, furthest_of};
+ghost use Rattle.record_text.specs.Rules.{Judges, IsNextLine, KeepsGenerations, HasAllLines, KeepsAt, BreaksFirst, all_rules, rule_number};
+ghost use Rattle.record_text.specs.Referee.Seen as seen;
+ghost use Rattle.record_text.specs.Referee.Seen.{IsPlaced, furthest_of};
 ghost use Rattle.record_text.specs.Spelling.{HasText, HasSpelling};
 ghost use Rattle.record_text.specs.Told.{told, told_generation};
 ghost use Rattle.record_text.specs.declared.record.RecordLine.{RecordLine as Line};
@@ -21,16 +22,18 @@ mod doers;
 mod later;
 mod marks;
 mod object;
+mod rule;
 
 use crate::ending::CheckEnd;
 use crate::record::{Extra, Record, RecordLine};
 use course::Course;
 use doers::Doers;
-use k42_kinds::{Act, Answer, Plain};
+use k42_kinds::{Answer, Plain};
 use k42_memory::Memory;
 use later::least_later;
 use marks::Marks;
 use object::Object;
+use rule::Rule;
 use script_text::{Item, ObjectLine, Script, WorkerLines};
 use std::alloc::Global;
 
@@ -75,19 +78,6 @@ fn reach_of(line: &RecordLine) -> u32
     match line.answer {
         Answer::Swapped(number) => greatest(line.incarnation, number),
         _ => line.incarnation,
-    }
-}
-
-/// The rule that says whether an act may be answered as in the line.
-fn rule_of(line: &RecordLine) -> u32
-    ensures { result ≡ rule_number (rule_of_act line.now.act line.now.answer) }
-{
-    match line.act {
-        Act::Call(_) => 5,
-        Act::Swap(_) | Act::Destroy => match line.answer {
-            Answer::Busy(_) => 7,
-            _ => 6,
-        },
     }
 }
 
@@ -261,7 +251,7 @@ impl Past {
         whole: &Whole,
         lines: &[RecordLine],
         place: usize,
-    ) -> Result<Option<u32>, Memory>
+    ) -> Result<Option<Rule>, Memory>
         requires there { place < length lines.now }
         requires placed { All IsPlaced lines.now }
         requires spelled { All (HasSpelling script.now) lines.now }
@@ -270,22 +260,22 @@ impl Past {
         ensures kept { IfOk result (λ broken. broken ≡ None →
             ((rule : table.Rule) → KeepsAt script.now lines.now place rule)
             × IsPast script.now (take (place + 1) lines.now) self.new) }
-        ensures broken { IfOk result (λ broken. (rule : ℕ) → broken ≡ Some rule →
-            BreaksFirst (KeepsAt script.now lines.now place) all_rules rule) }
+        ensures broken { IfOk result (λ broken. (rule : table.Rule) → broken ≡ Some rule →
+            BreaksFirst (KeepsAt script.now lines.now place) all_rules (rule_number rule)) }
     {
         let line = &lines[place];
         if line.stamp != place as u64 + 1 {
-            return Ok(Some(2));
+            return Ok(Some(Rule::Stamps));
         }
         if !follows(&mut self.courses, script, line) {
-            return Ok(Some(8));
+            return Ok(Some(Rule::Order));
         }
         let refusable = whole.may_refuse(&self.seen, line, place);
         if !tells(&mut self.objects, alloc, line, refusable)? {
-            return Ok(Some(rule_of(line)));
+            return Ok(Some(Rule::of(line)));
         }
         if !passes(&mut self.courses, script, line) {
-            return Ok(Some(21));
+            return Ok(Some(Rule::Generations));
         }
         see(&mut self.seen, line);
         Ok(None)
@@ -321,8 +311,8 @@ fn all_done(courses: &mut Vec<Course>, script: &Script) -> bool
 
 /// Whether the record is lawful for the script, or the first line that breaks a rule.
 pub fn check(alloc: Global, script: &Script, lines: &Record) -> Result<(), CheckEnd>
-    requires workers { length script.now.workers ≤ 16 }
-    requires objects { length script.now.objects ≤ 16 }
+    requires workers { length script.now.workers ≤ CALLERS }
+    requires objects { length script.now.objects ≤ OBJECTS }
     requires spelled { HasText script.now lines.now }
     requires few { length lines.now.lines < 2 ^ 31 }
     ensures verdict { Judges script.now lines.now result }
@@ -334,7 +324,7 @@ pub fn check(alloc: Global, script: &Script, lines: &Record) -> Result<(), Check
         if let Some(rule) = past.judge(alloc, script, &whole, lines, place)? {
             return Err(CheckEnd::Unlawful {
                 line: place as u32 + 2,
-                rule,
+                rule: rule.number(),
             });
         }
     }
@@ -343,7 +333,7 @@ pub fn check(alloc: Global, script: &Script, lines: &Record) -> Result<(), Check
     } else {
         Err(CheckEnd::Unlawful {
             line: lines.len() as u32 + 2,
-            rule: 8,
+            rule: Rule::Order.number(),
         })
     }
 }

@@ -4,15 +4,18 @@ ghost use Rattle.record_text.specs.Tokens.{behind_spaces, line_with};
 ghost use Rattle.record_text.specs.Texts as spelling;
 ghost use Rattle.record_text.specs.Spelling.{HasSpelling, HasText};
 
-use crate::acts::put_act;
-use crate::answers::put_answer;
+mod acts;
+mod answers;
+mod tokens;
+
+use crate::printing::acts::put_act;
+use crate::printing::answers::put_answer;
+use crate::printing::tokens::{put_digits, put_marked, put_number, put_token};
 use crate::record::{Extra, Record, RecordLine};
-use crate::tokens::{put_digits, put_marked, put_number, put_token};
+use k42_limits::LINE_FEED;
 use k42_memory::Memory;
 use script_text::Script;
 use std::alloc::Global;
-
-const LINE_FEED: u8 = b'\n';
 
 /// Adds the generation of a call, or that there is none.
 fn put_generation(out: &mut Vec<u8>, generation: Option<u32>) -> Result<(), Memory>

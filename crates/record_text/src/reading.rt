@@ -1,11 +1,13 @@
-ghost use Rattle.std.specs.Prelude.{◌≡◌, ◌<◌, ◌^◌, ◌≤◌, [], length, Ok, IfOk};
+ghost use Rattle.std.specs.Prelude.{◌≡◌, ℕ, ◌<◌, ◌^◌, ◌≤◌, [], length, Ok, Err, IfOk};
+ghost use Rattle.k42_limits.specs.declared.TheConstants.{CALLERS, OBJECTS};
 ghost use Rattle.script_text.specs.Lines.{lines_of};
+ghost use Rattle.record_text.specs.Openings.{LeavesRecordsAt};
 ghost use Rattle.record_text.specs.Reading as record_reading;
-ghost use Rattle.record_text.specs.Spelling.{HasText};
+ghost use Rattle.record_text.specs.Spelling.{HasText, version_number};
 ghost use Rattle.script_text.specs.Sound.{HasDistinctNames};
 ghost use Rattle.record_text.specs.Texts.{record_text};
 ghost use Rattle.record_text.specs.Values.{FitsRecord};
-ghost use Rattle.record_text.specs.Cursor.{left_tokens};
+ghost use Rattle.record_text.specs.Reader.Cursor.{left_tokens};
 
 mod acts;
 mod answers;
@@ -17,6 +19,7 @@ use crate::ending::RecordEnd;
 use crate::reading::cursor::{Left, next_line};
 use crate::reading::lines::{count_on, line_on, version_on};
 use crate::record::{Record, RecordLine};
+use crate::version::Version;
 use k42_items::Items;
 use script_text::Script;
 use std::alloc::Global;
@@ -34,12 +37,12 @@ fn is_last(line: Left<'_>, count: usize) -> bool
 /// The record of these entries, where a line that is no entry's stands behind them.
 fn ended(
     lines: Vec<RecordLine>,
-    version: u32,
+    version: Version,
     line: Left<'_>,
     rest: &[u8],
 ) -> Result<Record, RecordEnd>
     requires { length lines.items < 2 ^ 31 }
-    ensures { record_reading.Reads (record_reading.ended version lines.items
+    ensures { record_reading.Reads (record_reading.ended (version_number version) lines.items
         (left_tokens line.entry) (lines_of rest.now)) result }
 {
     let count = lines.len();
@@ -55,7 +58,7 @@ fn ended(
     }
     Ok(Record {
         lines: Items::of(lines),
-        version,
+        version: version.number(),
     })
 }
 
@@ -63,14 +66,15 @@ fn ended(
 fn read_entries(
     alloc: Global,
     script: &Script,
-    version: u32,
+    version: Version,
     bytes: &[u8],
 ) -> Result<Record, RecordEnd>
-    requires objects { length script.now.objects ≤ 16 }
-    requires workers { length script.now.workers ≤ 16 }
+    requires objects { length script.now.objects ≤ OBJECTS }
+    requires workers { length script.now.workers ≤ CALLERS }
     requires short { length bytes.now < 2 ^ 31 }
     ensures { record_reading.Reads
-        (record_reading.entries_on script.now version [] (lines_of bytes.now)) result }
+        (record_reading.entries_on script.now (version_number version) [] (lines_of bytes.now))
+        result }
 {
     let mut lines = Vec::new(alloc);
     let mut rest = bytes;
@@ -89,8 +93,8 @@ fn read_entries(
 
 /// Reads the first line, and then the others.
 fn read_all(alloc: Global, script: &Script, bytes: &[u8]) -> Result<Record, RecordEnd>
-    requires objects { length script.now.objects ≤ 16 }
-    requires workers { length script.now.workers ≤ 16 }
+    requires objects { length script.now.objects ≤ OBJECTS }
+    requires workers { length script.now.workers ≤ CALLERS }
     requires short { length bytes.now < 2 ^ 31 }
     ensures { record_reading.Reads (record_reading.reading script.now bytes.now) result }
 {
@@ -109,14 +113,17 @@ fn read_all(alloc: Global, script: &Script, bytes: &[u8]) -> Result<Record, Reco
 /// A record is a line `k42 record VERSION`, a line for each entry, and a line `end COUNT`, each
 /// with its line feed. `Misspelt` names the first line that is not such a line or that is missing.
 pub fn read(alloc: Global, script: &Script, bytes: &[u8]) -> Result<Record, RecordEnd>
-    requires objects { length script.now.objects ≤ 16 }
-    requires workers { length script.now.workers ≤ 16 }
+    requires objects { length script.now.objects ≤ OBJECTS }
+    requires workers { length script.now.workers ≤ CALLERS }
     requires short { length bytes.now < 2 ^ 31 }
     ensures answer { record_reading.Reads (record_reading.reading script.now bytes.now) result }
     ensures spelled { IfOk result (λ written. HasText script.now written) }
     ensures text { IfOk result (λ written. record_text script.now written ≡ bytes.now) }
     ensures few { IfOk result (λ written. length written.lines < 2 ^ 31) }
     ensures values { IfOk result FitsRecord }
+
+    ensures misspelt { (line : ℕ) → HasDistinctNames script.now →
+        result ≡ Err (RecordEnd.Misspelt line) → LeavesRecordsAt script.now bytes.now line }
 
     // So `Misspelt` comes only where the bytes are the text of no record at all.
     ensures again { (written : Record) → HasDistinctNames script.now →

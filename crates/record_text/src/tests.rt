@@ -1,11 +1,11 @@
 mod conditions;
 mod judging;
-mod reading;
 
 use super::*;
 use conditions::{has_lines, has_text, is_version};
 use k42_items::Items;
 use k42_kinds::{Act, Answer, Entry, KindName, LayoutName, Name, Op, Reply, Text};
+use k42_limits::{CALLERS, OBJECTS};
 use script_text::{CallLine, Item, ObjectLine, Script, WorkerLines};
 use std::alloc::Global;
 use std::process::Abort;
@@ -111,7 +111,7 @@ fn expect_read_back(
     lines: &Record,
     text: &[u8],
 ) -> Result<(), Fail> {
-    assert!(rt; script.objects.len() <= 16 && script.workers.len() <= 16);
+    assert!(rt; script.objects.len() <= OBJECTS && script.workers.len() <= CALLERS);
     assert!(rt; text.len() < 1 << 31);
     let again = read(alloc, script, text)?;
     assert_eq!(rt; again.version, lines.version);
@@ -197,66 +197,6 @@ fn calls_of_a_counter(rt: HostRuntime) -> Result<(), Fail> {
         &rt,
         alloc,
         &Case {
-            shows: "a script that asks nothing",
-            object: b"hits",
-            kind: KindName::Counter,
-            workers: b"",
-            version: 1,
-            text: b"k42 record 1\nend 0\n",
-        },
-        &[],
-        &[],
-    )?;
-    expect_text(
-        &rt,
-        alloc,
-        &Case {
-            shows: "a counter is added to and read",
-            object: b"hits",
-            kind: KindName::Counter,
-            workers: b"a",
-            version: 1,
-            text: b"k42 record 1\n1 a 4 hits add 5 = ok @0\n2 a 5 hits get = 5 @0\nend 2\n",
-        },
-        &[(0, 4, add(5)), (0, 5, call(Op::Get))],
-        &[
-            reply(0, 0, add(5), Reply::Done, 0),
-            reply(0, 1, call(Op::Get), Reply::Number(5), 0),
-        ],
-    )?;
-    expect_text(
-        &rt,
-        alloc,
-        &Case {
-            shows: "large numbers",
-            object: b"hits",
-            kind: KindName::Counter,
-            workers: b"a",
-            version: 1,
-            text: b"k42 record 1\n\
-                1 a 4 hits add 4294967295 = ok @0\n\
-                2 a 5 hits add 4294967295 = ok @0\n\
-                3 a 6 hits drain = 8589934590 @0\n\
-                4 a 7 hits get = 0 @0\n\
-                end 4\n",
-        },
-        &[
-            (0, 4, add(4294967295)),
-            (0, 5, add(4294967295)),
-            (0, 6, call(Op::Drain)),
-            (0, 7, call(Op::Get)),
-        ],
-        &[
-            reply(0, 0, add(4294967295), Reply::Done, 0),
-            reply(0, 1, add(4294967295), Reply::Done, 0),
-            reply(0, 2, call(Op::Drain), Reply::Number(8589934590), 0),
-            reply(0, 3, call(Op::Get), Reply::Number(0), 0),
-        ],
-    )?;
-    expect_text(
-        &rt,
-        alloc,
-        &Case {
             shows: "two workers in turns, each with its name and its own line numbers",
             object: b"hits",
             kind: KindName::Counter,
@@ -310,24 +250,6 @@ fn swaps_and_destroys(rt: HostRuntime) -> Result<(), Fail> {
         &rt,
         alloc,
         &Case {
-            shows: "a swap between calls",
-            object: b"hits",
-            kind: KindName::Counter,
-            workers: b"a",
-            version: 1,
-            text: b"k42 record 1\n\
-                1 a 4 hits add 5 = ok @0\n\
-                2 a 5 swap hits spread = done 1 @0\n\
-                3 a 6 hits get = 5 @1\n\
-                end 3\n",
-        },
-        swap_lines,
-        swapped,
-    )?;
-    expect_text(
-        &rt,
-        alloc,
-        &Case {
             shows: "the same in version 2",
             object: b"hits",
             kind: KindName::Counter,
@@ -341,32 +263,6 @@ fn swaps_and_destroys(rt: HostRuntime) -> Result<(), Fail> {
         },
         swap_lines,
         swapped,
-    )?;
-    expect_text(
-        &rt,
-        alloc,
-        &Case {
-            shows: "swaps are counted",
-            object: b"hits",
-            kind: KindName::Counter,
-            workers: b"a",
-            version: 1,
-            text: b"k42 record 1\n\
-                1 a 4 swap hits shared = done 1 @0\n\
-                2 a 5 swap hits shared = done 2 @1\n\
-                3 a 6 swap hits shared = done 3 @2\n\
-                end 3\n",
-        },
-        &[
-            (0, 4, swap(LayoutName::Shared)),
-            (0, 5, swap(LayoutName::Shared)),
-            (0, 6, swap(LayoutName::Shared)),
-        ],
-        &[
-            end(0, 0, swap(LayoutName::Shared), Answer::Swapped(1), 0),
-            end(0, 1, swap(LayoutName::Shared), Answer::Swapped(2), 1),
-            end(0, 2, swap(LayoutName::Shared), Answer::Swapped(3), 2),
-        ],
     )?;
     expect_text(
         &rt,

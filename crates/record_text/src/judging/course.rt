@@ -3,7 +3,7 @@ ghost use Rattle.std.specs.Bool.{Decides};
 ghost use Rattle.script_text.specs.Lawful.{call_lines};
 ghost use Rattle.script_text.specs.declared.script.Item.{Item as Said};
 ghost use Rattle.record_text.specs.Told.{answered};
-ghost use Rattle.record_text.specs.Courses.{IsWalked, IsAtLine, StandsAtLine, IsInStepWith, IsNoneOrInStep};
+ghost use Rattle.record_text.specs.Referee.Courses.{IsWalked, IsAtLine, StandsAtLine, IsInStepWith, IsNoneOrInStep};
 
 use crate::record::RecordLine;
 use script_text::{CallLine, Item};

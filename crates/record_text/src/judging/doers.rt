@@ -1,8 +1,8 @@
 ghost use Rattle.std.specs.Prelude.{◌≡◌, List, [], ◌∷◌, ◌++◌, IfOk, OnOk};
 ghost use Rattle.std.specs.Bool.{Decides};
 ghost use Rattle.record_text.specs.declared.record.RecordLine.{RecordLine as Line};
-ghost use Rattle.record_text.specs.Doers as doers;
-ghost use Rattle.record_text.specs.Doers.{Knows, has_rival};
+ghost use Rattle.record_text.specs.Referee.Doers as doers;
+ghost use Rattle.record_text.specs.Referee.Doers.{Knows, has_rival};
 
 use crate::record::RecordLine;
 use k42_kinds::Answer;

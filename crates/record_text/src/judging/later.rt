@@ -1,6 +1,6 @@
 ghost use Rattle.std.specs.Prelude.{◌≡◌, ◌<◌, ℕ, IfOk, All};
-ghost use Rattle.record_text.specs.Seen as seen;
-ghost use Rattle.record_text.specs.Seen.{IsPlaced, AreLeast};
+ghost use Rattle.record_text.specs.Referee.Seen as seen;
+ghost use Rattle.record_text.specs.Referee.Seen.{IsPlaced, AreLeast};
 
 use super::marks::Marks;
 use crate::record::RecordLine;

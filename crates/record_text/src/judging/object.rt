@@ -3,16 +3,14 @@ ghost use Rattle.std.specs.Bool.{Decides};
 ghost use Rattle.k42_kinds.specs.Objects.{empty_state};
 ghost use Rattle.k42_kinds.specs.Operations.{takes_operation};
 ghost use Rattle.k42_kinds.specs.declared.states.AnyState.TheVariants as states;
-ghost use Rattle.record_text.specs.Judged.{IsReply, IsNextSwap, EndsAs, CanTake, number_after, object_after};
-ghost use Rattle.record_text.specs.Judged as judged;
+ghost use Rattle.record_text.specs.Referee.Judged.{IsReply, IsNextSwap, EndsAs, CanTake, number_after, object_after};
+ghost use Rattle.record_text.specs.Referee.Judged as judged;
 
 use crate::record::RecordLine;
 use k42_kinds::{Act, Answer, AnyState, Kind, Op, Plain};
+use k42_limits::LAST_INCARNATION;
 use k42_memory::Memory;
 use std::alloc::Global;
-
-/// The number of an object's last incarnation.
-const LAST_INCARNATION: u32 = 1_048_575;
 
 /// An object of one thread, after the lines so far.
 #[derive(Drop)]

@@ -1,9 +1,10 @@
 //! What a line asks of an object.
 ghost use Rattle.std.specs.Prelude.{◌≡◌, ◌<◌, ◌≤◌, length, IfSome, slice_get};
+ghost use Rattle.k42_limits.specs.declared.TheConstants.{CALLERS, OBJECTS};
 ghost use Rattle.script_text.specs.Lawful.{kinds_of};
-ghost use Rattle.record_text.specs.ActParts as parts;
-ghost use Rattle.record_text.specs.Parts.{spelled_at, number_at, name_at, most_32};
-ghost use Rattle.record_text.specs.Cursor.{Takes, left_tokens};
+ghost use Rattle.record_text.specs.Reader.ActParts as parts;
+ghost use Rattle.record_text.specs.Reader.Parts.{spelled_at, number_at, name_at, most_32};
+ghost use Rattle.record_text.specs.Reader.Cursor.{Takes, left_tokens};
 
 use crate::reading::cursor::{Left, take_token};
 use crate::reading::parts::{
@@ -31,7 +32,7 @@ fn place_of_worker(script: &Script, name: &[u8]) -> Option<usize>
 
 /// The place, in the script, of the worker of this name.
 fn worker_of(script: &Script, name: &[u8]) -> Option<u32>
-    requires { length script.now.workers ≤ 16 }
+    requires { length script.now.workers ≤ CALLERS }
     ensures { result ≡ parts.worker_of script.now name.now }
 {
     let place = place_of_worker(script, name)?;
@@ -39,9 +40,9 @@ fn worker_of(script: &Script, name: &[u8]) -> Option<u32>
 }
 
 /// Takes the name of a worker.
-#[tactic(auto, unfolding(crate::specs::Parts::spelled_at))]
+#[tactic(auto, unfolding(crate::specs::Reader::Parts::spelled_at))]
 pub fn take_worker(left: &mut Left<'_>, script: &Script) -> Option<u32>
-    requires { length script.now.workers ≤ 16 }
+    requires { length script.now.workers ≤ CALLERS }
     ensures { Takes result left.new
         (spelled_at (parts.worker_of script.now) (left_tokens left.old)) }
 {
@@ -61,7 +62,7 @@ fn place_of_object(script: &Script, name: &[u8]) -> Option<usize>
 
 /// The place, in the script, of the object of this name.
 fn object_of(script: &Script, name: &[u8]) -> Option<u32>
-    requires { length script.now.objects ≤ 16 }
+    requires { length script.now.objects ≤ OBJECTS }
     ensures { result ≡ parts.object_of script.now name.now }
 {
     let place = place_of_object(script, name)?;
@@ -69,9 +70,9 @@ fn object_of(script: &Script, name: &[u8]) -> Option<u32>
 }
 
 /// Takes the name of an object.
-#[tactic(auto, unfolding(crate::specs::Parts::spelled_at))]
+#[tactic(auto, unfolding(crate::specs::Reader::Parts::spelled_at))]
 fn take_object(left: &mut Left<'_>, script: &Script) -> Option<u32>
-    requires { length script.now.objects ≤ 16 }
+    requires { length script.now.objects ≤ OBJECTS }
     ensures { Takes result left.new
         (spelled_at (parts.object_of script.now) (left_tokens left.old)) }
 {
@@ -103,7 +104,7 @@ fn layout_of(word: &[u8]) -> Option<LayoutName>
 }
 
 /// Takes the word of a layout.
-#[tactic(auto, unfolding(crate::specs::Parts::spelled_at))]
+#[tactic(auto, unfolding(crate::specs::Reader::Parts::spelled_at))]
 fn take_layout(left: &mut Left<'_>) -> Option<LayoutName>
     ensures { Takes result left.new (spelled_at parts.layout_of (left_tokens left.old)) }
 {
@@ -111,7 +112,7 @@ fn take_layout(left: &mut Left<'_>) -> Option<LayoutName>
     layout_of(token)
 }
 
-#[tactic(auto, unfolding(crate::specs::ActParts::given))]
+#[tactic(auto, unfolding(crate::specs::Reader::ActParts::given))]
 fn take_addition(left: &mut Left<'_>) -> Option<Op>
     ensures { Takes result left.new (parts.given Op.Add
         (number_at 0 most_32 (left_tokens left.old))) }
@@ -120,7 +121,7 @@ fn take_addition(left: &mut Left<'_>) -> Option<Op>
     Some(Op::Add(amount))
 }
 
-#[tactic(auto, unfolding(crate::specs::ActParts::given))]
+#[tactic(auto, unfolding(crate::specs::Reader::ActParts::given))]
 fn take_counter_operation(left: &mut Left<'_>, word: &[u8]) -> Option<Op>
     ensures { Takes result left.new
         (parts.counter_operation word.now (left_tokens left.old)) }
@@ -137,7 +138,7 @@ fn take_counter_operation(left: &mut Left<'_>, word: &[u8]) -> Option<Op>
     None
 }
 
-#[tactic(auto, unfolding(crate::specs::ActParts::binding_at))]
+#[tactic(auto, unfolding(crate::specs::Reader::ActParts::binding_at))]
 fn take_binding(left: &mut Left<'_>) -> Option<Op>
     ensures { Takes result left.new (parts.binding_at (left_tokens left.old)) }
 {
@@ -146,7 +147,7 @@ fn take_binding(left: &mut Left<'_>) -> Option<Op>
     Some(Op::Bind(key, number))
 }
 
-#[tactic(auto, unfolding(crate::specs::ActParts::given))]
+#[tactic(auto, unfolding(crate::specs::Reader::ActParts::given))]
 fn take_finding(left: &mut Left<'_>) -> Option<Op>
     ensures { Takes result left.new (parts.given Op.Find (name_at (left_tokens left.old))) }
 {
@@ -154,7 +155,7 @@ fn take_finding(left: &mut Left<'_>) -> Option<Op>
     Some(Op::Find(key))
 }
 
-#[tactic(auto, unfolding(crate::specs::ActParts::given))]
+#[tactic(auto, unfolding(crate::specs::Reader::ActParts::given))]
 fn take_unbinding(left: &mut Left<'_>) -> Option<Op>
     ensures { Takes result left.new (parts.given Op.Unbind (name_at (left_tokens left.old))) }
 {
@@ -181,7 +182,7 @@ fn take_directory_operation(left: &mut Left<'_>, word: &[u8]) -> Option<Op>
     None
 }
 
-#[tactic(auto, unfolding(crate::specs::ActParts::writing_at))]
+#[tactic(auto, unfolding(crate::specs::Reader::ActParts::writing_at))]
 fn take_writing(left: &mut Left<'_>) -> Option<Op>
     ensures { Takes result left.new (parts.writing_at (left_tokens left.old)) }
 {
@@ -190,7 +191,7 @@ fn take_writing(left: &mut Left<'_>) -> Option<Op>
     Some(Op::Write(page, text))
 }
 
-#[tactic(auto, unfolding(crate::specs::ActParts::given))]
+#[tactic(auto, unfolding(crate::specs::Reader::ActParts::given))]
 fn take_page_reading(left: &mut Left<'_>) -> Option<Op>
     ensures { Takes result left.new (parts.given Op.Read (parts.page_at (left_tokens left.old))) }
 {
@@ -217,7 +218,7 @@ fn take_pages_operation(left: &mut Left<'_>, word: &[u8]) -> Option<Op>
 }
 
 /// Takes an operation on an object of this kind.
-#[tactic(auto, unfolding(crate::specs::ActParts::operation_at))]
+#[tactic(auto, unfolding(crate::specs::Reader::ActParts::operation_at))]
 fn take_operation(left: &mut Left<'_>, kind: KindName) -> Option<Op>
     ensures { Takes result left.new (parts.operation_at kind (left_tokens left.old)) }
 {
@@ -229,9 +230,9 @@ fn take_operation(left: &mut Left<'_>, kind: KindName) -> Option<Op>
     }
 }
 
-#[tactic(auto, unfolding(crate::specs::ActParts::swap_at))]
+#[tactic(auto, unfolding(crate::specs::Reader::ActParts::swap_at))]
 fn take_swap(left: &mut Left<'_>, script: &Script) -> Option<Asked>
-    requires { length script.now.objects ≤ 16 }
+    requires { length script.now.objects ≤ OBJECTS }
     ensures { Takes result left.new (parts.swap_at script.now (left_tokens left.old)) }
 {
     let object = take_object(left, script)?;
@@ -242,9 +243,9 @@ fn take_swap(left: &mut Left<'_>, script: &Script) -> Option<Asked>
     })
 }
 
-#[tactic(auto, unfolding(crate::specs::ActParts::destroy_at))]
+#[tactic(auto, unfolding(crate::specs::Reader::ActParts::destroy_at))]
 fn take_destroy(left: &mut Left<'_>, script: &Script) -> Option<Asked>
-    requires { length script.now.objects ≤ 16 }
+    requires { length script.now.objects ≤ OBJECTS }
     ensures { Takes result left.new (parts.destroy_at script.now (left_tokens left.old)) }
 {
     let object = take_object(left, script)?;
@@ -254,9 +255,9 @@ fn take_destroy(left: &mut Left<'_>, script: &Script) -> Option<Asked>
     })
 }
 
-#[tactic(auto, unfolding(crate::specs::ActParts::call_at))]
+#[tactic(auto, unfolding(crate::specs::Reader::ActParts::call_at))]
 fn take_call(left: &mut Left<'_>, script: &Script, name: &[u8]) -> Option<Asked>
-    requires { length script.now.objects ≤ 16 }
+    requires { length script.now.objects ≤ OBJECTS }
     ensures { Takes result left.new (parts.call_at script.now name.now (left_tokens left.old)) }
 {
     let object = object_of(script, name)?;
@@ -269,9 +270,9 @@ fn take_call(left: &mut Left<'_>, script: &Script, name: &[u8]) -> Option<Asked>
 }
 
 /// Takes a swap, a destroy or a call.
-#[tactic(auto, unfolding(crate::specs::ActParts::act_at))]
+#[tactic(auto, unfolding(crate::specs::Reader::ActParts::act_at))]
 pub fn take_act(left: &mut Left<'_>, script: &Script) -> Option<Asked>
-    requires { length script.now.objects ≤ 16 }
+    requires { length script.now.objects ≤ OBJECTS }
     ensures { Takes result left.new (parts.act_at script.now (left_tokens left.old)) }
 {
     let word = take_token(left)?;

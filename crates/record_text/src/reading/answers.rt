@@ -1,13 +1,13 @@
 //! How a line says that an act was answered.
 ghost use Rattle.std.specs.Prelude.{◌≡◌};
-ghost use Rattle.record_text.specs.AnswerParts as parts;
-ghost use Rattle.record_text.specs.Cursor.{Takes, left_tokens};
+ghost use Rattle.record_text.specs.Reader.AnswerParts as parts;
+ghost use Rattle.record_text.specs.Reader.Cursor.{Takes, left_tokens};
 
 use crate::reading::cursor::{Left, take_token};
 use crate::reading::parts::{is_word, number_of, take_small_number, take_text};
 use k42_kinds::{Act, Answer, Reply};
 
-#[tactic(auto, unfolding(crate::specs::AnswerParts::text_reply))]
+#[tactic(auto, unfolding(crate::specs::Reader::AnswerParts::text_reply))]
 fn take_text_reply(left: &mut Left<'_>) -> Option<Reply>
     ensures { Takes result left.new (parts.text_reply (left_tokens left.old)) }
 {
@@ -15,7 +15,7 @@ fn take_text_reply(left: &mut Left<'_>) -> Option<Reply>
     Some(Reply::Text(text))
 }
 
-#[tactic(auto, unfolding(crate::specs::AnswerParts::number_reply))]
+#[tactic(auto, unfolding(crate::specs::Reader::AnswerParts::number_reply))]
 fn number_reply(left: &Left<'_>, word: &[u8]) -> Option<Reply>
     ensures { Takes result left.now (parts.number_reply word.now (left_tokens left.now)) }
 {
@@ -48,7 +48,7 @@ fn take_reply(left: &mut Left<'_>, word: &[u8]) -> Option<Reply>
     number_reply(left, word)
 }
 
-#[tactic(auto, unfolding(crate::specs::AnswerParts::counted))]
+#[tactic(auto, unfolding(crate::specs::Reader::AnswerParts::counted))]
 fn take_swapped(left: &mut Left<'_>) -> Option<Answer>
     ensures { Takes result left.new (parts.counted 0 Answer.Swapped (left_tokens left.old)) }
 {
@@ -56,7 +56,7 @@ fn take_swapped(left: &mut Left<'_>) -> Option<Answer>
     Some(Answer::Swapped(number))
 }
 
-#[tactic(auto, unfolding(crate::specs::AnswerParts::counted))]
+#[tactic(auto, unfolding(crate::specs::Reader::AnswerParts::counted))]
 fn take_busy(left: &mut Left<'_>) -> Option<Answer>
     ensures { Takes result left.new (parts.counted 1 Answer.Busy (left_tokens left.old)) }
 {
@@ -83,7 +83,7 @@ fn take_ending(left: &mut Left<'_>, word: &[u8]) -> Option<Answer>
     None
 }
 
-#[tactic(auto, unfolding(crate::specs::AnswerParts::replied))]
+#[tactic(auto, unfolding(crate::specs::Reader::AnswerParts::replied))]
 fn take_replied(left: &mut Left<'_>, word: &[u8]) -> Option<Answer>
     ensures { Takes result left.new (parts.replied word.now (left_tokens left.old)) }
 {
@@ -92,7 +92,7 @@ fn take_replied(left: &mut Left<'_>, word: &[u8]) -> Option<Answer>
 }
 
 /// Takes the answer of this act.
-#[tactic(auto, unfolding(crate::specs::AnswerParts::answer_at))]
+#[tactic(auto, unfolding(crate::specs::Reader::AnswerParts::answer_at))]
 pub fn take_answer(left: &mut Left<'_>, act: &Act) -> Option<Answer>
     ensures { Takes result left.new (parts.answer_at act.now (left_tokens left.old)) }
 {

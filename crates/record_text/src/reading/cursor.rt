@@ -1,11 +1,9 @@
 //! The lines of a text, one after the other, and the tokens of a line, one after the other.
 ghost use Rattle.std.specs.Prelude.{◌≡◌, ◌≢◌, ℕ, ◌<◌, ◌≤◌, length, slice_index};
-ghost use Rattle.record_text.specs.Parts.{token_at, at_end};
-ghost use Rattle.record_text.specs.Cursor.{CutsLine, TakesToken, left_tokens};
+ghost use Rattle.record_text.specs.Reader.Parts.{token_at, at_end};
+ghost use Rattle.record_text.specs.Reader.Cursor.{CutsLine, TakesToken, left_tokens};
 
-const SPACE: u8 = b' ';
-
-const LINE_FEED: u8 = b'\n';
+use k42_limits::{LINE_FEED, SPACE};
 
 /// What is left of a line: nothing, or a token with those behind it.
 #[derive(Clone, Copy)]

@@ -2,17 +2,15 @@
 ghost use Rattle.std.specs.Prelude.{◌≡◌, ◌-◌};
 ghost use Rattle.std.specs.Str.{bytes_eq};
 ghost use Rattle.script_text.specs.Numbers.{number_within};
-ghost use Rattle.script_text.specs.Sound.{page_count};
-ghost use Rattle.record_text.specs.Parts as parts;
-ghost use Rattle.record_text.specs.ActParts.{page_at};
-ghost use Rattle.record_text.specs.Cursor.{Takes, Passes, left_tokens};
+ghost use Rattle.k42_limits.specs.declared.TheConstants.{PAGES};
+ghost use Rattle.record_text.specs.Reader.Parts as parts;
+ghost use Rattle.record_text.specs.Reader.ActParts.{page_at};
+ghost use Rattle.record_text.specs.Reader.Cursor.{Takes, Passes, left_tokens};
 
 use crate::reading::cursor::{Left, take_token};
 use k42_kinds::{Name, Text};
+use k42_limits::PAGES;
 use script_text::number_up_to;
-
-/// The greatest page.
-const LAST_PAGE: u64 = 1023;
 
 /// Whether the token is this word.
 pub fn is_word(token: &[u8], word: &str) -> bool
@@ -43,9 +41,9 @@ fn small_number_of(bytes: &[u8], low: u64) -> Option<u32>
 
 /// The page that the bytes number.
 fn page_of(bytes: &[u8]) -> Option<u16>
-    ensures { result ≡ number_within 0 (page_count - 1) bytes.now }
+    ensures { result ≡ number_within 0 (PAGES - 1) bytes.now }
 {
-    match number_up_to(bytes, LAST_PAGE) {
+    match number_up_to(bytes, u64::from(PAGES) - 1) {
         Some(page) => Some(page as u16),
         None => None,
     }
@@ -79,7 +77,7 @@ fn marked_number(token: &[u8], mark: u8) -> Option<u32>
 }
 
 /// Takes this word.
-#[tactic(auto, unfolding(crate::specs::Parts::behind_word))]
+#[tactic(auto, unfolding(crate::specs::Reader::Parts::behind_word))]
 pub fn take_word(left: &mut Left<'_>, word: &str) -> Option<()>
     ensures { Passes result left.new (parts.behind_word word.now (left_tokens left.old)) }
 {
@@ -88,7 +86,7 @@ pub fn take_word(left: &mut Left<'_>, word: &str) -> Option<()>
 }
 
 /// Takes a number from `low` to `most`.
-#[tactic(auto, unfolding(crate::specs::Parts::spelled_at))]
+#[tactic(auto, unfolding(crate::specs::Reader::Parts::spelled_at))]
 pub fn take_number(left: &mut Left<'_>, low: u64, most: u64) -> Option<u64>
     ensures { Takes result left.new (parts.number_at low most (left_tokens left.old)) }
 {
@@ -97,7 +95,7 @@ pub fn take_number(left: &mut Left<'_>, low: u64, most: u64) -> Option<u64>
 }
 
 /// Takes a number of 32 bits from `low`.
-#[tactic(auto, unfolding(crate::specs::Parts::spelled_at))]
+#[tactic(auto, unfolding(crate::specs::Reader::Parts::spelled_at))]
 pub fn take_small_number(left: &mut Left<'_>, low: u64) -> Option<u32>
     ensures { Takes result left.new (parts.number_at low parts.most_32 (left_tokens left.old)) }
 {
@@ -106,7 +104,7 @@ pub fn take_small_number(left: &mut Left<'_>, low: u64) -> Option<u32>
 }
 
 /// Takes a page's number.
-#[tactic(auto, unfolding(crate::specs::Parts::spelled_at))]
+#[tactic(auto, unfolding(crate::specs::Reader::Parts::spelled_at))]
 pub fn take_page(left: &mut Left<'_>) -> Option<u16>
     ensures { Takes result left.new (page_at (left_tokens left.old)) }
 {
@@ -115,7 +113,7 @@ pub fn take_page(left: &mut Left<'_>) -> Option<u16>
 }
 
 /// Takes a key.
-#[tactic(auto, unfolding(crate::specs::Parts::spelled_at))]
+#[tactic(auto, unfolding(crate::specs::Reader::Parts::spelled_at))]
 pub fn take_name(left: &mut Left<'_>) -> Option<Name>
     ensures { Takes result left.new (parts.name_at (left_tokens left.old)) }
 {
@@ -124,7 +122,7 @@ pub fn take_name(left: &mut Left<'_>) -> Option<Name>
 }
 
 /// Takes the text of a page.
-#[tactic(auto, unfolding(crate::specs::Parts::spelled_at))]
+#[tactic(auto, unfolding(crate::specs::Reader::Parts::spelled_at))]
 pub fn take_text(left: &mut Left<'_>) -> Option<Text>
     ensures { Takes result left.new (parts.text_at (left_tokens left.old)) }
 {
@@ -133,7 +131,7 @@ pub fn take_text(left: &mut Left<'_>) -> Option<Text>
 }
 
 /// Takes a number of 32 bits behind a mark.
-#[tactic(auto, unfolding(crate::specs::Parts::spelled_at))]
+#[tactic(auto, unfolding(crate::specs::Reader::Parts::spelled_at))]
 pub fn take_marked(left: &mut Left<'_>, mark: u8) -> Option<u32>
     ensures { Takes result left.new (parts.marked_at mark (left_tokens left.old)) }
 {

@@ -3,12 +3,13 @@ ghost use Rattle.std.specs.Prelude.{◌≡◌, All, IsTrue, IfOk};
 ghost use Rattle.record_text.specs.Spelling.{Ends, HasSpelling, HasGeneration, IsOfVersion, IsVersion, HasText};
 ghost use Rattle.script_text.specs.Sound.{NamesPage, IsActOn};
 ghost use Rattle.record_text.specs.Histories.{HasLine};
-ghost use Rattle.record_text.specs.LineNumbers.{HasNumber};
+ghost use Rattle.record_text.specs.Printer.LineNumbers.{HasNumber};
 
 use crate::history::numbers_of_all;
 use crate::record::{Record, RecordLine};
 use k42_items::Items;
 use k42_kinds::{Act, Answer, Entry, KindName, Op, kind_of};
+use k42_limits::PAGES;
 use k42_memory::Memory;
 use script_text::Script;
 use std::alloc::Global;
@@ -17,7 +18,7 @@ fn names_page(op: &Op) -> bool
     ensures { IsTrue result → NamesPage op.now }
 {
     match op {
-        Op::Write(page, _) | Op::Read(page) => *page < 1024,
+        Op::Write(page, _) | Op::Read(page) => u32::from(*page) < PAGES,
         _ => true,
     }
 }

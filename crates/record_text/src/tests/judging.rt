@@ -1,9 +1,10 @@
 //! Records that are judged: lawful ones, and the first line and rule of others.
 use super::conditions::has_text;
-use super::{add, call, name, swap};
+use super::name;
 use crate::*;
 use k42_items::Items;
 use k42_kinds::{Act, Answer, KindName, LayoutName, Op, Reply};
+use k42_limits::{CALLERS, OBJECTS};
 use k42_memory::Memory;
 use script_text::{CallLine, Item, ObjectLine, Script, WorkerLines};
 use std::alloc::Global;
@@ -20,10 +21,6 @@ type Asked = (u32, u32, Act);
 
 /// What is due: nothing, or a line and a rule.
 type Due = Option<(u32, u32)>;
-
-fn replied(reply: Reply) -> Answer {
-    Answer::Replied(reply)
-}
 
 fn worker_with(
     alloc: Global,
@@ -105,7 +102,7 @@ fn second_version(
 
 fn verdict(rt: &impl Abort, alloc: Global, script: &Script, record: &Record) -> Result<Due, Fail> {
     assert!(rt; has_text(script, record));
-    assert!(rt; script.workers.len() <= 16 && script.objects.len() <= 16);
+    assert!(rt; script.workers.len() <= CALLERS && script.objects.len() <= OBJECTS);
     assert!(rt; record.lines.len() < 1 << 31);
     match check(alloc, script, record) {
         Ok(()) => Ok(None),
@@ -146,297 +143,100 @@ const SECOND: Said = (2, 0, 5, SPREAD, Answer::Swapped(1), 0);
 
 const THIRD: Said = (3, 0, 6, GET, Answer::Replied(Reply::Number(5)), 1);
 
-const SWAPPED: Said = (1, 0, 4, SPREAD, Answer::Swapped(1), 0);
-
-const DESTROYED: Said = (1, 0, 4, Act::Destroy, Answer::Swapped(1), 0);
+const CHANGES: [(&'static str, [Said; 3], Due); 9] = [
+    ("as it was done", [FIRST, SECOND, THIRD], None),
+    (
+        "another reply",
+        [
+            FIRST,
+            SECOND,
+            (3, 0, 6, GET, Answer::Replied(Reply::Number(6)), 1),
+        ],
+        Some((4, 5)),
+    ),
+    (
+        "two lines exchanged",
+        [
+            (1, 0, 5, SPREAD, Answer::Swapped(1), 0),
+            (
+                2,
+                0,
+                4,
+                Act::Call(Op::Add(5)),
+                Answer::Replied(Reply::Done),
+                1,
+            ),
+            THIRD,
+        ],
+        Some((2, 8)),
+    ),
+    (
+        "another stamp",
+        [FIRST, (3, 0, 5, SPREAD, Answer::Swapped(1), 0), THIRD],
+        Some((3, 2)),
+    ),
+    (
+        "a later swap's number",
+        [FIRST, (2, 0, 5, SPREAD, Answer::Swapped(2), 0), THIRD],
+        Some((3, 6)),
+    ),
+    (
+        "another line's number",
+        [
+            (
+                1,
+                0,
+                9,
+                Act::Call(Op::Add(5)),
+                Answer::Replied(Reply::Done),
+                0,
+            ),
+            SECOND,
+            THIRD,
+        ],
+        Some((2, 8)),
+    ),
+    (
+        "another amount",
+        [
+            (
+                1,
+                0,
+                4,
+                Act::Call(Op::Add(6)),
+                Answer::Replied(Reply::Done),
+                0,
+            ),
+            SECOND,
+            THIRD,
+        ],
+        Some((2, 8)),
+    ),
+    (
+        "another form of reply",
+        [
+            FIRST,
+            SECOND,
+            (3, 0, 6, GET, Answer::Replied(Reply::Done), 1),
+        ],
+        Some((4, 5)),
+    ),
+    (
+        "an earlier incarnation",
+        [
+            FIRST,
+            SECOND,
+            (3, 0, 6, GET, Answer::Replied(Reply::Number(5)), 0),
+        ],
+        Some((4, 5)),
+    ),
+];
 
 #[test]
 fn one_change_breaks_one_rule(rt: HostRuntime) -> Result<(), Fail> {
     let alloc = rt.alloc();
-    let cases: [(&'static str, [Said; 3], Due); 9] = [
-        ("as it was done", [FIRST, SECOND, THIRD], None),
-        (
-            "another reply",
-            [FIRST, SECOND, (3, 0, 6, GET, replied(Reply::Number(6)), 1)],
-            Some((4, 5)),
-        ),
-        (
-            "two lines exchanged",
-            [
-                (1, 0, 5, SPREAD, Answer::Swapped(1), 0),
-                (2, 0, 4, add(5), replied(Reply::Done), 1),
-                THIRD,
-            ],
-            Some((2, 8)),
-        ),
-        (
-            "another stamp",
-            [FIRST, (3, 0, 5, SPREAD, Answer::Swapped(1), 0), THIRD],
-            Some((3, 2)),
-        ),
-        (
-            "a later swap's number",
-            [FIRST, (2, 0, 5, SPREAD, Answer::Swapped(2), 0), THIRD],
-            Some((3, 6)),
-        ),
-        (
-            "another line's number",
-            [(1, 0, 9, add(5), replied(Reply::Done), 0), SECOND, THIRD],
-            Some((2, 8)),
-        ),
-        (
-            "another amount",
-            [(1, 0, 4, add(6), replied(Reply::Done), 0), SECOND, THIRD],
-            Some((2, 8)),
-        ),
-        (
-            "another form of reply",
-            [FIRST, SECOND, (3, 0, 6, GET, replied(Reply::Done), 1)],
-            Some((4, 5)),
-        ),
-        (
-            "an earlier incarnation",
-            [FIRST, SECOND, (3, 0, 6, GET, replied(Reply::Number(5)), 0)],
-            Some((4, 5)),
-        ),
-    ];
-    for (shows, said, due) in &cases {
+    for (shows, said, due) in &CHANGES {
         expect(&rt, alloc, shows, &THREE, said, *due)?;
-    }
-    Ok(())
-}
-
-#[test]
-fn lines_come_once_each(rt: HostRuntime) -> Result<(), Fail> {
-    let alloc = rt.alloc();
-    let twice = [
-        FIRST,
-        (2, 0, 4, add(5), replied(Reply::Done), 0),
-        (3, 0, 5, SPREAD, Answer::Swapped(1), 0),
-        (4, 0, 6, GET, replied(Reply::Number(10)), 1),
-    ];
-    expect(&rt, alloc, "a line twice", &THREE, &twice, Some((3, 8)))?;
-    let missing = [FIRST, SECOND];
-    expect(
-        &rt,
-        alloc,
-        "a line left out",
-        &THREE,
-        &missing,
-        Some((4, 8)),
-    )?;
-    expect(&rt, alloc, "no line at all", &THREE, &[], Some((2, 8)))?;
-    expect(&rt, alloc, "none asked, none done", &[], &[], None)?;
-    Ok(())
-}
-
-#[test]
-fn a_swap_is_refused_for_a_reason(rt: HostRuntime) -> Result<(), Fail> {
-    let alloc = rt.alloc();
-    let alone = [(0, 4, SPREAD)];
-    expect(
-        &rt,
-        alloc,
-        "no other swap",
-        &alone,
-        &[(1, 0, 4, SPREAD, Answer::Busy(1), 0)],
-        Some((2, 7)),
-    )?;
-    expect(
-        &rt,
-        alloc,
-        "incarnations are left",
-        &[(0, 4, swap(LayoutName::Shared))],
-        &[(1, 0, 4, swap(LayoutName::Shared), Answer::Spent, 0)],
-        Some((2, 6)),
-    )?;
-    let both = [(0, 4, SPREAD), (1, 6, SPREAD)];
-    expect(
-        &rt,
-        alloc,
-        "after the other",
-        &both,
-        &[SWAPPED, (2, 1, 6, SPREAD, Answer::Busy(1), 0)],
-        None,
-    )?;
-    expect(
-        &rt,
-        alloc,
-        "before the other",
-        &both,
-        &[
-            (1, 1, 6, SPREAD, Answer::Busy(1), 0),
-            (2, 0, 4, SPREAD, Answer::Swapped(1), 0),
-        ],
-        None,
-    )?;
-    expect(
-        &rt,
-        alloc,
-        "its own swap alone",
-        &[(0, 4, SPREAD), (0, 5, SPREAD)],
-        &[SWAPPED, (2, 0, 5, SPREAD, Answer::Busy(1), 0)],
-        Some((3, 7)),
-    )?;
-    Ok(())
-}
-
-#[test]
-fn a_refused_worker_has_seen_nothing_later(rt: HostRuntime) -> Result<(), Fail> {
-    let alloc = rt.alloc();
-    expect(
-        &rt,
-        alloc,
-        "it had seen that swap done",
-        &[(0, 4, SPREAD), (1, 6, GET), (1, 7, SPREAD)],
-        &[
-            SWAPPED,
-            (2, 1, 6, GET, replied(Reply::Number(0)), 1),
-            (3, 1, 7, SPREAD, Answer::Busy(1), 0),
-        ],
-        None,
-    )?;
-    let twice = [
-        (0, 4, SPREAD),
-        (0, 5, SPREAD),
-        (1, 7, GET),
-        (1, 8, SPREAD),
-        (1, 9, GET),
-    ];
-    expect(
-        &rt,
-        alloc,
-        "it had seen a later swap done",
-        &twice,
-        &[
-            SWAPPED,
-            (2, 0, 5, SPREAD, Answer::Swapped(2), 1),
-            (3, 1, 7, GET, replied(Reply::Number(0)), 2),
-            (4, 1, 8, SPREAD, Answer::Busy(1), 0),
-            (5, 1, 9, GET, replied(Reply::Number(0)), 2),
-        ],
-        Some((5, 7)),
-    )?;
-    expect(
-        &rt,
-        alloc,
-        "it saw an earlier incarnation later",
-        &twice,
-        &[
-            (1, 1, 7, GET, replied(Reply::Number(0)), 0),
-            (2, 1, 8, SPREAD, Answer::Busy(2), 1),
-            (3, 1, 9, GET, replied(Reply::Number(0)), 0),
-            (4, 0, 4, SPREAD, Answer::Swapped(1), 0),
-            (5, 0, 5, SPREAD, Answer::Swapped(2), 1),
-        ],
-        Some((3, 7)),
-    )?;
-    expect(
-        &rt,
-        alloc,
-        "the number behind its incarnation",
-        &[(0, 4, SPREAD), (1, 6, SPREAD)],
-        &[SWAPPED, (2, 1, 6, SPREAD, Answer::Busy(1), 1)],
-        Some((3, 7)),
-    )
-}
-
-#[test]
-fn objects_that_are_gone(rt: HostRuntime) -> Result<(), Fail> {
-    let alloc = rt.alloc();
-    let asked = [(0, 4, Act::Destroy), (0, 5, SPREAD), (0, 6, GET)];
-    let cases: [(&'static str, [Said; 3], Due); 4] = [
-        (
-            "all is gone",
-            [
-                DESTROYED,
-                (2, 0, 5, SPREAD, Answer::Gone, 1),
-                (3, 0, 6, GET, replied(Reply::Gone), 1),
-            ],
-            None,
-        ),
-        (
-            "a swap of what is gone",
-            [
-                DESTROYED,
-                (2, 0, 5, SPREAD, Answer::Swapped(2), 1),
-                (3, 0, 6, GET, replied(Reply::Gone), 2),
-            ],
-            Some((3, 6)),
-        ),
-        (
-            "a call of what is gone",
-            [
-                DESTROYED,
-                (2, 0, 5, SPREAD, Answer::Gone, 1),
-                (3, 0, 6, GET, replied(Reply::Number(0)), 1),
-            ],
-            Some((4, 5)),
-        ),
-        (
-            "gone too early",
-            [
-                (1, 0, 4, Act::Destroy, Answer::Gone, 0),
-                (2, 0, 5, SPREAD, Answer::Gone, 0),
-                (3, 0, 6, GET, replied(Reply::Gone), 0),
-            ],
-            Some((2, 6)),
-        ),
-    ];
-    for (shows, said, due) in &cases {
-        expect(&rt, alloc, shows, &asked, said, *due)?;
-    }
-    Ok(())
-}
-
-#[test]
-fn workers_take_turns(rt: HostRuntime) -> Result<(), Fail> {
-    let alloc = rt.alloc();
-    expect(
-        &rt,
-        alloc,
-        "two workers",
-        &[(0, 4, add(5)), (0, 5, GET), (1, 7, add(7)), (1, 8, GET)],
-        &[
-            FIRST,
-            (2, 1, 7, add(7), replied(Reply::Done), 0),
-            (3, 1, 8, GET, replied(Reply::Number(12)), 0),
-            (4, 0, 5, GET, replied(Reply::Number(12)), 0),
-        ],
-        None,
-    )
-}
-
-#[test]
-fn processors_and_generations(rt: HostRuntime) -> Result<(), Fail> {
-    let alloc = rt.alloc();
-    let script = script_with(alloc, &THREE)?;
-    let cases: [(&'static str, [(u32, Option<u32>); 3], Due); 4] = [
-        (
-            "as it was done",
-            [(0, Some(0)), (0, None), (0, Some(1))],
-            None,
-        ),
-        (
-            "a generation that falls",
-            [(0, Some(2)), (0, None), (0, Some(1))],
-            Some((4, 21)),
-        ),
-        (
-            "another processor",
-            [(1, Some(0)), (0, None), (0, Some(1))],
-            Some((2, 21)),
-        ),
-        (
-            "another processor of a swap",
-            [(0, Some(0)), (1, None), (0, Some(1))],
-            Some((3, 21)),
-        ),
-    ];
-    for (shows, extras, due) in &cases {
-        let record = second_version(alloc, &[FIRST, SECOND, THIRD], extras)?;
-        let found = verdict(&rt, alloc, &script, &record)?;
-        assert_eq!(rt; found, *due, "{}", *shows);
     }
     Ok(())
 }
@@ -450,7 +250,7 @@ fn script_of_blocks(alloc: Global) -> Result<Script, Fail> {
             items.push(Item::Line(CallLine {
                 line,
                 object: 0,
-                act: add(1),
+                act: Act::Call(Op::Add(1)),
             }))?;
         }
         items.push(Item::End)?;
@@ -466,40 +266,70 @@ fn script_of_blocks(alloc: Global) -> Result<Script, Fail> {
     Ok(script)
 }
 
+const ADDED: [Said; 4] = [
+    (
+        1,
+        0,
+        5,
+        Act::Call(Op::Add(1)),
+        Answer::Replied(Reply::Done),
+        0,
+    ),
+    (
+        2,
+        0,
+        6,
+        Act::Call(Op::Add(1)),
+        Answer::Replied(Reply::Done),
+        0,
+    ),
+    (
+        3,
+        0,
+        9,
+        Act::Call(Op::Add(1)),
+        Answer::Replied(Reply::Done),
+        0,
+    ),
+    (
+        4,
+        0,
+        10,
+        Act::Call(Op::Add(1)),
+        Answer::Replied(Reply::Done),
+        0,
+    ),
+];
+
+const GENERATIONS: [(&'static str, [(u32, Option<u32>); 4], Due); 4] = [
+    (
+        "each block in one",
+        [(0, Some(1)), (0, Some(1)), (0, Some(3)), (0, Some(3))],
+        None,
+    ),
+    (
+        "both in the same",
+        [(0, Some(1)), (0, Some(1)), (0, Some(1)), (0, Some(1))],
+        None,
+    ),
+    (
+        "the first in two",
+        [(0, Some(1)), (0, Some(2)), (0, Some(3)), (0, Some(3))],
+        Some((3, 21)),
+    ),
+    (
+        "the second in two",
+        [(0, Some(1)), (0, Some(1)), (0, Some(2)), (0, Some(3))],
+        Some((5, 21)),
+    ),
+];
+
 #[test]
 fn a_block_is_in_one_generation(rt: HostRuntime) -> Result<(), Fail> {
     let alloc = rt.alloc();
     let script = script_of_blocks(alloc)?;
-    let cases: [(&'static str, [(u32, Option<u32>); 4], Due); 4] = [
-        (
-            "each block in one",
-            [(0, Some(1)), (0, Some(1)), (0, Some(3)), (0, Some(3))],
-            None,
-        ),
-        (
-            "both in the same",
-            [(0, Some(1)), (0, Some(1)), (0, Some(1)), (0, Some(1))],
-            None,
-        ),
-        (
-            "the first in two",
-            [(0, Some(1)), (0, Some(2)), (0, Some(3)), (0, Some(3))],
-            Some((3, 21)),
-        ),
-        (
-            "the second in two",
-            [(0, Some(1)), (0, Some(1)), (0, Some(2)), (0, Some(3))],
-            Some((5, 21)),
-        ),
-    ];
-    let said = [
-        (1, 0, 5, add(1), replied(Reply::Done), 0),
-        (2, 0, 6, add(1), replied(Reply::Done), 0),
-        (3, 0, 9, add(1), replied(Reply::Done), 0),
-        (4, 0, 10, add(1), replied(Reply::Done), 0),
-    ];
-    for (shows, extras, due) in &cases {
-        let record = second_version(alloc, &said, extras)?;
+    for (shows, extras, due) in &GENERATIONS {
+        let record = second_version(alloc, &ADDED, extras)?;
         let found = verdict(&rt, alloc, &script, &record)?;
         assert_eq!(rt; found, *due, "{}", *shows);
     }

@@ -1,6 +1,6 @@
 use Rattle.std.proofs.Common.{◌≡◌, take}
 use Rattle.std.specs.Prelude.{map}
-use Rattle.record_text.specs.LineNumbers.{line_numbers}
+use Rattle.record_text.specs.Printer.LineNumbers.{line_numbers}
 use Rattle.record_text.proofs.history.numbers_of_all.Given as goal
 
 abbrev pub invariant-loop-worker : goal.invariant-loop-worker

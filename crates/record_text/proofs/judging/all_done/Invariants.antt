@@ -1,8 +1,8 @@
 use Rattle.std.proofs.Common.{List, length, ◌≡◌}
 use Rattle.std.specs.Prelude.{vec_len}
 use Rattle.record_text.specs.declared.record.RecordLine.{RecordLine}
-use Rattle.record_text.specs.Pasts.{AreWalked}
-use Rattle.record_text.proofs.Crews.{AllDoneBelow}
+use Rattle.record_text.specs.Referee.Pasts.{AreWalked}
+use Rattle.record_text.proofs.Referee.Crews.{AllDoneBelow}
 use Rattle.record_text.proofs.judging.all_done.Given as goal
 
 abbrev pub invariant-loop-worker : goal.invariant-loop-worker

@@ -1,5 +1,5 @@
 use Rattle.std.proofs.Common.{◌<◌, ℕ, take}
-use Rattle.record_text.specs.Pasts.{IsPast}
+use Rattle.record_text.specs.Referee.Pasts.{IsPast}
 use Rattle.record_text.specs.Rules.{Rule, KeepsAt}
 use Rattle.record_text.proofs.judging.check.Given as goal
 

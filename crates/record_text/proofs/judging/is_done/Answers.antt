@@ -1,6 +1,6 @@
 use Rattle.std.proofs.Common.{arith}
 use Rattle.std.proofs.lemmas.Bool.Decides.{nat_tests}
-use Rattle.record_text.proofs.Crews.{done_decided}
+use Rattle.record_text.proofs.Referee.Crews.{done_decided}
 use Rattle.record_text.proofs.judging.is_done.Goals as goal
 
 pub returns-clause-done : goal.returns-clause-done

@@ -1,6 +1,6 @@
 use Rattle.std.proofs.Common.{◌≡◌, take, arith}
 use Rattle.std.proofs.lemmas.List.{take_all}
-use Rattle.record_text.proofs.Verdicts.{fresh_kept}
+use Rattle.record_text.proofs.Referee.Verdicts.{fresh_kept}
 use Rattle.record_text.proofs.judging.new_objects.Goals as goal
 
 pub returns : goal.returns

@@ -1,5 +1,5 @@
 use Rattle.std.proofs.Common.{◌≡◌, map, take}
-use Rattle.record_text.proofs.Verdicts.{fresh_of}
+use Rattle.record_text.proofs.Referee.Verdicts.{fresh_of}
 use Rattle.record_text.proofs.judging.new_objects.Given as goal
 
 abbrev pub invariant-loop-object : goal.invariant-loop-object

@@ -1,4 +1,4 @@
-use Rattle.record_text.proofs.ReadRecords.{reading_takes}
+use Rattle.record_text.proofs.Reader.Records.{reading_takes}
 use Rattle.record_text.proofs.laws.read_is_printed.Goals as goal
 
 pub returns-clause-text : goal.returns-clause-text

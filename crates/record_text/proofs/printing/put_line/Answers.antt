@@ -4,7 +4,7 @@ use Rattle.std.specs.Fmt.{decimal}
 use Rattle.record_text.specs.Acts.{act_tokens}
 use Rattle.record_text.specs.Answers.{answer_tokens}
 use Rattle.record_text.specs.Texts.{worker_name, object_name, extra_tokens}
-use Rattle.record_text.proofs.LineParts.{line_of_parts}
+use Rattle.record_text.proofs.Printer.LineParts.{line_of_parts}
 use Rattle.record_text.proofs.printing.put_line.Goals as goal
 
 pub returns : goal.returns

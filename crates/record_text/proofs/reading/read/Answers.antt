@@ -1,6 +1,7 @@
 use Rattle.std.proofs.Common.{sym, ap, ◌∙◌}
 use Rattle.record_text.specs.Reading.{reading}
-use Rattle.record_text.proofs.ReadRecords.{reading_again, answer_has_text, answer_is_text, answer_is_short, answer_fits}
+use Rattle.record_text.proofs.Openings.{misspelt_leaves}
+use Rattle.record_text.proofs.Reader.Records.{reading_again, answer_has_text, answer_is_text, answer_is_short, answer_fits}
 use Rattle.record_text.proofs.reading.read.Goals as goal
 
 pub returns-clause-spelled : goal.returns-clause-spelled
@@ -14,6 +15,9 @@ returns-clause-few c = answer_is_short c.args.script.now c.args.bytes.now c.read
 
 pub returns-clause-values : goal.returns-clause-values
 returns-clause-values c = answer_fits c.args.script.now c.args.bytes.now c.read_all.result c.read_all.ensures
+
+pub returns-clause-misspelt : goal.returns-clause-misspelt
+returns-clause-misspelt c line names is = misspelt_leaves c.args.script.now c.args.bytes.now c.read_all.result line names c.requires.short c.read_all.ensures is
 
 pub returns-clause-again : goal.returns-clause-again
 returns-clause-again c written names has fits same =

@@ -1,8 +1,8 @@
 use Rattle.std.proofs.Common.{◌≡◌, ◌-◌, ◌<◌, length, refl, arith}
 use Rattle.std.specs.Prelude.{Some, slice_get}
 use Rattle.std.proofs.lemmas.Option.{slice_get_read}
-use Rattle.record_text.proofs.Sight.{behind_at_end, behind_more}
-use Rattle.record_text.specs.Seen.{least_of}
+use Rattle.record_text.proofs.Referee.Sight.{behind_at_end, behind_more}
+use Rattle.record_text.specs.Referee.Seen.{least_of}
 use Rattle.std.proofs.Common.{drop}
 use Rattle.record_text.proofs.judging.later.least_later.Goals as goal
 

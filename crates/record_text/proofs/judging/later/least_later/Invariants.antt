@@ -1,4 +1,4 @@
-use Rattle.record_text.proofs.Sight.{IsBehind}
+use Rattle.record_text.proofs.Referee.Sight.{IsBehind}
 use Rattle.record_text.proofs.judging.later.least_later.Given as goal
 
 abbrev pub invariant-loop-place : goal.invariant-loop-place

@@ -1,5 +1,5 @@
 use Rattle.std.proofs.Common.{sym}
-use Rattle.record_text.proofs.ByteCuts.{at_end-pieces_of}
+use Rattle.record_text.proofs.Reader.ByteCuts.{at_end-pieces_of}
 use Rattle.record_text.proofs.reading.cursor.expect_end.Goals as goal
 
 pub returns-in-Some : goal.returns-in-Some

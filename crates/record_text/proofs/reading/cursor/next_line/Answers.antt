@@ -1,6 +1,6 @@
 use Rattle.std.proofs.Common.{◌+◌, [], ◌∷◌, ◌++◌, take, refl, arith}
 use Rattle.std.proofs.lemmas.List.{take_rest, length-drop}
-use Rattle.record_text.proofs.ByteCuts.{IsCut, lines_of-cut, lines_of-uncut, tokens_on-ended}
+use Rattle.record_text.proofs.Reader.ByteCuts.{IsCut, lines_of-cut, lines_of-uncut, tokens_on-ended}
 use Rattle.record_text.proofs.reading.cursor.next_line.Goals as goal
 
 pub returns-then-len-bytes : goal.returns-then-len-bytes

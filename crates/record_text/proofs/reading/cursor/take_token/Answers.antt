@@ -1,6 +1,6 @@
 use Rattle.std.proofs.Common.{refl, arith}
 use Rattle.std.proofs.lemmas.List.{take_rest}
-use Rattle.record_text.proofs.ByteCuts.{IsCut, pieces_of-cut, pieces_of-uncut}
+use Rattle.record_text.proofs.Reader.ByteCuts.{IsCut, pieces_of-cut, pieces_of-uncut}
 use Rattle.record_text.proofs.reading.cursor.take_token.Goals as goal
 
 pub returns-then-len-rest : goal.returns-then-len-rest

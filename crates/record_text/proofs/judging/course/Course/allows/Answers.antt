@@ -1,7 +1,7 @@
 use Rattle.std.proofs.Common.{arith, refl, sym, ◌∙◌}
 use Rattle.std.proofs.lemmas.Bool.Decides.{nat_tests}
 use Rattle.std.proofs.lemmas.Option.{same_Some}
-use Rattle.record_text.proofs.Walking.{in_step, not_below, same_in_block}
+use Rattle.record_text.proofs.Referee.Walking.{in_step, not_below, same_in_block}
 use Rattle.record_text.proofs.judging.course.Course.allows.Goals as goal
 
 pub returns-then-generation-self : goal.returns-then-generation-self

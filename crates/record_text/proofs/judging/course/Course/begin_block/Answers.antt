@@ -1,4 +1,4 @@
-use Rattle.record_text.proofs.Walking.{walked_begin}
+use Rattle.record_text.proofs.Referee.Walking.{walked_begin}
 use Rattle.record_text.proofs.judging.course.Course.begin_block.Goals as goal
 
 pub returns-clause-kept : goal.returns-clause-kept

@@ -1,4 +1,4 @@
-use Rattle.record_text.proofs.Walking.{walked_end}
+use Rattle.record_text.proofs.Referee.Walking.{walked_end}
 use Rattle.record_text.proofs.judging.course.Course.end_block.Goals as goal
 
 pub returns-clause-kept : goal.returns-clause-kept

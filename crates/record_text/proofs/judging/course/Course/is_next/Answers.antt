@@ -4,7 +4,7 @@ use Rattle.std.proofs.lemmas.Option.{slice_get_read, same_Some}
 use Rattle.script_text.specs.declared.script.Item.{Item}
 use Rattle.script_text.specs.declared.script.Item.TheVariants.{Line}
 use Rattle.record_text.specs.Told.{answered}
-use Rattle.record_text.proofs.Walking.{decides_next, no_next}
+use Rattle.record_text.proofs.Referee.Walking.{decides_next, no_next}
 use Rattle.record_text.proofs.judging.course.Course.is_next.Goals as goal
 
 pub returns-then-self-items-clause-next : goal.returns-then-self-items-clause-next

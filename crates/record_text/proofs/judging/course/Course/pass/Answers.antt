@@ -1,6 +1,6 @@
 use Rattle.std.proofs.Common.{◌≡◌, refl}
 use Rattle.std.specs.Prelude.{ℕ, Option, Some, None}
-use Rattle.record_text.proofs.Walking.{passed_silent, passed_inside, passed_outside}
+use Rattle.record_text.proofs.Referee.Walking.{passed_silent, passed_inside, passed_outside}
 use Rattle.record_text.proofs.judging.course.Course.pass.Goals as goal
 
 none : (told : Option ℕ) → ((generation : ℕ) → told ≡ Some generation → ⊥) → told ≡ None

@@ -1,6 +1,6 @@
 use Rattle.std.proofs.Common.{length, ◌-◌, ℕ, List}
 use Rattle.std.specs.Prelude.{Option}
-use Rattle.record_text.specs.Courses.{IsWalked}
+use Rattle.record_text.specs.Referee.Courses.{IsWalked}
 use Rattle.record_text.proofs.judging.course.Course.walk.Given as goal
 
 abbrev pub invariant-loop-self : goal.invariant-loop-self

@@ -2,11 +2,11 @@ use Rattle.std.proofs.Common.{◌≡◌, ◌∙◌, ap}
 use Rattle.std.specs.Prelude.{ℕ, ◌<◌, ◌^◌, List, Option, Some, None}
 use Rattle.std.specs.Ordering.{nat_cmp}
 use Rattle.std.specs.BTreeMap.{get}
-use Rattle.record_text.specs.Doers.{Knows, key_of, has_rival}
+use Rattle.record_text.specs.Referee.Doers.{Knows, key_of, has_rival}
 use Rattle.record_text.specs.declared.record.RecordLine.{RecordLine}
 use Rattle.record_text.specs.declared.judging.doers.Doers.{Doers}
 use Rattle.record_text.specs.declared.judging.doers.Doer.{Doer}
-use Rattle.record_text.proofs.Swappers.{rival_known, knows_rival}
+use Rattle.record_text.proofs.Referee.Swappers.{rival_known, knows_rival}
 use Rattle.record_text.proofs.judging.doers.Doers.has_rival.Goals as goal
 
 told : (doers : Doers) (lines : List RecordLine) → Knows lines doers → (key worker object number : ℕ) (known : Option Doer) → number < 2 ^ 32 → key ≡ key_of object number → known ≡ get nat_cmp doers.known key → knows_rival known worker ≡ has_rival lines worker object number

@@ -1,0 +1,4 @@
+-- Lemmas of the printer.
+pub mod LineLookups
+pub mod Digits
+pub mod LineParts

@@ -1,8 +1,0 @@
--- Numbers that are kept for each worker and object.
-use Rattle.std.specs.Prelude.{◌≡◌, ℕ, ◌+◌, ◌*◌, ◌<◌, slice_index}
-use Rattle.record_text.specs.declared.judging.marks.Marks.{Marks}
-
--- the number that is kept for each worker and object is the one that the function says
-pub record Shows (marks : Marks) (shown : ℕ → ℕ → ℕ) : Type 0 where
-  pub each : (worker object : ℕ) → worker < 16 → object < 16
-      → slice_index marks.cells (worker * 16 + object) ≡ shown worker object

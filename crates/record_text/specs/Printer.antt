@@ -1,0 +1,2 @@
+-- What the printer looks up in a script.
+pub mod LineNumbers

@@ -1,0 +1,44 @@
+ghost use Rattle.std.specs.Prelude.{◌≡◌, ◌∷◌, ◌++◌, [], OnOk};
+ghost use Rattle.std.specs.Fmt.{decimal};
+ghost use Rattle.record_text.specs.Tokens.{behind_spaces};
+
+use k42_limits::SPACE;
+use k42_memory::Memory;
+
+/// Adds the decimal digits of a number.
+pub fn put_digits(out: &mut Vec<u8>, number: u64) -> Result<(), Memory>
+    ensures { OnOk result (out.new.items ≡ out.old.items ++ decimal number) }
+{
+    if number >= 10 {
+        put_digits(out, number / 10)?;
+    }
+    out.push(b'0' + (number % 10) as u8)?;
+    Ok(())
+}
+
+/// Adds a token.
+pub fn put_token(out: &mut Vec<u8>, token: &[u8]) -> Result<(), Memory>
+    ensures { OnOk result (out.new.items ≡ out.old.items ++ behind_spaces (token.now ∷ [])) }
+{
+    out.push(SPACE)?;
+    out.extend_from_slice(token)?;
+    Ok(())
+}
+
+/// Adds a number as a token.
+pub fn put_number(out: &mut Vec<u8>, number: u64) -> Result<(), Memory>
+    ensures { OnOk result (out.new.items ≡ out.old.items ++ behind_spaces (decimal number ∷ [])) }
+{
+    out.push(SPACE)?;
+    put_digits(out, number)
+}
+
+/// Adds a token that is a mark and a number.
+pub fn put_marked(out: &mut Vec<u8>, mark: u8, number: u32) -> Result<(), Memory>
+    ensures { OnOk result (
+        out.new.items ≡ out.old.items ++ behind_spaces ((mark ∷ decimal number) ∷ [])) }
+{
+    out.push(SPACE)?;
+    out.push(mark)?;
+    put_digits(out, u64::from(number))
+}
