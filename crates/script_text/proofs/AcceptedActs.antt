@@ -2,7 +2,6 @@
 use Rattle.std.proofs.Common.{◌≡◌, ℕ, zero, suc, ◌+◌, ◌<◌, ◌^◌, Bool, true, false, cond, not, ◌&&◌, ◌||◌, ◌⊎◌, inl, inr, List, [], ◌∷◌, length, get_or, refl, sym, ap, ◌∙◌, arith}
 use Rattle.std.specs.Prelude.{Some, Any, option_map, slice_get, position}
 use Rattle.std.specs.List.{list_any, position_or_len}
-use Rattle.std.specs.Fmt.{decimal}
 use Rattle.std.specs.Str.{bytes_eq}
 use Rattle.std.specs.Option.{option_and_then}
 use Rattle.std.proofs.lemmas.Bool.{and_left, and_right, not-false, lt-ltb, false≢true}
@@ -23,17 +22,13 @@ use Rattle.k42_kinds.specs.declared.operation.Op.{Op}
 use Rattle.k42_kinds.specs.declared.operation.Op.TheVariants.{Add, Get, Drain, Bind, Find, Unbind, Size, Write, Read, Dirty, Clean}
 use Rattle.k42_limits.specs.declared.TheConstants.{PAGES, AMOUNTS}
 use Rattle.script_text.specs.Accepted.{IsAcceptedWhere, MayAsk, TakesAct, HasShortNumbers, IsOutside}
-use Rattle.script_text.specs.Acts.{operation_word, argument_tokens, act_tokens}
-use Rattle.script_text.specs.Forms.{name_of, page_of, page_text_of, request_of, form_of}
+use Rattle.script_text.specs.Acts.{act_tokens}
 use Rattle.script_text.specs.Language.{script_after}
 use Rattle.script_text.specs.Lawful.{kinds_of}
-use Rattle.script_text.specs.Numbers.{number_below}
 use Rattle.script_text.specs.Offences.{object_names, place_among, is_among, is_in_block, kind_asked, is_swap, is_another_kind, kind_of_named, lacks_number, lacks_word}
 use Rattle.script_text.specs.Sound.{NamesPage, IsActOn, IsCall, IsFreeName, AreDistinct}
 use Rattle.script_text.specs.Spelled.{IsOpInRange, IsInRange}
 use Rattle.script_text.specs.declared.form.Form.TheVariants as forms
-use Rattle.script_text.specs.declared.form.Request.{Request}
-use Rattle.script_text.specs.declared.form.Request.TheVariants as requests
 use Rattle.script_text.specs.declared.script.ObjectLine.{ObjectLine}
 use Rattle.script_text.specs.declared.script.Script.{Script}
 use Rattle.script_text.proofs.AcceptedForms.{test_held, range_of_below}
@@ -41,44 +36,7 @@ use Rattle.script_text.proofs.OpenBlocks.{outside_from, outside_when}
 use Rattle.script_text.proofs.SoundRequests.{same_when_not_different}
 use Rattle.script_text.proofs.SoundSteps.{IsSoundSoFar}
 use Rattle.script_text.proofs.SpelledLines.{accepted_where}
-use Rattle.script_text.proofs.Spellings.{layout_named-word, number_below-decimal, head_of-free, act_says}
-
--- what a line says that spells an operation, whose parts may be out of range
-abbrev op_said : Op → Request
-op_said (Add amount) = requests.Add (number_below AMOUNTS (decimal amount))
-op_said Get = requests.Get
-op_said Drain = requests.Drain
-op_said (Bind key number) = requests.Bind (name_of key) (number_below (2 ^ 64) (decimal number))
-op_said (Find key) = requests.Find (name_of key)
-op_said (Unbind key) = requests.Unbind (name_of key)
-op_said Size = requests.Size
-op_said (Write page text) = requests.Write (page_of (decimal page)) (page_text_of text)
-op_said (Read page) = requests.Read (page_of (decimal page))
-op_said Dirty = requests.Dirty
-op_said Clean = requests.Clean
-
-abbrev act_said : Act → Request
-act_said (Call op) = op_said op
-act_said (Swap layout) = requests.Swap layout
-act_said Destroy = requests.Destroy
-
-request_of-op : (op : Op) → request_of (operation_word op ∷ argument_tokens op) ≡ Some (op_said op)
-request_of-op (Add amount) = refl
-request_of-op Get = refl
-request_of-op Drain = refl
-request_of-op (Bind key number) = refl
-request_of-op (Find key) = refl
-request_of-op (Unbind key) = refl
-request_of-op Size = refl
-request_of-op (Write page text) = refl
-request_of-op (Read page) = refl
-request_of-op Dirty = refl
-request_of-op Clean = refl
-
-form_of-act : (procs : ℕ) (name : List ℕ) (act : Act) → IsFreeName name → form_of procs (act_tokens name act) ≡ Some (forms.Asks (Some name) (act_said act))
-form_of-act procs name (Call op) free = rw (head_of-free name free.free, request_of-op op, free.formed) refl
-form_of-act procs name (Swap layout) free = rw (layout_named-word layout, free.formed) refl
-form_of-act procs name Destroy free = rw free.formed refl
+use Rattle.script_text.proofs.Spellings.{number_below-decimal, act_says, op_said, act_said, form_of-act}
 
 -- each number, key and text is in its range where the tests find each
 module _ where

@@ -15,7 +15,7 @@ use Rattle.script_text.specs.Language.{byte_limit, cause_of, NoneOffends, script
 use Rattle.script_text.specs.Lines.{text_of, is_printable, byte_count, holds_byte}
 use Rattle.script_text.specs.Reading.{refusal_of, refusal_said}
 use Rattle.script_text.specs.Spelled.{spaced, IsToken}
-use Rattle.script_text.specs.Tokens.{is_space, says_nothing}
+use Rattle.script_text.specs.Tokens.{says_nothing}
 use Rattle.script_text.specs.declared.fault.ScriptCause.TheVariants.{TooLong}
 use Rattle.script_text.specs.declared.form.Form.{Form}
 use Rattle.script_text.specs.declared.script.Script.{Script}
@@ -23,11 +23,9 @@ use Rattle.script_text.proofs.FirstOffence.{holds_behind}
 use Rattle.script_text.proofs.Refusals.{Passes, said_when, passes_when}
 use Rattle.script_text.proofs.SoundScripts.{keeps_line, nothing_read}
 use Rattle.script_text.proofs.SoundSteps.{IsSoundSoFar}
-use Rattle.script_text.proofs.Spacing.{tokens_of-spaced, list_any_no_space}
+use Rattle.script_text.proofs.Spacing.{tokens_of-spaced}
+use Rattle.script_text.proofs.Spellings.{word_token}
 use Rattle.script_text.proofs.Underway.{byte_count-push, cause_of-long, cause_of-short}
-
-visible_solid : (b : ℕ) → is_visible b ≡ true → is_space b ≡ false
-visible_solid b e = grind (arith, nat_tests, e)
 
 visible_printable : (b : ℕ) → is_visible b ≡ true → is_printable b ≡ true
 visible_printable b e = grind (arith, nat_tests, e)
@@ -35,13 +33,9 @@ visible_printable b e = grind (arith, nat_tests, e)
 printable_within : (b : ℕ) → is_printable b ≡ true → eqb b LINE_FEED ≡ false
 printable_within b e = grind (arith, nat_tests, e)
 
-word_token : (word : List ℕ) → IsWord word → IsToken word
-word_token [] is = absurd (omega (arith, is.0))
-word_token (b ∷ word) is = rw (list_any_no_space is_visible visible_solid (b ∷ word) is.1) refl
-
 word_tokens : (words : List (List ℕ)) → AllByRecursion IsWord words → AllByRecursion IsToken words
 word_tokens [] are = tt
-word_tokens (word ∷ words) are = (word_token word are.0, word_tokens words are.1)
+word_tokens (word ∷ words) are = (word_token word are.0.0 are.0.1, word_tokens words are.1)
 
 word_printable : (word : List ℕ) → list_all is_visible word ≡ true → list_all is_printable word ≡ true
 word_printable [] all = refl

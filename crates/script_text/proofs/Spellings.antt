@@ -19,7 +19,7 @@ use Rattle.k42_kinds.specs.declared.operation.Op.{Op}
 use Rattle.k42_kinds.specs.declared.operation.Op.TheVariants.{Add, Get, Drain, Bind, Find, Unbind, Size, Write, Read, Dirty, Clean}
 use Rattle.k42_limits.specs.declared.TheConstants.{PROCESSORS, PAGES, AMOUNTS}
 use Rattle.script_text.specs.Acts.{layout_word, operation_word, argument_tokens, act_tokens}
-use Rattle.script_text.specs.Forms.{is_reserved, kind_named, layout_named, head_of, request_of, form_of}
+use Rattle.script_text.specs.Forms.{is_reserved, name_of, page_of, page_text_of, kind_named, layout_named, head_of, request_of, form_of}
 use Rattle.script_text.specs.Language.{act_of, with_line, with_said, with_object, with_worker, with_last_item}
 use Rattle.script_text.specs.Numbers.{number_within, number_below}
 use Rattle.script_text.specs.Offences.{object_names, place_among}
@@ -63,11 +63,15 @@ token_name (b ∷ name) is =
     let first = and_parts _ (is_lower b) parts.0 in
     rw (solid_lower b first.1, list_any_no_space continues_name solid_name name parts.1) refl
 
+-- some visible characters are a token
+pub word_token : (word : List ℕ) → 0 < length word → list_all is_visible word ≡ true → IsToken word
+word_token [] some all = absurd (omega (arith, some))
+word_token (b ∷ word) some all = rw (list_any_no_space is_visible solid_text (b ∷ word) all) refl
+
 pub token_text : (text : List ℕ) → is_text text ≡ true → IsToken text
-token_text [] is = cc
-token_text (b ∷ text) is =
-    let parts = and_parts _ (list_all is_visible (b ∷ text)) is in
-    rw (list_any_no_space is_visible solid_text (b ∷ text) parts.1) refl
+token_text text is =
+    let parts = and_parts _ (list_all is_visible text) is in
+    word_token text (grind (arith, nat_tests, parts.0)) parts.1
 
 digits_token : (bytes : List ℕ) → list_all is_digit bytes ≡ true → 0 < length bytes → IsToken bytes
 digits_token [] all some = absurd (omega (arith, some))
@@ -167,58 +171,56 @@ op_tokens (Read page) in_range = (refl, (token_decimal page (omega (arith, in_ra
 op_tokens Dirty in_range = (refl, tt)
 op_tokens Clean in_range = (refl, tt)
 
--- the request that an operation is
-request_of_op : Op → Request
-request_of_op (Add amount) = requests.Add (Some amount)
-request_of_op Get = requests.Get
-request_of_op Drain = requests.Drain
-request_of_op (Bind key number) = requests.Bind (Some key) (Some number)
-request_of_op (Find key) = requests.Find (Some key)
-request_of_op (Unbind key) = requests.Unbind (Some key)
-request_of_op Size = requests.Size
-request_of_op (Write page text) = requests.Write (Some page) (Some text)
-request_of_op (Read page) = requests.Read (Some page)
-request_of_op Dirty = requests.Dirty
-request_of_op Clean = requests.Clean
+-- what a line says that spells an operation, whose parts may be out of range
+abbrev pub op_said : Op → Request
+op_said (Add amount) = requests.Add (number_below AMOUNTS (decimal amount))
+op_said Get = requests.Get
+op_said Drain = requests.Drain
+op_said (Bind key number) = requests.Bind (name_of key) (number_below (2 ^ 64) (decimal number))
+op_said (Find key) = requests.Find (name_of key)
+op_said (Unbind key) = requests.Unbind (name_of key)
+op_said Size = requests.Size
+op_said (Write page text) = requests.Write (page_of (decimal page)) (page_text_of text)
+op_said (Read page) = requests.Read (page_of (decimal page))
+op_said Dirty = requests.Dirty
+op_said Clean = requests.Clean
 
-act_of-request : (op : Op) → act_of (request_of_op op) ≡ Some (Call op)
-unfolding request_of_op
-act_of-request (Add amount) = refl
-act_of-request Get = refl
-act_of-request Drain = refl
-act_of-request (Bind key number) = refl
-act_of-request (Find key) = refl
-act_of-request (Unbind key) = refl
-act_of-request Size = refl
-act_of-request (Write page text) = refl
-act_of-request (Read page) = refl
-act_of-request Dirty = refl
-act_of-request Clean = refl
+request_of-op : (op : Op) → request_of (operation_word op ∷ argument_tokens op) ≡ Some (op_said op)
+request_of-op (Add amount) = refl
+request_of-op Get = refl
+request_of-op Drain = refl
+request_of-op (Bind key number) = refl
+request_of-op (Find key) = refl
+request_of-op (Unbind key) = refl
+request_of-op Size = refl
+request_of-op (Write page text) = refl
+request_of-op (Read page) = refl
+request_of-op Dirty = refl
+request_of-op Clean = refl
 
-request_of-op : (op : Op) → IsOpInRange op → request_of (operation_word op ∷ argument_tokens op) ≡ Some (request_of_op op)
-unfolding request_of_op
-request_of-op (Add amount) in_range = rw (number_below-decimal AMOUNTS amount in_range (omega (arith, in_range))) refl
-request_of-op Get in_range = refl
-request_of-op Drain in_range = refl
-request_of-op (Bind key number) in_range = rw (in_range.0, number_below-decimal (2 ^ 64) number in_range.1 in_range.1) refl
-request_of-op (Find key) in_range = rw in_range refl
-request_of-op (Unbind key) in_range = rw in_range refl
-request_of-op Size in_range = refl
-request_of-op (Write page text) in_range = rw (in_range.1, number_below-decimal PAGES page in_range.0 (omega (arith, in_range.0))) refl
-request_of-op (Read page) in_range = rw (number_below-decimal PAGES page in_range (omega (arith, in_range))) refl
-request_of-op Dirty in_range = refl
-request_of-op Clean in_range = refl
+-- it is the operation, where each part is in its range
+act_of-op : (op : Op) → IsOpInRange op → act_of (op_said op) ≡ Some (Call op)
+act_of-op (Add amount) in_range = rw (number_below-decimal AMOUNTS amount in_range (omega (arith, in_range))) refl
+act_of-op Get in_range = refl
+act_of-op Drain in_range = refl
+act_of-op (Bind key number) in_range = rw (in_range.0, number_below-decimal (2 ^ 64) number in_range.1 in_range.1) refl
+act_of-op (Find key) in_range = rw in_range refl
+act_of-op (Unbind key) in_range = rw in_range refl
+act_of-op Size in_range = refl
+act_of-op (Write page text) in_range = rw (in_range.1, number_below-decimal PAGES page in_range.0 (omega (arith, in_range.0))) refl
+act_of-op (Read page) in_range = rw (number_below-decimal PAGES page in_range (omega (arith, in_range))) refl
+act_of-op Dirty in_range = refl
+act_of-op Clean in_range = refl
 
-request_of_act : Act → Request
-request_of_act (Call op) = request_of_op op
-request_of_act (Swap layout) = requests.Swap layout
-request_of_act Destroy = requests.Destroy
+abbrev pub act_said : Act → Request
+act_said (Call op) = op_said op
+act_said (Swap layout) = requests.Swap layout
+act_said Destroy = requests.Destroy
 
-act_of-act : (act : Act) → act_of (request_of_act act) ≡ Some act
-unfolding request_of_act
-act_of-act (Call op) = act_of-request op
-act_of-act (Swap layout) = refl
-act_of-act Destroy = refl
+act_of-act : (act : Act) → IsInRange act → act_of (act_said act) ≡ Some act
+act_of-act (Call op) in_range = act_of-op op in_range
+act_of-act (Swap layout) in_range = refl
+act_of-act Destroy in_range = refl
 
 -- a line that asks something of an object, as its tokens, which are no remark
 pub act_says : (name : List ℕ) (act : Act) → IsFreeName name → says_nothing (act_tokens name act) ≡ false
@@ -231,17 +233,16 @@ all_tokens name (Call op) free in_range = (token_name name free.formed, op_token
 all_tokens name (Swap layout) free in_range = (refl, (token_name name free.formed, (layout_token layout, tt)))
 all_tokens name Destroy free in_range = (refl, (token_name name free.formed, tt))
 
-form_of-act : (procs : ℕ) (name : List ℕ) (act : Act) → IsFreeName name → IsInRange act → form_of procs (act_tokens name act) ≡ Some (forms.Asks (Some name) (request_of_act act))
-unfolding request_of_act
-form_of-act procs name (Call op) free in_range = rw (head_of-free name free.free, request_of-op op in_range, free.formed) refl
-form_of-act procs name (Swap layout) free in_range = rw (layout_named-word layout, free.formed) refl
-form_of-act procs name Destroy free in_range = rw free.formed refl
+pub form_of-act : (procs : ℕ) (name : List ℕ) (act : Act) → IsFreeName name → form_of procs (act_tokens name act) ≡ Some (forms.Asks (Some name) (act_said act))
+form_of-act procs name (Call op) free = rw (head_of-free name free.free, request_of-op op, free.formed) refl
+form_of-act procs name (Swap layout) free = rw (layout_named-word layout, free.formed) refl
+form_of-act procs name Destroy free = rw free.formed refl
 
 -- a line that asks something of an object
 pub act_line : (script : Script) (number place : ℕ) (name : List ℕ) (act : Act) → IsFreeName name → place_among (object_names script) (Some name) ≡ Some place → IsInRange act → with_line script number (spaced (act_tokens name act)) ≡ with_last_item script (items.Line (record { line = number; object = place; act = act }))
 act_line script number place name act free declared in_range =
     with_line-spaced script number (act_tokens name act) (all_tokens name act free in_range) (act_says name act free)
-    ∙ rw (form_of-act script.procs name act free in_range, declared, act_of-act act) refl
+    ∙ rw (form_of-act script.procs name act free, declared, act_of-act act in_range) refl
 
 -- the name and the act that a form says
 said_name : Option Form → Option (List ℕ)
@@ -255,9 +256,9 @@ said_act _ = None
 form_of_text : List ℕ → Option Form
 form_of_text text = form_of 1 (tokens_of text)
 
-form_of_text-act : (name : List ℕ) (act : Act) → IsFreeName name → IsInRange act → form_of_text (spaced (act_tokens name act)) ≡ Some (forms.Asks (Some name) (request_of_act act))
+form_of_text-act : (name : List ℕ) (act : Act) → IsFreeName name → IsInRange act → form_of_text (spaced (act_tokens name act)) ≡ Some (forms.Asks (Some name) (act_said act))
 unfolding form_of_text
-form_of_text-act name act free in_range = rw (tokens_of-spaced (act_tokens name act) (all_tokens name act free in_range)) (form_of-act 1 name act free in_range)
+form_of_text-act name act free in_range = rw (tokens_of-spaced (act_tokens name act) (all_tokens name act free in_range)) (form_of-act 1 name act free)
 
 -- two acts of one spelling are one, on one object
 pub act_spelling : (name other : List ℕ) (act another : Act) → IsFreeName name → IsFreeName other → IsInRange act → IsInRange another → spaced (act_tokens name act) ≡ spaced (act_tokens other another) → (name ≡ other) × (act ≡ another)
@@ -265,5 +266,5 @@ unfolding said_name said_act
 act_spelling name other act another free free_other in_range other_in_range same =
     let forms_same = sym (form_of_text-act name act free in_range) ∙ ap form_of_text same ∙ form_of_text-act other another free_other other_in_range in (
       same_Some name other (ap said_name forms_same),
-      same_Some act another (sym (act_of-act act) ∙ ap said_act forms_same ∙ act_of-act another),
+      same_Some act another (sym (act_of-act act in_range) ∙ ap said_act forms_same ∙ act_of-act another other_in_range),
     )

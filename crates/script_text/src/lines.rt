@@ -3,7 +3,7 @@ ghost use Rattle.std.specs.List.{list_all};
 ghost use Rattle.script_text.specs.Lines.{lines_of, text_of, is_printable};
 ghost use Rattle.script_text.specs.Cuts.{CutsLine};
 
-use k42_limits::LINE_FEED;
+use k42_limits::{LINE_FEED, SPACE};
 
 /// The first line of a text, and what stands after it.
 #[derive(Clone, Copy)]
@@ -49,5 +49,5 @@ pub fn next_line(bytes: &[u8]) -> Cut<'_>
 pub fn is_printable_text(text: &[u8]) -> bool
     ensures { result ≡ list_all is_printable text.now }
 {
-    text.iter().all(|&byte| matches!(byte, b' '..=b'~'))
+    text.iter().all(|&byte| matches!(byte, SPACE..=b'~'))
 }
