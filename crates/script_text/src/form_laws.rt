@@ -65,8 +65,8 @@ pub fn an_item_is_added_to_the_last_worker()
 /// asks of which object can be told from its bytes.
 pub fn an_act_is_spelled_once()
     ensures adds { (script : Script) (number place : ℕ) (name : List ℕ) (act : Act) →
-        0 < length script.workers → IsFreeName name → place_among (object_names script) (Some name) ≡ Some place →
-        IsInRange act →
+        0 < length script.workers → IsFreeName name →
+        place_among (object_names script) (Some name) ≡ Some place → IsInRange act →
         with_line script number (spaced (act_tokens name act))
         ≡ with_last_item script
         (items.Line (record { line = number; object = place; act = act })) }
