@@ -1,12 +1,13 @@
 -- When a line that asks something of an object is accepted.
-use Rattle.std.proofs.Common.{◌≡◌, ℕ, zero, suc, ◌+◌, ◌<◌, ◌^◌, Bool, true, false, cond, not, ◌&&◌, ◌||◌, ◌⊎◌, inl, inr, List, [], ◌∷◌, length, get_or, refl, sym, ap, ◌∙◌, arith}
-use Rattle.std.specs.Prelude.{Some, Any, option_map, slice_get, position}
+use Rattle.std.proofs.Common.{◌≡◌, ℕ, zero, suc, ◌+◌, ◌<◌, ◌^◌, Bool, true, false, cond, not, ◌&&◌, ◌||◌, ◌⊎◌, inl, inr, List, [], ◌∷◌, length, get_or, refl, sym, ap, subst, ◌∙◌, arith}
+use Rattle.std.specs.Prelude.{Some, None, All, Any, option_map, slice_get, position}
 use Rattle.std.specs.List.{list_any, position_or_len}
 use Rattle.std.specs.Str.{bytes_eq}
 use Rattle.std.specs.Option.{option_and_then}
 use Rattle.std.proofs.lemmas.Bool.{and_left, and_right, not-false, lt-ltb, false≢true}
 use Rattle.std.proofs.lemmas.Bool.Decides.{nat_tests}
 use Rattle.std.proofs.lemmas.List.{length-map, get_or-map}
+use Rattle.std.proofs.lemmas.List.Elements.{All-get_or}
 use Rattle.std.proofs.lemmas.List.Folds.{list_any-from_Any}
 use Rattle.std.proofs.lemmas.List.Quantifiers.{position-Some}
 use Rattle.std.proofs.lemmas.Option.{same_Some, slice_get-map, slice_get-get_or, slice_get_within, get_or_from_slice_get}
@@ -21,8 +22,9 @@ use Rattle.k42_kinds.specs.declared.operation.LayoutName.TheVariants.{Shared}
 use Rattle.k42_kinds.specs.declared.operation.Op.{Op}
 use Rattle.k42_kinds.specs.declared.operation.Op.TheVariants.{Add, Get, Drain, Bind, Find, Unbind, Size, Write, Read, Dirty, Clean}
 use Rattle.k42_limits.specs.declared.TheConstants.{PAGES, AMOUNTS}
-use Rattle.script_text.specs.Accepted.{IsAcceptedWhere, MayAsk, TakesAct, HasShortNumbers, IsOutside}
+use Rattle.script_text.specs.Accepted.{IsAcceptedWhere, MayAsk, BeginsCall, TakesAct, HasShortNumbers, IsOutside}
 use Rattle.script_text.specs.Acts.{act_tokens}
+use Rattle.script_text.specs.Forms.{name_of}
 use Rattle.script_text.specs.Language.{script_after}
 use Rattle.script_text.specs.Lawful.{kinds_of}
 use Rattle.script_text.specs.Offences.{object_names, place_among, is_among, is_in_block, kind_asked, is_swap, is_another_kind, kind_of_named, lacks_number, lacks_word}
@@ -36,7 +38,7 @@ use Rattle.script_text.proofs.OpenBlocks.{outside_from, outside_when}
 use Rattle.script_text.proofs.SoundRequests.{same_when_not_different}
 use Rattle.script_text.proofs.SoundSteps.{IsSoundSoFar}
 use Rattle.script_text.proofs.SpelledLines.{accepted_where}
-use Rattle.script_text.proofs.Spellings.{number_below-decimal, act_says, op_said, act_said, form_of-act}
+use Rattle.script_text.proofs.Spellings.{number_below-decimal, act_says, op_said, act_said, name_of-name, form_of-act}
 
 -- each number, key and text is in its range where the tests find each
 module _ where
@@ -219,14 +221,25 @@ some_processor next script sound some = by script.procs refl
     by zero none = absurd (omega (arith, some, ap length (sound.start none).1))
     by (suc procs) is = omega (arith, is)
 
-pub accepted_act : (before : List (List ℕ)) (name : List ℕ) (act : Act) → IsFreeName name → HasShortNumbers act → IsAcceptedWhere before (act_tokens name act) (MayAsk (script_after before) name act)
-accepted_act before name act free short = accepted_where before (act_tokens name act) (forms.Asks (Some name) (act_said act)) (MayAsk script name act) (act_says name act free) (form_of-act script.procs name act free) (λ sound are. (
+-- a word that is the name of an object is a name
+named_word : (names : List (List ℕ)) (word : List ℕ) → is_among names (name_of word) ≡ true → is_name word ≡ true
+named_word names word = elim (is_name word) as (λ b. is_among names (cond b (Some word) None) ≡ true → b ≡ true) [ true ↦ λ there. refl | false ↦ λ there. there ]
+
+declared_word : (script : Script) (name : List ℕ) (act : Act) → All (λ object. IsFreeName object.name) script.objects → Any (TakesAct name act) script.objects → is_name name ≡ true
+declared_word script name act free some =
+    let own : IsFreeName some.1.name = subst (λ (object : ObjectLine). IsFreeName object.name) some.3 (All-get_or (λ (object : ObjectLine). IsFreeName object.name) script.objects some.0 some.1 some.2 free) in
+    subst (λ (word : List ℕ). is_name word ≡ true) some.4.named own.formed
+
+pub accepted_act : (before : List (List ℕ)) (name : List ℕ) (act : Act) → BeginsCall name → HasShortNumbers act → IsAcceptedWhere before (act_tokens name act) (MayAsk (script_after before) name act)
+accepted_act before name act begins short = accepted_where before (act_tokens name act) (forms.Asks (name_of name) (act_said act)) (MayAsk script name act) (act_says name act begins.said) (form_of-act script.procs name act begins.free) (λ sound are. (
   λ passes.
       let range = range_when act short passes.numbers passes.words in
       let worker : 0 < length script.workers = grind (arith, nat_tests, passes.worker) in
+      let among : is_among (object_names script) (name_of name) ≡ true = not-false _ passes.declared in
+      let named = name_of-name name (named_word (object_names script) name among) in
       record {
         processors = some_processor (1 + length before) script sound worker;
-        declared = takes_here script name act range (not-false _ passes.declared) passes.own_kind;
+        declared = takes_here script name act range (rw named at among) (rw named at passes.own_kind);
         in_range = range;
         worker = worker;
         room = grind (arith, nat_tests, passes.few);
@@ -235,14 +248,15 @@ accepted_act before name act free short = accepted_where before (act_tokens name
   λ may.
       let range = range_from act may.in_range in
       let taken = taken_here script name act sound.names.object_names may.declared in
+      let named = name_of-name name (declared_word script name act sound.names.free_objects may.declared) in
       record {
         procs = grind (arith, nat_tests, may.processors);
         known = refl;
         numbers = range.0;
         words = range.1;
         new = refl;
-        declared = rw taken.0 refl;
-        own_kind = taken.1;
+        declared = rw (named, taken.0) refl;
+        own_kind = rw named taken.1;
         worker = grind (arith, nat_tests, may.worker);
         few = grind (arith, nat_tests, may.room);
         in_place = in_place_from script act may.in_place;

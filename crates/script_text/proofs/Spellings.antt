@@ -223,26 +223,32 @@ act_of-act (Swap layout) in_range = refl
 act_of-act Destroy in_range = refl
 
 -- a line that asks something of an object, as its tokens, which are no remark
-pub act_says : (name : List ℕ) (act : Act) → IsFreeName name → says_nothing (act_tokens name act) ≡ false
-act_says name (Call op) free = says-name name free.formed
-act_says name (Swap layout) free = refl
-act_says name Destroy free = refl
+pub act_says : (name : List ℕ) (act : Act) → is_remark name ≡ false → says_nothing (act_tokens name act) ≡ false
+act_says name (Call op) said = said
+act_says name (Swap layout) said = refl
+act_says name Destroy said = refl
 
 all_tokens : (name : List ℕ) (act : Act) → IsFreeName name → IsInRange act → AllByRecursion IsToken (act_tokens name act)
 all_tokens name (Call op) free in_range = (token_name name free.formed, op_tokens op in_range)
 all_tokens name (Swap layout) free in_range = (refl, (token_name name free.formed, (layout_token layout, tt)))
 all_tokens name Destroy free in_range = (refl, (token_name name free.formed, tt))
 
-pub form_of-act : (procs : ℕ) (name : List ℕ) (act : Act) → IsFreeName name → form_of procs (act_tokens name act) ≡ Some (forms.Asks (Some name) (act_said act))
-form_of-act procs name (Call op) free = rw (head_of-free name free.free, request_of-op op, free.formed) refl
-form_of-act procs name (Swap layout) free = rw (layout_named-word layout, free.formed) refl
-form_of-act procs name Destroy free = rw free.formed refl
+pub form_of-act : (procs : ℕ) (name : List ℕ) (act : Act) → is_reserved name ≡ false → form_of procs (act_tokens name act) ≡ Some (forms.Asks (name_of name) (act_said act))
+form_of-act procs name (Call op) free = rw (head_of-free name free, request_of-op op) refl
+form_of-act procs name (Swap layout) free = rw (layout_named-word layout) refl
+form_of-act procs name Destroy free = refl
+
+pub name_of-name : (name : List ℕ) → is_name name ≡ true → name_of name ≡ Some name
+name_of-name name formed = rw formed refl
+
+form_of-named : (procs : ℕ) (name : List ℕ) (act : Act) → IsFreeName name → form_of procs (act_tokens name act) ≡ Some (forms.Asks (Some name) (act_said act))
+form_of-named procs name act free = form_of-act procs name act free.free ∙ ap (λ given. Some (forms.Asks given (act_said act))) (name_of-name name free.formed)
 
 -- a line that asks something of an object
 pub act_line : (script : Script) (number place : ℕ) (name : List ℕ) (act : Act) → IsFreeName name → place_among (object_names script) (Some name) ≡ Some place → IsInRange act → with_line script number (spaced (act_tokens name act)) ≡ with_last_item script (items.Line (record { line = number; object = place; act = act }))
 act_line script number place name act free declared in_range =
-    with_line-spaced script number (act_tokens name act) (all_tokens name act free in_range) (act_says name act free)
-    ∙ rw (form_of-act script.procs name act free, declared, act_of-act act in_range) refl
+    with_line-spaced script number (act_tokens name act) (all_tokens name act free in_range) (act_says name act (says-name name free.formed))
+    ∙ rw (form_of-named script.procs name act free, declared, act_of-act act in_range) refl
 
 -- the name and the act that a form says
 said_name : Option Form → Option (List ℕ)
@@ -258,7 +264,7 @@ form_of_text text = form_of 1 (tokens_of text)
 
 form_of_text-act : (name : List ℕ) (act : Act) → IsFreeName name → IsInRange act → form_of_text (spaced (act_tokens name act)) ≡ Some (forms.Asks (Some name) (act_said act))
 unfolding form_of_text
-form_of_text-act name act free in_range = rw (tokens_of-spaced (act_tokens name act) (all_tokens name act free in_range)) (form_of-act 1 name act free)
+form_of_text-act name act free in_range = rw (tokens_of-spaced (act_tokens name act) (all_tokens name act free in_range)) (form_of-named 1 name act free)
 
 -- two acts of one spelling are one, on one object
 pub act_spelling : (name other : List ℕ) (act another : Act) → IsFreeName name → IsFreeName other → IsInRange act → IsInRange another → spaced (act_tokens name act) ≡ spaced (act_tokens other another) → (name ≡ other) × (act ≡ another)

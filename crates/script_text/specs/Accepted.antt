@@ -6,11 +6,13 @@ use Rattle.k42_kinds.specs.declared.entry.Act.{Act}
 use Rattle.k42_kinds.specs.declared.entry.Act.TheVariants.{Call}
 use Rattle.k42_kinds.specs.declared.operation.Op.TheVariants.{Add, Bind, Write, Read}
 use Rattle.k42_limits.specs.declared.TheConstants.{PROCESSORS, OBJECTS, CALLERS, CALL_LINES, SCRIPT_BYTES}
+use Rattle.script_text.specs.Forms.{is_reserved}
 use Rattle.script_text.specs.Language.{cause_of, NoneOffends}
 use Rattle.script_text.specs.Lines.{byte_count}
 use Rattle.script_text.specs.Offences.{call_count}
 use Rattle.script_text.specs.Sound.{IsActOn, IsCall, IsFreeName, BlocksMatch}
 use Rattle.script_text.specs.Spelled.{spaced, line_with, IsInRange}
+use Rattle.script_text.specs.Tokens.{is_remark}
 use Rattle.script_text.specs.declared.script.ObjectLine.{ObjectLine}
 use Rattle.script_text.specs.declared.script.Script.{Script}
 use Rattle.script_text.specs.declared.script.WorkerHead.{WorkerHead}
@@ -92,6 +94,11 @@ pub record MayAsk (script : Script) (name : List ℕ) (act : Act) : Type 0 where
   pub worker : 0 < length script.workers
   pub room : call_count script < CALL_LINES
   pub in_place : IsCall act ⊎ IsOutside script
+
+-- A word that a call line may begin with: it begins no other form, and no remark.
+pub record BeginsCall (word : List ℕ) : Type 0 where
+  pub free : is_reserved word ≡ false
+  pub said : is_remark word ≡ false
 
 -- its numbers have at most 64 bits
 abbrev pub HasShortNumbers : Act → Type 0

@@ -1,9 +1,8 @@
 ghost use Rattle.std.specs.Prelude.{◌<◌, ◌^◌, ℕ, List};
 ghost use Rattle.k42_kinds.specs.declared.entry.Act.{Act};
-ghost use Rattle.script_text.specs.Accepted.{IsAcceptedWhere, MayDeclareProcessors, MayDeclareObject, MayDeclareWorker, MayBegin, MayEnd, MayAsk, HasShortNumbers};
+ghost use Rattle.script_text.specs.Accepted.{IsAcceptedWhere, MayDeclareProcessors, MayDeclareObject, MayDeclareWorker, MayBegin, MayEnd, MayAsk, BeginsCall, HasShortNumbers};
 ghost use Rattle.script_text.specs.Acts.{act_tokens};
 ghost use Rattle.script_text.specs.Language.{script_after};
-ghost use Rattle.script_text.specs.Sound.{IsFreeName};
 ghost use Rattle.script_text.specs.Spelled.{procs_tokens, object_tokens, worker_tokens, begin_tokens, end_tokens};
 ghost use Rattle.script_text.specs.declared.script.ObjectLine.{ObjectLine};
 ghost use Rattle.script_text.specs.declared.script.WorkerHead.{WorkerHead};
@@ -24,7 +23,7 @@ pub fn a_line_is_accepted_where_it_may_stand()
         IsAcceptedWhere before begin_tokens (MayBegin (script_after before)) }
     ensures end { (before : List (List ℕ)) →
         IsAcceptedWhere before end_tokens (MayEnd (script_after before)) }
-    ensures act { (before : List (List ℕ)) (name : List ℕ) (act : Act) → IsFreeName name →
+    ensures act { (before : List (List ℕ)) (name : List ℕ) (act : Act) → BeginsCall name →
         HasShortNumbers act →
         IsAcceptedWhere before (act_tokens name act) (MayAsk (script_after before) name act) }
 {}
