@@ -8,10 +8,10 @@ use Rattle.std.proofs.lemmas.Bool.Decides.{nat_tests}
 use Rattle.std.proofs.lemmas.List.{append_assoc, append-nil, length-append, length-map}
 use Rattle.std.proofs.lemmas.List.Elements.{All-from_recursion, recursion_from_All, All-weaker}
 use Rattle.k42_kinds.proofs.Splits.{heads}
-use Rattle.script_text.specs.Lines.{lines_of}
+use Rattle.script_text.specs.Lines.{lines_of, IsWholeLine}
 use Rattle.script_text.specs.Sound.{HasDistinctNames}
 use Rattle.script_text.specs.declared.script.Script.{Script}
-use Rattle.record_text.specs.Openings.{OpensRecord, LeavesRecordsAt, IsWholeLine, IsMadeOfLines}
+use Rattle.record_text.specs.Openings.{OpensRecord, LeavesRecordsAt, IsMadeOfLines}
 use Rattle.record_text.specs.Reader.Lines.{tokens_on}
 use Rattle.record_text.specs.Reader.LineParts.{version_on, line_on, count_on}
 use Rattle.record_text.specs.Reading.{is_last, entries, ended, entries_on, record_on, reading, Reads}

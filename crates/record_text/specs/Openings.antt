@@ -1,7 +1,6 @@
 -- At which line a text ceases to be that of a record.
-use Rattle.std.specs.Prelude.{◌≡◌, ◌≢◌, ℕ, ◌+◌, ◌<◌, ◌≤◌, List, [], ◌∷◌, ◌++◌, length, take, All}
-use Rattle.k42_limits.specs.declared.TheConstants.{LINE_FEED}
-use Rattle.script_text.specs.Lines.{lines_of}
+use Rattle.std.specs.Prelude.{◌≡◌, ℕ, ◌+◌, ◌<◌, ◌≤◌, List, length, take, All}
+use Rattle.script_text.specs.Lines.{lines_of, IsWholeLine}
 use Rattle.script_text.specs.declared.script.Script.{Script}
 use Rattle.record_text.specs.Spelling.{HasText}
 use Rattle.record_text.specs.Texts.{record_text}
@@ -25,12 +24,6 @@ pub record LeavesRecordsAt (script : Script) (bytes : List ℕ) (line : ℕ) : T
   pub reached : line ≤ length (lines_of bytes) + 1
   pub no_text : (written : Record) → HasText script written → FitsRecord written
       → record_text script written ≡ bytes → ⊥
-
--- the line is not empty, and ends in its only line feed
-pub record IsWholeLine (line : List ℕ) : Type 0 where
-  pub body : List ℕ
-  pub ended : line ≡ body ++ LINE_FEED ∷ []
-  pub only : All (λ byte. byte ≢ LINE_FEED) body
 
 -- the text is its lines, two more than it has entries, each of them whole
 pub record IsMadeOfLines (text : List ℕ) (entries : ℕ) : Type 0 where
