@@ -8,6 +8,7 @@ use Rattle.std.proofs.lemmas.List.{append-nil, length-append, length-map}
 use Rattle.std.proofs.lemmas.List.Elements.{All-nil, All-append, recursion_from_All, filter-append}
 use Rattle.std.proofs.lemmas.Option.{same_Some, slice_get_within, get_or_from_slice_get}
 use Rattle.std.proofs.lemmas.List.Sums.{sum_by_more, sum_by_more_le}
+use Rattle.k42_limits.specs.declared.TheConstants.{CALL_LINES}
 use Rattle.k42_kinds.specs.Histories.{entries_of}
 use Rattle.k42_kinds.specs.declared.entry.Answer.{Answer}
 use Rattle.k42_kinds.specs.declared.entry.Answer.TheVariants.{Replied, Swapped, Busy, Spent, Gone, Abandoned}
@@ -89,7 +90,7 @@ made_by old caller lines new done =
     omega (arith, ap length done.entries, length-append old.entries.items done.more, length-map done.more deed_of, ap length done.deeds, length-deeds_from lines 0)
 
 -- the lines of the workers before one, and its own, are within those of all
-pub room_for : (script : Script) (number : ℕ) (worker : WorkerLines) (run : Run) → IsSound script → slice_get script.workers number ≡ Some worker → IsCrewed script number run → length run.entries.items + length (call_lines worker.items) ≤ 65536
+pub room_for : (script : Script) (number : ℕ) (worker : WorkerLines) (run : Run) → IsSound script → slice_get script.workers number ≡ Some worker → IsCrewed script number run → length run.entries.items + length (call_lines worker.items) ≤ CALL_LINES
 room_for script number worker run sound here crewed =
     let lines = λ (w : WorkerLines). length (call_lines w.items) in
     let within = slice_get_within script.workers number worker here in

@@ -8,66 +8,13 @@ use Rattle.std.proofs.lemmas.List.{append-nil, length-take-le, take-append-le, t
 use Rattle.std.proofs.lemmas.Slice.Eq.{bytes_eq-Decides}
 use Rattle.std.proofs.lemmas.Bool.{or_from}
 use Rattle.std.proofs.Math.Seq.{take-append-add}
-use Rattle.script_text.specs.Lines.{lines_of, onto_first_line}
+use Rattle.k42_limits.specs.declared.TheConstants.{INPUT_BYTES}
+use Rattle.script_text.specs.Lines.{lines_of}
 use Rattle.script_text.specs.Language.{parsed, byte_limit}
+use Rattle.script_text.proofs.FirstBytes.{ends_before, ends_before-true, ends_before-false, behind, cut_lines, lines_of-take}
 use Rattle.script_text.proofs.Truncated.{parsed-take}
 use Rattle.k42_cli.specs.Separation.{is_separator, lines_before, script_part}
 use Rattle.k42_cli.specs.Verdicts.{input_limit}
-
-false-true : {Y : Type 0} → ◌≡◌ {A = Bool} false true → Y
-false-true e = cc
-
--- whether the line has fewer than n bytes
-ends_before : ℕ → List ℕ → Bool
-ends_before zero line = false
-ends_before (suc n) [] = true
-ends_before (suc n) (byte ∷ line) = ends_before n line
-
--- how many of n bytes stand behind the line
-behind : ℕ → List ℕ → ℕ
-behind n [] = n
-behind zero (byte ∷ line) = 0
-behind (suc n) (byte ∷ line) = behind n line
-
-ends_before-true : (n : ℕ) (line : List ℕ) → ends_before n line ≡ true → (length line < n) × (length line + behind n line ≡ n)
-unfolding ends_before behind
-ends_before-true zero line e = false-true e
-ends_before-true (suc n) [] e = (omega arith, omega arith)
-ends_before-true (suc n) (byte ∷ line) e = let rest = ends_before-true n line e in (omega (arith, rest.0), omega (arith, rest.1))
-
-ends_before-false : (n : ℕ) (line : List ℕ) → ends_before n line ≡ false → n ≤ length line
-unfolding ends_before
-ends_before-false zero line e = omega arith
-ends_before-false (suc n) [] e = false-true (sym e)
-ends_before-false (suc n) (byte ∷ line) e = let rest = ends_before-false n line e in omega (arith, rest)
-
--- the lines of the first n bytes, of which there is one at least
-cut_lines : ℕ → List (List ℕ) → List (List ℕ)
-cut_lines n [] = []
-cut_lines n (line ∷ lines) = cond (ends_before n line) (line ∷ cut_lines (behind n line) lines) (take n line ∷ [])
-
--- a byte more at the front of the first line
-cut-onto : (byte n : ℕ) (lines : List (List ℕ)) → onto_first_line byte (cut_lines (suc n) lines) ≡ cut_lines (suc (suc n)) (onto_first_line byte lines)
-unfolding cut_lines ends_before behind
-cut-onto byte n [] = refl
-cut-onto byte n (line ∷ lines) =
-    elim (ends_before (suc n) line) as (λ b. onto_first_line byte (cond b (line ∷ cut_lines (behind (suc n) line) lines) (take (suc n) line ∷ [])) ≡ cond b ((byte ∷ line) ∷ cut_lines (behind (suc n) line) lines) ((byte ∷ take (suc n) line) ∷ [])) [ true ↦ refl | false ↦ refl ]
-
-cut-one : (byte : ℕ) (lines : List (List ℕ)) → cut_lines 1 (onto_first_line byte lines) ≡ (byte ∷ []) ∷ []
-unfolding cut_lines ends_before
-cut-one byte [] = refl
-cut-one byte (line ∷ lines) = refl
-
-lines_of-take : (bytes : List ℕ) (n : ℕ) → lines_of (take (suc n) bytes) ≡ cut_lines (suc n) (lines_of bytes)
-unfolding cut_lines ends_before behind
-lines_of-take [] n = refl
-lines_of-take (byte ∷ bytes) zero = elim (eqb byte 10) as (λ b. cond b ((byte ∷ []) ∷ []) ((byte ∷ []) ∷ []) ≡ cut_lines 1 (cond b ((byte ∷ []) ∷ lines_of bytes) (onto_first_line byte (lines_of bytes)))) [ true ↦ refl | false ↦ sym (cut-one byte (lines_of bytes)) ]
-lines_of-take (byte ∷ bytes) (suc n) =
-    let rest = lines_of-take bytes n in
-    elim (eqb byte 10) as (λ b. cond b ((byte ∷ []) ∷ lines_of (take (suc n) bytes)) (onto_first_line byte (lines_of (take (suc n) bytes))) ≡ cut_lines (suc (suc n)) (cond b ((byte ∷ []) ∷ lines_of bytes) (onto_first_line byte (lines_of bytes)))) [
-      | true ↦ ap (λ (lines : List (List ℕ)). (byte ∷ []) ∷ lines) rest
-      | false ↦ ap (onto_first_line byte) rest ∙ cut-onto byte n (lines_of bytes)
-    ]
 
 -- a line that is longer than a word is not that word
 unlike : (line word : List ℕ) → length word < length line → bytes_eq line word ≡ false
@@ -133,6 +80,6 @@ pub script_part-take : (bytes : List ℕ) → parsed (script_part (take input_li
 script_part-take bytes =
     let left = script_part (take input_limit bytes) in
     let right = script_part bytes in
-    let read : take 16777213 left ≡ take 16777213 right = ap (λ (lines : List (List ℕ)). take 16777213 (concat (lines_before lines))) (lines_of-take bytes 16777216) ∙ cut_alike (lines_of bytes) 16777217 in
-    let same : take byte_limit left ≡ take byte_limit right = take-fewer byte_limit 16777213 left right (omega arith) read in
+    let read : take (input_limit - 4) left ≡ take (input_limit - 4) right = ap (λ (lines : List (List ℕ)). take (input_limit - 4) (concat (lines_before lines))) (lines_of-take bytes INPUT_BYTES) ∙ cut_alike (lines_of bytes) input_limit in
+    let same : take byte_limit left ≡ take byte_limit right = take-fewer byte_limit (input_limit - 4) left right (omega arith) read in
     sym (parsed-take left) ∙ ap parsed same ∙ parsed-take right

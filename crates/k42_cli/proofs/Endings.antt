@@ -16,6 +16,7 @@ use Rattle.k42_cli.specs.Separation.{script_part, record_part}
 use Rattle.k42_cli.specs.Verdicts.{input_limit, spelling_rule, line_refused, IsFound, IsVerdict, status_of}
 use Rattle.k42_cli.specs.Program.{usage_line, IsVerdictDue, IsRunDue, IsCheckDue, IsDue, Ends, IsQuiet, Says, CompletesRun, CompletesCheck, Completes}
 use Rattle.k42_cli.proofs.CutInput.{script_part-take}
+use Rattle.k42_cli.specs.Words.{version_number}
 use Rattle.k42_cli.specs.Outputs.{limit_of, IsWorkedOut, Delivers}
 use Rattle.k42_cli.specs.declared.verdict.Verdict.{Verdict}
 use Rattle.k42_cli.specs.declared.verdict.Verdict.TheVariants.{Lawful, Unlawful}
@@ -26,7 +27,7 @@ use Rattle.k42_cli.specs.declared.status.Status.TheVariants as statuses
 
 -- The same is due for bytes of which the first were read, and what was read decides.
 due_alike : (version : ℕ) (bytes others : List ℕ) (status : Status) (output : List ℕ) → parsed bytes ≡ parsed others → IsRunDue version bytes status output → IsRunDue version others status output
-due_alike version bytes others statuses.Ok output same due = record { script = due.script; history = due.history; accepted = sym same ∙ due.accepted; lawful = due.lawful; counted = due.counted; judged = due.judged; text = due.text }
+due_alike version bytes others statuses.Ok output same due = record { script = due.script; history = due.history; accepted = sym same ∙ due.accepted; lawful = due.lawful; judged = due.judged; text = due.text }
 due_alike version bytes others statuses.Refused output same due = record { fault = due.fault; refused = sym same ∙ due.refused; text = due.text }
 due_alike version bytes others statuses.Unlawful output same due = absurd due
 due_alike version bytes others statuses.Usage output same due = absurd due
@@ -105,11 +106,11 @@ check_cut bytes statuses.WriteFault output due = verdict_cut bytes statuses.Writ
 check_cut bytes statuses.Memory output due = verdict_cut bytes statuses.Memory output due
 
 due_cut : (form : Form) (bytes : List ℕ) (status : Status) (output : List ℕ) → IsDue (Some form) bytes status output → IsDue (Some form) (take (limit_of form) bytes) status output
-due_cut (Run version) bytes status output due = due_alike version bytes (take byte_limit bytes) status output (sym (parsed-take bytes)) due
+due_cut (Run version) bytes status output due = due_alike (version_number version) bytes (take byte_limit bytes) status output (sym (parsed-take bytes)) due
 due_cut Check bytes status output due = check_cut bytes status output due
 
 due_whole : (form : Form) (all bytes : List ℕ) (status : Status) (output : List ℕ) → all ≡ take (limit_of form) bytes → IsDue (Some form) all status output → IsDue (Some form) bytes status output
-due_whole (Run version) all bytes status output is due = due_alike version all bytes status output (ap parsed is ∙ parsed-take bytes) due
+due_whole (Run version) all bytes status output is due = due_alike (version_number version) all bytes status output (ap parsed is ∙ parsed-take bytes) due
 due_whole Check all bytes status output is due = check_alike bytes status output (subst (λ (input : List ℕ). IsCheckDue input status output) is due)
 
 -- what stands past the limit makes no difference
@@ -165,7 +166,7 @@ completes_check input statuses.WriteFault output due = verdict_completes input s
 completes_check input statuses.Memory output due = verdict_completes input statuses.Memory output due
 
 completes_by : (form : Form) (bytes : List ℕ) (status : Status) (output : List ℕ) → IsDue (Some form) bytes status output → Completes (Some form) bytes status
-completes_by (Run version) bytes status output due = completes_run version bytes status output due
+completes_by (Run version) bytes status output due = completes_run (version_number version) bytes status output due
 completes_by Check bytes status output due = completes_check bytes status output due
 
 -- no other status goes with a verdict

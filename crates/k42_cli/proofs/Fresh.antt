@@ -5,6 +5,7 @@ use Rattle.std.specs.Prelude.{Some, slice_get, ◌⊎◌}
 use Rattle.std.proofs.lemmas.List.{length-append}
 use Rattle.std.proofs.lemmas.List.Elements.{All-nil}
 use Rattle.std.proofs.lemmas.Option.{same_Some}
+use Rattle.k42_places.proofs.Appended.{at_push}
 use Rattle.k42_kinds.specs.Objects.{empty_state}
 use Rattle.k42_kinds.specs.declared.operation.KindName.{KindName}
 use Rattle.k42_kinds.specs.declared.plain.Plain.{Plain}
@@ -12,23 +13,11 @@ use Rattle.k42_kinds.proofs.LegalHistories.{legal_history}
 use Rattle.k42_cli.specs.Objects.{Starts}
 use Rattle.k42_cli.specs.Runs.{IsKept, IsUnrefused, IsRunning}
 use Rattle.k42_cli.specs.declared.object.Object.{Object}
-use Rattle.k42_cli.proofs.Running.{none-some}
 
 -- so many objects were made, each empty and of its kind
 pub record IsFresh (kinds : List KindName) (made : ℕ) (objects : List Object) : Type 0 where
   pub size : length objects ≡ made
   pub kept : (number : ℕ) (object : Object) → slice_get objects number ≡ Some object → IsKept kinds [] number object
-
--- what stands at a place of a list with one more element
-slice_get-push : {X : Type 0} (xs : List X) (y x : X) (n : ℕ) → slice_get (xs ++ y ∷ []) n ≡ Some x → (slice_get xs n ≡ Some x) ⊎ ((n ≡ length xs) × (y ≡ x))
-slice_get-push [] y x zero e = inr (refl, same_Some y x e)
-slice_get-push [] y x (suc n) e = none-some x e
-slice_get-push (z ∷ xs) y x zero e = inl e
-slice_get-push (z ∷ xs) y x (suc n) e = later (slice_get-push xs y x n e)
-  where
-    later : (slice_get xs n ≡ Some x) ⊎ ((n ≡ length xs) × (y ≡ x)) → (slice_get xs n ≡ Some x) ⊎ ((suc n ≡ suc (length xs)) × (y ≡ x))
-    later (inl e) = inl e
-    later (inr here) = inr (ap suc here.0, here.1)
 
 kept_at_start : (kinds : List KindName) (number : ℕ) (plain : Plain) (object : Object) → slice_get kinds number ≡ Some plain.kind → Starts plain object → IsKept kinds [] number object
 kept_at_start kinds number plain object declared starts = record {
@@ -43,8 +32,8 @@ pub fresh-push : (kinds : List KindName) (made : ℕ) (objects : List Object) (p
     → IsFresh kinds (made + 1) (objects ++ object ∷ [])
 fresh-push kinds made objects plain object declared starts fresh = record {
   size = omega (arith, fresh.size, length-append objects (object ∷ []));
-  kept = λ number one e. elim (slice_get-push objects object one number e) [
-    | inl before ↦ fresh.kept number one before
+  kept = λ number one e. elim (at_push objects object number one e) [
+    | inl before ↦ fresh.kept number one before.1
     | inr here ↦ subst (λ (n : ℕ). IsKept kinds [] n one) (omega (arith, here.0, fresh.size)) (subst (λ (x : Object). IsKept kinds [] made x) here.1 (kept_at_start kinds made plain object declared starts))
   ];
 }

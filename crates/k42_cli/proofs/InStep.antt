@@ -21,7 +21,7 @@ use Rattle.script_text.specs.Sound.{IsCall, IsSoundWorker, IsSound}
 use Rattle.script_text.specs.declared.script.Script.{Script}
 use Rattle.script_text.specs.declared.script.WorkerLines.{WorkerLines}
 use Rattle.record_text.specs.Histories.{extra_of, line_of, record_of}
-use Rattle.record_text.specs.Rules.{Generations, KeepsGenerations, KeepsAt, IsLawfulRecord}
+use Rattle.record_text.specs.Rules.{KeepsGenerations, IsLawfulRecord}
 use Rattle.record_text.specs.Told.{lines_by, processor_of, told_generation, generations_by, blocks_of, block_at, AreInStep}
 use Rattle.record_text.specs.declared.record.Extra.{Extra}
 use Rattle.record_text.specs.declared.record.RecordLine.{RecordLine}
@@ -188,7 +188,7 @@ module _ (script : Script) (sound : IsSound script) (history : List Entry) (lawf
         generation = step_kept version before entry after e worker.0 worker.1;
       }
 
-  kept_at : (version place : ℕ) → KeepsAt script (map (line_of script version) history) place Generations
+  kept_at : (version place : ℕ) (line : RecordLine) → slice_get (map (line_of script version) history) place ≡ Some line → KeepsGenerations script (take place (map (line_of script version) history)) line
   kept_at version place line there =
       let found = line_by_entry script version (slice_get history place) line (sym (slice_get-map (line_of script version) history place) ∙ there) in
       rw (take-map, ← found.same) (kept_by version (take place history) found.entry (drop (suc place) history) (split_at history place found.entry found.there))

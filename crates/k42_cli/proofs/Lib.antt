@@ -9,5 +9,6 @@ pub mod Filtered
 pub mod Blocks
 pub mod InStep
 pub mod Separating
+pub mod Parted
 pub mod CutInput
 pub mod Endings

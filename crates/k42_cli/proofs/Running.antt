@@ -7,9 +7,11 @@ use Rattle.std.proofs.lemmas.Bool.Decides.{nat_tests}
 use Rattle.std.proofs.lemmas.List.{length-set}
 use Rattle.std.proofs.lemmas.List.Elements.{All-push}
 use Rattle.std.proofs.lemmas.Option.{same_Some}
+use Rattle.k42_limits.specs.declared.TheConstants.{LAST_INCARNATION}
+use Rattle.k42_places.proofs.Written.{at_set}
 use Rattle.k42_kinds.specs.Objects.{reply_of}
 use Rattle.k42_kinds.specs.Histories.{state_of, number_of, state_after_act, is_carried_out}
-use Rattle.k42_kinds.specs.Legal.{IsLegalAct, IsLegalAnswer, last_incarnation}
+use Rattle.k42_kinds.specs.Legal.{IsLegalAct, IsLegalAnswer}
 use Rattle.k42_kinds.specs.declared.operation.KindName.{KindName}
 use Rattle.k42_kinds.specs.declared.states.AnyState.{AnyState}
 use Rattle.k42_kinds.specs.declared.states.AnyState.TheVariants as states
@@ -27,24 +29,9 @@ use Rattle.k42_cli.specs.Runs.{IsKept, IsUnrefused, IsRunning}
 use Rattle.k42_cli.specs.declared.object.Object.{Object}
 use Rattle.k42_cli.specs.declared.asked.Asked.{Asked}
 
-pub none-some : {X Y : Type 0} (x : X) → ◌≡◌ {A = Option X} None (Some x) → Y
-none-some x e = cc
-
-later_place : {X : Type 0} (i n : ℕ) (x y : X) (found : Option X) → ((n ≡ i) × (x ≡ y)) ⊎ ((n ≢ i) × (found ≡ Some x)) → ((suc n ≡ suc i) × (x ≡ y)) ⊎ ((suc n ≢ suc i) × (found ≡ Some x))
-later_place i n x y found (inl here) = inl (ap suc here.0, here.1)
-later_place i n x y found (inr there) = inr (λ same. there.0 (omega arith), there.1)
-
--- what stands at a place after one place was written
-slice_get-set : {X : Type 0} (xs : List X) (i n : ℕ) (y x : X) → slice_get (set xs i y) n ≡ Some x → ((n ≡ i) × (x ≡ y)) ⊎ ((n ≢ i) × (slice_get xs n ≡ Some x))
-slice_get-set [] i n y x e = none-some x e
-slice_get-set (z ∷ xs) zero zero y x e = inl (refl, sym (same_Some y x e))
-slice_get-set (z ∷ xs) zero (suc n) y x e = inr (λ same. omega arith, e)
-slice_get-set (z ∷ xs) (suc i) zero y x e = inr (λ same. omega arith, e)
-slice_get-set (z ∷ xs) (suc i) (suc n) y x e = later_place i n x y (slice_get xs n) (slice_get-set xs i n y x e)
-
 -- a swap or destroy of an object that is alive is answered legally
-alive-legal : (kind : KindName) (before : List Entry) (entry : Entry) (state : AnyState) (number : ℕ) → state ≡ state_of kind entry.object before → state ≢ states.Dead → number ≡ number_of entry.object before → number ≤ last_incarnation
-    → entry.incarnation ≡ number → (room : Bool) → nat_lt number last_incarnation ≡ room → IsLegalAnswer kind before entry [] (cond room (Swapped (number + 1)) Spent)
+alive-legal : (kind : KindName) (before : List Entry) (entry : Entry) (state : AnyState) (number : ℕ) → state ≡ state_of kind entry.object before → state ≢ states.Dead → number ≡ number_of entry.object before → number ≤ LAST_INCARNATION
+    → entry.incarnation ≡ number → (room : Bool) → nat_lt number LAST_INCARNATION ≡ room → IsLegalAnswer kind before entry [] (cond room (Swapped (number + 1)) Spent)
 alive-legal kind before entry state number is alive counted bounded incarnation true room = record {
   next = omega (arith, counted);
   alive = λ dead. alive (is ∙ dead);
@@ -57,12 +44,12 @@ alive-legal kind before entry state number is alive counted bounded incarnation 
   incarnation = incarnation ∙ counted;
 }
 
-swap-legal : (kind : KindName) (before : List Entry) (entry : Entry) (state : AnyState) (number : ℕ) → state ≡ state_of kind entry.object before → number ≡ number_of entry.object before → number ≤ last_incarnation
+swap-legal : (kind : KindName) (before : List Entry) (entry : Entry) (state : AnyState) (number : ℕ) → state ≡ state_of kind entry.object before → number ≡ number_of entry.object before → number ≤ LAST_INCARNATION
     → entry.incarnation ≡ number → IsLegalAnswer kind before entry [] (swap_answer state number)
 swap-legal kind before entry states.Dead number is counted bounded incarnation = record { dead = sym is; incarnation = incarnation ∙ counted }
-swap-legal kind before entry (states.Counter value) number is counted bounded incarnation = alive-legal kind before entry (states.Counter value) number is (λ dead. cc) counted bounded incarnation (nat_lt number last_incarnation) refl
-swap-legal kind before entry (states.Directory names) number is counted bounded incarnation = alive-legal kind before entry (states.Directory names) number is (λ dead. cc) counted bounded incarnation (nat_lt number last_incarnation) refl
-swap-legal kind before entry (states.Pages pages) number is counted bounded incarnation = alive-legal kind before entry (states.Pages pages) number is (λ dead. cc) counted bounded incarnation (nat_lt number last_incarnation) refl
+swap-legal kind before entry (states.Counter value) number is counted bounded incarnation = alive-legal kind before entry (states.Counter value) number is (λ dead. cc) counted bounded incarnation (nat_lt number LAST_INCARNATION) refl
+swap-legal kind before entry (states.Directory names) number is counted bounded incarnation = alive-legal kind before entry (states.Directory names) number is (λ dead. cc) counted bounded incarnation (nat_lt number LAST_INCARNATION) refl
+swap-legal kind before entry (states.Pages pages) number is counted bounded incarnation = alive-legal kind before entry (states.Pages pages) number is (λ dead. cc) counted bounded incarnation (nat_lt number LAST_INCARNATION) refl
 
 -- what an object answers is legal where it is as the history says
 act-legal : (kinds : List KindName) (history : List Entry) (entry : Entry) (object : Object) (act : Act) → IsActOn object.plain.kind act → IsKept kinds history entry.object object → entry.answer ≡ answer_of object act → entry.incarnation ≡ object.number
@@ -77,9 +64,9 @@ act-legal kinds history entry object Destroy on kept answered incarnation = subs
 
 choice_free : (state : AnyState) (number : ℕ) → IsUnrefused (swap_answer state number)
 choice_free states.Dead number = tt
-choice_free (states.Counter value) number = elim (nat_lt number last_incarnation) as (λ b. IsUnrefused (cond b (Swapped (number + 1)) Spent)) [ true ↦ tt | false ↦ tt ]
-choice_free (states.Directory names) number = elim (nat_lt number last_incarnation) as (λ b. IsUnrefused (cond b (Swapped (number + 1)) Spent)) [ true ↦ tt | false ↦ tt ]
-choice_free (states.Pages pages) number = elim (nat_lt number last_incarnation) as (λ b. IsUnrefused (cond b (Swapped (number + 1)) Spent)) [ true ↦ tt | false ↦ tt ]
+choice_free (states.Counter value) number = elim (nat_lt number LAST_INCARNATION) as (λ b. IsUnrefused (cond b (Swapped (number + 1)) Spent)) [ true ↦ tt | false ↦ tt ]
+choice_free (states.Directory names) number = elim (nat_lt number LAST_INCARNATION) as (λ b. IsUnrefused (cond b (Swapped (number + 1)) Spent)) [ true ↦ tt | false ↦ tt ]
+choice_free (states.Pages pages) number = elim (nat_lt number LAST_INCARNATION) as (λ b. IsUnrefused (cond b (Swapped (number + 1)) Spent)) [ true ↦ tt | false ↦ tt ]
 
 -- an object refuses nobody for another's sake
 answer-unrefused : (object : Object) (act : Act) → IsUnrefused (answer_of object act)
@@ -105,18 +92,18 @@ counted_on : (b : Bool) (number : ℕ) → cond b (number + 1) number ≡ number
 counted_on true number = refl
 counted_on false number = omega arith
 
-bounded_room : (number : ℕ) → number ≤ last_incarnation → (room : Bool) → nat_lt number last_incarnation ≡ room → number_after number (cond room (Swapped (number + 1)) Spent) ≤ last_incarnation
+bounded_room : (number : ℕ) → number ≤ LAST_INCARNATION → (room : Bool) → nat_lt number LAST_INCARNATION ≡ room → number_after number (cond room (Swapped (number + 1)) Spent) ≤ LAST_INCARNATION
 bounded_room number bounded true room = grind (arith, nat_tests, room)
 bounded_room number bounded false room = bounded
 
-bounded_swap : (state : AnyState) (number : ℕ) → number ≤ last_incarnation → number_after number (swap_answer state number) ≤ last_incarnation
+bounded_swap : (state : AnyState) (number : ℕ) → number ≤ LAST_INCARNATION → number_after number (swap_answer state number) ≤ LAST_INCARNATION
 bounded_swap states.Dead number bounded = bounded
-bounded_swap (states.Counter value) number bounded = bounded_room number bounded (nat_lt number last_incarnation) refl
-bounded_swap (states.Directory names) number bounded = bounded_room number bounded (nat_lt number last_incarnation) refl
-bounded_swap (states.Pages pages) number bounded = bounded_room number bounded (nat_lt number last_incarnation) refl
+bounded_swap (states.Counter value) number bounded = bounded_room number bounded (nat_lt number LAST_INCARNATION) refl
+bounded_swap (states.Directory names) number bounded = bounded_room number bounded (nat_lt number LAST_INCARNATION) refl
+bounded_swap (states.Pages pages) number bounded = bounded_room number bounded (nat_lt number LAST_INCARNATION) refl
 
 -- no object goes past its last incarnation
-answer-bounded : (object : Object) (act : Act) → object.number ≤ last_incarnation → number_after object.number (answer_of object act) ≤ last_incarnation
+answer-bounded : (object : Object) (act : Act) → object.number ≤ LAST_INCARNATION → number_after object.number (answer_of object act) ≤ LAST_INCARNATION
 answer-bounded object (Call op) bounded = bounded
 answer-bounded object (Swap layout) bounded = bounded_swap object.state object.number bounded
 answer-bounded object Destroy bounded = bounded_swap object.state object.number bounded
@@ -143,11 +130,11 @@ kept_there kinds history number other entry apart kept = record {
 }
 
 kept_after : (kinds : List KindName) (history : List Entry) (object : Object) (asked : Asked) (line : CallLine) → IsKept kinds history line.object object → (number : ℕ) (found : Object) (before : Option Object)
-    → ((old : Object) → before ≡ Some old → IsKept kinds history number old) → ((number ≡ line.object) × (found ≡ object_after object line.act)) ⊎ ((number ≢ line.object) × (before ≡ Some found))
+    → ((old : Object) → before ≡ Some old → IsKept kinds history number old) → ((number ≡ line.object) × (object_after object line.act ≡ found)) ⊎ ((number ≢ line.object) × (before ≡ Some found))
     → IsKept kinds (history ++ entry_of object asked line ∷ []) number found
 kept_after kinds history object asked line kept number found before others (inl here) =
     subst (λ (n : ℕ). IsKept kinds (history ++ entry_of object asked line ∷ []) n found) (sym here.0)
-    (subst (λ (x : Object). IsKept kinds (history ++ entry_of object asked line ∷ []) line.object x) (sym here.1) (kept_here kinds history object asked line kept))
+    (subst (λ (x : Object). IsKept kinds (history ++ entry_of object asked line ∷ []) line.object x) here.1 (kept_here kinds history object asked line kept))
 kept_after kinds history object asked line kept number found before others (inr there) =
     kept_there kinds history number found (entry_of object asked line) (λ same. there.0 (sym same)) (others found there.1)
 
@@ -163,5 +150,5 @@ running-push kinds history objects object asked line kind running found declared
       legal = legal-push kinds history entry running.legal stamp (record { kind = object.plain.kind; declared = kept.kind; legal = legal }) (All-implies (λ other. IsUnrefused other.answer) (AllowsLater entry) history (λ other free own. free_allows other entry free) running.unrefused);
       unrefused = All-push (λ other. IsUnrefused other.answer) history entry running.unrefused (answer-unrefused object line.act);
       size = length-set objects line.object (object_after object line.act) ∙ running.size;
-      kept = λ number one e. kept_after kinds history object asked line kept number one (slice_get objects number) (running.kept number) (slice_get-set objects line.object number (object_after object line.act) one e);
+      kept = λ number one e. kept_after kinds history object asked line kept number one (slice_get objects number) (running.kept number) (at_set objects line.object number (object_after object line.act) one e);
     }

@@ -7,6 +7,7 @@ use Rattle.std.proofs.Math.ListN.{drop_of_length-le}
 use Rattle.std.proofs.Math.Seq.{drop-cons}
 use Rattle.std.proofs.lemmas.Option.{same_Some, slice_get_within}
 use Rattle.std.specs.List.{AllByRecursion}
+use Rattle.k42_limits.specs.declared.TheConstants.{CALL_LINES}
 use Rattle.k42_kinds.specs.declared.entry.Entry.{Entry}
 use Rattle.script_text.specs.Lawful.{kinds_of, call_lines, Deed, deed_of, deeds_from}
 use Rattle.script_text.specs.Sound.{IsSoundLine}
@@ -111,7 +112,7 @@ module _ (script : Script) (old : Run) (caller : Caller) (items : List Item) (pl
       can_take object sound.kind line.act (same_Some object.plain.kind sound.kind (sym (working.running.kept line.object object found).kind ∙ sound.declared)) sound.asked
 
   -- the count of swaps has room for one more
-  pub room_here : (line : CallLine) → item ≡ Line line → length old.entries.items + length (call_lines items) ≤ 65536 → run.swaps < 65536
+  pub room_here : (line : CallLine) → item ≡ Line line → length old.entries.items + length (call_lines items) ≤ CALL_LINES → run.swaps < CALL_LINES
   room_here line is few =
       omega (arith, few, few_swaps run working.swaps, ap length working.entries, length-append old.entries.items working.more, working.made, working.counted, ap length (ahead_here line is))
 

@@ -3,7 +3,7 @@ use Rattle.std.specs.Prelude.{◌≡◌, ℕ, ◌+◌, IsTrue, List, Some, slice
 use Rattle.k42_kinds.specs.Objects.{empty_state, reply_of}
 use Rattle.k42_kinds.specs.Operations.{takes_operation}
 use Rattle.k42_kinds.specs.Histories.{is_carried_out, state_after_act}
-use Rattle.k42_kinds.specs.Legal.{last_incarnation}
+use Rattle.k42_limits.specs.declared.TheConstants.{LAST_INCARNATION}
 use Rattle.k42_kinds.specs.declared.plain.Plain.{Plain}
 use Rattle.k42_kinds.specs.declared.states.AnyState.{AnyState}
 use Rattle.k42_kinds.specs.declared.states.AnyState.TheVariants as states
@@ -33,7 +33,7 @@ CanTake object Destroy = Unit {0}
 -- incarnation left.
 abbrev pub swap_answer : AnyState → ℕ → Answer
 swap_answer states.Dead number = Gone
-swap_answer _ number = if nat_lt number last_incarnation then Swapped (number + 1) else Spent
+swap_answer _ number = if nat_lt number LAST_INCARNATION then Swapped (number + 1) else Spent
 
 abbrev pub answer_of : Object → Act → Answer
 answer_of object (Call op) = Replied (reply_of object.state op)

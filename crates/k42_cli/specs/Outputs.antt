@@ -7,7 +7,6 @@ use Rattle.script_text.specs.Lawful.{IsLawful}
 use Rattle.script_text.specs.declared.script.Script.{Script}
 use Rattle.record_text.specs.Histories.{record_of, history_text}
 use Rattle.record_text.specs.Rules.{IsLawfulRecord}
-use Rattle.k42_cli.specs.Generations.{CountsGenerations}
 use Rattle.k42_cli.specs.Verdicts.{input_limit}
 use Rattle.k42_cli.specs.Program.{IsDue}
 use Rattle.k42_cli.specs.declared.words.Form.{Form}
@@ -24,12 +23,10 @@ abbrev pub limit_of : Form → ℕ
 limit_of (Run version) = byte_limit
 limit_of Check = input_limit
 
--- The text is the record of a lawful history, in which the generations are counted, and the record
--- is lawful in all that it tells.
+-- The text is the record of a lawful history, and the record is lawful in all that it tells.
 pub record IsRecordText (script : Script) (version : ℕ) (written : List ℕ) : Type 0 where
   pub history : List Entry
   pub lawful : IsLawful script history
-  pub counted : CountsGenerations script history
   pub judged : IsLawfulRecord script (record_of script history version)
   pub text : written ≡ history_text script history version
 

@@ -10,9 +10,9 @@ use Rattle.script_text.specs.declared.script.Script.{Script}
 use Rattle.record_text.specs.Histories.{record_of, history_text}
 use Rattle.record_text.specs.Rules.{IsLawfulRecord}
 use Rattle.k42_io.specs.Sink.{Grows, GrowsByFront, Stays}
-use Rattle.k42_cli.specs.Generations.{CountsGenerations}
 use Rattle.k42_cli.specs.Separation.{script_part}
 use Rattle.k42_cli.specs.Verdicts.{IsVerdict, verdict_line, status_of}
+use Rattle.k42_cli.specs.Words.{version_number}
 use Rattle.k42_cli.specs.declared.verdict.Verdict.{Verdict}
 use Rattle.k42_cli.specs.declared.words.Form.{Form}
 use Rattle.k42_cli.specs.declared.words.Form.TheVariants.{Run, Check}
@@ -28,14 +28,13 @@ abbrev pub refusal_line : ScriptFault → List ℕ
 refusal_line fault =
     codes "line " ++ decimal fault.line ++ codes ": " ++ cause_word fault.cause ++ codes "\n"
 
--- The bytes are a script, and the output is the record of one lawful history of it, in which the
--- generations are counted. The record is lawful in all that it tells.
+-- The bytes are a script, and the output is the record of one lawful history of it. The record is
+-- lawful in all that it tells.
 pub record IsRecordDue (version : ℕ) (bytes output : List ℕ) : Type 0 where
   pub script : Script
   pub history : List Entry
   pub accepted : parsed bytes ≡ Ok script
   pub lawful : IsLawful script history
-  pub counted : CountsGenerations script history
   pub judged : IsLawfulRecord script (record_of script history version)
   pub text : output ≡ history_text script history version
 
@@ -67,7 +66,7 @@ IsCheckDue input status output = IsVerdictDue input status output
 
 -- the output that is due for what the words ask and for the bytes, and the status with it
 abbrev pub IsDue : Option Form → List ℕ → Status → List ℕ → Type 0
-IsDue (Some (Run version)) bytes status output = IsRunDue version bytes status output
+IsDue (Some (Run version)) bytes status output = IsRunDue (version_number version) bytes status output
 IsDue (Some Check) bytes status output = IsCheckDue bytes status output
 IsDue None bytes status output = (status ≡ statuses.Usage) × (output ≡ usage_line)
 

@@ -1,7 +1,8 @@
 -- A run on one thread, line by line.
 use Rattle.std.specs.Prelude.{◌≡◌, ℕ, ◌+◌, ◌≤◌, List, [], ◌∷◌, ◌++◌, length, map, All, Some, slice_get}
 use Rattle.k42_kinds.specs.Histories.{state_of, number_of}
-use Rattle.k42_kinds.specs.Legal.{IsLegalHistory, last_incarnation}
+use Rattle.k42_limits.specs.declared.TheConstants.{LAST_INCARNATION}
+use Rattle.k42_kinds.specs.Legal.{IsLegalHistory}
 use Rattle.k42_kinds.specs.declared.operation.KindName.{KindName}
 use Rattle.k42_kinds.specs.declared.entry.Answer.{Answer}
 use Rattle.k42_kinds.specs.declared.entry.Answer.TheVariants.{Busy, Abandoned}
@@ -40,7 +41,7 @@ pub record IsKept (kinds : List KindName) (history : List Entry) (number : ℕ) 
   pub kind : slice_get kinds number ≡ Some object.plain.kind
   pub state : object.state ≡ state_of object.plain.kind number history
   pub swaps : object.number ≡ number_of number history
-  pub bounded : object.number ≤ last_incarnation
+  pub bounded : object.number ≤ LAST_INCARNATION
 
 -- nobody was refused for another's sake
 abbrev pub IsUnrefused : Answer → Type 0

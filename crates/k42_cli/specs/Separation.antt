@@ -1,5 +1,5 @@
 -- The input of `check`: a script, a line `---`, and a record.
-use Rattle.std.specs.Prelude.{ℕ, Bool, ◌||◌, List, [], ◌∷◌, codes, if◌then◌else◌}
+use Rattle.std.specs.Prelude.{◌≡◌, ℕ, Bool, true, false, ◌||◌, ◌⊎◌, List, [], ◌∷◌, ◌++◌, codes, All, if◌then◌else◌}
 use Rattle.std.specs.List.{concat}
 use Rattle.std.specs.Str.{bytes_eq}
 use Rattle.script_text.specs.Lines.{lines_of}
@@ -25,3 +25,19 @@ script_part input = concat (lines_before (lines_of input))
 -- what stands after the first line `---`, or nothing where there is none
 abbrev pub record_part : List ℕ → List ℕ
 record_part input = concat (lines_after (lines_of input))
+
+-- The input is cut at one of its lines: it is the script, this line and the text behind it.
+pub record IsCutAt (input script : List ℕ) (separator text : List ℕ) : Type 0 where
+  pub separates : is_separator separator ≡ true
+  pub line : lines_of input ≡ lines_of script ++ separator ∷ lines_of text
+  pub whole : input ≡ script ++ separator ++ text
+
+-- all of the input is the script
+pub record IsUncut (input script text : List ℕ) : Type 0 where
+  pub all : script ≡ input
+  pub none : text ≡ []
+
+-- The input is cut at its first line that separates: no line of the script does.
+pub record IsSeparated (input script text : List ℕ) : Type 0 where
+  pub first : All (λ line. is_separator line ≡ false) (lines_of script)
+  pub cut : ((separator : List ℕ) × IsCutAt input script separator text) ⊎ IsUncut input script text

@@ -1,6 +1,7 @@
 -- What is found of the record that stands after a script.
-use Rattle.std.specs.Prelude.{◌≡◌, ℕ, ◌<◌, ◌≤◌, min, List, length, take, ◌++◌, codes, Result, Ok, Err}
+use Rattle.std.specs.Prelude.{◌≡◌, ℕ, ◌+◌, ◌<◌, ◌≤◌, min, List, length, take, ◌++◌, codes, Result, Ok, Err}
 use Rattle.std.specs.Fmt.{decimal}
+use Rattle.k42_limits.specs.declared.TheConstants.{INPUT_BYTES}
 use Rattle.script_text.specs.Lines.{lines_of}
 use Rattle.script_text.specs.declared.script.Script.{Script}
 use Rattle.record_text.specs.Reading.{reading}
@@ -14,7 +15,7 @@ use Rattle.k42_cli.specs.declared.status.Status.TheVariants as statuses
 
 -- the first byte that the input of `check` may not have, counted from 1
 abbrev pub input_limit : ℕ
-input_limit = 16777217
+input_limit = INPUT_BYTES + 1
 
 -- the rule that a record is spelled as records are
 abbrev pub spelling_rule : ℕ

@@ -1,4 +1,5 @@
 ghost use Rattle.std.specs.Prelude.{◌≡◌, ◌+◌, ◌^◌, ◌<◌, ◌≤◌, [], length, map, All, Some, IfOk, OnOk, vec_len, slice_get};
+ghost use Rattle.k42_limits.specs.declared.TheConstants.{CALL_LINES};
 ghost use Rattle.k42_kinds.specs.Histories.{entries_of};
 ghost use Rattle.script_text.specs.Sound.{IsSound, IsSoundLine};
 ghost use Rattle.script_text.specs.Lawful.{IsLawful, kinds_of, call_lines};
@@ -93,7 +94,7 @@ impl Run {
         requires running { IsRunning (kinds_of script.now)
             self.old.entries.items self.old.objects.items }
         requires sound { All (IsSoundLine script.now) (call_lines items.now) }
-        requires few { vec_len self.old.entries + length (call_lines items.now) ≤ 65536 }
+        requires few { vec_len self.old.entries + length (call_lines items.now) ≤ CALL_LINES }
         requires counted { IsCounted self.old }
         ensures running { OnOk result
             (IsRunning (kinds_of script.now) self.new.entries.items self.new.objects.items) }

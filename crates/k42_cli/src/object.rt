@@ -3,12 +3,10 @@ ghost use Rattle.k42_kinds.specs.Operations.{takes_operation};
 
 use crate::asked::{Asked, generation_of};
 use k42_kinds::{Act, Answer, AnyState, Entry, Kind, Op, Plain};
+use k42_limits::LAST_INCARNATION;
 use k42_memory::Memory;
 use script_text::CallLine;
 use std::alloc::Global;
-
-/// The number of an object's last incarnation.
-const LAST_INCARNATION: u32 = 1_048_575;
 
 /// An object as one thread runs it.
 #[derive(Debug, Drop)]

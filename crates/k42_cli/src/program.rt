@@ -1,21 +1,17 @@
-ghost use Rattle.std.specs.Prelude.{◌≡◌, ℕ, ◌+◌, ◌-◌, ◌^◌, ◌<◌, ◌⊎◌, ◌↔◌, List, take, Some, None, IfOk, OnOk, IsErrOf, map, string_bytes};
+ghost use Rattle.std.specs.Prelude.{◌≡◌, ◌≢◌, ℕ, ◌+◌, ◌-◌, ◌^◌, ◌<◌, ◌⊎◌, ◌↔◌, List, take, Some, None, IfOk, OnOk, IsErrOf, map, string_bytes};
 ghost use Rattle.k42_io.specs.Source.{LosesAtMost};
 ghost use Rattle.k42_cli.specs.Program as program;
 ghost use Rattle.k42_cli.specs.Words as asked;
-ghost use Rattle.k42_cli.specs.Words.{HasVersion};
 ghost use Rattle.k42_cli.specs.Outputs.{IsWorkedOut, Delivers, limit_of};
 
 use crate::gate::Gate;
 use crate::status::Status;
-use crate::verdict::INPUT_BYTES;
 use crate::words::{Form, form_of};
 use crate::work::{Output, work};
 use k42_io::{ReadEnd, Sink, Source, read_all, write_all};
+use k42_limits::{INPUT_BYTES, SCRIPT_BYTES};
 use k42_memory::Memory;
 use std::alloc::Global;
-
-/// The most bytes that a script has.
-const SCRIPT_BYTES: usize = 1_048_576;
 
 const USAGE: &str = "usage: k42 run [2] | k42 check | k42 load N\n";
 
@@ -67,8 +63,7 @@ fn work_out<S: Source, G: Gate>(
     source: &mut S,
     gate: &G,
 ) -> Result<Output, WorkEnd>
-    requires source { S.faults source.old < 2 ^ 64 - 1 }
-    requires version { HasVersion form }
+    requires { S.faults source.old < 2 ^ 64 - 1 }
     ensures ok { IfOk result (λ output.
         IsWorkedOut form (S.left source.old) (S.left source.new) output.status output.text.items) }
     ensures quiet { OnOk result (S.faults source.new ≡ S.faults source.old) }
@@ -77,14 +72,15 @@ fn work_out<S: Source, G: Gate>(
     ensures within { LosesAtMost (limit_of form) (S.left source.old) (S.left source.new) }
 {
     let bytes = read_all(alloc, source, most_bytes(form))?;
-    Ok(work(alloc, form, &bytes, gate)?)
+    Ok(work(alloc, form, bytes, gate)?)
 }
 
 /// Hands the text to the sink.
 fn deliver<K: Sink>(sink: &mut K, text: &[u8], status: Status) -> Status
     requires { K.faults sink.old < 2 ^ 64 - 1 }
-    ensures { Delivers (K.taken sink.old) (K.taken sink.new)
+    ensures delivers { Delivers (K.taken sink.old) (K.taken sink.new)
         (K.faults sink.old) (K.faults sink.new) text.now status result }
+    ensures flushed { result ≢ Status.WriteFault → K.flushed sink.new }
 {
     match write_all(sink, text) {
         Ok(()) => status,
@@ -136,6 +132,9 @@ pub fn k42_main<S: Source, K: Sink, G: Gate>(
         source.new ≡ source.old }
     ensures usage { asked.form_of (map string_bytes words.now) ≡ None →
         K.faults sink.new ≡ K.faults sink.old → result ≡ Status.Usage }
+    // What was written whole is held back nowhere.
+    ensures flushed { result ≢ Status.ReadFault → result ≢ Status.Memory →
+        result ≢ Status.WriteFault → K.flushed sink.new }
     // Where nothing is due, the sink is not touched.
     ensures untouched { (result ≡ Status.ReadFault) ⊎ (result ≡ Status.Memory) →
         sink.new ≡ sink.old }

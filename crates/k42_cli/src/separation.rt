@@ -2,7 +2,7 @@ ghost use Rattle.std.specs.Prelude.{◌≡◌, ◌+◌, ◌<◌, ◌≤◌, ◌�
 ghost use Rattle.script_text.specs.Lines.{lines_of};
 ghost use Rattle.k42_cli.specs.Separation as separation;
 
-const LINE_FEED: u8 = b'\n';
+use k42_limits::LINE_FEED;
 
 /// The two parts of what `check` reads.
 #[derive(Clone, Copy)]
@@ -51,6 +51,7 @@ fn is_separator(line: &[u8]) -> bool
 pub fn separate(input: &[u8]) -> Parts<'_>
     ensures script { result.script.now ≡ separation.script_part input.now }
     ensures text { result.text.now ≡ separation.record_part input.now }
+    ensures apart { separation.IsSeparated input.now result.script.now result.text.now }
     ensures within { length result.text.now ≤ length input.now }
 {
     let mut start = 0;

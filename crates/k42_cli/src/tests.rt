@@ -9,8 +9,6 @@ use std::cell::Cell;
 use std::process::Abort;
 use std::test::Fail;
 
-mod judging;
-mod running;
 mod separating;
 
 const RUN: &str = "run";
@@ -22,18 +20,6 @@ const ADD_AND_GET: &[u8] =
 /// What comes of it. It has 66 bytes too.
 const ADD_AND_GET_RECORD: &[u8] =
     b"k42 record 1\n1 a 4 hits add 5 = ok @0\n2 a 5 hits get = 5 @0\nend 2\n";
-
-/// One worker over one counter that is swapped between an addition and the question for the value.
-const SWAP_BETWEEN: &[u8] = b"procs 1\nobject hits counter shared\nworker a 0\n\
-    hits add 5\nswap hits spread\nhits get\n";
-
-/// What comes of it. It has 101 bytes.
-const SWAP_BETWEEN_RECORD: &[u8] = b"k42 record 1\n1 a 4 hits add 5 = ok @0\n\
-    2 a 5 swap hits spread = done 1 @0\n3 a 6 hits get = 5 @1\nend 3\n";
-
-/// The same in version 2.
-const SWAP_BETWEEN_RECORD_2: &[u8] = b"k42 record 2\n1 a 4 hits add 5 = ok @0 p0 g0\n\
-    2 a 5 swap hits spread = done 1 @0 p0 g-\n3 a 6 hits get = 5 @1 p0 g1\nend 3\n";
 
 const NO_CALLS_RECORD: &[u8] = b"k42 record 1\nend 0\n";
 
@@ -120,95 +106,11 @@ fn run_quietly(alloc: Global, line: &str, input: Vec<u8>, room: usize) -> Result
     Ok(Ran { status, text })
 }
 
-/// A script of one counter and so many lines that ask for its value.
-fn gets(alloc: Global, count: u32) -> Result<Vec<u8>, Fail> {
-    let mut script = b"procs 1\nobject hits counter shared\nworker a 0\n".to_vec(alloc)?;
-    for _ in 0..count {
-        script.extend_from_slice(b"hits get\n")?;
-    }
-    Ok(script)
-}
-
 #[test]
 fn memory_is_not_lacking_where_there_is_enough(rt: HostRuntime) -> Result<(), Fail> {
     let ran = run_in_pieces(rt.alloc(), RUN, ADD_AND_GET, 4096, &[], &[])?;
     assert_eq!(rt; ran.status, Status::Ok);
     assert_eq!(rt; ran.text.as_slice(), ADD_AND_GET_RECORD);
-    Ok(())
-}
-
-#[test]
-fn a_script_is_answered_by_its_record(rt: HostRuntime) -> Result<(), Fail> {
-    let cases: [(&str, &[u8], &[u8]); 3] = [
-        ("no calls", b"procs 1\n", NO_CALLS_RECORD),
-        ("a sum", ADD_AND_GET, ADD_AND_GET_RECORD),
-        (
-            "a sum past 32 bits, and its end",
-            b"procs 1\nobject hits counter shared\nworker a 0\nhits add 4294967295\n\
-              hits add 4294967295\nhits drain\nhits get\n",
-            b"k42 record 1\n1 a 4 hits add 4294967295 = ok @0\n\
-              2 a 5 hits add 4294967295 = ok @0\n3 a 6 hits drain = 8589934590 @0\n\
-              4 a 7 hits get = 0 @0\nend 4\n",
-        ),
-    ];
-    for (shows, script, record) in cases {
-        let ran = run_in_pieces(rt.alloc(), RUN, script, 4096, &[], &[])?;
-        assert_eq!(rt; ran.status, Status::Ok, "{shows}");
-        assert_eq!(rt; ran.text.as_slice(), record, "{shows}");
-    }
-    Ok(())
-}
-
-#[test]
-fn a_record_of_version_2_tells_processors_and_generations(rt: HostRuntime) -> Result<(), Fail> {
-    let cases: [(&str, &[u8], &[u8]); 3] = [
-        ("no calls", b"procs 1\n", b"k42 record 2\nend 0\n"),
-        (
-            "the worker's processor",
-            b"procs 8\nobject hits counter shared\nworker a 7\nhits add 5\nhits get\n",
-            b"k42 record 2\n1 a 4 hits add 5 = ok @0 p7 g0\n2 a 5 hits get = 5 @0 p7 g0\nend 2\n",
-        ),
-        (
-            "a generation for each swap",
-            SWAP_BETWEEN,
-            SWAP_BETWEEN_RECORD_2,
-        ),
-    ];
-    for (shows, script, record) in cases {
-        let ran = run_in_pieces(rt.alloc(), "run 2", script, 4096, &[], &[])?;
-        assert_eq!(rt; ran.status, Status::Ok, "{shows}");
-        assert_eq!(rt; ran.text.as_slice(), record, "{shows}");
-    }
-    Ok(())
-}
-
-#[test]
-fn a_script_ends_before_byte_1048577(rt: HostRuntime) -> Result<(), Fail> {
-    let cases: [(usize, Status, &[u8]); 2] = [
-        (1_048_577, Status::Refused, b"line 2: TooLong\n"),
-        (1_048_576, Status::Ok, NO_CALLS_RECORD),
-    ];
-    for (length, status, output) in cases {
-        let mut script = b"procs 1\n".to_vec(rt.alloc())?;
-        script.resize(length, b' ')?;
-        let ran = run_quietly(rt.alloc(), RUN, script, 4096)?;
-        assert_eq!(rt; ran.status, status, "of {length} bytes");
-        assert_eq!(rt; ran.text.as_slice(), output, "of {length} bytes");
-    }
-    Ok(())
-}
-
-#[test]
-fn a_script_has_65536_calls(rt: HostRuntime) -> Result<(), Fail> {
-    let ran = run_quietly(rt.alloc(), RUN, gets(rt.alloc(), 65_536)?, 4_194_304)?;
-    assert_eq!(rt; ran.status, Status::Ok);
-    assert!(rt;
-        ran.text
-            .ends_with(b"\n65536 a 65539 hits get = 0 @0\nend 65536\n")
-    );
-    let more = run_quietly(rt.alloc(), RUN, gets(rt.alloc(), 65_537)?, 4096)?;
-    assert_eq!(rt; more.status, Status::Refused);
-    assert_eq!(rt; more.text.as_slice(), b"line 65540: TooMany\n".as_slice());
     Ok(())
 }
 
@@ -295,18 +197,45 @@ fn each_write_failing_in_turn(rt: HostRuntime) -> Result<(), Fail> {
 }
 
 #[test]
-fn the_gate_is_told_before_and_after_each_line(rt: HostRuntime) -> Result<(), Fail> {
+fn reads_and_writes_that_fail_under_check(rt: HostRuntime) -> Result<(), Fail> {
+    let input = b"procs 1\n---\nk42 record 1\nend 0\n";
+    let read = run_in_pieces(rt.alloc(), "check", input, 8, &[2], &[])?;
+    assert_eq!(rt; read.status, Status::ReadFault);
+    assert_eq!(rt; read.text.len(), 0);
+    let written = run_in_pieces(rt.alloc(), "check", input, 4, &[], &[2])?;
+    assert_eq!(rt; written.status, Status::WriteFault);
+    assert_eq!(rt; written.text.as_slice(), b"lawf".as_slice());
+    Ok(())
+}
+
+/// Two workers over one counter, and what a gate is to hear of them.
+const TWO_WORKERS: &[u8] = b"procs 2\nobject hits counter spread\nworker a 0\nhits add 5\n\
+    swap hits shared\nworker b 1\nbegin\nhits get\nend\ndestroy hits\n";
+
+const HEARD: &[(u32, u32, bool)] = &[
+    (0, 4, true),
+    (0, 4, false),
+    (0, 5, true),
+    (0, 5, false),
+    (1, 8, true),
+    (1, 8, false),
+    (1, 10, true),
+    (1, 10, false),
+];
+
+#[test]
+fn the_gate_is_told_of_each_worker_before_and_after_each_line(rt: HostRuntime) -> Result<(), Fail> {
     let words = words_in(rt.alloc(), RUN)?;
-    let mut source = QuietSource::new(ADD_AND_GET.to_vec(rt.alloc())?);
+    let mut source = QuietSource::new(TWO_WORKERS.to_vec(rt.alloc())?);
     let mut sink = QuietSink::new(rt.alloc(), 4096)?;
     let gate = Awaiting {
-        told: &[(0, 4, true), (0, 4, false), (0, 5, true), (0, 5, false)],
+        told: HEARD,
         met: Cell::new(0),
         astray: Cell::new(false),
     };
     let status = k42_main(rt.alloc(), &words, &mut source, &mut sink, &gate);
     assert_eq!(rt; status, Status::Ok);
-    assert_eq!(rt; gate.met.get(), 4);
+    assert_eq!(rt; gate.met.get(), HEARD.len());
     assert!(rt; !gate.astray.get());
     Ok(())
 }

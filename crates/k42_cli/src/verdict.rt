@@ -8,13 +8,11 @@ ghost use Rattle.k42_cli.specs.Verdicts as verdicts;
 
 use crate::separation::line_count;
 use crate::status::Status;
+use k42_limits::INPUT_BYTES;
 use k42_memory::Memory;
 use record_text::{CheckEnd, Record, RecordEnd, check, read};
 use script_text::Script;
 use std::alloc::Global;
-
-/// The most bytes that a script and its record have.
-pub const INPUT_BYTES: usize = 16_777_216;
 
 /// The rule that a record is spelled as records are.
 const SPELLING_RULE: u32 = 11;

@@ -3,7 +3,6 @@ ghost use Rattle.script_text.specs.Language.{byte_limit};
 ghost use Rattle.script_text.specs.Sound.{IsSound};
 ghost use Rattle.record_text.specs.Spelling.{IsVersion};
 ghost use Rattle.k42_cli.specs.Program as program;
-ghost use Rattle.k42_cli.specs.Words.{HasVersion};
 ghost use Rattle.k42_cli.specs.Verdicts.{input_limit};
 ghost use Rattle.k42_cli.specs.Outputs.{IsRecordText, limit_of};
 
@@ -63,18 +62,22 @@ fn record<G: Gate>(
 {
     let history = run_alone(alloc, script, gate)?;
     let lines = lines_of(alloc, script, &history, version)?;
+    // A long history and its lines need not be held beside the text.
+    drop(history);
     print(alloc, script, &lines)
 }
 
 /// What a script that is to be run has to answer.
-fn run<G: Gate>(alloc: Global, version: u32, bytes: &[u8], gate: &G) -> Result<Output, Memory>
+fn run<G: Gate>(alloc: Global, version: u32, bytes: Vec<u8>, gate: &G) -> Result<Output, Memory>
     requires { IsVersion version }
     ensures due { IfOk result (λ output.
-        program.IsRunDue version bytes.now output.status output.text.items) }
+        program.IsRunDue version bytes.items output.status output.text.items) }
     ensures short { IfOk result (λ output.
-        output.status ≡ Status.Ok → length bytes.now < byte_limit) }
+        output.status ≡ Status.Ok → length bytes.items < byte_limit) }
 {
-    match parse(alloc, bytes) {
+    let parsed = parse(alloc, &bytes);
+    drop(bytes);
+    match parsed {
         Ok(script) => Ok(Output {
             status: Status::Ok,
             text: record(alloc, &script, version, gate)?,
@@ -107,16 +110,15 @@ fn check(alloc: Global, input: &[u8]) -> Result<Output, Memory>
 }
 
 /// What the bytes that were read for a form have to answer.
-pub fn work<G: Gate>(alloc: Global, form: Form, bytes: &[u8], gate: &G) -> Result<Output, Memory>
-    requires version { HasVersion form }
-    requires read { length bytes.now ≤ limit_of form }
+pub fn work<G: Gate>(alloc: Global, form: Form, bytes: Vec<u8>, gate: &G) -> Result<Output, Memory>
+    requires { length bytes.items ≤ limit_of form }
     ensures due { IfOk result (λ output.
-        program.IsDue (Some form) bytes.now output.status output.text.items) }
+        program.IsDue (Some form) bytes.items output.status output.text.items) }
     ensures short { IfOk result (λ output.
-        output.status ≡ Status.Ok → length bytes.now < limit_of form) }
+        output.status ≡ Status.Ok → length bytes.items < limit_of form) }
 {
     match form {
-        Form::Run(version) => run(alloc, version, bytes, gate),
-        Form::Check => check(alloc, bytes),
+        Form::Run(version) => run(alloc, version.number(), bytes, gate),
+        Form::Check => check(alloc, &bytes),
     }
 }

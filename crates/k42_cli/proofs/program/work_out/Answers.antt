@@ -5,4 +5,4 @@ pub returns-clause-ok : goal.returns-clause-ok
 returns-clause-ok g c =
     let output = c.in_ok-work.field-0 in
     worked_out c.args.form (g.S.Source.left c.args.source.now) (g.S.Source.left c.read_all.new.source) c.in_ok-bytes.bytes.items output.status output.text.items (rw c.most_bytes.ensures at c.in_ok-bytes.ensures.bytes)
-    (rw c.deref.ensures.value at c.in_ok-work.ensures.due) (rw c.deref.ensures.value at c.in_ok-work.ensures.short)
+    c.in_ok-work.ensures.due c.in_ok-work.ensures.short

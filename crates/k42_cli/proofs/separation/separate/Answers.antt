@@ -2,7 +2,8 @@ use Rattle.std.proofs.Common.{◌≡◌, take, drop, true, false, sym, ◌∙◌
 use Rattle.std.proofs.Math.Nat.{add-sub_cancel_left}
 use Rattle.std.proofs.lemmas.List.{take_rest}
 use Rattle.k42_cli.specs.Separation as separation
-use Rattle.k42_cli.proofs.Separating.{passed_on, text_behind}
+use Rattle.k42_cli.proofs.Separating.{passed_on, script_before, text_behind, script_all, text_none}
+use Rattle.k42_cli.proofs.Parted.{separated}
 use Rattle.k42_cli.proofs.separation.separate.Goals as goal
 
 pub returns-then-is_separator-clause-text : goal.returns-then-is_separator-clause-text
@@ -22,3 +23,18 @@ loop-start-preserved c =
     let first = rw take_rest at c.first_line_len.ensures.line in
     let other : separation.is_separator (take n (drop l.start input)) ≡ false = rw add-sub_cancel_left at (sym c.is_separator.ensures ∙ c.if-is_separator.false) in
     passed_on input l.start n l.invariant first (omega (arith, c.first_line_len.ensures.within)) other
+
+pub returns-then-is_separator-clause-apart : goal.returns-then-is_separator-clause-apart
+returns-then-is_separator-clause-apart c =
+    let l = c.loop-start in
+    let input = c.args.input.now in
+    let n = c.first_line_len.result in
+    let first = rw take_rest at c.first_line_len.ensures.line in
+    let here : separation.is_separator (take n (drop l.start input)) ≡ true = rw add-sub_cancel_left at (sym c.is_separator.ensures ∙ c.if-is_separator.true) in
+    separated input _ _ (script_before input l.start n l.invariant first here) (rw take_rest (text_behind input l.start n l.invariant first here))
+
+pub returns-clause-apart : goal.returns-clause-apart
+returns-clause-apart c =
+    let l = c.loop-start in
+    let input = c.args.input.now in
+    separated input _ _ (script_all input l.start (omega (arith, c.loop-start-test.false)) l.invariant) (text_none input l.start (omega (arith, c.loop-start-test.false)) l.invariant)

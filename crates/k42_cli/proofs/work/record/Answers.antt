@@ -20,7 +20,6 @@ returns g c =
     (λ text same. record {
       history = history;
       lawful = known.lawful;
-      counted = known.counted;
       judged = judged_lawful script c.requires.sound history known.lawful known.counted known.in_turn c.args.version;
       text = same ∙ ap (record_text script) c.in_ok-lines.ensures;
     })

@@ -1,4 +1,5 @@
 use Rattle.std.proofs.Common.{suc, ◌+◌, ◌<◌, ◌≤◌, length, drop, sym, add-one, arith}
+use Rattle.k42_limits.specs.declared.TheConstants.{CALL_LINES}
 use Rattle.script_text.specs.Lawful.{call_lines}
 use Rattle.k42_cli.proofs.Working.{working_at_start, object_here, taken_here, room_here, working_on, working_past, asks_nothing}
 use Rattle.k42_cli.proofs.engine.Run.work.Goals as goal
@@ -21,7 +22,7 @@ answer-requires-clause-taken g c =
 pub answer-requires-clause-few : goal.answer-requires-clause-few
 answer-requires-clause-few g c =
     let l = c.loop-item in
-    let few : length c.args.self.now.entries.items + length (call_lines c.args.items.now) ≤ 65536 = omega (arith, c.requires.few, c.args.self.now.entries.ok.0) in
+    let few : length c.args.self.now.entries.items + length (call_lines c.args.items.now) ≤ CALL_LINES = omega (arith, c.requires.few, c.args.self.now.entries.ok.0) in
     omega (arith, room_here c.args.script.now c.args.self.now c.args.caller c.args.items.now l.item-index l.index l.self c.item-item.result c.loop-item-test.true (sym c.item-item.is) l.invariant c.in-Line.line c.in-Line.is few)
 
 pub loop-item-preserved : goal.loop-item-preserved
