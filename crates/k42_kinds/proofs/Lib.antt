@@ -1,5 +1,6 @@
 pub mod PaddedFront
 pub mod Splits
+pub mod Ends
 pub mod LegalHistories
 pub mod LongerHistories
 pub mod ExampleLines
