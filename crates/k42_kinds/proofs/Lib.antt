@@ -5,6 +5,7 @@ pub mod LegalHistories
 pub mod LongerHistories
 pub mod ExampleLines
 pub mod AcceptedHistories
+pub mod LegalSoFar
 pub mod RefusedHistories
 pub mod Implementations
 pub mod SeenMaps

@@ -9,3 +9,4 @@ pub mod Histories
 pub mod Legal
 pub mod Rows
 pub mod LayoutLaws
+pub mod LastAmount
