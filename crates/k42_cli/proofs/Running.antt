@@ -9,7 +9,7 @@ use Rattle.std.proofs.lemmas.List.Elements.{All-push}
 use Rattle.std.proofs.lemmas.Option.{same_Some}
 use Rattle.k42_limits.specs.declared.TheConstants.{LAST_INCARNATION}
 use Rattle.k42_places.proofs.Written.{at_set}
-use Rattle.k42_kinds.specs.Objects.{reply_of}
+use Rattle.k42_kinds.specs.Objects.{reply_of, is_dead}
 use Rattle.k42_kinds.specs.Histories.{state_of, number_of, state_after_act, is_carried_out}
 use Rattle.k42_kinds.specs.Legal.{IsLegalAct, IsLegalAnswer}
 use Rattle.k42_kinds.specs.declared.operation.KindName.{KindName}
@@ -20,6 +20,7 @@ use Rattle.k42_kinds.specs.declared.entry.Act.TheVariants.{Call, Swap, Destroy}
 use Rattle.k42_kinds.specs.declared.entry.Answer.{Answer}
 use Rattle.k42_kinds.specs.declared.entry.Answer.TheVariants.{Replied, Swapped, Busy, Spent, Gone, Abandoned}
 use Rattle.k42_kinds.specs.declared.entry.Entry.{Entry}
+use Rattle.k42_kinds.proofs.Ends.{alive_state, takes_own}
 use Rattle.k42_kinds.proofs.LegalHistories.{legal-push, AllowsLater, refused_for}
 use Rattle.k42_kinds.proofs.LongerHistories.{state_of-push, number_of-push}
 use Rattle.script_text.specs.Sound.{IsActOn}
@@ -34,19 +35,19 @@ alive-legal : (kind : KindName) (before : List Entry) (entry : Entry) (state : A
     → entry.incarnation ≡ number → (room : Bool) → nat_lt number LAST_INCARNATION ≡ room → IsLegalAnswer kind before entry [] (cond room (Swapped (number + 1)) Spent)
 alive-legal kind before entry state number is alive counted bounded incarnation true room = record {
   next = omega (arith, counted);
-  alive = λ dead. alive (is ∙ dead);
+  alive = alive_state (state_of kind entry.object before) (λ dead. alive (is ∙ dead));
   unspent = grind (arith, nat_tests, room, counted);
   incarnation = incarnation ∙ counted;
 }
 alive-legal kind before entry state number is alive counted bounded incarnation false full = record {
-  alive = λ dead. alive (is ∙ dead);
+  alive = alive_state (state_of kind entry.object before) (λ dead. alive (is ∙ dead));
   spent = grind (arith, nat_tests, full, counted, bounded);
   incarnation = incarnation ∙ counted;
 }
 
 swap-legal : (kind : KindName) (before : List Entry) (entry : Entry) (state : AnyState) (number : ℕ) → state ≡ state_of kind entry.object before → number ≡ number_of entry.object before → number ≤ LAST_INCARNATION
     → entry.incarnation ≡ number → IsLegalAnswer kind before entry [] (swap_answer state number)
-swap-legal kind before entry states.Dead number is counted bounded incarnation = record { dead = sym is; incarnation = incarnation ∙ counted }
+swap-legal kind before entry states.Dead number is counted bounded incarnation = record { dead = ap is_dead (sym is); incarnation = incarnation ∙ counted }
 swap-legal kind before entry (states.Counter value) number is counted bounded incarnation = alive-legal kind before entry (states.Counter value) number is (λ dead. cc) counted bounded incarnation (nat_lt number LAST_INCARNATION) refl
 swap-legal kind before entry (states.Directory names) number is counted bounded incarnation = alive-legal kind before entry (states.Directory names) number is (λ dead. cc) counted bounded incarnation (nat_lt number LAST_INCARNATION) refl
 swap-legal kind before entry (states.Pages pages) number is counted bounded incarnation = alive-legal kind before entry (states.Pages pages) number is (λ dead. cc) counted bounded incarnation (nat_lt number LAST_INCARNATION) refl
@@ -55,7 +56,7 @@ swap-legal kind before entry (states.Pages pages) number is counted bounded inca
 act-legal : (kinds : List KindName) (history : List Entry) (entry : Entry) (object : Object) (act : Act) → IsActOn object.plain.kind act → IsKept kinds history entry.object object → entry.answer ≡ answer_of object act → entry.incarnation ≡ object.number
     → IsLegalAct object.plain.kind history entry [] act
 act-legal kinds history entry object (Call op) on kept answered incarnation = record {
-  own_kind = on.0;
+  own_kind = takes_own object.plain.kind op on.0;
   replied = answered ∙ ap (λ (state : AnyState). Replied (reply_of state op)) kept.state;
   incarnation = incarnation ∙ kept.swaps;
 }

@@ -1,9 +1,11 @@
 pub mod PaddedFront
 pub mod Splits
+pub mod Ends
 pub mod LegalHistories
 pub mod LongerHistories
 pub mod ExampleLines
 pub mod AcceptedHistories
+pub mod LegalSoFar
 pub mod RefusedHistories
 pub mod Implementations
 pub mod SeenMaps

@@ -13,6 +13,7 @@ use Rattle.k42_kinds.specs.declared.states.AnyState.TheVariants as states
 use Rattle.k42_kinds.specs.Histories.{IsInOrder, state_of, number_of}
 use Rattle.k42_kinds.specs.Legal.{IsLegalHistory, IsLegal, IsLegallySpent, IsRival}
 use Rattle.k42_kinds.proofs.Splits.{none-Any}
+use Rattle.k42_kinds.proofs.Ends.{not_dead}
 use Rattle.k42_kinds.proofs.LegalHistories.{illegal_at, refusal_of_swap}
 use Rattle.k42_kinds.proofs.ExampleLines.{line, on}
 
@@ -103,7 +104,7 @@ swapped_when_dead = illegal refl (λ legal. grind arith)
 
 -- a dead object is never spent, however many swaps it went through
 spent_when_dead : (before : List Entry) (entry : Entry) → state_of Counter entry.object before ≡ states.Dead → IsLegallySpent Counter before entry → ⊥
-spent_when_dead before entry dead legal = legal.alive dead
+spent_when_dead before entry dead legal = not_dead (state_of Counter entry.object before) legal.alive dead
 
 -- a dead object too takes the operations of its kind alone
 call_of_another_kind : IsRefused (line 1 0 0 0 Destroy (Swapped 1) ∷ []) (line 2 0 1 1 (Call Size) (Replied replies.Gone)) []

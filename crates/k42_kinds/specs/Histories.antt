@@ -2,6 +2,7 @@
 use Rattle.std.specs.Prelude.{◌≡◌, ℕ, ◌+◌, ◌-◌, Bool, true, false, ◌&&◌, ◌==◌, if◌then◌else◌, List, ◌∷◌, ◌++◌, length, filter, map, fold, count_by, Option, Some, None, slice_index_or}
 use Rattle.std.specs.List.{filter_map}
 use Rattle.k42_kinds.specs.declared.operation.KindName.{KindName}
+use Rattle.k42_kinds.specs.declared.operation.Op.{Op}
 use Rattle.k42_kinds.specs.declared.operation.LayoutName.{LayoutName}
 use Rattle.k42_kinds.specs.declared.states.AnyState.{AnyState}
 use Rattle.k42_kinds.specs.declared.states.AnyState.TheVariants as states
@@ -10,7 +11,8 @@ use Rattle.k42_kinds.specs.declared.entry.Act.TheVariants.{Call, Swap, Destroy}
 use Rattle.k42_kinds.specs.declared.entry.Answer.{Answer}
 use Rattle.k42_kinds.specs.declared.entry.Answer.TheVariants.{Swapped}
 use Rattle.k42_kinds.specs.declared.entry.Entry.{Entry}
-use Rattle.k42_kinds.specs.Objects.{empty_state, state_after}
+use Rattle.k42_kinds.specs.OneThread.{OneThread}
+use Rattle.k42_kinds.specs.Objects.{state_after, plain_object}
 
 -- what is said of an entry, the entries before it and those after it holds at each place of the
 -- list
@@ -24,6 +26,11 @@ AtEachPlace Holds list =
 abbrev pub IsNumbered : List Entry → Type 0
 IsNumbered history = AtEachPlace (λ before entry after. entry.stamp ≡ length before + 1) history
 
+-- whether the act is a call; every other one asks for another implementation
+abbrev pub is_call : Act → Bool
+is_call (Call op) = true
+is_call _ = false
+
 -- whether the swap or destroy was carried out
 abbrev pub is_carried_out : Answer → Bool
 is_carried_out (Swapped number) = true
@@ -31,19 +38,30 @@ is_carried_out _ = false
 
 -- The state of an object after one of its entries: a call steps it, a destroy that was carried
 -- out ends it, and everything else leaves it.
-abbrev pub state_after_act : AnyState → Act → Answer → AnyState
-state_after_act state (Call op) answer = state_after state op
-state_after_act state (Swap layout) answer = state
-state_after_act state Destroy answer = if is_carried_out answer then states.Dead else state
+abbrev pub state_moved : {S : Type 0} → (S → Op → S) → S → S → Act → Answer → S
+state_moved after ended state (Call op) answer = after state op
+state_moved after ended state Destroy answer = if is_carried_out answer then ended else state
+state_moved after ended state _ answer = state
 
 -- an entry moves its own object alone
-abbrev pub moved_by : ℕ → AnyState → Entry → AnyState
-moved_by object state entry =
-    if entry.object == object then state_after_act state entry.act entry.answer else state
+abbrev pub state_moved_by : {S : Type 0} → (S → Op → S) → S → ℕ → S → Entry → S
+state_moved_by after ended number state entry =
+    if entry.object == number then state_moved after ended state entry.act entry.answer else state
 
--- the state of the object, which is of this kind, after the history
+-- the state of an object of one thread, which has this number, after the history
+abbrev pub state_in : {S : Type 0} → OneThread S → ℕ → List Entry → S
+state_in object number history =
+    fold (state_moved_by object.after object.ended number) object.start history
+
+-- the same of plain objects
+abbrev pub state_after_act : AnyState → Act → Answer → AnyState
+state_after_act = state_moved state_after states.Dead
+
+abbrev pub moved_by : ℕ → AnyState → Entry → AnyState
+moved_by = state_moved_by state_after states.Dead
+
 abbrev pub state_of : KindName → ℕ → List Entry → AnyState
-state_of kind object history = fold (moved_by object) (empty_state kind) history
+state_of kind = state_in (plain_object kind)
 
 -- whether the entry is a swap or destroy of the object that was carried out
 abbrev pub is_carried_out_on : ℕ → Entry → Bool

@@ -1,51 +1,55 @@
--- When an entry of a history is legal, and when a history is.
-use Rattle.std.specs.Prelude.{◌≡◌, ◌≢◌, ℕ, ◌+◌, ◌<◌, ◌≤◌, List, ◌++◌, All, Any, Some, slice_get}
+-- When an entry of a history is legal, and when a history is. The objects are any objects of one
+-- thread; those of the three kinds follow at the end.
+use Rattle.std.specs.Prelude.{◌≡◌, ◌≢◌, ℕ, ◌+◌, ◌<◌, ◌≤◌, Bool, true, false, IsTrue, List, ◌++◌, All, Any, Some, slice_get}
 use Rattle.k42_limits.specs.declared.TheConstants.{LAST_INCARNATION}
 use Rattle.k42_kinds.specs.declared.operation.KindName.{KindName}
 use Rattle.k42_kinds.specs.declared.operation.Op.{Op}
-use Rattle.k42_kinds.specs.declared.states.AnyState.TheVariants as states
 use Rattle.k42_kinds.specs.declared.entry.Act.{Act}
-use Rattle.k42_kinds.specs.declared.entry.Act.TheVariants.{Call, Swap, Destroy}
+use Rattle.k42_kinds.specs.declared.entry.Act.TheVariants.{Call}
 use Rattle.k42_kinds.specs.declared.entry.Answer.{Answer}
 use Rattle.k42_kinds.specs.declared.entry.Answer.TheVariants.{Replied, Swapped, Busy, Spent, Gone, Abandoned}
 use Rattle.k42_kinds.specs.declared.entry.Entry.{Entry}
-use Rattle.k42_kinds.specs.Objects.{reply_of}
-use Rattle.k42_kinds.specs.Operations.{kind_of_op}
-use Rattle.k42_kinds.specs.Histories.{AtEachPlace, IsNumbered, state_of, number_of}
+use Rattle.k42_kinds.specs.OneThread.{OneThread}
+use Rattle.k42_kinds.specs.Objects.{plain_object}
+use Rattle.k42_kinds.specs.Histories.{AtEachPlace, IsNumbered, state_in, number_of}
 
--- A call of an operation of the object's kind is legal where it has the reply that the object of
+-- A call of an operation that the object takes is legal where it has the reply that the object of
 -- one thread gives after the entries before it, in the implementation that the swaps before it
 -- left.
-pub record IsLegalCall
-    (kind : KindName) (before : List Entry) (entry : Entry) (op : Op)
+pub record IsLegalCallOf
+    {S : Type 0} (object : OneThread S) (before : List Entry) (entry : Entry) (op : Op)
     : Type 0 where
-  pub own_kind : kind_of_op op ≡ kind
-  pub replied : entry.answer ≡ Replied (reply_of (state_of kind entry.object before) op)
+  pub own_kind : IsTrue (object.takes op)
+  pub replied : entry.answer ≡ Replied (object.reply (state_in object entry.object before) op)
   pub incarnation : entry.incarnation ≡ number_of entry.object before
 
--- the object is not dead
-abbrev pub IsAlive : KindName → ℕ → List Entry → Type 0
-IsAlive kind object before = state_of kind object before ≢ states.Dead
+-- whether the object with this number is at its end
+abbrev pub is_ended_in : {S : Type 0} → OneThread S → ℕ → List Entry → Bool
+is_ended_in object number before = object.is_ended (state_in object number before)
 
 -- a swap or destroy that is carried out is the next of its object, which is alive and has an
 -- incarnation left
-pub record IsLegalSwap
-    (kind : KindName) (before : List Entry) (entry : Entry) (number : ℕ)
+pub record IsLegalSwapOf
+    {S : Type 0} (object : OneThread S) (before : List Entry) (entry : Entry) (number : ℕ)
     : Type 0 where
   pub next : number ≡ number_of entry.object before + 1
-  pub alive : IsAlive kind entry.object before
+  pub alive : is_ended_in object entry.object before ≡ false
   pub unspent : number_of entry.object before < LAST_INCARNATION
   pub incarnation : entry.incarnation ≡ number_of entry.object before
 
 -- it is answered `spent` where the object is alive and has no incarnation left
-pub record IsLegallySpent (kind : KindName) (before : List Entry) (entry : Entry) : Type 0 where
-  pub alive : IsAlive kind entry.object before
+pub record IsLegallySpentOf
+    {S : Type 0} (object : OneThread S) (before : List Entry) (entry : Entry)
+    : Type 0 where
+  pub alive : is_ended_in object entry.object before ≡ false
   pub spent : number_of entry.object before ≡ LAST_INCARNATION
   pub incarnation : entry.incarnation ≡ number_of entry.object before
 
 -- it is answered `gone` where the object is dead
-pub record IsLegallyGone (kind : KindName) (before : List Entry) (entry : Entry) : Type 0 where
-  pub dead : state_of kind entry.object before ≡ states.Dead
+pub record IsLegallyGoneOf
+    {S : Type 0} (object : OneThread S) (before : List Entry) (entry : Entry)
+    : Type 0 where
+  pub dead : is_ended_in object entry.object before ≡ true
   pub incarnation : entry.incarnation ≡ number_of entry.object before
 
 -- an entry of the same caller on the same object
@@ -92,36 +96,94 @@ pub record IsLegalRefusal
   pub timely : IsTimely before entry after number
   pub rival : Any (IsRival entry number) (before ++ after)
 
--- how a swap or destroy may be answered
-abbrev pub IsLegalAnswer : KindName → List Entry → Entry → List Entry → Answer → Type 0
-IsLegalAnswer kind before entry after (Swapped number) = IsLegalSwap kind before entry number
-IsLegalAnswer kind before entry after Spent = IsLegallySpent kind before entry
-IsLegalAnswer kind before entry after Gone = IsLegallyGone kind before entry
-IsLegalAnswer kind before entry after (Busy number) = IsLegalRefusal before entry after number
-IsLegalAnswer kind before entry after (Abandoned number) = IsTimely before entry after number
-IsLegalAnswer kind before entry after (Replied reply) = ⊥
+-- how an act that is no call may be answered
+abbrev pub IsLegalAnswerOf : {S : Type 0} → OneThread S → List Entry → Entry → List Entry → Answer → Type 0
+IsLegalAnswerOf object before entry after (Swapped number) = IsLegalSwapOf object before entry number
+IsLegalAnswerOf object before entry after Spent = IsLegallySpentOf object before entry
+IsLegalAnswerOf object before entry after Gone = IsLegallyGoneOf object before entry
+IsLegalAnswerOf object before entry after (Busy number) = IsLegalRefusal before entry after number
+IsLegalAnswerOf object before entry after (Abandoned number) = IsTimely before entry after number
+IsLegalAnswerOf object before entry after (Replied reply) = ⊥
 
 -- how an act may be answered: a call by a reply, a swap or destroy by the rules above
+abbrev pub IsLegalActOf : {S : Type 0} → OneThread S → List Entry → Entry → List Entry → Act → Type 0
+IsLegalActOf object before entry after (Call op) = IsLegalCallOf object before entry op
+IsLegalActOf object before entry after _ = IsLegalAnswerOf object before entry after entry.answer
+
+-- the entry is of a declared object, and legal there; a list declares each object, by its kind or
+-- by its layout, and these tell its object of one thread
+pub record IsLegalAmongObjects
+    {K S : Type 0} (object_of : K → OneThread S) (declarations : List K)
+    (before : List Entry) (entry : Entry) (after : List Entry)
+    : Type 0 where
+  pub kind : K
+  pub declared : slice_get declarations entry.object ≡ Some kind
+  pub legal : IsLegalActOf (object_of kind) before entry after entry.act
+
+-- A history of declared objects is legal where it is numbered and each of its entries is legal.
+pub record IsLegalHistoryOf
+    {K S : Type 0} (object_of : K → OneThread S) (declarations : List K) (history : List Entry)
+    : Type 0 where
+  pub numbered : IsNumbered history
+  pub legal : AtEachPlace (IsLegalAmongObjects object_of declarations) history
+
+-- An entry is legal so far where that is said by the entries before it: a refusal by another swap
+-- may rest on what comes later, so every one is let pass.
+abbrev pub IsAnswerSoFar : {S : Type 0} → OneThread S → List Entry → Entry → Answer → Type 0
+IsAnswerSoFar object before entry (Swapped number) = IsLegalSwapOf object before entry number
+IsAnswerSoFar object before entry Spent = IsLegallySpentOf object before entry
+IsAnswerSoFar object before entry Gone = IsLegallyGoneOf object before entry
+IsAnswerSoFar object before entry (Busy number) = Unit {0}
+IsAnswerSoFar object before entry (Abandoned number) = Unit {0}
+IsAnswerSoFar object before entry (Replied reply) = ⊥
+
+abbrev pub IsActSoFar : {S : Type 0} → OneThread S → List Entry → Entry → Act → Type 0
+IsActSoFar object before entry (Call op) = IsLegalCallOf object before entry op
+IsActSoFar object before entry _ = IsAnswerSoFar object before entry entry.answer
+
+pub record IsSoFarAmongObjects
+    {K S : Type 0} (object_of : K → OneThread S) (declarations : List K)
+    (before : List Entry) (entry : Entry) (after : List Entry)
+    : Type 0 where
+  pub kind : K
+  pub declared : slice_get declarations entry.object ≡ Some kind
+  pub legal : IsActSoFar (object_of kind) before entry entry.act
+
+-- a history that is legal so far
+pub record IsLegalSoFar
+    {K S : Type 0} (object_of : K → OneThread S) (declarations : List K) (history : List Entry)
+    : Type 0 where
+  pub numbered : IsNumbered history
+  pub legal : AtEachPlace (IsSoFarAmongObjects object_of declarations) history
+
+-- The same of the plain objects of the three kinds.
+abbrev pub IsLegalCall : KindName → List Entry → Entry → Op → Type 0
+IsLegalCall kind = IsLegalCallOf (plain_object kind)
+
+abbrev pub IsAlive : KindName → ℕ → List Entry → Type 0
+IsAlive kind number before = is_ended_in (plain_object kind) number before ≡ false
+
+abbrev pub IsLegalSwap : KindName → List Entry → Entry → ℕ → Type 0
+IsLegalSwap kind = IsLegalSwapOf (plain_object kind)
+
+abbrev pub IsLegallySpent : KindName → List Entry → Entry → Type 0
+IsLegallySpent kind = IsLegallySpentOf (plain_object kind)
+
+abbrev pub IsLegallyGone : KindName → List Entry → Entry → Type 0
+IsLegallyGone kind = IsLegallyGoneOf (plain_object kind)
+
+abbrev pub IsLegalAnswer : KindName → List Entry → Entry → List Entry → Answer → Type 0
+IsLegalAnswer kind = IsLegalAnswerOf (plain_object kind)
+
 abbrev pub IsLegalAct : KindName → List Entry → Entry → List Entry → Act → Type 0
-IsLegalAct kind before entry after (Call op) = IsLegalCall kind before entry op
-IsLegalAct kind before entry after (Swap layout) =
-    IsLegalAnswer kind before entry after entry.answer
-IsLegalAct kind before entry after Destroy = IsLegalAnswer kind before entry after entry.answer
+IsLegalAct kind = IsLegalActOf (plain_object kind)
 
 -- an entry is legal between the entries before it and those after it, by its act and its answer
 abbrev pub IsLegal : KindName → List Entry → Entry → List Entry → Type 0
 IsLegal kind before entry after = IsLegalAct kind before entry after entry.act
 
--- the entry is of a declared object, and legal there
-pub record IsLegalAmong
-    (kinds : List KindName) (before : List Entry) (entry : Entry) (after : List Entry)
-    : Type 0 where
-  pub kind : KindName
-  pub declared : slice_get kinds entry.object ≡ Some kind
-  pub legal : IsLegal kind before entry after
+abbrev pub IsLegalAmong : List KindName → List Entry → Entry → List Entry → Type 0
+IsLegalAmong = IsLegalAmongObjects plain_object
 
--- A history of objects of these kinds is legal where it is numbered and each of its entries is
--- legal.
-pub record IsLegalHistory (kinds : List KindName) (history : List Entry) : Type 0 where
-  pub numbered : IsNumbered history
-  pub legal : AtEachPlace (IsLegalAmong kinds) history
+abbrev pub IsLegalHistory : List KindName → List Entry → Type 0
+IsLegalHistory = IsLegalHistoryOf plain_object

@@ -2,7 +2,11 @@ pub mod Words
 pub mod Padded
 pub mod Operations
 pub mod Pages
+pub mod OneThread
 pub mod Objects
 pub mod Steps
 pub mod Histories
 pub mod Legal
+pub mod Rows
+pub mod LayoutLaws
+pub mod LastAmount

@@ -1,10 +1,12 @@
 -- The objects of one thread: the state before the first operation, and what each operation does
 -- and replies.
-use Rattle.std.specs.Prelude.{◌≡◌, ℕ, ◌+◌, ◌%◌, ◌^◌, Option, Some, None as Absent, if◌then◌else◌}
+use Rattle.std.specs.Prelude.{◌≡◌, ℕ, ◌+◌, ◌%◌, ◌^◌, Bool, true, false, Option, Some, None as Absent, if◌then◌else◌}
 use Rattle.std.specs.FinMap as finite
 use Rattle.std.specs.FinMap.{FinMap}
 use Rattle.std.specs.Ordering.{nat_cmp}
 use Rattle.std.specs.Cmp.Lexicographic.{slice_cmp}
+use Rattle.k42_kinds.specs.OneThread.{OneThread}
+use Rattle.k42_kinds.specs.Operations.{takes_operation}
 use Rattle.k42_kinds.specs.Pages.{written, all_cleaned, dirty_count}
 use Rattle.k42_kinds.specs.declared.page.Page.{Page}
 use Rattle.k42_kinds.specs.declared.operation.KindName.{KindName}
@@ -110,3 +112,19 @@ abbrev pub empty_state : KindName → AnyState
 empty_state kinds.Counter = states.Counter 0
 empty_state kinds.Directory = states.Directory finite.empty
 empty_state kinds.Pages = states.Pages finite.empty
+
+-- whether the object was destroyed
+abbrev pub is_dead : AnyState → Bool
+is_dead states.Dead = true
+is_dead _ = false
+
+-- the plain object of a kind
+abbrev pub plain_object : KindName → OneThread AnyState
+plain_object kind = record {
+  start = empty_state kind;
+  takes = takes_operation kind;
+  after = state_after;
+  reply = reply_of;
+  ended = states.Dead;
+  is_ended = is_dead;
+}

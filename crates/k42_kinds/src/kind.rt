@@ -1,6 +1,5 @@
-ghost use Rattle.std.specs.Prelude.{◌≡◌, Bool, IsTrue, IfOk, OnErr};
-ghost use Rattle.k42_kinds.specs.declared.operation.Op.{Op};
-ghost use Rattle.k42_kinds.specs.declared.operation.Reply.{Reply};
+ghost use Rattle.std.specs.Prelude.{◌≡◌, IsTrue, IfOk, OnErr};
+ghost use Rattle.k42_kinds.specs.OneThread.{OneThread};
 ghost use Rattle.k42_kinds.specs.Steps.{Steps};
 
 use crate::operation::{Op, Reply};
@@ -11,26 +10,17 @@ use std::alloc::Global;
 pub trait Kind {
     type State: Drop;
 
-    /// The state before the first operation.
-    ghost start: { Self → Self.State };
-
-    /// Whether the object takes the operation.
-    ghost takes: { Self → Op → Bool };
-
-    /// The state after an operation.
-    ghost after: { Self → Self.State → Op → Self.State };
-
-    /// What an operation is replied to.
-    ghost reply: { Self → Self.State → Op → Reply };
+    /// The object: its first state, its steps and its end.
+    ghost object: { Self → OneThread Self.State };
 
     /// The state before the first operation. It keeps the allocator, and asks it for nothing.
     fn empty(&self, alloc: Global) -> Self::State
-        ensures { result ≡ start self.now };
+        ensures { result ≡ (object self.now).start };
 
     /// One operation. Want of memory leaves the state.
     fn step(&self, alloc: Global, state: &mut Self::State, op: &Op) -> Result<Reply, Memory>
-        requires { IsTrue (takes self.now op.now) }
+        requires { IsTrue ((object self.now).takes op.now) }
         ensures ok { IfOk result (λ replied.
-            Steps (after self.now) (reply self.now) state.old op.now replied state.new) }
+            Steps (object self.now).after (object self.now).reply state.old op.now replied state.new) }
         ensures memory { OnErr result (state.new ≡ state.old) };
 }

@@ -1,7 +1,6 @@
 ghost use Rattle.std.specs.Prelude.{◌≡◌, IfOk, OnErr};
-ghost use Rattle.k42_kinds.specs.Objects.{empty_state, state_after, reply_of, NeedsMemory};
+ghost use Rattle.k42_kinds.specs.Objects.{plain_object, state_after, reply_of, NeedsMemory};
 ghost use Rattle.k42_kinds.specs.Steps.{Steps};
-ghost use Rattle.k42_kinds.specs.Operations.{takes_operation};
 
 use crate::counter::step_counter;
 use crate::directory::{DirectoryState, step_directory};
@@ -21,13 +20,7 @@ pub struct Plain {
 impl Kind for Plain {
     type State = AnyState;
 
-    ghost start = { λ plain. empty_state plain.kind };
-
-    ghost takes = { λ plain. takes_operation plain.kind };
-
-    ghost after = { λ plain. state_after };
-
-    ghost reply = { λ plain. reply_of };
+    ghost object = { λ plain. plain_object plain.kind };
 
     fn empty(&self, alloc: Global) -> AnyState {
         match self.kind {

@@ -4,7 +4,7 @@ use Rattle.std.specs.List.{fold}
 use Rattle.std.proofs.lemmas.List.{length-map, map-append, get_or-map, get_or_default}
 use Rattle.std.proofs.lemmas.List.Elements.{All-map, All-weaker}
 use Rattle.std.proofs.lemmas.List.Folds.{fold-map}
-use Rattle.k42_kinds.specs.Objects.{empty_state, reply_of}
+use Rattle.k42_kinds.specs.Objects.{empty_state, reply_of, is_dead}
 use Rattle.k42_kinds.specs.Histories.{state_of, number_of, moved_by, is_carried_out_on}
 use Rattle.k42_kinds.specs.Legal.{IsLegalAct, IsLegalAnswer, IsLegalAmong, IsLegalRefusal, IsTimely, IsOwn, IsNotPast, IsRival}
 use Rattle.k42_kinds.specs.declared.operation.KindName.{KindName}
@@ -107,17 +107,17 @@ module _ (script : Script) (version : ℕ) where
     N = number_same entry.object before
 
     answer_to : (answer : Answer) → IsLegalAnswer kind before entry after answer → IsLegalAnswer kind B E A answer
-    answer_to (Swapped number) legal = record { next = legal.next ∙ ap (λ (n : ℕ). n + 1) (sym N); alive = λ dead. legal.alive (sym S ∙ dead); unspent = omega (arith, legal.unspent, N); incarnation = legal.incarnation ∙ sym N }
-    answer_to Spent legal = record { alive = λ dead. legal.alive (sym S ∙ dead); spent = N ∙ legal.spent; incarnation = legal.incarnation ∙ sym N }
-    answer_to Gone legal = record { dead = S ∙ legal.dead; incarnation = legal.incarnation ∙ sym N }
+    answer_to (Swapped number) legal = record { next = legal.next ∙ ap (λ (n : ℕ). n + 1) (sym N); alive = ap is_dead S ∙ legal.alive; unspent = omega (arith, legal.unspent, N); incarnation = legal.incarnation ∙ sym N }
+    answer_to Spent legal = record { alive = ap is_dead S ∙ legal.alive; spent = N ∙ legal.spent; incarnation = legal.incarnation ∙ sym N }
+    answer_to Gone legal = record { dead = ap is_dead S ∙ legal.dead; incarnation = legal.incarnation ∙ sym N }
     answer_to (Busy number) legal = refusal_to number legal
     answer_to (Abandoned number) legal = timely_to number legal
     answer_to (Replied reply) legal = legal
 
     answer_from : (answer : Answer) → IsLegalAnswer kind B E A answer → IsLegalAnswer kind before entry after answer
-    answer_from (Swapped number) legal = record { next = legal.next ∙ ap (λ (n : ℕ). n + 1) N; alive = λ dead. legal.alive (S ∙ dead); unspent = omega (arith, legal.unspent, N); incarnation = legal.incarnation ∙ N }
-    answer_from Spent legal = record { alive = λ dead. legal.alive (S ∙ dead); spent = sym N ∙ legal.spent; incarnation = legal.incarnation ∙ N }
-    answer_from Gone legal = record { dead = sym S ∙ legal.dead; incarnation = legal.incarnation ∙ N }
+    answer_from (Swapped number) legal = record { next = legal.next ∙ ap (λ (n : ℕ). n + 1) N; alive = ap is_dead (sym S) ∙ legal.alive; unspent = omega (arith, legal.unspent, N); incarnation = legal.incarnation ∙ N }
+    answer_from Spent legal = record { alive = ap is_dead (sym S) ∙ legal.alive; spent = sym N ∙ legal.spent; incarnation = legal.incarnation ∙ N }
+    answer_from Gone legal = record { dead = ap is_dead (sym S) ∙ legal.dead; incarnation = legal.incarnation ∙ N }
     answer_from (Busy number) legal = refusal_from number legal
     answer_from (Abandoned number) legal = timely_from number legal
     answer_from (Replied reply) legal = legal

@@ -5,9 +5,9 @@ use Rattle.std.specs.Bool.{Decides}
 use Rattle.std.proofs.lemmas.Bool.{eq-eqb, ne_eqb}
 use Rattle.std.proofs.lemmas.List.{length-set, length-map, map-append}
 use Rattle.std.proofs.lemmas.Option.{same_Some}
-use Rattle.k42_kinds.specs.Objects.{reply_of, empty_state}
+use Rattle.k42_kinds.specs.Objects.{reply_of, empty_state, is_dead}
 use Rattle.k42_kinds.specs.Operations.{kind_of_op, same_kind}
-use Rattle.k42_kinds.specs.Histories.{number_of, state_after_act, is_carried_out}
+use Rattle.k42_kinds.specs.Histories.{state_of, number_of, state_after_act, is_carried_out}
 use Rattle.k42_kinds.specs.Legal.{IsLegalAct, IsLegalAnswer, IsLegalAmong, IsLegalRefusal}
 use Rattle.k42_kinds.specs.declared.operation.KindName.{KindName}
 use Rattle.k42_kinds.specs.declared.operation.KindName.TheVariants as kinds
@@ -17,6 +17,7 @@ use Rattle.k42_kinds.specs.declared.entry.Act.TheVariants.{Call, Swap, Destroy}
 use Rattle.k42_kinds.specs.declared.entry.Answer.{Answer}
 use Rattle.k42_kinds.specs.declared.entry.Answer.TheVariants.{Replied, Swapped, Busy, Spent, Gone, Abandoned}
 use Rattle.k42_kinds.specs.declared.entry.Entry.{Entry}
+use Rattle.k42_kinds.proofs.Ends.{alive_state, not_dead, dead_state, takes_own}
 use Rattle.k42_kinds.proofs.LegalHistories.{legal_at_kind}
 use Rattle.k42_kinds.proofs.LongerHistories.{state_of-push, number_of-push}
 use Rattle.script_text.specs.Sound.{IsActOn}
@@ -57,16 +58,16 @@ module _ (kind : KindName) (before : List Entry) (line : RecordLine) (after : Li
   end_to : (answer : Answer) → line.answer ≡ answer → EndsAs object refusable line.incarnation answer → IsLegalAnswer kind before (told line) after answer
   end_to (Swapped number) is ends = record {
     next = ends.next ∙ ap (λ (n : ℕ). n + 1) kept.swaps;
-    alive = λ dead. ends.alive (kept.state ∙ dead);
+    alive = alive_state (state_of kind line.object before) (λ dead. ends.alive (kept.state ∙ dead));
     unspent = omega (arith, ends.unspent, kept.swaps);
     incarnation = ends.incarnation ∙ kept.swaps;
   }
   end_to Spent is ends = record {
-    alive = λ dead. ends.alive (kept.state ∙ dead);
+    alive = alive_state (state_of kind line.object before) (λ dead. ends.alive (kept.state ∙ dead));
     spent = sym kept.swaps ∙ ends.spent;
     incarnation = ends.incarnation ∙ kept.swaps;
   }
-  end_to Gone is ends = record { dead = sym kept.state ∙ ends.dead; incarnation = ends.incarnation ∙ kept.swaps }
+  end_to Gone is ends = record { dead = ap is_dead (sym kept.state ∙ ends.dead); incarnation = ends.incarnation ∙ kept.swaps }
   end_to (Busy number) is ends = (refusal number is).0 ends
   end_to (Replied reply) is ends = absurd ends
   end_to (Abandoned number) is ends = absurd ends
@@ -74,23 +75,23 @@ module _ (kind : KindName) (before : List Entry) (line : RecordLine) (after : Li
   end_from : (answer : Answer) → line.answer ≡ answer → EndsSwap answer → IsLegalAnswer kind before (told line) after answer → EndsAs object refusable line.incarnation answer
   end_from (Swapped number) is form legal = record {
     next = legal.next ∙ ap (λ (n : ℕ). n + 1) (sym kept.swaps);
-    alive = λ dead. legal.alive (sym kept.state ∙ dead);
+    alive = λ dead. not_dead (state_of kind line.object before) legal.alive (sym kept.state ∙ dead);
     unspent = omega (arith, legal.unspent, kept.swaps);
     incarnation = legal.incarnation ∙ sym kept.swaps;
   }
   end_from Spent is form legal = record {
-    alive = λ dead. legal.alive (sym kept.state ∙ dead);
+    alive = λ dead. not_dead (state_of kind line.object before) legal.alive (sym kept.state ∙ dead);
     spent = kept.swaps ∙ legal.spent;
     incarnation = legal.incarnation ∙ sym kept.swaps;
   }
-  end_from Gone is form legal = record { dead = kept.state ∙ legal.dead; incarnation = legal.incarnation ∙ sym kept.swaps }
+  end_from Gone is form legal = record { dead = kept.state ∙ dead_state (state_of kind line.object before) legal.dead; incarnation = legal.incarnation ∙ sym kept.swaps }
   end_from (Busy number) is form legal = (refusal number is).1 legal
   end_from (Replied reply) is form legal = absurd legal
   end_from (Abandoned number) is form legal = absurd form
 
   act_to : (act : Act) → IsActOn kind act → Tells object refusable line act → IsLegalAct kind before (told line) after act
   act_to (Call op) on says = record {
-    own_kind = on.0;
+    own_kind = takes_own kind op on.0;
     replied = says.replied ∙ ap (λ (state : AnyState). Replied (reply_of state op)) kept.state;
     incarnation = says.incarnation ∙ kept.swaps;
   }
