@@ -12,9 +12,11 @@ pub mod Frees
 pub mod Steps
 pub mod Kept
 pub mod Alone
+pub mod Changed
 pub mod Fresh
 pub mod Reached
 pub mod AWholeSwap
 pub mod Ranges
 pub mod Notes
-pub mod Freed
+pub mod InSound
+pub mod Others

@@ -1,9 +1,9 @@
 -- What is true after every list of events.
-use Rattle.std.proofs.Common.{◌≡◌, ℕ, ◌*◌, ◌<◌, ◌≤◌, ◌≢◌, ◌⊎◌, ◌∙◌, Bool, true, false, cond, List, [], ◌∷◌, Some, length, sym, refl, ap, subst, inl, inr, ⊎_elim, arith}
+use Rattle.std.proofs.Common.{◌≡◌, ℕ, ◌*◌, ◌<◌, ◌≤◌, ◌≢◌, ◌⊎◌, ◌∙◌, Bool, true, false, cond, List, [], ◌∷◌, ◌++◌, Some, length, sym, refl, ap, subst, inl, inr, ⊎_elim, arith}
 use Rattle.std.specs.List.{slice_get}
-use Rattle.std.proofs.lemmas.List.{length-map}
+use Rattle.std.proofs.lemmas.List.{length-map, get_or_past}
 use Rattle.std.proofs.lemmas.Option.{slice_get-get_or, get_or_from_slice_get}
-use Rattle.std.proofs.lemmas.Bool.{cases_eq}
+use Rattle.std.proofs.lemmas.Bool.{cases_eq, cases_lt}
 use Rattle.gen_core.specs.declared.event.GenEvent.TheVariants.{Leave}
 use Rattle.gen_core.specs.State.{caller_at}
 use Rattle.phase_core.specs.declared.caller.Place.{Place}
@@ -16,12 +16,14 @@ use Rattle.phase_core.specs.Events.{is_possible, effect, happens}
 use Rattle.phase_core.specs.Objects.{Bits, bits_of, BitsFollow}
 use Rattle.phase_core.specs.Outlooks.{is_closed, has_moved}
 use Rattle.phase_core.specs.Plain.{Phases}
+use Rattle.phase_core.specs.Consequences.{FreesRow}
 use Rattle.phase_core.specs.Runs.{run, AreInRange, IsReached, Occurs, HasRead, HasLeft}
 use Rattle.phase_core.specs.Sound.{IsSound}
 use Rattle.phase_core.specs.Stages.{IsInside}
 use Rattle.phase_core.specs.State.{fresh_object, fresh_visitor, object_at, visitor_at, new_phases}
 use Rattle.phase_core.proofs.Rows.{few_rows}
 use Rattle.phase_core.proofs.Kept.{event_keeps}
+use Rattle.phase_core.proofs.Changed.{happens_after}
 use Rattle.phase_core.proofs.Alone.{ChangesOnly, ChangesOnly-refl, is_leave, only_who}
 use Rattle.phase_core.proofs.Fresh.{new_in_scene, fresh_scene}
 
@@ -152,22 +154,48 @@ occurs_later : (event first : Event) (events : List Event) (s : Phases) → Occu
 occurs_later event first events s later =
     record { before = first ∷ later.before; after = later.after; split = ap (λ l. first ∷ l) later.split; possible = later.possible }
 
-pub freed_after_leaving : (events : List Event) (s : Phases) (c o i : ℕ) → IsSound s
-    → AreInRange (length s.turns.callers) (length s.objects) events
-    → c < length s.turns.callers → o < length s.objects
-    → HasRead s c o i → i < (object_at (run events s) o).freed → HasLeft s events c
-freed_after_leaving [] s c o i sound in_range there named has freed =
-    let kept = read_unfreed s c o i sound there named has in absurd (omega (arith, kept, freed))
-freed_after_leaving (event ∷ events) s c o i sound in_range there named has freed =
+-- no event frees a row that stays read
+unfreed : (s : Phases) (event : Event) (c o i : ℕ) → IsSound s → caller_of event < length s.turns.callers
+    → NamesObjects (length s.objects) event → c < length s.turns.callers → HasRead s c o i
+    → FreesRow s (happens s event) o i → ⊥
+unfreed s event c o i sound there named there' has frees =
+    ⊎_elim
+    (λ (left : (event ≡ Turn (Leave c)) × (is_possible s event ≡ true)).
+    let same : object_at (happens s event) o ≡ object_at s o =
+    subst (λ e. object_at (happens s e) o ≡ object_at s o) (sym left.0) ((happens_after s (Turn (Leave c))).others o (λ e. cc)) in
+    let kept = frees.kept in
+    let freed : i < (object_at s o).freed = rw (← same) frees.freed in
+    omega (arith, kept, freed))
+    (λ (still : HasRead (happens s event) c o i).
+    let only = happens_only s event sound there in
+    ⊎_elim
+    (λ (within : o < length (happens s event).objects).
+    let kept = read_unfreed (happens s event) c o i (IsSound-happens s event sound there named) (rw only.many_turns there') within still in
+    let freed = frees.freed in
+    omega (arith, kept, freed))
+    (λ (past : length (happens s event).objects ≤ o).
+    let none : object_at (happens s event) o ≡ fresh_object = get_or_past (happens s event).objects o fresh_object past in
+    let freed : i < 0 = rw none at frees.freed in
+    omega (arith, freed))
+    (cases_lt o (length (happens s event).objects)))
+    (read_or_left s event c o i sound there has there')
+
+pub freed_after_leaving : (events : List Event) (s : Phases) (freeing : Event) (c o i : ℕ) → IsSound s
+    → AreInRange (length s.turns.callers) (length s.objects) (events ++ freeing ∷ [])
+    → c < length s.turns.callers → HasRead s c o i
+    → FreesRow (run events s) (happens (run events s) freeing) o i → HasLeft s events c
+freed_after_leaving [] s freeing c o i sound in_range there has frees =
+    absurd (unfreed s freeing c o i sound in_range.0 in_range.1 there has frees)
+freed_after_leaving (event ∷ events) s freeing c o i sound in_range there has frees =
     let only = happens_only s event sound in_range.0 in
     ⊎_elim
     (λ (left : (event ≡ Turn (Leave c)) × (is_possible s event ≡ true)).
     subst (λ e. Occurs e (event ∷ events) s) left.0 (occurs_here event events s left.1))
     (λ (still : HasRead (happens s event) c o i).
     occurs_later (Turn (Leave c)) event events s
-    (freed_after_leaving events (happens s event) c o i (IsSound-happens s event sound in_range.0 in_range.1)
-    (stays_in_range s event events sound in_range.0 in_range.2)
-    (rw only.many_turns there) (rw only.many_objects named) still freed))
+    (freed_after_leaving events (happens s event) freeing c o i (IsSound-happens s event sound in_range.0 in_range.1)
+    (stays_in_range s event (events ++ freeing ∷ []) sound in_range.0 in_range.2)
+    (rw only.many_turns there) still frees))
     (read_or_left s event c o i sound in_range.0 has there)
 
 -- a caller has read at most two rows of each object

@@ -12,3 +12,4 @@ pub mod Objects
 pub mod Callers
 pub mod Sound
 pub mod Runs
+pub mod Consequences

@@ -6,7 +6,7 @@ use Rattle.phase_core.specs.declared.caller.SwapAt.TheVariants.{Interposing, Int
 
 -- what all callers share of one object
 pub record Outlook : Type 0 where
-  -- caller_of swaps it, and how far the swap is
+  -- who swaps it, and how far the swap is
   pub swapper : Option ℕ
   pub stage : SwapAt
   pub incarnation : ℕ

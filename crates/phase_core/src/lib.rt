@@ -15,7 +15,11 @@ mod turning;
 
 pub use caller::{PhaseCaller, Place, SwapAt};
 pub use event::PhaseEvent;
-pub use laws::{each_event_keeps, freed_after_leaving, moves_alone, stays_sound};
+pub use laws::{
+    count_is_of_callers, each_event_keeps, freed_after_leaving, inside_is_present, moved_is_ready,
+    moves_alone, nothing_falls, one_swap, others_stay, reads_by_look_up_and_knock, row_stays,
+    stays_sound,
+};
 pub use machine::apply;
 pub use object::{LocalEntry, PhaseObject};
 pub use state::PhaseState;
