@@ -1,5 +1,6 @@
 pub mod Written
 pub mod EachPlaces
+pub mod EachPairs
 pub mod Counts
 pub mod Rests
 pub mod Appended

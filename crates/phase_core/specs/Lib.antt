@@ -1,0 +1,15 @@
+pub mod Plain
+pub mod Event
+pub mod State
+pub mod Stages
+pub mod Effects
+pub mod Notes
+pub mod Events
+pub mod Words
+pub mod Turns
+pub mod Outlooks
+pub mod Objects
+pub mod Callers
+pub mod Sound
+pub mod Runs
+pub mod Consequences
