@@ -1,11 +1,11 @@
 -- What an event's step leaves, whether it was possible or not, and where there was no memory.
-use Rattle.std.proofs.Common.{◌≡◌, ℕ, Bool, true, false, List, length, refl, sym, ap, ◌∙◌, subst}
+use Rattle.std.proofs.Common.{◌≡◌, ℕ, Bool, true, false, length, refl, sym, ap, ◌∙◌, subst}
 use Rattle.std.specs.Prelude.{Result, Ok, Err, Option, Some, None}
 use Rattle.std.proofs.lemmas.List.{length-set}
 use Rattle.k42_memory.specs.declared.Memory.{Memory}
 use Rattle.turn_core.specs.declared.event.TurnEvent.{TurnEvent}
 use Rattle.turn_core.specs.declared.event.TurnEvent.TheVariants.{Lock, Take, Draw, Alone, Hand, Put, Unlock}
-use Rattle.turn_core.specs.Plain.{Cell, Caller, Turns}
+use Rattle.turn_core.specs.Plain.{Turns}
 use Rattle.turn_core.specs.State.{cell_at, caller_at, change_caller, change_cells}
 use Rattle.turn_core.specs.Events.{effect, locked, cell_told, cell_begun, cell_closed, cell_taken, cell_put, cell_locked, cell_unlocked, caller_drawn, caller_locked, caller_unlocked}
 use Rattle.turn_core.specs.Applies.{Applies}

@@ -1,15 +1,15 @@
 -- What stands at a place after something became of each of some cells.
-use Rattle.std.proofs.Common.{◌≡◌, ◌≢◌, ℕ, zero, suc, ◌<◌, ◌⊎◌, Bool, true, false, not, cond, eqb, List, [], ◌∷◌, length, set, get_or, refl, sym, ap, ◌∙◌, subst, inl, inr, ⊎_elim, arith}
-use Rattle.std.specs.Prelude.{Option, Some, slice_get}
-use Rattle.std.proofs.lemmas.Bool.Decides.{nat_tests, eqb_tells}
+use Rattle.std.proofs.Common.{◌≡◌, ◌≢◌, ℕ, ◌<◌, true, false, not, cond, eqb, List, [], ◌∷◌, length, refl, sym, ap, ◌∙◌, subst, inl, inr, arith}
+use Rattle.std.specs.Prelude.{Some, slice_get}
+use Rattle.std.proofs.lemmas.Bool.Decides.{nat_tests}
 use Rattle.std.proofs.lemmas.Bool.{and_parts, not-true}
-use Rattle.std.proofs.lemmas.List.{length-set, get_or-set_same}
+use Rattle.std.proofs.lemmas.List.{length-set}
 use Rattle.std.proofs.lemmas.Option.{slice_get_within, slice_get-get_or}
 use Rattle.k42_places.proofs.Written.{at_set}
 use Rattle.turn_core.specs.Plain.{Cell, Turns}
 use Rattle.turn_core.specs.State.{cell_at, fresh_cell, change_cell, change_cells}
 use Rattle.turn_core.specs.Names.{names, names_once}
-use Rattle.turn_core.proofs.Named.{rest_once, first_not, further_not}
+use Rattle.turn_core.proofs.Named.{rest_once}
 
 pub length-change_cells : (changed : Cell → Cell) (s : Turns) (cells : List ℕ) → length (change_cells changed s cells).cells ≡ length s.cells
 length-change_cells changed s [] = refl

@@ -1,26 +1,23 @@
 -- A draw keeps every fact.
-use Rattle.std.proofs.Common.{◌≡◌, ◌≢◌, ℕ, zero, suc, ◌+◌, ◌-◌, ◌<◌, ◌≤◌, ◌⊎◌, Bool, true, false, not, cond, ◌&&◌, List, [], ◌∷◌, ◌++◌, length, set, get_or, max, refl, sym, ap, ◌∙◌, subst, inl, inr, ⊎_elim, arith}
-use Rattle.std.specs.Prelude.{Option, Some, None, slice_get, is_some, All}
-use Rattle.std.specs.List.{list_all}
+use Rattle.std.proofs.Common.{◌≡◌, ℕ, ◌+◌, ◌-◌, ◌<◌, ◌≤◌, Bool, true, false, cond, List, [], ◌∷◌, ◌++◌, length, refl, sym, ap, ◌∙◌, subst, inl, inr, arith}
+use Rattle.std.specs.Prelude.{Option, Some, None, slice_get, is_some}
 use Rattle.std.proofs.lemmas.Bool.Decides.{nat_tests, eqb_tells}
-use Rattle.std.proofs.lemmas.Bool.{and_parts}
-use Rattle.std.proofs.lemmas.Option.{slice_get_within, slice_get-get_or, none-some}
+use Rattle.std.proofs.lemmas.Option.{slice_get-get_or, none-some}
 use Rattle.std.proofs.lemmas.Bool.{cases_lt}
-use Rattle.std.proofs.lemmas.List.{length-set, length-append, get_or_past}
+use Rattle.std.proofs.lemmas.List.{length-set, get_or_past}
 use Rattle.k42_places.specs.Places.{EachPlace}
 use Rattle.k42_places.proofs.EachPlaces.{EachPlace-set_else}
 use Rattle.k42_places.proofs.Appended.{at_push}
 use Rattle.k42_places.proofs.Written.{get_or-set_related}
 use Rattle.k42_kinds.specs.declared.entry.Entry.{Entry}
 use Rattle.turn_core.specs.Plain.{Cell, Caller, Turns}
-use Rattle.turn_core.specs.State.{cell_at, caller_at, fresh_cell, fresh_caller, change_cell, change_caller, change_cells}
-use Rattle.turn_core.specs.Names.{names, names_once}
-use Rattle.turn_core.specs.Events.{caller_drawn, cell_told, cell_opened, cell_begun, has_open, is_next, can_draw, drawn}
+use Rattle.turn_core.specs.State.{cell_at, caller_at, fresh_cell, fresh_caller, change_cell, change_cells}
+use Rattle.turn_core.specs.Names.{names}
+use Rattle.turn_core.specs.Events.{caller_drawn, cell_told, cell_opened, cell_begun, is_next}
 use Rattle.turn_core.specs.Stamps.{stamp_of, last_stamp, last_stamp_at, next_stamp}
-use Rattle.turn_core.specs.Sound.{drawn_by, held_by, holder_of, entries_drawn, histories_of, IsRising, StandsIn, IsHistory, IsCell, IsOwn, IsCaller, IsSound}
-use Rattle.turn_core.proofs.Rising.{rising-push, last-above}
-use Rattle.turn_core.proofs.Changed.{Was, at_changed, length-change_cells, callers-change_cells}
-use Rattle.turn_core.proofs.Growing.{with_drawn, stands-drawn, new_stands, held_by-drawn, entries-drawn, history-kept, history-push, history-one, each_last, each_front, each_push}
+use Rattle.turn_core.specs.Sound.{drawn_by, holder_of, entries_drawn, histories_of, StandsIn, IsHistory, IsCell, IsOwn, IsCaller, IsSound}
+use Rattle.turn_core.proofs.Rising.{rising-push}
+use Rattle.turn_core.proofs.Growing.{with_drawn, held_by-drawn, entries-drawn, history-kept, history-push, history-one, each_last, each_front, each_push}
 
 -- the last stamp of each named cell is known to the stamp drawn there
 pub last_stamp-known : (s : Turns) (cells : List ℕ) (n : ℕ) → names cells n ≡ true → last_stamp (cell_at s n).history ≤ last_stamp_at s cells

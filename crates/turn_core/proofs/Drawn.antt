@@ -1,21 +1,20 @@
 -- Each event that draws an entry keeps every fact.
-use Rattle.std.proofs.Common.{◌≡◌, ℕ, zero, suc, ◌<◌, Bool, true, false, not, cond, ◌||◌, List, [], ◌∷◌, ◌++◌, length, refl, sym, ap, ◌∙◌, subst, arith}
+use Rattle.std.proofs.Common.{◌≡◌, ℕ, ◌<◌, Bool, true, false, not, cond, List, [], ◌∷◌, ◌++◌, length, refl, sym, ◌∙◌, subst, arith}
 use Rattle.std.specs.Prelude.{Some, slice_get}
-use Rattle.std.specs.List.{list_all, list_any}
 use Rattle.std.proofs.lemmas.Bool.Decides.{nat_tests}
 use Rattle.std.proofs.lemmas.Bool.{and_parts, not-true}
 use Rattle.std.proofs.lemmas.Option.{get_or_from_slice_get}
 use Rattle.k42_kinds.specs.declared.entry.Entry.{Entry}
 use Rattle.turn_core.specs.Plain.{Cell, Turns}
-use Rattle.turn_core.specs.State.{cell_at, fresh_cell, change_caller, change_cells}
+use Rattle.turn_core.specs.State.{fresh_cell, change_caller, change_cells}
 use Rattle.turn_core.specs.Names.{names, names_once}
 use Rattle.turn_core.specs.Stamps.{last_stamp}
-use Rattle.turn_core.specs.Events.{caller_drawn, cell_told, cell_opened, cell_begun, cell_closed, has_open, has_beginning, is_next, can_draw, can_hand, drawn, handed}
-use Rattle.turn_core.specs.Sound.{StandsIn, IsSound}
+use Rattle.turn_core.specs.Events.{caller_drawn, cell_told, cell_opened, cell_begun, cell_closed, is_next, can_draw, can_hand, drawn, handed}
+use Rattle.turn_core.specs.Sound.{IsSound}
 use Rattle.turn_core.proofs.Named.{once_right}
 use Rattle.turn_core.proofs.Changed.{at_changed, length-change_cells, callers-change_cells}
-use Rattle.turn_core.proofs.Growing.{with_drawn, new_stands}
-use Rattle.turn_core.proofs.Drawing.{IsNext, next_parts, above_history, IsDraw, IsTold, AreTold, draw_keeps, same_holder, told_same, told_push, told_begun}
+use Rattle.turn_core.proofs.Growing.{new_stands}
+use Rattle.turn_core.proofs.Drawing.{IsNext, next_parts, above_history, IsTold, AreTold, draw_keeps, same_holder, told_same, told_push, told_begun}
 
 -- the state after the caller drew the entry and no cell was told yet
 abbrev with_mine : Turns → ℕ → Entry → Turns

@@ -1,12 +1,10 @@
 -- A state that was just made meets every fact.
-use Rattle.std.proofs.Common.{◌≡◌, ℕ, true, false, List, [], map, replicate, length, refl, sym, subst, arith}
-use Rattle.std.specs.Prelude.{Some, None, slice_get}
+use Rattle.std.proofs.Common.{◌≡◌, ℕ, List, [], refl, sym, subst}
 use Rattle.std.proofs.lemmas.Option.{none-some}
-use Rattle.k42_places.specs.Places.{EachPlace}
 use Rattle.k42_places.proofs.EachPlaces.{EachPlace-map, EachPlace-replicate}
-use Rattle.turn_core.specs.Plain.{Cell, Caller, Turns}
+use Rattle.turn_core.specs.Plain.{Turns}
 use Rattle.turn_core.specs.State.{fresh, fresh_cell, fresh_caller, fresh_cells, fresh_callers}
-use Rattle.turn_core.specs.Sound.{IsHistory, IsCell, IsCaller, IsSound, entries_drawn, histories_of}
+use Rattle.turn_core.specs.Sound.{IsHistory, IsCell, IsCaller, IsSound, entries_drawn}
 use Rattle.turn_core.proofs.Growing.{each_push}
 
 pub sound-fresh : (lives : List ℕ) (callers : ℕ) → IsSound (fresh lives callers)

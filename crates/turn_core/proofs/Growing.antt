@@ -1,17 +1,17 @@
 -- What the facts of histories are worth after one more entry was drawn.
-use Rattle.std.proofs.Common.{◌≡◌, ◌≢◌, ℕ, zero, suc, ◌+◌, ◌<◌, ◌≤◌, ◌⊎◌, Bool, true, false, List, [], ◌∷◌, ◌++◌, length, set, get_or, refl, sym, ap, ◌∙◌, subst, inl, inr, ⊎_elim, arith}
-use Rattle.std.specs.Prelude.{Option, Some, slice_get, sum_by}
-use Rattle.std.proofs.lemmas.Bool.Decides.{nat_tests, eqb_tells}
-use Rattle.std.proofs.lemmas.List.{get_or-set_same, get_or-set_other, length-append, length-set}
+use Rattle.std.proofs.Common.{◌≡◌, ◌≢◌, ℕ, ◌+◌, ◌<◌, List, [], ◌∷◌, ◌++◌, length, sym, ap, ◌∙◌, subst, inl, inr, arith}
+use Rattle.std.specs.Prelude.{Some, slice_get}
+use Rattle.std.proofs.lemmas.Bool.Decides.{eqb_tells}
+use Rattle.std.proofs.lemmas.List.{get_or-set_same, get_or-set_other, length-append}
 use Rattle.std.proofs.lemmas.List.Sums.{sum_by-set}
 use Rattle.k42_places.specs.Places.{EachPlace}
 use Rattle.k42_places.proofs.Appended.{at_push, slice_get-append_left, slice_get-append_seam}
 use Rattle.k42_kinds.specs.declared.entry.Entry.{Entry}
-use Rattle.turn_core.specs.Plain.{Cell, Caller, Turns}
+use Rattle.turn_core.specs.Plain.{Caller, Turns}
 use Rattle.turn_core.specs.State.{caller_at, fresh_caller, change_caller}
 use Rattle.turn_core.specs.Events.{caller_drawn}
 use Rattle.turn_core.specs.Stamps.{last_stamp}
-use Rattle.turn_core.specs.Sound.{drawn_by, held_by, entries_drawn, IsRising, StandsIn, IsHistory}
+use Rattle.turn_core.specs.Sound.{drawn_by, held_by, entries_drawn, StandsIn, IsHistory}
 use Rattle.turn_core.proofs.Rising.{rising-push, rising-one}
 
 -- the callers after this one drew the entry

@@ -1,14 +1,13 @@
 -- Each event keeps every fact, and leaves other callers and other cells.
-use Rattle.std.proofs.Common.{◌≡◌, ◌≢◌, ℕ, zero, suc, ◌<◌, Bool, true, false, not, ◌&&◌, List, [], ◌∷◌, ◌++◌, length, refl, sym, ap, ◌∙◌, subst, arith}
-use Rattle.std.specs.Prelude.{All, Option, Some, None, IsTrue, IsFalse, if◌then◌else◌}
+use Rattle.std.proofs.Common.{◌≡◌, ℕ, ◌<◌, true, not, [], ◌∷◌, length, refl, ap, arith}
+use Rattle.std.specs.Prelude.{All, Option, Some, None}
 use Rattle.std.proofs.lemmas.Bool.Decides.{nat_tests}
 use Rattle.std.proofs.lemmas.Bool.{and_parts}
-use Rattle.k42_kinds.specs.declared.entry.Entry.{Entry}
 use Rattle.turn_core.specs.declared.event.TurnEvent.{TurnEvent}
 use Rattle.turn_core.specs.declared.event.TurnEvent.TheVariants.{Lock, Take, Draw, Alone, Hand, Put, Unlock}
-use Rattle.turn_core.specs.Plain.{Cell, Caller, Turns}
-use Rattle.turn_core.specs.State.{cell_at, caller_at}
-use Rattle.turn_core.specs.Events.{caller_of, cells_of, is_caller, holds, holds_home, has_taken, is_possible, effect, cell_taken, cell_put, locked}
+use Rattle.turn_core.specs.Plain.{Turns}
+use Rattle.turn_core.specs.State.{cell_at}
+use Rattle.turn_core.specs.Events.{caller_of, cells_of, is_caller, holds, is_possible, effect, cell_taken, cell_put, locked}
 use Rattle.turn_core.specs.Sound.{IsSound}
 use Rattle.turn_core.proofs.Locking.{keeps_moved, keeps_lock, keeps_unlock}
 use Rattle.turn_core.proofs.Drawn.{keeps_alone, keeps_draw, keeps_hand}

@@ -1,22 +1,21 @@
 -- Each event that locks, takes, puts or unlocks a cell keeps every fact.
-use Rattle.std.proofs.Common.{◌≡◌, ◌≢◌, ℕ, zero, suc, ◌+◌, ◌<◌, ◌≤◌, Bool, true, false, not, cond, eqb, ◌==◌, ◌&&◌, ◌||◌, List, [], ◌∷◌, ◌++◌, length, set, get_or, refl, sym, ap, ◌∙◌, subst, inl, inr, ◌⊎◌, arith}
-use Rattle.std.specs.Prelude.{Option, Some, None, slice_get, is_some, sum_by}
-use Rattle.std.specs.List.{list_any, filter}
+use Rattle.std.proofs.Common.{◌≡◌, ◌≢◌, ℕ, ◌<◌, Bool, true, false, not, cond, eqb, ◌==◌, ◌||◌, List, [], ◌∷◌, ◌++◌, length, refl, sym, ap, ◌∙◌, subst, inl, inr, arith}
+use Rattle.std.specs.Prelude.{Some, None, slice_get, is_some}
+use Rattle.std.specs.List.{filter}
 use Rattle.std.proofs.lemmas.Bool.Decides.{nat_tests, eqb_tells}
 use Rattle.std.proofs.lemmas.Bool.{and_parts, not-true}
-use Rattle.std.proofs.lemmas.Option.{slice_get_within, slice_get-get_or, get_or_from_slice_get, same_Some, none-some}
+use Rattle.std.proofs.lemmas.Option.{slice_get-get_or, same_Some, none-some}
 use Rattle.std.proofs.lemmas.List.{length-set, get_or-set_same, get_or-set_other}
 use Rattle.std.proofs.lemmas.List.Sums.{sum_by-set}
 use Rattle.std.proofs.lemmas.List.Folds.{list_any-append}
-use Rattle.k42_places.specs.Places.{EachPlace}
-use Rattle.k42_places.proofs.EachPlaces.{EachPlace-set_else, EachPlace-then}
+use Rattle.k42_places.proofs.EachPlaces.{EachPlace-set_else}
 use Rattle.k42_places.proofs.Written.{get_or-set_related}
 use Rattle.k42_kinds.specs.declared.entry.Entry.{Entry}
 use Rattle.turn_core.specs.Plain.{Cell, Caller, Turns}
 use Rattle.turn_core.specs.State.{cell_at, caller_at, fresh_cell, fresh_caller, change_cell, change_caller}
 use Rattle.turn_core.specs.Names.{names, names_once}
-use Rattle.turn_core.specs.Events.{is_caller, holds, cell_locked, cell_unlocked, cell_taken, cell_put, caller_locked, caller_unlocked}
-use Rattle.turn_core.specs.Sound.{drawn_by, held_by, holder_of, entries_drawn, histories_of, StandsIn, IsHistory, IsCell, IsCaller, IsSound}
+use Rattle.turn_core.specs.Events.{cell_locked, cell_unlocked, caller_locked, caller_unlocked}
+use Rattle.turn_core.specs.Sound.{drawn_by, held_by, holder_of, entries_drawn, histories_of, IsHistory, IsCell, IsCaller, IsSound}
 use Rattle.turn_core.proofs.Drawing.{same_holder}
 
 -- one cell changes, but for its lock and its histories

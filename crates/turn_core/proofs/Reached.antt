@@ -1,21 +1,20 @@
 -- What holds in every state that events reach from a new one, and in every sound state.
-use Rattle.std.proofs.Common.{◌≡◌, ℕ, zero, suc, ◌<◌, ◌≤◌, ◌⊎◌, Bool, true, false, cond, List, [], ◌∷◌, length, get_or, refl, sym, ap, ◌∙◌, subst, inl, inr, arith}
-use Rattle.std.specs.Prelude.{All, Any, Option, Some, None, slice_get}
+use Rattle.std.proofs.Common.{◌≡◌, ℕ, ◌<◌, ◌≤◌, ◌⊎◌, Bool, true, false, cond, List, [], ◌∷◌, length, refl, sym, ◌∙◌, subst, inl, inr, arith}
+use Rattle.std.specs.Prelude.{Some, slice_get}
 use Rattle.std.proofs.lemmas.Bool.{cases_lt}
 use Rattle.std.proofs.lemmas.List.{length-map, length-replicate, get_or_past}
 use Rattle.std.proofs.lemmas.Option.{slice_get-get_or, none-some}
 use Rattle.k42_places.proofs.Appended.{at_push}
 use Rattle.k42_kinds.specs.declared.entry.Entry.{Entry}
 use Rattle.turn_core.specs.declared.event.TurnEvent.{TurnEvent}
-use Rattle.turn_core.specs.Plain.{Cell, Caller, Turns}
+use Rattle.turn_core.specs.Plain.{Caller, Turns}
 use Rattle.turn_core.specs.State.{cell_at, caller_at, fresh, fresh_cell, fresh_caller}
-use Rattle.turn_core.specs.Events.{caller_of, cells_of, is_possible, effect}
-use Rattle.turn_core.specs.Sound.{drawn_by, histories_of, entries_drawn, IsRising, StandsIn, IsHistory, IsCell, IsCaller, IsSound}
-use Rattle.turn_core.specs.Runs.{happens, run, NamesThose, AreInRange, IsReached, IsHistoryOf, NumbersItsEntries, StandsAt, StandsOnce}
+use Rattle.turn_core.specs.Events.{is_possible, effect}
+use Rattle.turn_core.specs.Sound.{drawn_by, histories_of, entries_drawn, IsRising, IsHistory, IsCaller, IsSound}
+use Rattle.turn_core.specs.Runs.{happens, run, NamesThose, AreInRange, IsReached, NumbersItsEntries, StandsAt, StandsOnce}
 use Rattle.turn_core.proofs.Kept.{IsInRange, keeps_effect}
-use Rattle.turn_core.proofs.After.{HasAsMany, as_many-effect}
+use Rattle.turn_core.proofs.After.{as_many-effect}
 use Rattle.turn_core.proofs.Fresh.{sound-fresh}
-use Rattle.turn_core.proofs.Drawing.{bounded_entry}
 
 -- a state with so many cells and callers
 record IsKept (cells callers : ℕ) (s : Turns) : Type 0 where

@@ -1,5 +1,5 @@
 -- What an event's step promises.
-use Rattle.std.specs.Prelude.{◌≡◌, Bool, true, false, Result, Ok, Err, if◌then◌else◌}
+use Rattle.std.specs.Prelude.{◌≡◌, Bool, true, false, Result, Ok, Err}
 use Rattle.k42_memory.specs.declared.Memory.{Memory}
 use Rattle.turn_core.specs.declared.event.TurnEvent.{TurnEvent}
 use Rattle.turn_core.specs.Plain.{Turns}

@@ -1,12 +1,12 @@
 -- For each event where it is possible and what its effect is.
-use Rattle.std.specs.Prelude.{ℕ, ◌+◌, ◌<◌, Bool, true, false, not, ◌&&◌, ◌==◌, nat_lt, if◌then◌else◌, List, [], ◌∷◌, ◌++◌, length, Option, Some, None}
+use Rattle.std.specs.Prelude.{ℕ, ◌+◌, ◌-◌, ◌^◌, Bool, true, false, not, ◌&&◌, ◌==◌, nat_lt, if◌then◌else◌, List, [], ◌∷◌, ◌++◌, length, Option, Some, None}
 use Rattle.std.specs.List.{list_all, filter}
 use Rattle.k42_kinds.specs.declared.entry.Entry.{Entry}
 use Rattle.turn_core.specs.declared.event.TurnEvent.{TurnEvent}
 use Rattle.turn_core.specs.declared.event.TurnEvent.TheVariants.{Lock, Take, Draw, Alone, Hand, Put, Unlock}
 use Rattle.turn_core.specs.Plain.{Cell, Caller, Turns}
-use Rattle.turn_core.specs.State.{cell_at, caller_at, put_cell, put_caller, change_cell, change_caller, change_cells}
-use Rattle.turn_core.specs.Names.{names, names_once}
+use Rattle.turn_core.specs.State.{cell_at, caller_at, change_cell, change_caller, change_cells}
+use Rattle.turn_core.specs.Names.{names_once}
 use Rattle.turn_core.specs.Stamps.{next_stamp}
 
 abbrev pub is_caller : Option ℕ → ℕ → Bool
@@ -35,7 +35,7 @@ is_empty (entry ∷ entries) = false
 
 -- a cell is closed and has another life left, or was not drawn at in this one
 abbrev pub may_begin : Cell → Bool
-may_begin x = if x.closed then nat_lt x.life 4294967294 else is_empty x.history
+may_begin x = if x.closed then nat_lt x.life (2 ^ 32 - 2) else is_empty x.history
 
 -- it has taken the cell, where a life may begin
 abbrev pub has_beginning : Turns → ℕ → ℕ → Bool

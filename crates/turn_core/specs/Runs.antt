@@ -1,11 +1,11 @@
 -- Lists of events from a state, and what is true after each.
-use Rattle.std.specs.Prelude.{ℕ, ◌≡◌, ◌<◌, ◌≤◌, if◌then◌else◌, List, [], ◌∷◌, length, All, Some, slice_get}
+use Rattle.std.specs.Prelude.{ℕ, ◌≡◌, ◌<◌, if◌then◌else◌, List, [], ◌∷◌, length, All, Some, slice_get}
 use Rattle.k42_kinds.specs.declared.entry.Entry.{Entry}
 use Rattle.turn_core.specs.declared.event.TurnEvent.{TurnEvent}
-use Rattle.turn_core.specs.Plain.{Cell, Caller, Turns}
-use Rattle.turn_core.specs.State.{fresh, cell_at, IsPlan}
+use Rattle.turn_core.specs.Plain.{Turns}
+use Rattle.turn_core.specs.State.{fresh, cell_at}
 use Rattle.turn_core.specs.Events.{caller_of, cells_of, is_possible, effect}
-use Rattle.turn_core.specs.Sound.{drawn_by, histories_of, entries_drawn, IsRising}
+use Rattle.turn_core.specs.Sound.{drawn_by, histories_of}
 
 -- the state after an event; one that is not possible changes nothing
 abbrev pub happens : Turns → TurnEvent → Turns

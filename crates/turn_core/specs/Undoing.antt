@@ -1,5 +1,5 @@
 -- What gives back a step for which there was no memory in the end.
-use Rattle.std.specs.Prelude.{ℕ, ◌-◌, Bool, true, if◌then◌else◌, List, [], take, length, slice_index_or}
+use Rattle.std.specs.Prelude.{◌-◌, Bool, true, if◌then◌else◌, List, [], take, length, slice_index_or}
 use Rattle.k42_kinds.specs.declared.entry.Entry.{Entry}
 use Rattle.turn_core.specs.Plain.{Cell, Caller}
 

@@ -1,4 +1,4 @@
-use Rattle.std.proofs.Common.{◌≡◌, ◌∷◌, List, ℕ, true, rules, subst}
+use Rattle.std.proofs.Common.{◌≡◌, ◌∷◌, true, rules, subst}
 use Rattle.std.specs.List.{list_all}
 use Rattle.turn_core.specs.State.{cell_at, change_cell}
 use Rattle.turn_core.specs.Names.{names_once}
