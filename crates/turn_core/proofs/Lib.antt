@@ -1,0 +1,13 @@
+pub mod Undone
+pub mod Named
+pub mod Changed
+pub mod Rising
+pub mod Growing
+pub mod Drawing
+pub mod Drawn
+pub mod Locking
+pub mod Kept
+pub mod After
+pub mod Fresh
+pub mod Reached
+pub mod Alone

@@ -1,0 +1,5 @@
+use Rattle.turn_core.proofs.Reached.{reached-sound}
+use Rattle.turn_core.proofs.laws.stays_sound.Goals as goal
+
+pub returns : goal.returns
+returns c s reached = reached-sound s reached

@@ -1,0 +1,9 @@
+pub mod Plain
+pub mod State
+pub mod Names
+pub mod Stamps
+pub mod Events
+pub mod Undoing
+pub mod Applies
+pub mod Sound
+pub mod Runs

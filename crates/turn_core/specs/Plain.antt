@@ -1,0 +1,19 @@
+-- The state as contracts see it: the fields of the code, with plain lists.
+use Rattle.std.specs.Prelude.{ℕ, Bool, List, Option}
+use Rattle.k42_kinds.specs.declared.entry.Entry.{Entry}
+
+pub record Cell : Type 0 where
+  pub lock : Option ℕ
+  pub home : Bool
+  pub closed : Bool
+  pub life : ℕ
+  pub history : List Entry
+  pub past : List (List Entry)
+
+pub record Caller : Type 0 where
+  pub held : List ℕ
+  pub mine : List Entry
+
+pub record Turns : Type 0 where
+  pub cells : List Cell
+  pub callers : List Caller

@@ -1,0 +1,67 @@
+-- What stays true in every state that events reach from a new one.
+use Rattle.std.specs.Prelude.{ℕ, ◌≡◌, ◌<◌, ◌≤◌, true, false, List, [], ◌∷◌, ◌++◌, length, sum_by, Option, Some, slice_get, slice_index_or, is_some}
+use Rattle.k42_kinds.specs.declared.entry.Entry.{Entry}
+use Rattle.k42_places.specs.Places.{EachPlace}
+use Rattle.turn_core.specs.Plain.{Cell, Caller, Turns}
+use Rattle.turn_core.specs.State.{fresh_cell, fresh_caller}
+use Rattle.turn_core.specs.Names.{names, names_once}
+
+abbrev pub held_by : List Caller → ℕ → List ℕ
+held_by callers c = (slice_index_or callers c fresh_caller).held
+
+abbrev pub drawn_by : List Caller → ℕ → List Entry
+drawn_by callers c = (slice_index_or callers c fresh_caller).mine
+
+abbrev pub holder_of : List Cell → ℕ → Option ℕ
+holder_of cells n = (slice_index_or cells n (fresh_cell 0)).lock
+
+-- how many entries were drawn
+abbrev pub entries_drawn : List Caller → ℕ
+entries_drawn callers = sum_by (λ x. length x.mine) callers
+
+-- the histories of a cell by life, the present one last
+abbrev pub histories_of : Cell → List (List Entry)
+histories_of x = x.past ++ x.history ∷ []
+
+-- the stamps rise
+abbrev pub IsRising : List Entry → Type 0
+IsRising entries =
+    (i j : ℕ) (earlier later : Entry) → i < j → slice_get entries i ≡ Some earlier
+    → slice_get entries j ≡ Some later → earlier.stamp < later.stamp
+
+-- the entry stands in the list of its caller, at its index
+abbrev pub StandsIn : List Caller → Entry → Type 0
+StandsIn callers entry = slice_get (drawn_by callers entry.caller) entry.index ≡ Some entry
+
+-- the stamps of a history rise, and each of its entries stands in its caller's list
+pub record IsHistory (callers : List Caller) (history : List Entry) : Type 0 where
+  pub rising : IsRising history
+  pub drawn : EachPlace (λ place entry. StandsIn callers entry) history
+
+-- The histories of all lives are such, the holder's list has the cell, and a cell that is not in its
+-- place is held.
+pub record IsCell (callers : List Caller) (n : ℕ) (x : Cell) : Type 0 where
+  pub histories : EachPlace (λ life history. IsHistory callers history) (histories_of x)
+  pub holder : (c : ℕ) → x.lock ≡ Some c → c < length callers
+  pub held : (c : ℕ) → x.lock ≡ Some c → names (held_by callers c) n ≡ true
+  pub away : x.home ≡ false → is_some x.lock ≡ true
+
+-- the entry is its caller's, and its index its place
+pub record IsOwn (c place : ℕ) (entry : Entry) : Type 0 where
+  pub caller : entry.caller ≡ c
+  pub index : entry.index ≡ place
+
+-- The stamps of a caller rise, none is above the number of entries, each entry is its own, and the cells
+-- that it lists are those that it holds, each once.
+pub record IsCaller (cells : List Cell) (entries : ℕ) (c : ℕ) (x : Caller) : Type 0 where
+  pub rising : IsRising x.mine
+  pub own : EachPlace (IsOwn c) x.mine
+  pub bounded : EachPlace (λ place entry. entry.stamp ≤ entries) x.mine
+  pub holds : (n : ℕ) → names x.held n ≡ true → holder_of cells n ≡ Some c
+  pub there : (n : ℕ) → names x.held n ≡ true → n < length cells
+  pub once : names_once x.held ≡ true
+
+-- a state that meets every fact
+pub record IsSound (s : Turns) : Type 0 where
+  pub cells : EachPlace (IsCell s.callers) s.cells
+  pub callers : EachPlace (IsCaller s.cells (entries_drawn s.callers)) s.callers

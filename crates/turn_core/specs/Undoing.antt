@@ -1,0 +1,29 @@
+-- What gives back a step for which there was no memory in the end.
+use Rattle.std.specs.Prelude.{◌-◌, Bool, true, if◌then◌else◌, List, [], take, length, slice_index_or}
+use Rattle.k42_kinds.specs.declared.entry.Entry.{Entry}
+use Rattle.turn_core.specs.Plain.{Cell, Caller}
+
+-- without the last entry of its history
+abbrev pub cell_untold : Cell → Cell
+cell_untold x = record x { history = take (length x.history - 1) x.history }
+
+-- the last of the lists, none where there is none
+abbrev pub last_list : List (List Entry) → List Entry
+last_list lists = slice_index_or lists (length lists - 1) []
+
+-- closed in its former life again
+abbrev pub cell_reclosed : Cell → Cell
+cell_reclosed x = record x {
+  closed = true;
+  life = x.life - 2;
+  history = last_list x.past;
+  past = take (length x.past - 1) x.past;
+}
+
+-- without the entry with which its new life began
+abbrev pub cell_unbegun : Bool → Cell → Cell
+cell_unbegun was_closed x = if was_closed then cell_reclosed x else cell_untold x
+
+-- without the last of its entries
+abbrev pub caller_undrawn : Caller → Caller
+caller_undrawn x = record x { mine = take (length x.mine - 1) x.mine }

@@ -1,0 +1,24 @@
+//! Cells with their locks and histories, and the entries that callers draw at them, as a machine of events.
+#![tactic(auto)]
+
+mod cells;
+mod draws;
+mod event;
+mod handing;
+mod laws;
+mod machine;
+mod naming;
+mod stamps;
+mod start;
+mod state;
+mod telling;
+
+pub use event::TurnEvent;
+pub use laws::{
+    entries_are_numbered, entries_stand_once, others_stay, stamps_are_few, stamps_rise, stays_sound,
+};
+pub use machine::apply;
+pub use state::{TurnCaller, TurnCell, TurnState};
+
+#[cfg(test)]
+mod tests;
