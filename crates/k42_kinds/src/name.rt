@@ -18,7 +18,7 @@ use std::marker::Model;
 #[derive(Clone, Copy, Debug)]
 pub struct Name {
     bytes: [u8; NAME_BYTES],
-    len: usize,
+    len: u8,
 }
 
 impl Model for Name {
@@ -54,7 +54,7 @@ impl Name {
         cells[..bytes.len()].copy_from_slice(bytes);
         Some(Name {
             bytes: cells,
-            len: bytes.len(),
+            len: bytes.len() as u8,
         })
     }
 
@@ -62,7 +62,7 @@ impl Name {
     pub fn bytes(&self) -> &[u8]
         ensures { result.now ≡ self.now }
     {
-        &self.bytes[..self.len]
+        &self.bytes[..usize::from(self.len)]
     }
 }
 

@@ -17,7 +17,7 @@ use std::marker::Model;
 #[derive(Clone, Copy, Debug)]
 pub struct Text {
     bytes: [u8; TEXT_BYTES],
-    len: usize,
+    len: u8,
 }
 
 impl Model for Text {
@@ -53,7 +53,7 @@ impl Text {
         cells[..bytes.len()].copy_from_slice(bytes);
         Some(Text {
             bytes: cells,
-            len: bytes.len(),
+            len: bytes.len() as u8,
         })
     }
 
@@ -61,7 +61,7 @@ impl Text {
     pub fn bytes(&self) -> &[u8]
         ensures { result.now ≡ self.now }
     {
-        &self.bytes[..self.len]
+        &self.bytes[..usize::from(self.len)]
     }
 }
 
