@@ -13,7 +13,7 @@ use crate::status::Status;
 use crate::verdict::verdict_in;
 use crate::words::Form;
 use k42_memory::Memory;
-use record_text::{lines_of, print};
+use record_text::print_history;
 use script_text::{ParseEnd, Script, ScriptFault, parse};
 use std::alloc::Global;
 
@@ -61,10 +61,7 @@ fn record<G: Gate>(
     ensures { IfOk result (λ text. IsRecordText script.now version text.items) }
 {
     let history = run_alone(alloc, script, gate)?;
-    let lines = lines_of(alloc, script, &history, version)?;
-    // A long history and its lines need not be held beside the text.
-    drop(history);
-    print(alloc, script, &lines)
+    print_history(alloc, script, &history, version)
 }
 
 /// What a script that is to be run has to answer.

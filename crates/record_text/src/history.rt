@@ -36,7 +36,7 @@ pub fn numbers_of_all(alloc: Global, script: &Script) -> Result<Items<Items<u32>
 }
 
 /// The number of the line that an entry answers.
-fn number_of(numbers: &Items<Items<u32>>, entry: &Entry) -> u32
+pub fn number_of(numbers: &Items<Items<u32>>, entry: &Entry) -> u32
     requires { HasNumber numbers.now entry.now.caller entry.now.index }
     ensures { result ≡ slice_index (numbers_at numbers.now entry.now.caller) entry.now.index }
 {
@@ -56,7 +56,7 @@ fn extra_of(entry: &Entry, version: Version) -> Option<Extra>
 }
 
 /// The line of an entry that answers the script's line of this number.
-fn line_at(entry: &Entry, number: u32, version: Version) -> RecordLine
+pub fn line_at(entry: &Entry, number: u32, version: Version) -> RecordLine
     ensures { result ≡ told.line_at (version_number version) number entry.now }
 {
     RecordLine {

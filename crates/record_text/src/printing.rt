@@ -1,5 +1,6 @@
 ghost use Rattle.std.specs.Prelude.{◌≡◌, ◌<◌, ◌∷◌, ◌++◌, [], length, All, IfOk, OnOk};
 ghost use Rattle.std.specs.List.{flat_map};
+ghost use Rattle.record_text.specs.Histories.{HasLine, record_of, history_text};
 ghost use Rattle.record_text.specs.Tokens.{behind_spaces, line_with};
 ghost use Rattle.record_text.specs.Texts as spelling;
 ghost use Rattle.record_text.specs.Spelling.{HasSpelling, HasText};
@@ -8,10 +9,13 @@ mod acts;
 mod answers;
 mod tokens;
 
+use crate::history::{line_at, number_of, numbers_of_all};
 use crate::printing::acts::put_act;
 use crate::printing::answers::put_answer;
 use crate::printing::tokens::{put_digits, put_marked, put_number, put_token};
 use crate::record::{Extra, Record, RecordLine};
+use crate::version::Version;
+use k42_kinds::Entry;
 use k42_limits::LINE_FEED;
 use k42_memory::Memory;
 use script_text::Script;
@@ -115,5 +119,29 @@ pub fn print(alloc: Global, script: &Script, lines: &Record) -> Result<Vec<u8>, 
     put_first(&mut out, lines.version)?;
     put_lines(&mut out, script, lines.lines.as_slice())?;
     put_last(&mut out, lines.lines.len())?;
+    Ok(out)
+}
+
+/// The text of a history: that of the record that `lines_of` gives, of which no more than one line
+/// is held at a time.
+pub fn print_history(
+    alloc: Global,
+    script: &Script,
+    entries: &Vec<Entry>,
+    version: u32,
+) -> Result<Vec<u8>, Memory>
+    requires placed { All (HasLine script.now) entries.now.items }
+    requires spelled { HasText script.now (record_of script.now entries.now.items version) }
+    ensures { IfOk result (λ text. text.items ≡ history_text script.now entries.now.items version) }
+{
+    let told_version = Version::of(version);
+    let numbers = numbers_of_all(alloc, script)?;
+    let mut out = Vec::new(alloc);
+    put_first(&mut out, version)?;
+    for entry in entries {
+        let number = number_of(&numbers, entry);
+        put_line(&mut out, script, &line_at(entry, number, told_version))?;
+    }
+    put_last(&mut out, entries.len())?;
     Ok(out)
 }
