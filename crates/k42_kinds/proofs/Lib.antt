@@ -6,6 +6,7 @@ pub mod LongerHistories
 pub mod ExampleLines
 pub mod AcceptedHistories
 pub mod LegalSoFar
+pub mod RowSteps
 pub mod RefusedHistories
 pub mod Implementations
 pub mod SeenMaps

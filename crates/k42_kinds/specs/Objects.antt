@@ -128,3 +128,35 @@ plain_object kind = record {
   ended = states.Dead;
   is_ended = is_dead;
 }
+
+-- The objects of each kind alone. They have no end: what was destroyed is no counter, no directory
+-- and no pages any more.
+abbrev pub counter_object : OneThread ℕ
+counter_object = record {
+  start = 0;
+  takes = takes_operation kinds.Counter;
+  after = counter_after;
+  reply = counter_reply;
+  ended = 0;
+  is_ended = λ value. false;
+}
+
+abbrev pub directory_object : OneThread Directory
+directory_object = record {
+  start = finite.empty;
+  takes = takes_operation kinds.Directory;
+  after = directory_after;
+  reply = directory_reply;
+  ended = finite.empty;
+  is_ended = λ names. false;
+}
+
+abbrev pub pages_object : OneThread Pages
+pages_object = record {
+  start = finite.empty;
+  takes = takes_operation kinds.Pages;
+  after = pages_after;
+  reply = pages_reply;
+  ended = finite.empty;
+  is_ended = λ pages. false;
+}

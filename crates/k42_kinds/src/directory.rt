@@ -90,7 +90,7 @@ fn reply_with(found: Option<u64>) -> Reply
 }
 
 /// One operation of a directory. Another kind's operation leaves it, and so does want of memory.
-pub(crate) fn step_directory(names: &mut DirectoryState, op: &Op) -> Result<Reply, Memory>
+pub fn step_directory(names: &mut DirectoryState, op: &Op) -> Result<Reply, Memory>
     ensures replied { IfOk result (λ reply. reply ≡ directory_reply names.old op.now) }
     ensures moved { OnOk result (names.new ≡ directory_after names.old op.now) }
     ensures memory { OnErr result (names.new ≡ names.old) }

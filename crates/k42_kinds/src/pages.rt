@@ -93,7 +93,7 @@ fn reply_with(found: Option<Page>) -> Reply
 }
 
 /// One operation of the pages. Another kind's operation leaves them, and so does want of memory.
-pub(crate) fn step_pages(pages: &mut PagesState, op: &Op) -> Result<Reply, Memory>
+pub fn step_pages(pages: &mut PagesState, op: &Op) -> Result<Reply, Memory>
     ensures replied { IfOk result (λ reply. reply ≡ pages_reply pages.old op.now) }
     ensures moved { OnOk result (pages.new ≡ pages_after pages.old op.now) }
     ensures memory { OnErr result (pages.new ≡ pages.old) }
