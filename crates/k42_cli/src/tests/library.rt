@@ -44,14 +44,14 @@ enum Refusal {
 }
 
 /// Judges the record that one source gives by the script that another gives.
-fn judge<S: Source>(alloc: Global, script: &mut S, record: &mut S) -> Result<(), Refusal>
+fn judge<S: Source>(alloc: Global, script: &mut S, written: &mut S) -> Result<(), Refusal>
     // `read_all` asks that one more fault can be counted.
     requires script { S.faults script.old < 2 ^ 64 - 1 }
-    requires record { S.faults record.old < 2 ^ 64 - 1 }
+    requires written { S.faults written.old < 2 ^ 64 - 1 }
 {
     let bytes = read_all(alloc, script, SCRIPT_BYTES)?;
     let script = parse(alloc, &bytes)?;
-    let bytes = read_all(alloc, record, INPUT_BYTES)?;
+    let bytes = read_all(alloc, written, INPUT_BYTES)?;
     // So there are fewer than 2^31 bytes, as `read` and `check` ask.
     if bytes.len() > INPUT_BYTES {
         return Err(Refusal::TooLong);
