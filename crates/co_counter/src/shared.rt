@@ -1,0 +1,115 @@
+ghost use Rattle.std.specs.Prelude.{◌==◌, refl};
+ghost use Rattle.std.proofs.Common.{arith};
+ghost use Rattle.k42_kinds.specs.declared.entry.Act.TheVariants.{Swap};
+ghost use Rattle.k42_kinds.specs.declared.operation.LayoutName.TheVariants.{Shared};
+ghost use Rattle.k42_kinds.specs.Objects.{counter_object};
+ghost use Rattle.co_counter.specs.Counters.{IsValue, IsOneValue, shared};
+ghost use Rattle.co_counter.specs.SharedLaws.{shared_steps, shared_steps_all, shared_stands};
+
+use k42_kinds::{Act, Kind, Layout, LayoutName, Op, Reach, Reply, step_counter};
+use k42_memory::Memory;
+use std::alloc::Global;
+
+/// A counter in one part, which all processors use.
+#[derive(Clone, Copy, Debug, PartialEq, Eq)]
+pub struct SharedCounter;
+
+impl Kind for SharedCounter {
+    type State = u64;
+
+    ghost object = { λ _. counter_object };
+
+    fn empty(&self, _alloc: Global) -> u64 {
+        0
+    }
+
+    fn step(&self, _alloc: Global, state: &mut u64, op: &Op) -> Result<Reply, Memory> {
+        Ok(step_counter(state, op))
+    }
+}
+
+impl Layout for SharedCounter {
+    type Part = u64;
+
+    ghost tag_of = { λ _. 0 };
+
+    ghost has_tag = { λ _ tag. tag == 0 };
+
+    ghost ways = { λ _. shared };
+
+    ghost whole = { λ _. IsOneValue };
+
+    ghost serves = { λ _. IsValue };
+
+    ghost admitted = { λ _ state. state };
+
+    ghost act_of = { λ _. Swap Shared };
+
+    fn tag(&self) -> u32 {
+        0
+    }
+
+    fn with_tag(&self, _tag: u32) -> Self {
+        SharedCounter
+    }
+
+    fn reach(&self, _op: &Op, _proc: u32, _procs: u32) -> Reach {
+        Reach::One(0)
+    }
+
+    fn empty_part(&self, _alloc: Global, _cell: u32, _procs: u32) -> Result<u64, Memory> {
+        Ok(0)
+    }
+
+    fn step_one(&self, _alloc: Global, part: &mut u64, op: &Op) -> Result<Reply, Memory> {
+        Ok(step_counter(part, op))
+    }
+
+    fn step_all(&self, _alloc: Global, parts: &mut Vec<u64>, op: &Op) -> Result<Reply, Memory> {
+        Ok(step_counter(&mut parts[0], op))
+    }
+
+    fn export(&self, _alloc: Global, parts: &Vec<u64>) -> Result<u64, Memory> {
+        Ok(parts[0])
+    }
+
+    fn import(&self, alloc: Global, state: &u64, _procs: u32) -> Result<Vec<u64>, Memory> {
+        let mut parts = Vec::new(alloc);
+        parts.push(*state)?;
+        Ok(parts)
+    }
+
+    fn admit(&self, state: u64) -> u64 {
+        state
+    }
+
+    fn act(&self) -> Act {
+        Act::Swap(LayoutName::Shared)
+    }
+
+    ghost steps = { λ _ procs proc values op known there takes whole. shared_steps procs values op whole };
+
+    ghost steps_all = { λ _ procs values op known some takes whole. shared_steps_all procs values op whole };
+
+    ghost reaches = { λ _ procs proc op known there takes. omega arith };
+
+    ghost stands = { λ _ procs values known some whole. shared_stands procs values whole };
+
+    ghost begins = { λ _ procs known some. record { whole = omega arith; empty = λ live. refl } };
+
+    ghost imports = { λ _ procs value known some served. record { whole = served; back = refl } };
+
+    ghost ends = { λ _ value known served. refl };
+
+    ghost admits = { λ _ before value known live same served. served };
+
+    ghost swaps = { λ _ value known number. refl };
+
+    ghost asks = { λ _. refl };
+
+    ghost agrees = { λ _ other same tags. record {
+      ways = refl;
+      whole = λ procs values whole. whole;
+      served = λ value served. served;
+    } };
+}
