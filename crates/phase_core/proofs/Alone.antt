@@ -1,4 +1,4 @@
--- What an event leaves alone, for those caller_of cite an event and not its parts.
+-- What an event leaves alone, for those who cite an event and not its parts.
 use Rattle.std.proofs.Common.{◌≡◌, ℕ, ◌<◌, ◌≢◌, Bool, true, false, cond, ltb, eqb, List, Option, Some, None, length, set, length-set, refl}
 use Rattle.std.specs.List.{slice_get}
 use Rattle.std.specs.Option.{unwrap_or}

@@ -23,7 +23,7 @@ pub record Follows (course course' : Course) (look look' : Outlook) (g : Caller)
   pub tracked : has_moved look.stage ≡ false → has_moved look'.stage ≡ false
   pub row : (i : ℕ) → IsRow course look g i → IsRow course' look' g i
 
--- where only the course changes, caller_of was older must stay so
+-- where only the course changes, who was older must stay so
 pub Follows-older : (course course' : Course) (look : Outlook) (g : Caller) → (IsOlder course g → IsOlder course' g)
     → Follows course course' look look g
 Follows-older course course' look g older = record {
