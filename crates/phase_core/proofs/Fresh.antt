@@ -1,6 +1,7 @@
 -- A new state meets every fact.
-use Rattle.std.proofs.Common.{◌≡◌, ℕ, zero, suc, ◌<◌, ◌≤◌, false, List, None, length, replicate, sym, refl, subst, inl, arith}
+use Rattle.std.proofs.Common.{◌≡◌, ℕ, zero, suc, ◌<◌, ◌≤◌, false, List, None, length, map, replicate, sym, refl, subst, inl, arith}
 use Rattle.std.proofs.lemmas.List.{length-map, length-replicate}
+use Rattle.k42_limits.specs.declared.TheConstants.{LAST_INCARNATION}
 use Rattle.gen_core.specs.State as turns
 use Rattle.k42_places.proofs.EachPlaces.{EachPlace-map, EachPlace-replicate}
 use Rattle.k42_places.proofs.Counts.{count_by_none}
@@ -9,15 +10,24 @@ use Rattle.phase_core.specs.declared.caller.SwapAt.TheVariants.{Idle}
 use Rattle.phase_core.specs.Callers.{IsVisitor}
 use Rattle.phase_core.specs.Objects.{counts_at, many_counted, IsEntry, IsObject, IsCounted}
 use Rattle.phase_core.specs.Outlooks.{Outlook, Scene}
-use Rattle.phase_core.specs.Plain.{Phases}
+use Rattle.phase_core.specs.Plain.{Object, Phases}
 use Rattle.phase_core.specs.Sound.{IsInScene, IsSound}
 use Rattle.phase_core.specs.State.{empty_entry, note_at, span_at, new_object, new_visitor, new_phases, IsPlan}
 
-abbrev pub fresh_look : Outlook
-fresh_look = record { swapper = None; stage = Idle; incarnation = 0; freed = 0; noted = None; settled = false }
+-- what is shared of an object that nobody has swapped yet, at an incarnation
+abbrev pub look_at : ℕ → Outlook
+look_at i = record { swapper = None; stage = Idle; incarnation = i; freed = 0; noted = None; settled = false }
 
-abbrev pub fresh_scene : ℕ → List ℕ → List ℕ → Scene
-fresh_scene procs layouts callers = record { course = fresh_course procs callers; objects = length layouts; looks = λ o. fresh_look }
+abbrev pub scene_at : ℕ → ℕ → List ℕ → List ℕ → Scene
+scene_at i procs layouts callers = record { course = fresh_course procs callers; objects = length layouts; looks = λ o. look_at i }
+
+abbrev pub object_of_age : ℕ → ℕ → ℕ → Object
+object_of_age i procs layout = record (new_object procs layout) { incarnation = i; entries = replicate procs (empty_entry i) }
+
+-- a new state but for the incarnation of its objects
+abbrev pub phases_of_age : ℕ → ℕ → List ℕ → List ℕ → Phases
+phases_of_age i procs layouts callers =
+    record (new_phases procs layouts callers) { objects = map (object_of_age i procs) layouts }
 
 nothing_noted : (n o : ℕ) → note_at (replicate n None) o ≡ None
 nothing_noted zero o = refl
@@ -34,8 +44,9 @@ nobody_counted objects callers o =
     count_by_none (λ x. counts_at x.place o) (replicate callers (new_visitor objects))
     (EachPlace-replicate (λ i x. counts_at x.place o ≡ false) callers (new_visitor objects) (λ i. refl))
 
-fresh_object : (procs callers o layout : ℕ) → layout ≤ 2 → IsObject procs callers fresh_look o (new_object procs layout)
-fresh_object procs callers o layout fits = record {
+IsObject-of_age : (i procs callers o layout : ℕ) → i ≤ LAST_INCARNATION → layout ≤ 2
+    → IsObject procs callers (look_at i) o (object_of_age i procs layout)
+IsObject-of_age i procs callers o layout young fits = record {
   bits_follow = record {
     incarnation = refl;
     freed = refl;
@@ -43,12 +54,12 @@ fresh_object procs callers o layout fits = record {
     named = refl;
     swapper_there = λ d e. absurd (cc);
     bits = (refl, refl, refl);
-    last = omega arith;
+    last = young;
     layout = fits;
   };
   within = tt;
-  many_entries = length-replicate procs (empty_entry 0);
-  entries_follow = EachPlace-replicate (IsEntry Idle 0 layout) procs (empty_entry 0)
+  many_entries = length-replicate procs (empty_entry i);
+  entries_follow = EachPlace-replicate (IsEntry Idle i layout) procs (empty_entry i)
       (λ p. record { tagged = inl (refl, refl, refl); number = refl });
   freed_rows = record {
     freed = omega arith;
@@ -60,9 +71,9 @@ fresh_object procs callers o layout fits = record {
   };
 }
 
-fresh_visitor : (procs : ℕ) (layouts callers : List ℕ) (c p : ℕ)
-    → IsVisitor (fresh_scene procs layouts callers) c (turns.fresh_caller procs p) (new_visitor (length layouts))
-fresh_visitor procs layouts callers c p = record {
+IsVisitor-of_age : (i procs : ℕ) (layouts callers : List ℕ) (c p : ℕ)
+    → IsVisitor (scene_at i procs layouts callers) c (turns.fresh_caller procs p) (new_visitor (length layouts))
+IsVisitor-of_age i procs layouts callers c p = record {
   at_rest = λ inactive. (refl, refl);
   at_place = tt;
   rows_read = λ o i has. absurd (cc);
@@ -83,25 +94,32 @@ fresh_visitor procs layouts callers c p = record {
   };
 }
 
-pub new_in_scene : (procs : ℕ) (layouts callers : List ℕ) → IsPlan procs layouts callers
-    → IsInScene (fresh_scene procs layouts callers) (new_phases procs layouts callers)
-new_in_scene procs layouts callers plan = record {
+pub in_scene_of_age : (i procs : ℕ) (layouts callers : List ℕ) → i ≤ LAST_INCARNATION → IsPlan procs layouts callers
+    → IsInScene (scene_at i procs layouts callers) (phases_of_age i procs layouts callers)
+in_scene_of_age i procs layouts callers young plan = record {
   in_course = fresh_in_course procs callers plan.turns;
-  many_objects = length-map layouts (new_object procs);
+  many_objects = length-map layouts (object_of_age i procs);
   many_callers = length-replicate (length callers) (new_visitor (length layouts));
-  objects = EachPlace-map (λ o k. IsObject procs (length callers) fresh_look o k) (new_object procs) layouts
-      (λ o layout at_o. fresh_object procs (length callers) o layout (plan.known_layouts o layout at_o));
-  counted = EachPlace-map (IsCounted (replicate (length callers) (new_visitor (length layouts)))) (new_object procs) layouts
+  objects = EachPlace-map (λ o k. IsObject procs (length callers) (look_at i) o k) (object_of_age i procs) layouts
+      (λ o layout at_o. IsObject-of_age i procs (length callers) o layout young (plan.known_layouts o layout at_o));
+  counted = EachPlace-map (IsCounted (replicate (length callers) (new_visitor (length layouts)))) (object_of_age i procs) layouts
       (λ o layout at_o. sym (nobody_counted (length layouts) (length callers) o));
   visitors = λ c g x at_g at_x.
       let visitor = new_visitor (length layouts) in
-      subst (λ y. IsVisitor (fresh_scene procs layouts callers) c g y)
-      (EachPlace-replicate (λ i y. visitor ≡ y) (length callers) visitor (λ i. refl) c x at_x)
-      (EachPlace-map (λ i f. IsVisitor (fresh_scene procs layouts callers) i f visitor) (turns.fresh_caller procs) callers
-      (λ i p at_i. fresh_visitor procs layouts callers i p) c g at_g);
+      subst (λ y. IsVisitor (scene_at i procs layouts callers) c g y)
+      (EachPlace-replicate (λ d y. visitor ≡ y) (length callers) visitor (λ d. refl) c x at_x)
+      (EachPlace-map (λ d f. IsVisitor (scene_at i procs layouts callers) d f visitor) (turns.fresh_caller procs) callers
+      (λ d p at_d. IsVisitor-of_age i procs layouts callers d p) c g at_g);
 }
+
+pub IsSound-of_age : (i procs : ℕ) (layouts callers : List ℕ) → i ≤ LAST_INCARNATION → IsPlan procs layouts callers
+    → IsSound (phases_of_age i procs layouts callers)
+IsSound-of_age i procs layouts callers young plan =
+    record { scene = scene_at i procs layouts callers; in_scene = in_scene_of_age i procs layouts callers young plan }
+
+pub IsSound-new : (procs : ℕ) (layouts callers : List ℕ) → IsPlan procs layouts callers → IsSound (new_phases procs layouts callers)
+IsSound-new procs layouts callers plan = IsSound-of_age 0 procs layouts callers (omega arith) plan
 
 pub IsSound-is_new : (s : Phases) (procs : ℕ) (layouts callers : List ℕ) → IsPlan procs layouts callers
     → s ≡ new_phases procs layouts callers → IsSound s
-IsSound-is_new s procs layouts callers plan e =
-    rw e (record { scene = fresh_scene procs layouts callers; in_scene = new_in_scene procs layouts callers plan })
+IsSound-is_new s procs layouts callers plan e = rw e (IsSound-new procs layouts callers plan)

@@ -16,6 +16,7 @@ pub mod Changed
 pub mod Fresh
 pub mod Reached
 pub mod AWholeSwap
+pub mod AtTheLast
 pub mod Ranges
 pub mod Notes
 pub mod InSound

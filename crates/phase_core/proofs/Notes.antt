@@ -1,11 +1,12 @@
 -- What the notes of a new holder give each object.
-use Rattle.std.proofs.Common.{◌≡◌, ℕ, zero, suc, ◌+◌, ◌<◌, ◌∙◌, Bool, true, false, cond, eqb, List, [], ◌∷◌, ◌++◌, Option, Some, None, length, map, get_or, set, drop, sym, refl, ap, arith}
-use Rattle.std.specs.List.{range_with_len}
+use Rattle.std.proofs.Common.{◌≡◌, ℕ, zero, suc, ◌+◌, ◌<◌, ◌∙◌, Bool, true, false, cond, eqb, ltb, List, [], ◌∷◌, ◌++◌, Option, Some, None, length, map, get_or, set, drop, sym, refl, ap, arith}
+use Rattle.std.specs.List.{range_with_len, list_all, All, AllByRecursion}
+use Rattle.std.proofs.lemmas.List.Elements.{All-from_recursion}
 use Rattle.std.proofs.Math.Seq.{set-append_seam}
 use Rattle.std.proofs.Math.Nat.{zero-add}
 use Rattle.std.proofs.lemmas.List.{length-map, append_assoc}
 use Rattle.std.proofs.lemmas.List.FromFn.{length-range_with_len}
-use Rattle.std.proofs.lemmas.Bool.{and_parts, eqb-true}
+use Rattle.std.proofs.lemmas.Bool.{and_parts, eqb-true, ltb-true}
 use Rattle.std.proofs.lemmas.Option.{same_Some, slice_get-get_or}
 use Rattle.k42_places.proofs.Rests.{drop_at}
 use Rattle.phase_core.specs.Plain.{Object}
@@ -58,3 +59,12 @@ note_fits objects (first ∷ notes) o n fit note =
         let number : first.1 ≡ n = same_Some first.1 n found in
         rw (← same, ← number) (and_parts (fits_note (get_or objects first.0 fresh_object) first.1) (fit_notes objects notes) fit).0
     by_test later false else found = later found
+
+-- notes of objects that are there, by the test and by the fact
+pub named_all : (notes : List (ℕ × ℕ)) (objects : ℕ) → list_all (λ note. ltb note.0 objects) notes ≡ true → All (λ note. note.0 < objects) notes
+named_all notes objects below = All-from_recursion (λ note. note.0 < objects) notes (each notes below) where
+  each : (notes : List (ℕ × ℕ)) → list_all (λ note. ltb note.0 objects) notes ≡ true → AllByRecursion (λ note. note.0 < objects) notes
+  each [] below = tt
+  each (note ∷ notes) below =
+      let parts = and_parts (ltb note.0 objects) (list_all (λ other. ltb other.0 objects) notes) below in
+      (ltb-true note.0 objects parts.0, each notes parts.1)

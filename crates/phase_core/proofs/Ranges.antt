@@ -209,11 +209,11 @@ pub turns_sound : (s : Phases) → IsSound s → gen.IsSound s.turns
 turns_sound s sound = record { course = sound.scene.course; in_course = sound.in_scene.in_course }
 
 -- an event of generations keeps how many callers there are
-pub turn_there : (s : Phases) (event : GenEvent) → turning event < length s.turns.callers
+pub happened_there : (s : Phases) (event : GenEvent) → turning event < length s.turns.callers
     → length (turns_happened s event).callers ≡ length s.turns.callers
-turn_there s event there = (happens_only s.turns event there).many_callers
+happened_there s event there = (happens_only s.turns event there).many_callers
 
-pub ruleset turn_ranges = (caller_there, put_same, turns_sound, turn_there)
+pub ruleset turn_ranges = (caller_there, put_same, turns_sound, happened_there)
 
 pub ruleset take_ranges = (caller_there, turns_sound, many_noted)
 

@@ -25,10 +25,13 @@ use Rattle.phase_core.proofs.Rows.{few_rows}
 use Rattle.phase_core.proofs.Kept.{event_keeps}
 use Rattle.phase_core.proofs.Changed.{happens_after}
 use Rattle.phase_core.proofs.Alone.{ChangesOnly, ChangesOnly-refl, is_leave, only_who}
-use Rattle.phase_core.proofs.Fresh.{new_in_scene, fresh_scene}
+use Rattle.phase_core.proofs.Fresh.{IsSound-new}
 
 pub same_callers : (s : Phases) → IsSound s → length s.callers ≡ length s.turns.callers
 same_callers s sound = sound.in_scene.many_callers ∙ sym sound.in_scene.in_course.many_callers
+
+pub turn_there : (s : Phases) → IsSound s → (c : ℕ) → c < length s.callers → c < length s.turns.callers
+turn_there s sound c there = rw (← (same_callers s sound)) there
 
 -- an event, possible or not
 
@@ -63,7 +66,7 @@ IsSound-run (event ∷ events) s sound in_range =
 pub reached_sound : (s : Phases) → IsReached s → IsSound s
 reached_sound s reached =
     rw reached.result (IsSound-run reached.events (new_phases reached.procs reached.layouts reached.callers)
-    (record { scene = fresh_scene reached.procs reached.layouts reached.callers; in_scene = new_in_scene reached.procs reached.layouts reached.callers reached.plan })
+    (IsSound-new reached.procs reached.layouts reached.callers reached.plan)
     (rw (length-map, length-map) reached.in_range))
 
 -- where MOVE is set nobody is inside

@@ -28,12 +28,19 @@ pub record IsUncounted (course : Course) (look : Outlook) (g : Caller) : Type 0 
   pub draining : is_draining look.stage ≡ true → IsOlder course g
   pub not_closed : is_closed look.stage ≡ false
 
+-- a caller that has read the rows may be at the place
 abbrev pub IsAtPlace : Scene → Caller → List (ℕ × ℕ) → Place → Type 0
 IsAtPlace scene g rows Out = Unit {0}
-IsAtPlace scene g rows (Missed o i) = (o < scene.objects) × IsInPresentRow (scene.looks o) rows o i × IsUncounted scene.course (scene.looks o) g
-IsAtPlace scene g rows (Direct o i) = (o < scene.objects) × IsInPresentRow (scene.looks o) rows o i × IsUncounted scene.course (scene.looks o) g
+IsAtPlace scene g rows (Missed o i) =
+    (o < scene.objects) × IsInPresentRow (scene.looks o) rows o i
+    × IsUncounted scene.course (scene.looks o) g
+IsAtPlace scene g rows (Direct o i) =
+    (o < scene.objects) × IsInPresentRow (scene.looks o) rows o i
+    × IsUncounted scene.course (scene.looks o) g
 IsAtPlace scene g rows (AtMediator o) = o < scene.objects
-IsAtPlace scene g rows (Tracked o i) = (o < scene.objects) × IsInPresentRow (scene.looks o) rows o i × (has_moved (scene.looks o).stage ≡ false)
+IsAtPlace scene g rows (Tracked o i) =
+    (o < scene.objects) × IsInPresentRow (scene.looks o) rows o i
+    × (has_moved (scene.looks o).stage ≡ false)
 IsAtPlace scene g rows (Blocked o) = o < scene.objects
 
 -- a row that an activity has read
@@ -58,7 +65,8 @@ GraceFits swap grace = grace ≡ graces.Idle
 -- the caller's swap is the one of the object that it names
 pub record IsSwap (scene : Scene) (c : ℕ) (g : Caller) (swap : SwapAt) : Type 0 where
   pub there : (o : ℕ) → named_by swap ≡ Some o → o < scene.objects
-  pub owned : (o : ℕ) → named_by swap ≡ Some o → ((scene.looks o).swapper ≡ Some c) × ((scene.looks o).stage ≡ swap)
+  pub owned : (o : ℕ) → named_by swap ≡ Some o
+      → ((scene.looks o).swapper ≡ Some c) × ((scene.looks o).stage ≡ swap)
   pub owner : (o : ℕ) → (scene.looks o).swapper ≡ Some c → named_by swap ≡ Some o
   pub inactive : (o : ℕ) → named_by swap ≡ Some o → g.active ≡ None
   pub grace : GraceFits swap g.grace

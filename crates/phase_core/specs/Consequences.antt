@@ -59,10 +59,12 @@ ReadsRow event c o = ⊥
 pub record HasOneSwap (s : Phases) (o : ℕ) : Type 0 where
   pub one : (c d : ℕ) → c < length s.callers → d < length s.callers
       → named_by (visitor_at s c).swap ≡ Some o → named_by (visitor_at s d).swap ≡ Some o → c ≡ d
-  pub set : (c : ℕ) → c < length s.callers → named_by (visitor_at s c).swap ≡ Some o → (object_at s o).swap ≡ true
-  pub swapper : (object_at s o).swap ≡ true → (c : ℕ) × (c < length s.callers) × (named_by (visitor_at s c).swap ≡ Some o)
+  pub set : (c : ℕ) → c < length s.callers → named_by (visitor_at s c).swap ≡ Some o
+      → (object_at s o).swap ≡ true
+  pub swapper : (object_at s o).swap ≡ true
+      → (c : ℕ) × (c < length s.callers) × (named_by (visitor_at s c).swap ≡ Some o)
 
--- an object whose state may be moved is alive, has a next incarnation, and all its former rows are freed
+-- the object is alive, has a next incarnation, and all its former rows are freed
 pub record IsReadyToMove (k : Object) : Type 0 where
   pub alive : k.layout < 2
   pub next : k.incarnation < LAST_INCARNATION

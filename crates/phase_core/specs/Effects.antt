@@ -69,7 +69,13 @@ abbrev pub after_reopen : ℕ → ℕ → ℕ → SwapAt
 after_reopen o p procs = if nat_lt (p + 1) procs then Reopening o (p + 1) else Opened o
 
 abbrev pub turned_over : Object → ℕ → Object
-turned_over k layout = record k { incarnation = k.incarnation + 1; layout = layout; block = false; moving = false; complete = true }
+turned_over k layout = record k {
+  incarnation = k.incarnation + 1;
+  layout = layout;
+  block = false;
+  moving = false;
+  complete = true;
+}
 
 abbrev pub unblocked : Object → Object
 unblocked k = record k { block = false; moving = false }

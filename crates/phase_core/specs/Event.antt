@@ -6,7 +6,7 @@ use Rattle.gen_core.specs.declared.event.GenEvent.{GenEvent}
 use Rattle.phase_core.specs.declared.event.PhaseEvent as code
 use Rattle.phase_core.specs.declared.event.PhaseEvent.TheVariants as code_events
 
--- what a caller, named by its number, may do next; `TakeRoleWith` is the taking of the role, with notes
+-- what a caller, named by its number, may do next; the taking of the role is `TakeRoleWith`
 pub data Event : Type 0 where
   Turn : GenEvent → Event
   TakeRoleWith : ℕ → List (ℕ × ℕ) → Event

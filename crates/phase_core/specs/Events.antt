@@ -14,11 +14,14 @@ use Rattle.phase_core.specs.declared.caller.Place.TheVariants.{Out, Direct}
 use Rattle.phase_core.specs.declared.caller.SwapAt.{SwapAt}
 use Rattle.phase_core.specs.declared.caller.SwapAt.TheVariants.{Idle, Begun, Interposing, Drained, Blocking, Moved, Opening, Reopening}
 
+-- the state after an event of the caller
+
 abbrev pub turned : Phases → GenEvent → Phases
 turned s event =
     let t = turns.effect s.turns event in
     let c = turns.caller_of event in
-    record s { turns = t; callers = slice_set s.callers c (visitor_turned event (caller_at t c).grace (visitor_at s c)) }
+    let x = visitor_turned event (caller_at t c).grace (visitor_at s c) in
+    record s { turns = t; callers = slice_set s.callers c x }
 
 abbrev pub taken_with : Phases → ℕ → List (ℕ × ℕ) → Option ℕ → Phases
 taken_with s c notes None =
@@ -39,8 +42,8 @@ installed s c o =
 abbrev pub begun : Phases → ℕ → ℕ → Phases
 begun s c o =
     let k = object_at s o in
-    if k.swap then s
-    else put_object (put_visitor s c (at_stage (visitor_at s c) (begun_as o (is_over k)))) o (record k { swap = true })
+    let x = at_stage (visitor_at s c) (begun_as o (is_over k)) in
+    if k.swap then s else put_object (put_visitor s c x) o (record k { swap = true })
 
 -- the swapper goes to a stage of its object, which changes too
 abbrev pub staged : Phases → ℕ → ℕ → SwapAt → Object → Phases
@@ -72,11 +75,10 @@ opened s c swap = s
 
 abbrev pub freed_to : Phases → ℕ → ℕ → ℕ → Phases
 freed_to s c o n =
-    let x = visitor_at s c in
     let k = object_at s o in
-    if nat_lt k.freed n
-    then put_object (put_visitor s c (record x { freeing = slice_set x.freeing o (k.freed, n) })) o (record k { freed = n })
-    else s
+    let spans = slice_set (visitor_at s c).freeing o (k.freed, n) in
+    let x = record (visitor_at s c) { freeing = spans } in
+    if nat_lt k.freed n then put_object (put_visitor s c x) o (record k { freed = n }) else s
 
 abbrev pub effect : Phases → Event → Phases
 effect s (Turn event) = turned s event
@@ -95,16 +97,21 @@ effect s (EndCall c) = put_visitor s c (at_place (visitor_at s c) Out)
 effect s (Begin c o) = begun s c o
 effect s (Interpose c) = interposed s c (visitor_at s c).swap
 effect s (Block c) =
-    let o = object_named (visitor_at s c).swap in staged s c o (Blocking o) (record (object_at s o) { block = true })
+    let o = object_named (visitor_at s c).swap in
+    staged s c o (Blocking o) (record (object_at s o) { block = true })
 effect s (Move c) = moved s c (object_named (visitor_at s c).swap)
 effect s (TurnOver c layout) =
-    let o = object_named (visitor_at s c).swap in staged s c o (Opening o 0) (turned_over (object_at s o) layout)
+    let o = object_named (visitor_at s c).swap in
+    staged s c o (Opening o 0) (turned_over (object_at s o) layout)
 effect s (Unblock c) =
-    let o = object_named (visitor_at s c).swap in staged s c o (Reopening o 0) (unblocked (object_at s o))
+    let o = object_named (visitor_at s c).swap in
+    staged s c o (Reopening o 0) (unblocked (object_at s o))
 effect s (Open c) = opened s c (visitor_at s c).swap
 effect s (Clear c) =
     let o = object_named (visitor_at s c).swap in staged s c o Idle (cleared (object_at s o))
 effect s (Free c o) = freed_to s c o (unwrap_or (note_at (visitor_at s c).noted o) 0)
+
+-- whether an event is possible
 
 -- where the swap is drained, all rows below the incarnation are freed
 abbrev pub may_give : Phases → SwapAt → Bool
@@ -137,9 +144,10 @@ is_possible s (TurnOver c layout) = is_moved (visitor_at s c).swap && nat_le lay
 is_possible s (Unblock c) = is_moved (visitor_at s c).swap
 is_possible s (Open c) = is_opening (visitor_at s c).swap
 is_possible s (Clear c) = is_ended (visitor_at s c).swap
-is_possible s (Free c o) = turns.is_quiet (caller_at s.turns c).grace && is_some (note_at (visitor_at s c).noted o)
+is_possible s (Free c o) =
+    turns.is_quiet (caller_at s.turns c).grace && is_some (note_at (visitor_at s c).noted o)
 
--- the state after an event; one that is not possible changes nothing
+-- the state after any event; one that is not possible changes nothing
 abbrev pub happens : Phases → Event → Phases
 happens s event = if is_possible s event then effect s event else s
 

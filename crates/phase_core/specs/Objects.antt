@@ -13,6 +13,8 @@ use Rattle.phase_core.specs.declared.caller.SwapAt.{SwapAt}
 use Rattle.phase_core.specs.declared.caller.SwapAt.TheVariants.{Idle, Refused, Begun, Interposing, Interposed, Draining, Drained, Blocking, Moved, Opening, Reopening, Opened}
 use Rattle.phase_core.specs.declared.object.LocalEntry.{LocalEntry}
 
+-- bits follow the swap
+
 -- BLOCK, MOVE and COMPLETE
 pub record Bits : Type 0 where
   pub block : Bool
@@ -63,6 +65,8 @@ pub record BitsFollowSwap (callers : ℕ) (look : Outlook) (o : ℕ) (k : Object
   pub last : k.incarnation ≤ LAST_INCARNATION
   pub layout : k.layout ≤ 2
 
+-- entries follow the swap
+
 pub record IsMediator (incarnation less : ℕ) (e : LocalEntry) : Type 0 where
   pub tag : e.tag ≡ 2
   pub blank : (e.layout ≡ 0) × (e.cell ≡ 0)
@@ -71,7 +75,8 @@ pub record IsMediator (incarnation less : ℕ) (e : LocalEntry) : Type 0 where
 -- empty, or direct with the object's layout and the cell that its root names
 abbrev pub IsTagged : ℕ → ℕ → LocalEntry → Type 0
 IsTagged layout p e =
-    ((e.tag ≡ 0) × (e.layout ≡ 0) × (e.cell ≡ 0)) ⊎ ((e.tag ≡ 1) × (e.layout ≡ layout) × (e.cell ≡ root_of layout p))
+    ((e.tag ≡ 0) × (e.layout ≡ 0) × (e.cell ≡ 0))
+    ⊎ ((e.tag ≡ 1) × (e.layout ≡ layout) × (e.cell ≡ root_of layout p))
 
 pub record IsOpen (incarnation layout p : ℕ) (e : LocalEntry) : Type 0 where
   pub tagged : IsTagged layout p e
@@ -80,6 +85,8 @@ pub record IsOpen (incarnation layout p : ℕ) (e : LocalEntry) : Type 0 where
 abbrev pub IsEntry : SwapAt → ℕ → ℕ → ℕ → LocalEntry → Type 0
 IsEntry stage incarnation layout p e =
     MatchBool (is_mediated stage p) (IsMediator incarnation (behind stage) e) (IsOpen incarnation layout p e)
+
+-- freed and noted rows
 
 -- no entry is below the number
 abbrev pub NoneBelow : ℕ → List LocalEntry → Type 0

@@ -22,6 +22,8 @@ pub record Scene : Type 0 where
   pub objects : ℕ
   pub looks : ℕ → Outlook
 
+-- the stages of a swap
+
 abbrev pub is_draining : SwapAt → Bool
 is_draining (Draining o) = true
 is_draining _ = false

@@ -14,7 +14,8 @@ run (event ∷ events) s = run events (happens s event)
 -- each event names one of so many callers and objects
 abbrev pub AreInRange : ℕ → ℕ → List Event → Type 0
 AreInRange callers objects [] = Unit {0}
-AreInRange callers objects (event ∷ events) = (caller_of event < callers) × NamesObjects objects event × AreInRange callers objects events
+AreInRange callers objects (event ∷ events) =
+    (caller_of event < callers) × NamesObjects objects event × AreInRange callers objects events
 
 -- a list of events leads to s from a new state
 pub record IsReached (s : Phases) : Type 0 where

@@ -96,7 +96,7 @@ new_visitor objects = record {
   swap = Idle;
 }
 
--- so many processors, an object of each layout that is named, and a caller on each processor that is named
+-- so many processors, an object of each layout, and a caller on each processor that is named
 abbrev pub new_phases : ℕ → List ℕ → List ℕ → Phases
 new_phases procs layouts callers = record {
   turns = turns.fresh procs callers;

@@ -5,7 +5,8 @@ use gen_core::GenEvent;
 pub enum PhaseEvent {
     /// An event of the generations, other than the taking of the role.
     Turn(GenEvent),
-    /// Takes the role, with notes: pairs of an object and a number below which its rows may be freed.
+    /// Takes the role, with notes: pairs of an object and the number below which its rows may be
+    /// freed.
     TakeRole(u32, Vec<(u32, u32)>),
     /// Reads the entry that its processor has for the object.
     LookUp(u32, u32),

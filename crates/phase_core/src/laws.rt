@@ -17,13 +17,13 @@ pub fn stays_sound()
 
 /// Each possible event keeps every fact, from every state that meets them.
 pub fn each_event_keeps()
-    ensures { (s : Phases) (event : Event) → IsSound s → caller_of event < length s.turns.callers
+    ensures { (s : Phases) (event : Event) → IsSound s → caller_of event < length s.callers
         → NamesObjects (length s.objects) event → IsTrue (is_possible s event) → IsSound (effect s event) }
 {}
 
 /// An event leaves all callers but its own, and all objects but one, as they were.
 pub fn others_stay()
-    ensures { (s : Phases) (event : Event) → IsSound s → caller_of event < length s.turns.callers
+    ensures { (s : Phases) (event : Event) → IsSound s → caller_of event < length s.callers
         → LeavesOthers s (happens s event) (caller_of event) (object_changed s event) }
 {}
 
@@ -56,7 +56,7 @@ pub fn freed_after_leaving()
 
 /// A caller reads rows by its own look-ups and knocks alone.
 pub fn reads_by_look_up_and_knock()
-    ensures { (s : Phases) (event : Event) (c o i : ℕ) → IsSound s → caller_of event < length s.turns.callers
+    ensures { (s : Phases) (event : Event) (c o i : ℕ) → IsSound s → caller_of event < length s.callers
         → HasRead (happens s event) c o i → HasRead s c o i ⊎ ReadsRow event c o }
 {}
 

@@ -12,7 +12,7 @@ use crate::turning::{free, turn};
 
 fn step(state: &mut PhaseState, event: &PhaseEvent) -> bool
     requires sound { IsSound state.old }
-    requires in_range { caller_of (event_seen event.now) < length state.old.turns.callers }
+    requires caller { caller_of (event_seen event.now) < length state.old.turns.callers }
     requires objects { NamesObjects (length state.old.objects) (event_seen event.now) }
     ensures { Applies result state.old state.new (event_seen event.now) }
 {
@@ -40,12 +40,12 @@ fn step(state: &mut PhaseState, event: &PhaseEvent) -> bool
 /// One event. An event that is not possible answers false.
 pub fn apply(state: &mut PhaseState, event: &PhaseEvent) -> bool
     requires sound { IsSound state.old }
-    requires in_range { caller_of (event_seen event.now) < length state.old.turns.callers }
+    requires caller { caller_of (event_seen event.now) < length state.old.callers }
     requires objects { NamesObjects (length state.old.objects) (event_seen event.now) }
     ensures applies { Applies result state.old state.new (event_seen event.now) }
     ensures sound { IsSound state.new }
     ensures procs { length state.new.turns.procs ≡ length state.old.turns.procs }
-    ensures callers { length state.new.turns.callers ≡ length state.old.turns.callers }
+    ensures callers { length state.new.callers ≡ length state.old.callers }
     ensures objects { length state.new.objects ≡ length state.old.objects }
 {
     step(state, event)
