@@ -23,3 +23,6 @@ pub use laws::{
 pub use machine::apply;
 pub use object::{LocalEntry, PhaseObject};
 pub use state::PhaseState;
+
+#[cfg(test)]
+mod tests;
