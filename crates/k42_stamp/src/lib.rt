@@ -1,0 +1,5 @@
+//! Rows of cells that fit a layout, and the one order of what their callers kept.
+#![tactic(auto)]
+
+mod laws;
+
