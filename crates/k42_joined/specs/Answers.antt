@@ -1,0 +1,82 @@
+-- What stays true of the answers of swaps, and of what is kept beside.
+use Rattle.std.specs.Prelude.{◌≡◌, ◌≢◌, ◌⊎◌, ℕ, ◌+◌, ◌<◌, ◌≤◌, Bool, true, false, ◌||◌, List, [], ◌∷◌, ◌++◌, length, Option, Some, None}
+use Rattle.k42_limits.specs.declared.TheConstants.{LAST_INCARNATION}
+use Rattle.k42_kinds.specs.declared.entry.Act.TheVariants.{Destroy}
+use Rattle.k42_kinds.specs.declared.entry.Answer.{Answer}
+use Rattle.k42_kinds.specs.declared.entry.Answer.TheVariants.{Swapped, Busy, Spent, Gone, Abandoned}
+use Rattle.k42_kinds.specs.declared.entry.Entry.{Entry}
+use Rattle.k42_kinds.specs.Histories.{AtEachPlace}
+use Rattle.k42_kinds.specs.Legal.{IsTimely, Settles}
+use Rattle.k42_stamp.specs.Orders.{In}
+use Rattle.phase_core.specs.Plain.{Object}
+use Rattle.phase_core.specs.Stages.{named_by, is_idle}
+use Rattle.phase_core.specs.declared.caller.SwapAt.{SwapAt}
+use Rattle.phase_core.specs.declared.caller.SwapAt.TheVariants.{Refused, Moved, Opening, Opened}
+use Rattle.k42_joined.specs.Plain.{Joined}
+use Rattle.k42_joined.specs.State.{many_callers, many_objects, object, incarnation, swap_of, mine, kept_of, is_handed}
+use Rattle.k42_joined.specs.Found.{swap_number}
+use Rattle.k42_joined.specs.Refusals.{is_given_up}
+
+abbrev pub is_refused : SwapAt → Bool
+is_refused (Refused o) = true
+is_refused _ = false
+
+-- the swap was turned over, and opens its object, or has
+abbrev pub is_turned : SwapAt → Object → Bool
+is_turned (Opening o p) k = true
+is_turned (Opened o) k = k.complete
+is_turned _ k = false
+
+-- the caller has drawn an entry on the object with this answer
+pub record HasAnswered {L : Type 0} (s : Joined L) (c o : ℕ) (answer : Answer) : Type 0 where
+  pub entry : Entry
+  pub drawn : In entry (mine s c)
+  pub object : entry.object ≡ o
+  pub answer : entry.answer ≡ answer
+
+-- an entry that would tell of the Busy that was found
+abbrev pub busy_entry : ℕ → ℕ → ℕ → Entry → Type 0
+busy_entry c o number entry =
+    (entry.caller ≡ c) × (entry.object ≡ o) × (entry.incarnation + 1 ≡ number) × (entry.answer ≡ Busy number)
+
+-- a refusal and an abandoned swap stand, among their caller's entries, where they are due
+abbrev pub AreTimely : List Entry → Type 0
+AreTimely entries =
+    AtEachPlace (λ before entry after.
+      ((number : ℕ) → entry.answer ≡ Busy number → IsTimely before entry after number)
+      × ((number : ℕ) → entry.answer ≡ Abandoned number → IsTimely before entry after number))
+    entries
+
+module _ {L : Type 0} (s : Joined L) where
+  -- what is kept of a caller: a swap is of the object that was begun last, which is there, and only before
+  -- and after it is an answer kept
+  pub record IsKept (c : ℕ) : Type 0 where
+    pub begun : (o : ℕ) → named_by (swap_of s c) ≡ Some o → (kept_of s c).begun ≡ Some o
+    pub there : (o : ℕ) → (kept_of s c).begun ≡ Some o → o < many_objects s
+    pub found : (answer : Answer) → (kept_of s c).found ≡ Some answer → is_idle (swap_of s c) || is_refused (swap_of s c) ≡ true
+
+  -- an answer that tells of a dead object, or of one at its last incarnation, tells the truth
+  abbrev pub IsTrueOf : Object → ℕ → Answer → Type 0
+  IsTrueOf k i Spent = (i ≡ k.incarnation) × (k.incarnation ≡ LAST_INCARNATION) × (k.layout ≢ 2)
+  IsTrueOf k i Gone = (i ≡ k.incarnation) × (k.layout ≡ 2)
+  IsTrueOf k i _ = ⊤
+
+  -- another caller has settled the swap of this number, or it is under way
+  pub record IsUnderWay (c o number : ℕ) : Type 0 where
+    pub rival : ℕ
+    pub other : rival ≢ c
+    pub there : rival < many_callers s
+    pub named : named_by (swap_of s rival) ≡ Some o
+    pub granted : is_refused (swap_of s rival) ≡ false
+    pub number : number ≡ swap_number (object s o)
+
+  pub record IsSettled (c o number : ℕ) : Type 0 where
+    pub rival : ℕ
+    pub other : rival ≢ c
+    pub entry : Entry
+    pub drawn : In entry (mine s rival)
+    pub object : entry.object ≡ o
+    pub settles : Settles number entry.answer
+
+  abbrev pub HasRival : ℕ → ℕ → ℕ → Type 0
+  HasRival c o number = IsSettled c o number ⊎ IsUnderWay c o number

@@ -1,0 +1,4 @@
+pub mod Plain
+pub mod Event
+pub mod Numbers
+pub mod State
