@@ -1,10 +1,8 @@
 -- What stays true of locks, and of the lives and the closing of cells.
-use Rattle.std.specs.Prelude.{◌≡◌, ◌≢◌, ℕ, ◌+◌, ◌-◌, ◌*◌, ◌/◌, ◌<◌, ◌≤◌, Bool, true, false, ◌&&◌, ◌||◌, ◌==◌, nat_lt, if◌then◌else◌, List, [], ◌∷◌, length, Some}
+use Rattle.std.specs.Prelude.{◌≡◌, ◌⊎◌, ℕ, ◌+◌, ◌-◌, ◌*◌, ◌/◌, ◌<◌, ◌≤◌, Bool, true, false, ◌&&◌, ◌||◌, ◌==◌, nat_lt, if◌then◌else◌, List, [], ◌∷◌, length, Some}
 use Rattle.k42_kinds.specs.declared.entry.Entry.{Entry}
 use Rattle.k42_kinds.specs.declared.entry.Answer.TheVariants.{Swapped}
-use Rattle.phase_core.specs.Stages.{object_named}
 use Rattle.turn_core.specs.Plain.{Cell}
-use Rattle.turn_core.specs.Sound as turns
 use Rattle.k42_joined.specs.Plain.{Joined}
 use Rattle.k42_joined.specs.State.{many_procs, many_callers, many_objects, object, incarnation, cell, cell_in, many_hands, is_handed}
 use Rattle.k42_joined.specs.Possible.{MayTouch}
@@ -21,10 +19,11 @@ pub record AreAsMany {L : Type 0} (s : Joined L) : Type 0 where
 abbrev pub AreLawfullyHeld : {L : Type 0} → Joined L → Type 0
 AreLawfullyHeld s = (n c : ℕ) → (cell s n).lock ≡ Some c → MayTouch s c n
 
--- A row is handed on once in its incarnation, and all rows but the one before it are freed.
-pub record IsCounted {L : Type 0} (s : Joined L) (o : ℕ) : Type 0 where
-  pub hands : many_hands s o ≡ incarnation s o + (if is_handed s o then 1 else 0)
-  pub freed : incarnation s o ≤ (object s o).freed + 1
+-- Of an object in this incarnation, so many of whose rows were handed on and freed: no row is handed on ahead
+-- of the next, and none is kept but the one before.
+pub record IsCounted (i hands freed : ℕ) : Type 0 where
+  pub hands : (hands ≡ i) ⊎ (hands ≡ i + 1)
+  pub freed : i ≤ freed + 1
 
 -- the life of those cells that are not of the parity of the incarnation
 abbrev pub other_life : ℕ → Bool → ℕ
@@ -45,18 +44,18 @@ pub record BeginsNext (i : ℕ) (handed : Bool) (x : Cell) : Type 0 where
   pub empty : handed ≡ false → x.history ≡ []
   pub begun : handed ≡ true → (entry : Entry) × (x.history ≡ entry ∷ []) × (entry.answer ≡ Swapped (i + 1))
 
--- the two cells of an object at a place of its rows
-pub record AreOfLives {L : Type 0} (s : Joined L) (o p : ℕ) : Type 0 where
-  pub present : IsOfLife (incarnation s o) (is_handed s o) (incarnation s o) (cell_in s o (incarnation s o) p)
-  pub other :
-    IsOfLife (incarnation s o) (is_handed s o) (other_life (incarnation s o) (is_handed s o))
-    (cell_in s o (incarnation s o + 1) p)
-  pub next :
-    (cell_in s o (incarnation s o + 1) p).life ≡ incarnation s o + 1
-    → BeginsNext (incarnation s o) (is_handed s o) (cell_in s o (incarnation s o + 1) p)
+-- the two cells of an object at a place of its rows: that of the incarnation's row, and the other
+pub record AreOfLives (i : ℕ) (handed : Bool) (present other : Cell) : Type 0 where
+  pub present : IsOfLife i handed i present
+  pub other : IsOfLife i handed (other_life i handed) other
+  pub next : other.life ≡ i + 1 → BeginsNext i handed other
 
 pub record AreLocked {L : Type 0} (s : Joined L) : Type 0 where
   pub many : AreAsMany s
   pub held : AreLawfullyHeld s
-  pub counted : (o : ℕ) → o < many_objects s → IsCounted s o
-  pub lives : (o p : ℕ) → o < many_objects s → p < many_procs s → AreOfLives s o p
+  pub counted :
+    (o : ℕ) → o < many_objects s → IsCounted (incarnation s o) (many_hands s o) (object s o).freed
+  pub lives :
+    (o p : ℕ) → o < many_objects s → p < many_procs s
+    → AreOfLives (incarnation s o) (is_handed s o) (cell_in s o (incarnation s o) p)
+    (cell_in s o (incarnation s o + 1) p)
