@@ -6,3 +6,6 @@ pub mod Needed
 pub mod Drawing
 pub mod Handing
 pub mod Standing
+pub mod Lawful
+pub mod Rowed
+pub mod Merging

@@ -3,3 +3,5 @@
 
 mod laws;
 
+pub use laws::{draw_keeps, hand_begins, merged_is_legal};
+
