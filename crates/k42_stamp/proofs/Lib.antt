@@ -8,4 +8,6 @@ pub mod Handing
 pub mod Standing
 pub mod Lawful
 pub mod Rowed
-pub mod Merging
+pub mod MergeLaw
+pub mod Numbering
+pub mod Sorted

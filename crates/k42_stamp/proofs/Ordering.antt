@@ -81,7 +81,7 @@ below-irreflexive : (ns : List ℕ) → IsBelow ns ns → ⊥
 below-irreflexive [] h = h
 below-irreflexive (n ∷ ns) h = ⊎_elim {C = ⊥} (λ (l : n < n). omega arith) (λ (t : (n ≡ n) × IsBelow ns ns). below-irreflexive ns t.1) h
 
-below_or : (ms ns : List ℕ) → length ms ≡ length ns → IsBelow ms ns ⊎ ((ms ≡ ns) ⊎ IsBelow ns ms)
+pub below_or : (ms ns : List ℕ) → length ms ≡ length ns → IsBelow ms ns ⊎ ((ms ≡ ns) ⊎ IsBelow ns ms)
 below_or [] [] e = inr (inl refl)
 below_or [] (n ∷ ns) e = absurd (omega arith)
 below_or (m ∷ ms) [] e = absurd (omega arith)

@@ -1,6 +1,6 @@
 use Rattle.k42_stamp.specs.Layouts.{layouts_with}
 use Rattle.k42_stamp.specs.Laws.{AreLaws}
-use Rattle.k42_stamp.proofs.Merging.{merged_legal}
+use Rattle.k42_stamp.proofs.MergeLaw.{merged_legal}
 use Rattle.k42_stamp.proofs.laws.merged_is_legal.Goals as goal
 
 pub returns : goal.returns
