@@ -53,6 +53,11 @@ abbrev pub is_step : Act → Answer → Bool
 is_step (Call op) answer = true
 is_step _ answer = is_carried_out answer
 
+-- a test that lets pass whatever moved an object
+abbrev pub LetsSteps : (Act → Answer → Bool) → Type 0
+LetsSteps passes =
+    (act : Act) (answer : Answer) → is_step act answer ≡ true → passes act answer ≡ true
+
 -- whether an answer is drawn at cells: all but those that another caller's swap and want of memory give
 abbrev pub is_answer_drawn : Answer → Bool
 is_answer_drawn (Busy number) = false

@@ -2,4 +2,8 @@
 #![tactic(auto)]
 
 mod laws;
+mod merging;
+
+pub use laws::{draw_keeps, hand_begins, merged_is_legal};
+pub use merging::merge;
 
