@@ -26,19 +26,18 @@ module _ (changed : Cell → Cell) where
   pub cell_at-named : (t : Turns) (cells : List ℕ) (m : ℕ) → names_once cells ≡ true → m < length t.cells → names cells m ≡ true
       → cell_at (change_cells changed t cells) m ≡ changed (cell_at t m)
   cell_at-named t [] m once there named = absurd (cc)
-  cell_at-named t (n ∷ cells) m once there named = by_test (eqb n m) refl named where
-    by_test : (b : Bool) → eqb n m ≡ b → b || names cells m ≡ true
-        → cell_at (change_cells changed (change_cell changed t n) cells) m ≡ changed (cell_at t m)
-    by_test true e further =
-        let same = eqb-true n m e in
-        let unnamed : names cells m ≡ false = subst (λ k. names cells k ≡ false) same (once_not n cells once) in
-        cell_at-else (change_cell changed t n) cells m unnamed
-        ∙ subst (λ k. cell_at (change_cell changed t k) m ≡ changed (cell_at t m)) (sym same) (cell_at-here t m there)
-    by_test false e further =
-        let apart : m ≢ n = λ same. let is = eq-eqb n m (sym same) in absurd (cc) in
-        let long : length (change_cell changed t n).cells ≡ length t.cells = length_set t n in
-        cell_at-named (change_cell changed t n) cells m (rest_once n cells once) (rw long there) further
-        ∙ ap changed (cell_at-change_else changed t n m apart)
-      where
-        length_set : (t : Turns) (n : ℕ) → length (change_cell changed t n).cells ≡ length t.cells
-        length_set t n = length-set t.cells n (changed (cell_at t n))
+  cell_at-named t (n ∷ cells) m once there named =
+      by_test (eqb n m) refl named
+      (λ named'. cell_at-named (change_cell changed t n) cells m (rest_once n cells once) (rw (length-set t.cells n (changed (cell_at t n))) there) named')
+    where
+      by_test : (b : Bool) → eqb n m ≡ b → b || names cells m ≡ true
+          → (names cells m ≡ true → cell_at (change_cells changed (change_cell changed t n) cells) m ≡ changed (cell_at (change_cell changed t n) m))
+          → cell_at (change_cells changed (change_cell changed t n) cells) m ≡ changed (cell_at t m)
+      by_test true e further rest =
+          let same = eqb-true n m e in
+          let unnamed : names cells m ≡ false = subst (λ k. names cells k ≡ false) same (once_not n cells once) in
+          cell_at-else (change_cell changed t n) cells m unnamed
+          ∙ subst (λ k. cell_at (change_cell changed t k) m ≡ changed (cell_at t m)) (sym same) (cell_at-here t m there)
+      by_test false e further rest =
+          let apart : m ≢ n = λ same. let is = eq-eqb n m (sym same) in absurd (cc) in
+          rest further ∙ ap changed (cell_at-change_else changed t n m apart)

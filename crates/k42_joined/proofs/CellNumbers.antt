@@ -35,13 +35,13 @@ pub record IsAmong (o i first many n : ℕ) : Type 0 where
 
 pub among : (o i first many n : ℕ) → names (made_from (cell_of o i) first many) n ≡ true → IsAmong o i first many n
 among o i first zero n named = absurd (cc)
-among o i first (suc many) n named = by_test (eqb (cell_of o i first) n) refl named where
+among o i first (suc many) n named = by_test (eqb (cell_of o i first) n) refl named (λ further. among o i (suc first) many n further) where
   by_test : (b : Bool) → eqb (cell_of o i first) n ≡ b → b || names (made_from (cell_of o i) (suc first) many) n ≡ true
-      → IsAmong o i first (suc many) n
-  by_test true e further =
+      → (names (made_from (cell_of o i) (suc first) many) n ≡ true → IsAmong o i (suc first) many n) → IsAmong o i first (suc many) n
+  by_test true e further rest =
       record { place = first; low = omega arith; high = omega arith; same = sym (eqb-true (cell_of o i first) n e) }
-  by_test false e further =
-      let is = among o i (suc first) many n further in
+  by_test false e further rest =
+      let is = rest further in
       let low = is.low in
       let high = is.high in
       record { place = is.place; low = omega (arith, low); high = omega (arith, high); same = is.same }
@@ -58,16 +58,18 @@ or_left a b e = rw e refl
 
 names_from : (o i first many p : ℕ) → first ≤ p → p < first + many → names (made_from (cell_of o i) first many) (cell_of o i p) ≡ true
 names_from o i first zero p low high = absurd (omega (arith, low, high))
-names_from o i first (suc many) p low high = by_test (eqb first p) refl where
-  by_test : (b : Bool) → eqb first p ≡ b → names (made_from (cell_of o i) first (suc many)) (cell_of o i p) ≡ true
-  by_test true e =
+names_from o i first (suc many) p low high = by_test (eqb first p) refl (λ low' high'. names_from o i (suc first) many p low' high') where
+  by_test : (b : Bool) → eqb first p ≡ b
+      → (suc first ≤ p → p < suc first + many → names (made_from (cell_of o i) (suc first) many) (cell_of o i p) ≡ true)
+      → names (made_from (cell_of o i) first (suc many)) (cell_of o i p) ≡ true
+  by_test true e rest =
       let same = eqb-true first p e in
       or_left (eqb (cell_of o i first) (cell_of o i p)) (names (made_from (cell_of o i) (suc first) many) (cell_of o i p))
       (eq-eqb (cell_of o i first) (cell_of o i p) (omega (arith, same)))
-  by_test false e =
+  by_test false e rest =
       let apart : first ≢ p = λ same. let is = eq-eqb first p same in absurd (cc) in
       or_right (eqb (cell_of o i first) (cell_of o i p)) (names (made_from (cell_of o i) (suc first) many) (cell_of o i p))
-      (names_from o i (suc first) many p (omega (arith, low, apart)) (omega (arith, high)))
+      (rest (omega (arith, low, apart)) (omega (arith, high)))
 
 pub row_names : (procs o i p : ℕ) → p < procs → names (row_cells procs o i) (cell_of o i p) ≡ true
 row_names procs o i p lt = names_from o i 0 procs p (omega arith) (omega arith)

@@ -24,15 +24,15 @@ use Rattle.k42_joined.proofs.CellChanges.{cell_at-else, cell_at-here}
 use Rattle.k42_joined.proofs.LocksLives.{IsSameLife, same_life, lives_kept}
 
 -- what an event of cells does that neither closes a cell nor begins a life
-pub record LeavesLives {L : Type 0} (s : Joined L) (t : Turns) (kept : List Kept) : Type 0 where
+pub record LeavesLives {L : Type 0} (s : Joined L) (t : Turns) (keeps : List Kept) : Type 0 where
   pub callers : length t.callers ≡ length s.turns.callers
   pub cells : length t.cells ≡ length s.turns.cells
-  pub kept : length kept ≡ length s.kept
+  pub kept : length keeps ≡ length s.kept
   pub lives : (n : ℕ) → IsSameLife (cell s n) (cell_at t n)
   -- nothing is drawn at a cell of a next row
   pub next :
-    (o p : ℕ) → o < many_objects s → p < many_procs s
-    → (cell_at t (cell_of o (incarnation s o + 1) p)).history ≡ (cell_in s o (incarnation s o + 1) p).history
+      (o p : ℕ) → o < many_objects s → p < many_procs s
+      → (cell_at t (cell_of o (incarnation s o + 1) p)).history ≡ (cell_in s o (incarnation s o + 1) p).history
   pub held : (n c : ℕ) → (cell_at t n).lock ≡ Some c → MayTouch s c n
 
 pub lives_left : {L : Type 0} (s : Joined L) (t : Turns) (kept : List Kept) → AreLocked s → LeavesLives s t kept

@@ -53,13 +53,13 @@ from_is_caller (Some d) c e = let same : d ≡ c = grind (arith, nat_tests, e) i
 -- what is asked of each named cell holds of one
 pub each_named : (test : ℕ → Bool) (cells : List ℕ) (n : ℕ) → list_all test cells ≡ true → names cells n ≡ true → test n ≡ true
 each_named test [] n all named = absurd (cc)
-each_named test (m ∷ cells) n all named = by_test (eqb m n) refl named where
+each_named test (m ∷ cells) n all named = by_test (eqb m n) refl named (λ all' named'. each_named test cells n all' named') where
   parts : (test m ≡ true) × (list_all test cells ≡ true)
   parts = and_parts (test m) (list_all test cells) all
 
-  by_test : (b : Bool) → eqb m n ≡ b → b || names cells n ≡ true → test n ≡ true
-  by_test true e further = let same : m ≡ n = grind (arith, nat_tests, e) in subst (λ k. test k ≡ true) same parts.0
-  by_test false e further = each_named test cells n parts.1 further
+  by_test : (b : Bool) → eqb m n ≡ b → b || names cells n ≡ true → (list_all test cells ≡ true → names cells n ≡ true → test n ≡ true) → test n ≡ true
+  by_test true e further rest = let same : m ≡ n = grind (arith, nat_tests, e) in subst (λ k. test k ≡ true) same parts.0
+  by_test false e further rest = rest parts.1 further
 
 begun_lock : (entry : Entry) (x : Cell) → (cell_begun entry x).lock ≡ x.lock
 begun_lock entry x = go x.closed where
@@ -75,36 +75,35 @@ pub record IsCoreHand (s : Turns) (c : ℕ) (from onto : List ℕ) (entry : Entr
   pub begin_onto : list_all (has_beginning s c) onto ≡ true
   pub next : turns.is_next s c (from ++ onto) entry ≡ true
 
+names_more : (cells others : List ℕ) (n : ℕ) → names cells n ≡ true → names (cells ++ others) n ≡ true
+names_more [] others n named = absurd (cc)
+names_more (m ∷ cells) others n named = by_test (eqb m n) named (λ h. names_more cells others n h) where
+  by_test : (b : Bool) → b || names cells n ≡ true → (names cells n ≡ true → names (cells ++ others) n ≡ true) → b || names (cells ++ others) n ≡ true
+  by_test true h rest = refl
+  by_test false h rest = rest h
+
+unnamed_front : (cells others : List ℕ) (n : ℕ) (b : Bool) → names cells n ≡ b → names (cells ++ others) n ≡ false → b ≡ false
+unnamed_front cells others n true named none = let h = names_more cells others n named in absurd (cc)
+unnamed_front cells others n false named none = refl
+
 once_left : (cells others : List ℕ) → names_once (cells ++ others) ≡ true → names_once cells ≡ true
 once_left [] others once = refl
-once_left (n ∷ cells) others once = by_both (and_parts (not (names (cells ++ others) n)) (names_once (cells ++ others)) once) where
-  by_both : (not (names (cells ++ others) n) ≡ true) × (names_once (cells ++ others) ≡ true) → names_once (n ∷ cells) ≡ true
-  by_both parts =
-      let unnamed : names cells n ≡ false = front (names cells n) refl (not-true (names (cells ++ others) n) parts.0) in
-      rw (unnamed, once_left cells others parts.1) refl
-    where
-      more : (cells others : List ℕ) (n : ℕ) → names cells n ≡ true → names (cells ++ others) n ≡ true
-      more [] others n named = absurd (cc)
-      more (m ∷ cells) others n named = by_test (eqb m n) named where
-        by_test : (b : Bool) → b || names cells n ≡ true → b || names (cells ++ others) n ≡ true
-        by_test true h = refl
-        by_test false h = more cells others n h
-
-      front : (b : Bool) → names cells n ≡ b → names (cells ++ others) n ≡ false → b ≡ false
-      front true named none = let h = more cells others n named in absurd (cc)
-      front false named none = refl
+once_left (n ∷ cells) others once =
+    let parts = and_parts (not (names (cells ++ others) n)) (names_once (cells ++ others)) once in
+    let unnamed : names cells n ≡ false = unnamed_front cells others n (names cells n) refl (not-true (names (cells ++ others) n) parts.0) in
+    rw (unnamed, once_left cells others parts.1) refl
 
 pub core_hand : (s : Turns) (c : ℕ) (from onto : List ℕ) (entry : Entry) → turns.is_possible s (Hand c from onto entry) ≡ true
     → IsCoreHand s c from onto entry
 core_hand s c from onto entry can =
-    let first = and_parts (names_once (from ++ onto)) _ can in
-    let second = and_parts (list_all (has_open s c) from) _ first.1 in
-    let third = and_parts (list_all (has_beginning s c) onto) _ second.1 in
+    let third = and_parts (names_once (from ++ onto) && list_all (has_open s c) from && list_all (has_beginning s c) onto) (turns.is_next s c (from ++ onto) entry) can in
+    let second = and_parts (names_once (from ++ onto) && list_all (has_open s c) from) (list_all (has_beginning s c) onto) third.0 in
+    let first = and_parts (names_once (from ++ onto)) (list_all (has_open s c) from) second.0 in
     record {
       once_from = once_left from onto first.0;
       once_onto = once_right from onto first.0;
-      open_from = second.0;
-      begin_onto = third.0;
+      open_from = first.1;
+      begin_onto = second.1;
       next = third.1;
     }
 
@@ -146,7 +145,7 @@ module _ {S L P : Type 0} (F : Layouts S L P) (declared : List L) (s : Joined L)
   hands_now =
       ⊎_elim (λ same. same)
       (λ more. let is = lt-ltb i (many_hands s o) (omega (arith, more)) in let not = may.beside.once in absurd (cc))
-      (locked.counted o named).hands
+      (locked.counted o named).ahead
 
   abbrev drawing : Turns
   drawing = change_caller (caller_drawn entry) s.turns c
@@ -169,16 +168,16 @@ module _ {S L P : Type 0} (F : Layouts S L P) (declared : List L) (s : Joined L)
   pub at_present : (p : ℕ) → p < procs → cell_at t.turns (cell_of o i p) ≡ cell_closed (cell_in s o i p)
   at_present p within =
       let n = cell_of o i p in
-      let is : names from n ≡ true = rw may.beside.from (row_names procs o i p within) in
-      let not : names onto n ≡ false = rw may.beside.onto (apart_row procs o (i + 1) o i p few within (inr (λ e. omega (arith, e)))) in
+      let is : names from n ≡ true = rw may.beside.closes (row_names procs o i p within) in
+      let not : names onto n ≡ false = rw may.beside.begins (apart_row procs o (i + 1) o i p few within (inr (λ e. omega (arith, e)))) in
       cell_at-named cell_closed begun from n core.once_from (rw many_begun (there_in i p within)) is
       ∙ ap cell_closed (cell_at-else (cell_begun entry) drawing onto n not)
 
   pub at_next : (p : ℕ) → p < procs → cell_at t.turns (cell_of o (i + 1) p) ≡ cell_begun entry (cell_in s o (i + 1) p)
   at_next p within =
       let n = cell_of o (i + 1) p in
-      let is : names onto n ≡ true = rw may.beside.onto (row_names procs o (i + 1) p within) in
-      let not : names from n ≡ false = rw may.beside.from (apart_row procs o i o (i + 1) p few within (inr (λ e. omega (arith, e)))) in
+      let is : names onto n ≡ true = rw may.beside.begins (row_names procs o (i + 1) p within) in
+      let not : names from n ≡ false = rw may.beside.closes (apart_row procs o i o (i + 1) p few within (inr (λ e. omega (arith, e)))) in
       cell_at-else cell_closed begun from n not
       ∙ cell_at-named (cell_begun entry) drawing onto n core.once_onto (there_in (i + 1) p within) is
 
@@ -187,8 +186,8 @@ module _ {S L P : Type 0} (F : Layouts S L P) (declared : List L) (s : Joined L)
 
   pub at_other : (q k p : ℕ) → p < procs → q ≢ o → cell_at t.turns (cell_of q k p) ≡ cell_in s q k p
   at_other q k p within other =
-      at_unnamed (cell_of q k p) (rw may.beside.from (apart_row procs o i q k p few within (inl (λ e. other (sym e)))))
-      (rw may.beside.onto (apart_row procs o (i + 1) q k p few within (inl (λ e. other (sym e)))))
+      at_unnamed (cell_of q k p) (rw may.beside.closes (apart_row procs o i q k p few within (inl (λ e. other (sym e)))))
+      (rw may.beside.begins (apart_row procs o (i + 1) q k p few within (inl (λ e. other (sym e)))))
 
   pub hands_here : layouts_of t o ≡ layout ∷ layouts_of s o
   hands_here = get_or-set_same s.hands o (layout ∷ layouts_of s o) [] (rw locked.many.hands named)
@@ -219,7 +218,7 @@ module _ {S L P : Type 0} (F : Layouts S L P) (declared : List L) (s : Joined L)
       let taken = (and_parts (has_taken s.turns c n) _ begins).0 in
       let holder = from_is_caller (cell s n).lock c (and_parts (holds s.turns c n) _ taken).0 in
       let own : c ≡ d = same_Some c d (sym holder ∙ lock) in
-      let among = named_in_row procs o (i + 1) n (rw may.beside.onto at is) in
+      let among = named_in_row procs o (i + 1) n (rw may.beside.begins at is) in
       let high = among.high in
       let at : object_of n ≡ o = ap object_of among.same ∙ object_of-cell o (i + 1) among.place (omega (arith, high, few)) in
       or_left (has_way (visitor_at s.phases d) (object_of n) (cell_at t.turns n).life) _
@@ -269,7 +268,7 @@ module _ {S L P : Type 0} (F : Layouts S L P) (declared : List L) (s : Joined L)
     held = still_held;
     counted = λ q there. ⊎_elim
         (λ (same : q ≡ o). subst (λ r. IsCounted (incarnation t r) (many_hands t r) (object t r).freed) (sym same)
-        (record { hands = inr hands_after; freed = (locked.counted o named).freed }))
+        (record { ahead = inr hands_after; kept = (locked.counted o named).kept }))
         (λ other. subst (λ ls. IsCounted (incarnation s q) (length ls) (object s q).freed) (sym (hands_else q other)) (locked.counted q there))
         (cases_eq q o);
     lives = λ q p there within. ⊎_elim

@@ -6,6 +6,7 @@ use Rattle.std.proofs.lemmas.List.{get_or_past}
 use Rattle.std.proofs.lemmas.Option.{slice_get-get_or}
 use Rattle.gen_core.specs.declared.event.GenEvent.TheVariants.{GiveRole}
 use Rattle.phase_core.specs.Event.{Event, Turn, Install, EndCall, StepOut, Begin, TurnOver, Unblock, caller_of}
+use Rattle.phase_core.specs.Plain.{Object}
 use Rattle.phase_core.specs.Sound as phases
 use Rattle.phase_core.specs.Stages.{object_named}
 use Rattle.phase_core.specs.State.{object_at, visitor_at}
@@ -100,8 +101,8 @@ module _ {S L P : Type 0} (F : Layouts S L P) (declared : List L) (s : Joined L)
           let same = (row_else s.phases event may.core not o).incarnation in
           let rises = ((object_after s.phases event may.core).goes o).freed in
           let old = locked.counted o named in
-          let freed = old.freed in
-          record { hands = rw same old.hands; freed = omega (arith, same, rises, freed) }
+          let kept = old.kept in
+          record { ahead = rw same old.ahead; kept = omega (arith, same, rises, kept) }
 
       still_lives : (p : ℕ) → p < many_procs s
           → AreOfLives (incarnation t o) (is_handed t o) (cell_in t o (incarnation t o) p) (cell_in t o (incarnation t o + 1) p)
@@ -124,13 +125,14 @@ module _ {S L P : Type 0} (F : Layouts S L P) (declared : List L) (s : Joined L)
     ahead : q < many_objects s → many_hands s q ≡ incarnation s q + 1
     ahead named =
         ⊎_elim (λ same. let more = ltb-true (incarnation s q) (many_hands s q) turned_handed in absurd (omega (arith, same, more)))
-        (λ more. more) (locked.counted q named).hands
+        (λ more. more) (locked.counted q named).ahead
 
     turned_counted : q < many_objects s → IsCounted (incarnation u q) (many_hands u q) (object u q).freed
     turned_counted named =
         let here = turned_here s.phases c tag named in
         let freed = (moved_is_ready s.phases sound c q there (turns_its s.phases c tag may.core)).freed in
-        rw here (record { hands = inl (ahead named); freed = omega (arith, freed) })
+        subst (λ (k : Object). IsCounted k.incarnation (many_hands s q) k.freed) (sym here)
+        (record { ahead = inl (ahead named); kept = omega (arith, freed) })
 
     turned_lives : q < many_objects s → (p : ℕ) → p < many_procs s
         → AreOfLives (incarnation u q) (is_handed u q) (cell_in u q (incarnation u q) p) (cell_in u q (incarnation u q + 1) p)
@@ -147,7 +149,8 @@ module _ {S L P : Type 0} (F : Layouts S L P) (declared : List L) (s : Joined L)
         (sym (ap (λ k. k.incarnation) (turned_here s.phases c tag named))) new
 
     turned_else_counted : (o : ℕ) → o ≢ q → o < many_objects s → IsCounted (incarnation u o) (many_hands u o) (object u o).freed
-    turned_else_counted o other named = rw (turned_else s.phases c tag o other) (locked.counted o named)
+    turned_else_counted o other named =
+        subst (λ (k : Object). IsCounted k.incarnation (many_hands s o) k.freed) (sym (turned_else s.phases c tag o other)) (locked.counted o named)
 
     turned_else_lives : (o p : ℕ) → o ≢ q → o < many_objects s → p < many_procs s
         → AreOfLives (incarnation u o) (is_handed u o) (cell_in u o (incarnation u o) p) (cell_in u o (incarnation u o + 1) p)

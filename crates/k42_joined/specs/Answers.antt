@@ -27,11 +27,11 @@ is_turned (Opened o) k = k.complete
 is_turned _ k = false
 
 -- the caller has drawn an entry on the object with this answer
-pub record HasAnswered {L : Type 0} (s : Joined L) (c o : ℕ) (answer : Answer) : Type 0 where
+pub record HasAnswered {L : Type 0} (s : Joined L) (c o : ℕ) (told : Answer) : Type 0 where
   pub entry : Entry
   pub drawn : In entry (mine s c)
   pub object : entry.object ≡ o
-  pub answer : entry.answer ≡ answer
+  pub answer : entry.answer ≡ told
 
 -- an entry that would tell of the Busy that was found
 pub record IsBusyOf (c o number : ℕ) (entry : Entry) : Type 0 where
@@ -44,8 +44,8 @@ pub record IsBusyOf (c o number : ℕ) (entry : Entry) : Type 0 where
 abbrev pub AreTimely : List Entry → Type 0
 AreTimely entries =
     AtEachPlace (λ before entry after.
-      ((number : ℕ) → entry.answer ≡ Busy number → IsTimely before entry after number)
-      × ((number : ℕ) → entry.answer ≡ Abandoned number → IsTimely before entry after number))
+    ((number : ℕ) → entry.answer ≡ Busy number → IsTimely before entry after number)
+    × ((number : ℕ) → entry.answer ≡ Abandoned number → IsTimely before entry after number))
     entries
 
 module _ {L : Type 0} (s : Joined L) where
@@ -63,13 +63,13 @@ module _ {L : Type 0} (s : Joined L) where
   IsTrueOf k i _ = ⊤
 
   -- another caller has settled the swap of this number, or it is under way
-  pub record IsUnderWay (c o number : ℕ) : Type 0 where
+  pub record IsUnderWay (c o n : ℕ) : Type 0 where
     pub rival : ℕ
     pub other : rival ≢ c
     pub there : rival < many_callers s
     pub named : named_by (swap_of s rival) ≡ Some o
     pub granted : is_refused (swap_of s rival) ≡ false
-    pub number : number ≡ swap_number (object s o)
+    pub number : n ≡ swap_number (object s o)
 
   pub record IsSettled (c o number : ℕ) : Type 0 where
     pub rival : ℕ
@@ -90,13 +90,13 @@ module _ {L : Type 0} (s : Joined L) where
   -- an entry that the caller has drawn
   pub record IsAnswer (c : ℕ) (entry : Entry) : Type 0 where
     pub there : entry.object < many_objects s
-    pub incarnation : entry.incarnation ≤ incarnation s entry.object
+    pub known : entry.incarnation ≤ incarnation s entry.object
     pub done : (number : ℕ) → entry.answer ≡ Swapped number → IsReached c entry.object number
     pub over : IsTrueOf (object s entry.object) entry.incarnation entry.answer
     -- what tells of an object that is over comes after all swaps of it
     pub last :
-      tells_over entry.answer ≡ true → (d number : ℕ) (other : Entry) → d < many_callers s → In other (mine s d)
-      → other.object ≡ entry.object → other.answer ≡ Swapped number → other.stamp < entry.stamp
+        tells_over entry.answer ≡ true → (d number : ℕ) (other : Entry) → d < many_callers s → In other (mine s d)
+        → other.object ≡ entry.object → other.answer ≡ Swapped number → other.stamp < entry.stamp
     pub busy : (number : ℕ) → entry.answer ≡ Busy number → number ≤ swap_number (object s entry.object)
     pub abandoned : (number : ℕ) → entry.answer ≡ Abandoned number → number ≤ swap_number (object s entry.object)
     pub rival : (number : ℕ) → entry.answer ≡ Busy number → HasRival c entry.object number
@@ -107,18 +107,18 @@ module _ {L : Type 0} (s : Joined L) where
     pub busy : (number : ℕ) → answer ≡ Busy number → number ≤ swap_number (object s o)
     pub rival : (number : ℕ) → answer ≡ Busy number → HasRival c o number
     pub timely :
-      (number : ℕ) (entry : Entry) → answer ≡ Busy number → IsBusyOf c o number entry
-      → AreTimely (mine s c ++ entry ∷ [])
+        (number : ℕ) (entry : Entry) → answer ≡ Busy number → IsBusyOf c o number entry
+        → AreTimely (mine s c ++ entry ∷ [])
 
   -- what a swap has drawn on its object
   pub record HasDrawn (c o : ℕ) : Type 0 where
     pub handed :
-      swap_of s c ≡ Moved o → is_handed s o ≡ true → HasAnswered s c o (Swapped (incarnation s o + 1))
+        swap_of s c ≡ Moved o → is_handed s o ≡ true → HasAnswered s c o (Swapped (incarnation s o + 1))
     pub turned :
-      is_turned (swap_of s c) (object s o) ≡ true → HasAnswered s c o (Swapped (incarnation s o))
+        is_turned (swap_of s c) (object s o) ≡ true → HasAnswered s c o (Swapped (incarnation s o))
     pub given_up :
-      is_given_up (swap_of s c) (object s o) o ≡ true → (kept_of s c).abandoned ≡ true
-      → HasAnswered s c o (Abandoned (incarnation s o + 1))
+        is_given_up (swap_of s c) (object s o) o ≡ true → (kept_of s c).abandoned ≡ true
+        → HasAnswered s c o (Abandoned (incarnation s o + 1))
 
   -- what is true of one caller
   pub record IsAnswered (c : ℕ) : Type 0 where
@@ -126,8 +126,8 @@ module _ {L : Type 0} (s : Joined L) where
     pub timely : AreTimely (mine s c)
     pub each : (entry : Entry) → In entry (mine s c) → IsAnswer c entry
     pub found :
-      (o : ℕ) (answer : Answer) → (kept_of s c).begun ≡ Some o → (kept_of s c).found ≡ Some answer
-      → IsFound c o answer
+        (o : ℕ) (answer : Answer) → (kept_of s c).begun ≡ Some o → (kept_of s c).found ≡ Some answer
+        → IsFound c o answer
     pub drawn : (o : ℕ) → named_by (swap_of s c) ≡ Some o → HasDrawn c o
 
   abbrev pub AreAnswered : Type 0

@@ -44,16 +44,16 @@ module _ {S L P : Type 0} (F : Layouts S L P) (declared : List L) (s : Joined L)
     pub declaration : L
     pub declares : slice_get declared entry.object ≡ Some declaration
     pub takes : IsTrue ((F.object_of declaration).takes op)
-    pub cells :
-      cells
-      ≡ cells_reached (many_procs s) entry.object entry.incarnation
-      (reach_of F (newest_layout (layouts_of s entry.object) declaration) entry)
+    pub reached :
+        cells
+        ≡ cells_reached (many_procs s) entry.object entry.incarnation
+        (reach_of F (newest_layout (layouts_of s entry.object) declaration) entry)
     pub reply : Reply
     pub answer : entry.answer ≡ Replied reply
     pub replied :
-      (chain : Chain L P) → AreRowsOf F declaration s entry.object chain
-      → row_replied (F.ways_of chain.row.layout) (parts_of F chain.row) op (reach_of F chain.row.layout entry)
-      ≡ Some reply
+        (chain : Chain L P) → AreRowsOf F declaration s entry.object chain
+        → row_replied (F.ways_of chain.row.layout) (parts_of F chain.row) op (reach_of F chain.row.layout entry)
+        ≡ Some reply
 
   -- A swap or destroy whose caller found the object dead or at its last incarnation is drawn, with that
   -- answer, at the first cell of the present row.
@@ -61,8 +61,8 @@ module _ {S L P : Type 0} (F : Layouts S L P) (declared : List L) (s : Joined L)
     pub begun : (kept_of s c).begun ≡ Some entry.object
     pub found : (kept_of s c).found ≡ Some entry.answer
     pub over : tells_over entry.answer ≡ true
-    pub incarnation : entry.incarnation ≡ incarnation s entry.object
-    pub cells : cells ≡ cell_of entry.object entry.incarnation 0 ∷ []
+    pub present : entry.incarnation ≡ incarnation s entry.object
+    pub first : cells ≡ cell_of entry.object entry.incarnation 0 ∷ []
     pub generation : entry.generation ≡ None
 
   -- by the entry's act

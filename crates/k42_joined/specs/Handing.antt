@@ -19,14 +19,14 @@ pub record MayHand
   pub moved : swap_of s c ≡ Moved entry.object
   pub once : is_handed s entry.object ≡ false
   pub freed :
-    (incarnation s entry.object ≡ 0) ⊎ (incarnation s entry.object ≤ (object s entry.object).freed)
-  pub from : from ≡ row_cells (many_procs s) entry.object (incarnation s entry.object)
-  pub onto : onto ≡ row_cells (many_procs s) entry.object (incarnation s entry.object + 1)
+      (incarnation s entry.object ≡ 0) ⊎ (incarnation s entry.object ≤ (object s entry.object).freed)
+  pub closes : from ≡ row_cells (many_procs s) entry.object (incarnation s entry.object)
+  pub begins : onto ≡ row_cells (many_procs s) entry.object (incarnation s entry.object + 1)
   pub declaration : L
   pub declares : slice_get declared entry.object ≡ Some declaration
   pub kind : F.object_of layout ≡ F.object_of declaration
   pub known : F.tag_of layout ≤ 2
-  pub incarnation : entry.incarnation ≡ incarnation s entry.object
+  pub present : entry.incarnation ≡ incarnation s entry.object
   pub act : entry.act ≡ F.act_of layout
   pub answer : entry.answer ≡ Swapped (incarnation s entry.object + 1)
   pub bears : Bears s c onto entry

@@ -17,3 +17,5 @@ pub mod Answers
 pub mod Sound
 pub mod Safe
 pub mod Seen
+pub mod Fresh
+pub mod Runs

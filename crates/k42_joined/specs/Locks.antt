@@ -22,8 +22,8 @@ AreLawfullyHeld s = (n c : ℕ) → (cell s n).lock ≡ Some c → MayTouch s c 
 -- Of an object in this incarnation, so many of whose rows were handed on and freed: no row is handed on ahead
 -- of the next, and none is kept but the one before.
 pub record IsCounted (i hands freed : ℕ) : Type 0 where
-  pub hands : (hands ≡ i) ⊎ (hands ≡ i + 1)
-  pub freed : i ≤ freed + 1
+  pub ahead : (hands ≡ i) ⊎ (hands ≡ i + 1)
+  pub kept : i ≤ freed + 1
 
 -- the life of those cells that are not of the parity of the incarnation
 abbrev pub other_life : ℕ → Bool → ℕ
@@ -34,10 +34,10 @@ abbrev pub is_past : ℕ → Bool → ℕ → Bool
 is_past i handed life = nat_lt life i || ((life == i) && handed)
 
 -- a cell of this life, in an incarnation whose row was handed on or was not
-pub record IsOfLife (i : ℕ) (handed : Bool) (life : ℕ) (x : Cell) : Type 0 where
-  pub life : x.life ≡ life
-  pub closed : x.closed ≡ is_past i handed life
-  pub past : length x.past ≡ life / 2
+pub record IsOfLife (i : ℕ) (handed : Bool) (n : ℕ) (x : Cell) : Type 0 where
+  pub life : x.life ≡ n
+  pub closed : x.closed ≡ is_past i handed n
+  pub past : length x.past ≡ n / 2
 
 -- the cells of the next row have an empty history before the hand, and just its entry after it
 pub record BeginsNext (i : ℕ) (handed : Bool) (x : Cell) : Type 0 where
@@ -45,17 +45,17 @@ pub record BeginsNext (i : ℕ) (handed : Bool) (x : Cell) : Type 0 where
   pub begun : handed ≡ true → (entry : Entry) × (x.history ≡ entry ∷ []) × (entry.answer ≡ Swapped (i + 1))
 
 -- the two cells of an object at a place of its rows: that of the incarnation's row, and the other
-pub record AreOfLives (i : ℕ) (handed : Bool) (present other : Cell) : Type 0 where
-  pub present : IsOfLife i handed i present
-  pub other : IsOfLife i handed (other_life i handed) other
-  pub next : other.life ≡ i + 1 → BeginsNext i handed other
+pub record AreOfLives (i : ℕ) (handed : Bool) (x y : Cell) : Type 0 where
+  pub present : IsOfLife i handed i x
+  pub other : IsOfLife i handed (other_life i handed) y
+  pub next : y.life ≡ i + 1 → BeginsNext i handed y
 
 pub record AreLocked {L : Type 0} (s : Joined L) : Type 0 where
   pub many : AreAsMany s
   pub held : AreLawfullyHeld s
   pub counted :
-    (o : ℕ) → o < many_objects s → IsCounted (incarnation s o) (many_hands s o) (object s o).freed
+      (o : ℕ) → o < many_objects s → IsCounted (incarnation s o) (many_hands s o) (object s o).freed
   pub lives :
-    (o p : ℕ) → o < many_objects s → p < many_procs s
-    → AreOfLives (incarnation s o) (is_handed s o) (cell_in s o (incarnation s o) p)
-    (cell_in s o (incarnation s o + 1) p)
+      (o p : ℕ) → o < many_objects s → p < many_procs s
+      → AreOfLives (incarnation s o) (is_handed s o) (cell_in s o (incarnation s o) p)
+      (cell_in s o (incarnation s o + 1) p)

@@ -21,12 +21,12 @@ module _ {L : Type 0} (s : Joined L) where
   -- the Busy that was found
   pub record IsRefused (c : ℕ) (entry : Entry) (number : ℕ) : Type 0 where
     pub found : (kept_of s c).found ≡ Some (Busy number)
-    pub incarnation : entry.incarnation + 1 ≡ number
+    pub before : entry.incarnation + 1 ≡ number
 
   -- of the swap that is given up, once
   pub record IsAbandoned (c : ℕ) (entry : Entry) (number : ℕ) : Type 0 where
-    pub number : number ≡ incarnation s entry.object + 1
-    pub incarnation : entry.incarnation ≡ incarnation s entry.object
+    pub next : number ≡ incarnation s entry.object + 1
+    pub present : entry.incarnation ≡ incarnation s entry.object
     pub given_up : is_given_up (swap_of s c) (object s entry.object) entry.object ≡ true
     pub once : (kept_of s c).abandoned ≡ false
 

@@ -1,7 +1,6 @@
 -- What a caller has seen: its own entries, and what stood before its calls and its carried-out swaps in the
 -- histories of the cells at which these were drawn.
-use Rattle.std.specs.Prelude.{◌≡◌, ◌⊎◌, ℕ, ◌<◌, true, ◌||◌, List, ◌∷◌, ◌++◌, Some, slice_get}
-use Rattle.k42_kinds.specs.Histories.{is_call, is_carried_out}
+use Rattle.std.specs.Prelude.{◌≡◌, ◌⊎◌, ℕ, true, List, ◌∷◌, ◌++◌, Some, slice_get}
 use Rattle.k42_kinds.specs.declared.entry.Entry.{Entry}
 use Rattle.turn_core.specs.Sound.{histories_of}
 use Rattle.k42_stamp.specs.Orders.{In}
@@ -11,10 +10,10 @@ use Rattle.k42_joined.specs.State.{cell, mine}
 
 -- the entry stood in the history of a cell as the caller drew an own one at it
 pub record StoodBefore {L : Type 0} (s : Joined L) (c : ℕ) (entry : Entry) : Type 0 where
-  pub cell : ℕ
+  pub number : ℕ
   pub life : ℕ
   pub history : List Entry
-  pub there : slice_get (histories_of (cell s cell)) life ≡ Some history
+  pub there : slice_get (histories_of (cell s number)) life ≡ Some history
   pub own : Entry
   pub drawn : In own (mine s c)
   pub step : is_step own.act own.answer ≡ true
@@ -22,15 +21,6 @@ pub record StoodBefore {L : Type 0} (s : Joined L) (c : ℕ) (entry : Entry) : T
   pub after : List Entry
   pub split : history ≡ before ++ own ∷ after
   pub stood : In entry before
-
--- or in the row that its swap closed
-pub record WasClosed {L : Type 0} (s : Joined L) (c : ℕ) (entry : Entry) : Type 0 where
-  pub own : Entry
-  pub drawn : In own (mine s c)
-  pub carried_out : is_carried_out own.answer ≡ true
-  pub object : entry.object ≡ own.object
-  pub incarnation : entry.incarnation ≡ own.incarnation
-  pub place : ℕ
 
 abbrev pub HasSeen : {L : Type 0} → Joined L → ℕ → Entry → Type 0
 HasSeen s c entry = In entry (mine s c) ⊎ StoodBefore s c entry
