@@ -6,3 +6,5 @@ pub mod PhaseSteps
 pub mod LocksPhases
 pub mod LocksCells
 pub mod LocksHand
+pub mod RowsHistories
+pub mod RowsPhases

@@ -54,13 +54,13 @@ lives_turned i x y are =
     }
 
 -- a cell before its hand: at first it is open and was not drawn at, and later it is closed in a former life
-record IsWaiting (i : ℕ) (y : Cell) (closed : Bool) : Type 0 where
-  life : y.life + cond closed 2 0 ≡ i + 1
-  closed_is : y.closed ≡ closed
-  past : length y.past + cond closed 1 0 ≡ (i + 1) / 2
-  history : closed ≡ false → y.history ≡ []
+pub record IsWaiting (i : ℕ) (y : Cell) (closed : Bool) : Type 0 where
+  pub life : y.life + cond closed 2 0 ≡ i + 1
+  pub closed_is : y.closed ≡ closed
+  pub past : length y.past + cond closed 1 0 ≡ (i + 1) / 2
+  pub history : closed ≡ false → y.history ≡ []
 
-waiting : (i : ℕ) (x y : Cell) → AreOfLives i false x y → IsWaiting i y (not (eqb i 0))
+pub waiting : (i : ℕ) (x y : Cell) → AreOfLives i false x y → IsWaiting i y (not (eqb i 0))
 waiting i x y are = by_test (eqb i 0) refl where
   by_test : (b : Bool) → eqb i 0 ≡ b → IsWaiting i y (not b)
   by_test true e =

@@ -122,8 +122,8 @@ module _ {S L P : Type 0} (F : Layouts S L P) (declared : List L) (s : Joined L)
     pub turned_handed : is_handed s q ≡ true
     turned_handed = (and_parts (is_handed s q) _ (and_parts (holds_none (held s c)) _ may.beside).1).0
 
-    ahead : q < many_objects s → many_hands s q ≡ incarnation s q + 1
-    ahead named =
+    pub turned_ahead : q < many_objects s → many_hands s q ≡ incarnation s q + 1
+    turned_ahead named =
         ⊎_elim (λ same. let more = ltb-true (incarnation s q) (many_hands s q) turned_handed in absurd (omega (arith, same, more)))
         (λ more. more) (locked.counted q named).ahead
 
@@ -132,7 +132,7 @@ module _ {S L P : Type 0} (F : Layouts S L P) (declared : List L) (s : Joined L)
         let here = turned_here s.phases c tag named in
         let freed = (moved_is_ready s.phases sound c q there (turns_its s.phases c tag may.core)).freed in
         subst (λ (k : Object). IsCounted k.incarnation (many_hands s q) k.freed) (sym here)
-        (record { ahead = inl (ahead named); kept = omega (arith, freed) })
+        (record { ahead = inl (turned_ahead named); kept = omega (arith, freed) })
 
     turned_lives : q < many_objects s → (p : ℕ) → p < many_procs s
         → AreOfLives (incarnation u q) (is_handed u q) (cell_in u q (incarnation u q) p) (cell_in u q (incarnation u q + 1) p)
@@ -140,7 +140,7 @@ module _ {S L P : Type 0} (F : Layouts S L P) (declared : List L) (s : Joined L)
         let i = incarnation s q in
         let old : AreOfLives i true (cell_in s q i p) (cell_in s q (i + 1) p) =
         subst (λ b. AreOfLives i b (cell_in s q i p) (cell_in s q (i + 1) p)) turned_handed (locked.lives q p named within) in
-        let now : ltb (i + 1) (many_hands s q) ≡ false = rw (ahead named) (grind (arith, nat_tests)) in
+        let now : ltb (i + 1) (many_hands s q) ≡ false = rw (turned_ahead named) (grind (arith, nat_tests)) in
         let back : cell_of q i p ≡ cell_of q (i + 1 + 1) p = cell_of-parity q i (i + 1 + 1) p (omega arith) in
         let new : AreOfLives (i + 1) (ltb (i + 1) (many_hands s q)) (cell_in s q (i + 1) p) (cell_in s q (i + 1 + 1) p) =
         subst (λ b. AreOfLives (i + 1) b (cell_in s q (i + 1) p) (cell_in s q (i + 1 + 1) p)) (sym now)
