@@ -8,3 +8,6 @@ pub mod LocksCells
 pub mod LocksHand
 pub mod RowsHistories
 pub mod RowsPhases
+pub mod RowsLists
+pub mod RowsCells
+pub mod RowsStamps
