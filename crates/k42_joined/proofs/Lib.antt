@@ -11,3 +11,4 @@ pub mod RowsPhases
 pub mod RowsLists
 pub mod RowsCells
 pub mod RowsStamps
+pub mod RowsDraw
