@@ -12,3 +12,4 @@ pub mod RowsLists
 pub mod RowsCells
 pub mod RowsStamps
 pub mod RowsDraw
+pub mod RowsCalls

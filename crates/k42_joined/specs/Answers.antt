@@ -48,6 +48,12 @@ AreTimely entries =
     × ((number : ℕ) → entry.answer ≡ Abandoned number → IsTimely before entry after number))
     entries
 
+-- an answer that tells of a dead object, or of one at its last incarnation, tells the truth
+abbrev pub IsTrueOf : Object → ℕ → Answer → Type 0
+IsTrueOf k i Spent = (i ≡ k.incarnation) × (k.incarnation ≡ LAST_INCARNATION) × (k.layout ≢ 2)
+IsTrueOf k i Gone = (i ≡ k.incarnation) × (k.layout ≡ 2)
+IsTrueOf k i _ = ⊤
+
 module _ {L : Type 0} (s : Joined L) where
   -- what is kept of a caller: a swap is of the object that was begun last, which is there, and only before
   -- and after it is an answer kept
@@ -55,12 +61,6 @@ module _ {L : Type 0} (s : Joined L) where
     pub begun : (o : ℕ) → named_by (swap_of s c) ≡ Some o → (kept_of s c).begun ≡ Some o
     pub there : (o : ℕ) → (kept_of s c).begun ≡ Some o → o < many_objects s
     pub found : (answer : Answer) → (kept_of s c).found ≡ Some answer → is_idle (swap_of s c) || is_refused (swap_of s c) ≡ true
-
-  -- an answer that tells of a dead object, or of one at its last incarnation, tells the truth
-  abbrev pub IsTrueOf : Object → ℕ → Answer → Type 0
-  IsTrueOf k i Spent = (i ≡ k.incarnation) × (k.incarnation ≡ LAST_INCARNATION) × (k.layout ≢ 2)
-  IsTrueOf k i Gone = (i ≡ k.incarnation) × (k.layout ≡ 2)
-  IsTrueOf k i _ = ⊤
 
   -- another caller has settled the swap of this number, or it is under way
   pub record IsUnderWay (c o n : ℕ) : Type 0 where
