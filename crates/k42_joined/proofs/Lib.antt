@@ -13,3 +13,4 @@ pub mod RowsCells
 pub mod RowsStamps
 pub mod RowsDraw
 pub mod RowsCalls
+pub mod RowsHand

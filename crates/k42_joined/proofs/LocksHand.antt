@@ -75,7 +75,7 @@ pub record IsCoreHand (s : Turns) (c : ℕ) (from onto : List ℕ) (entry : Entr
   pub begin_onto : list_all (has_beginning s c) onto ≡ true
   pub next : turns.is_next s c (from ++ onto) entry ≡ true
 
-names_more : (cells others : List ℕ) (n : ℕ) → names cells n ≡ true → names (cells ++ others) n ≡ true
+pub names_more : (cells others : List ℕ) (n : ℕ) → names cells n ≡ true → names (cells ++ others) n ≡ true
 names_more [] others n named = absurd (cc)
 names_more (m ∷ cells) others n named = by_test (eqb m n) named (λ h. names_more cells others n h) where
   by_test : (b : Bool) → b || names cells n ≡ true → (names cells n ≡ true → names (cells ++ others) n ≡ true) → b || names (cells ++ others) n ≡ true
