@@ -14,3 +14,4 @@ pub mod RowsStamps
 pub mod RowsDraw
 pub mod RowsCalls
 pub mod RowsHand
+pub mod AnswersSteps

@@ -2,9 +2,10 @@
 use Rattle.std.specs.Prelude.{◌≡◌, ◌≢◌, ◌⊎◌, ℕ, ◌+◌, ◌<◌, ◌≤◌, Bool, true, false, ◌||◌, ⊤, List, [], ◌∷◌, ◌++◌, Some}
 use Rattle.k42_limits.specs.declared.TheConstants.{LAST_INCARNATION}
 use Rattle.k42_kinds.specs.declared.entry.Answer.{Answer}
-use Rattle.k42_kinds.specs.declared.entry.Answer.TheVariants.{Swapped, Busy, Spent, Gone, Abandoned}
+use Rattle.k42_kinds.specs.declared.entry.Answer.TheVariants.{Replied, Swapped, Busy, Spent, Gone, Abandoned}
 use Rattle.k42_kinds.specs.declared.entry.Entry.{Entry}
-use Rattle.k42_kinds.specs.Histories.{AtEachPlace}
+use Rattle.k42_kinds.specs.declared.operation.Reply.{Reply}
+use Rattle.k42_kinds.specs.Histories.{AtEachPlace, is_call}
 use Rattle.k42_kinds.specs.Legal.{IsTimely, Settles}
 use Rattle.k42_stamp.specs.Orders.{In}
 use Rattle.phase_core.specs.Plain.{Object}
@@ -90,6 +91,8 @@ module _ {L : Type 0} (s : Joined L) where
   -- an entry that the caller has drawn
   pub record IsAnswer (c : ℕ) (entry : Entry) : Type 0 where
     pub there : entry.object < many_objects s
+    -- a call has a reply
+    pub replied : is_call entry.act ≡ true → (reply : Reply) × (entry.answer ≡ Replied reply)
     pub known : entry.incarnation ≤ incarnation s entry.object
     pub done : (number : ℕ) → entry.answer ≡ Swapped number → IsReached c entry.object number
     pub over : IsTrueOf (object s entry.object) entry.incarnation entry.answer
@@ -104,6 +107,7 @@ module _ {L : Type 0} (s : Joined L) where
   -- an answer that is kept of the caller's last Begin, which was of object o
   pub record IsFound (c o : ℕ) (answer : Answer) : Type 0 where
     pub over : IsTrueOf (object s o) (incarnation s o) answer
+    pub some : (number : ℕ) → answer ≡ Busy number → 1 ≤ number
     pub busy : (number : ℕ) → answer ≡ Busy number → number ≤ swap_number (object s o)
     pub rival : (number : ℕ) → answer ≡ Busy number → HasRival c o number
     pub timely :
