@@ -15,3 +15,5 @@ pub mod RowsDraw
 pub mod RowsCalls
 pub mod RowsHand
 pub mod AnswersSteps
+pub mod AnswersWords
+pub mod AnswersQuiet
