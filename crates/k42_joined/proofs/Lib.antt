@@ -17,3 +17,4 @@ pub mod RowsHand
 pub mod AnswersSteps
 pub mod AnswersWords
 pub mod AnswersQuiet
+pub mod AnswersRows
