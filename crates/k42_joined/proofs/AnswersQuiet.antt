@@ -60,6 +60,24 @@ reached_on s t d o number same moved is =
     (λ (ahead : (number ≡ incarnation s o + 1) × (swap_of s d ≡ Moved o)).
     let next = ahead.0 in inr (omega (arith, next, same), moved ahead.1)) is
 
+-- what a swap has drawn stays, where its stage, what is kept of it and the word of its object stay
+pub drawn_alike : {L : Type 0} (s t : Joined L) (d o : ℕ) → IsAlike (swap_of s d) (swap_of t d) → kept_of t d ≡ kept_of s d
+    → IsSameWord (object s o) (object t o) → many_hands t o ≡ many_hands s o → ((told : Answer) → HasAnswered s d o told → HasAnswered t d o told)
+    → HasDrawn s d o → HasDrawn t d o
+drawn_alike s t d o same kept word hands on old = record {
+  handed = λ moved is.
+      subst (λ i. HasAnswered t d o (Swapped (i + 1))) (sym word.incarnation)
+      (on (Swapped (incarnation s o + 1)) (old.handed (same.was_moved o moved)
+      (sym (ap (λ i. ltb i (many_hands t o)) word.incarnation ∙ ap (λ n. ltb (incarnation s o) n) hands) ∙ is)));
+  turned = λ is.
+      subst (λ i. HasAnswered t d o (Swapped i)) (sym word.incarnation)
+      (on (Swapped (incarnation s o)) (old.turned (sym (same.turned (object s o)) ∙ turned_by (swap_of t d) (object s o) (object t o) word.complete ∙ is)));
+  given_up = λ is abandons.
+      subst (λ i. HasAnswered t d o (Abandoned (i + 1))) (sym word.incarnation)
+      (on (Abandoned (incarnation s o + 1)) (old.given_up (sym (same.given_up (object s o) o) ∙ given_up_by (swap_of t d) (object s o) (object t o) o word.complete ∙ is)
+      (sym (ap (λ (k : Kept). k.abandoned) kept) ∙ abandons)));
+}
+
 module _ {L : Type 0} (s t : Joined L) (d : ℕ) (same : IsAlike (swap_of s d) (swap_of t d)) (words : (o : ℕ) → IsSameWord (object s o) (object t o))
     (kept : kept_of t d ≡ kept_of s d) (objects : many_objects t ≡ many_objects s) where
   pub kept_on : IsKept s d → IsKept t d
@@ -70,24 +88,6 @@ module _ {L : Type 0} (s t : Joined L) (d : ℕ) (same : IsAlike (swap_of s d) (
         ap (λ b. b || is_refused (swap_of t d)) same.idle ∙ ap (λ b. is_idle (swap_of s d) || b) same.refused
         ∙ old.found answer (sym (ap (λ (k : Kept). k.found) kept) ∙ is);
   }
-
-  pub drawn_on : (o : ℕ) → many_hands t o ≡ many_hands s o → ((told : Answer) → HasAnswered s d o told → HasAnswered t d o told)
-      → HasDrawn s d o → HasDrawn t d o
-  drawn_on o hands on old =
-      let word = words o in
-      record {
-        handed = λ moved is.
-            subst (λ i. HasAnswered t d o (Swapped (i + 1))) (sym word.incarnation)
-            (on (Swapped (incarnation s o + 1)) (old.handed (same.was_moved o moved)
-            (sym (ap (λ i. ltb i (many_hands t o)) word.incarnation ∙ ap (λ n. ltb (incarnation s o) n) hands) ∙ is)));
-        turned = λ is.
-            subst (λ i. HasAnswered t d o (Swapped i)) (sym word.incarnation)
-            (on (Swapped (incarnation s o)) (old.turned (sym (same.turned (object s o)) ∙ turned_by (swap_of t d) (object s o) (object t o) word.complete ∙ is)));
-        given_up = λ is abandons.
-            subst (λ i. HasAnswered t d o (Abandoned (i + 1))) (sym word.incarnation)
-            (on (Abandoned (incarnation s o + 1)) (old.given_up (sym (same.given_up (object s o) o) ∙ given_up_by (swap_of t d) (object s o) (object t o) o word.complete ∙ is)
-            (sym (ap (λ (k : Kept). k.abandoned) kept) ∙ abandons)));
-      }
 
 -- a quiet event keeps what is kept beside
 kept_still : {L : Type 0} (s : Joined L) (event : Event) → is_quiet event ≡ true → kept_after s event ≡ s.kept
@@ -135,5 +135,5 @@ module _ {S L P : Type 0} (F : Layouts S L P) (declared : List L) (s : Joined L)
       found_on s t on d o answer
       ((answered d within).found o answer (sym (ap (λ (k : Kept). k.begun) (kept_same d)) ∙ begun) (sym (ap (λ (k : Kept). k.found) (kept_same d)) ∙ is)))
       (λ d o within named.
-      drawn_on s t d (same d) words (kept_same d) on.objects o refl (λ told. answered_on s t on d o told)
+      drawn_alike s t d o (same d) (kept_same d) (words o) refl (λ told. answered_on s t on d o told)
       ((answered d within).drawn o (sym (same d).named ∙ named)))

@@ -18,3 +18,4 @@ pub mod AnswersSteps
 pub mod AnswersWords
 pub mod AnswersQuiet
 pub mod AnswersRows
+pub mod AnswersOwn
