@@ -19,3 +19,5 @@ pub mod AnswersWords
 pub mod AnswersQuiet
 pub mod AnswersRows
 pub mod AnswersOwn
+pub mod AnswersStaged
+pub mod AnswersMoves
