@@ -21,3 +21,4 @@ pub mod AnswersRows
 pub mod AnswersOwn
 pub mod AnswersStaged
 pub mod AnswersMoves
+pub mod AnswersOpens
