@@ -24,7 +24,7 @@ use Rattle.k42_joined.proofs.AnswersSteps.{WordGoesOn}
 use Rattle.k42_joined.proofs.AnswersWords.{IsSameWord, same_word, same_number, word_on}
 use Rattle.k42_joined.proofs.AnswersOwn.{MovesOn}
 
-same_on : (k : Object) → WordGoesOn k k
+pub same_on : (k : Object) → WordGoesOn k k
 same_on k = word_on k k (same_word k)
 
 module _ {L : Type 0} (s : Joined L) (c : ℕ) (there : c < many_callers s) (q : ℕ) (next : SwapAt) (k : Object) (kept : List Kept) where

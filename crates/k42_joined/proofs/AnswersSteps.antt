@@ -20,7 +20,7 @@ pub record WordGoesOn (k l : Object) : Type 0 where
   pub number : swap_number k ≤ swap_number l
   pub over : (k.layout ≡ 2) ⊎ (k.incarnation ≡ LAST_INCARNATION) → IsSameRow k l
 
-true_on : (k l : Object) (i : ℕ) (answer : Answer) → WordGoesOn k l → IsTrueOf k i answer → IsTrueOf l i answer
+pub true_on : (k l : Object) (i : ℕ) (answer : Answer) → WordGoesOn k l → IsTrueOf k i answer → IsTrueOf l i answer
 true_on k l i Spent on is =
     let same = on.over (inr is.1) in
     (is.0 ∙ sym same.incarnation, same.incarnation ∙ is.1, λ two. is.2 (sym same.layout ∙ two))
@@ -31,7 +31,7 @@ true_on k l i (Busy number) on is = tt
 true_on k l i (Abandoned number) on is = tt
 
 -- where the object is over, what is true of its own incarnation stays so
-true_now : (k l : Object) (answer : Answer) → WordGoesOn k l → IsTrueOf k k.incarnation answer → IsTrueOf l l.incarnation answer
+pub true_now : (k l : Object) (answer : Answer) → WordGoesOn k l → IsTrueOf k k.incarnation answer → IsTrueOf l l.incarnation answer
 true_now k l Spent on is = let same = on.over (inr is.1) in (refl, same.incarnation ∙ is.1, λ two. is.2 (sym same.layout ∙ two))
 true_now k l Gone on is = let same = on.over (inl is.1) in (refl, same.layout ∙ is.1)
 true_now k l (Replied reply) on is = tt

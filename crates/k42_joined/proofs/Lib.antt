@@ -22,3 +22,5 @@ pub mod AnswersOwn
 pub mod AnswersStaged
 pub mod AnswersMoves
 pub mod AnswersOpens
+pub mod Timely
+pub mod AnswersBegin
