@@ -24,3 +24,5 @@ pub mod AnswersMoves
 pub mod AnswersOpens
 pub mod Timely
 pub mod AnswersBegin
+pub mod AnswersPhases
+pub mod AnswersDrawn
