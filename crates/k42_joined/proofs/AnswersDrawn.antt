@@ -23,6 +23,31 @@ module _ {L : Type 0} (s : Joined L) (c : ℕ) (e : Entry) (abandons : Bool) (tu
   abbrev pub t : Joined L
   t = record { phases = s.phases; turns = turns; hands = hands; kept = kept_drawn s c abandons }
 
+  -- an answer that was drawn is drawn still
+  pub still_answered : mine t c ≡ mine s c ++ e ∷ [] → ((d : ℕ) → d ≢ c → mine t d ≡ mine s d)
+      → (d o : ℕ) (told : Answer) → HasAnswered s d o told → HasAnswered t d o told
+  still_answered own mines d o told has =
+      ⊎_elim {C = HasAnswered t d o told}
+      (λ (same : d ≡ c).
+      let here : In has.entry (mine s c) = subst (λ g. In has.entry (mine s g)) same has.drawn in
+      record {
+        entry = has.entry;
+        drawn = subst (λ g. In has.entry (mine t g)) (sym same) (subst (λ (es : List Entry). In has.entry es) (sym own) (in_left has.entry (mine s c) (e ∷ []) here));
+        object = has.object;
+        answer = has.answer;
+      })
+      (λ (other : d ≢ c).
+      record { entry = has.entry; drawn = subst (λ (es : List Entry). In has.entry es) (sym (mines d other)) has.drawn; object = has.object; answer = has.answer })
+      (cases_eq d c)
+
+  pub newly_answered : mine t c ≡ mine s c ++ e ∷ [] → HasAnswered t c e.object e.answer
+  newly_answered own = record {
+    entry = e;
+    drawn = subst (λ (es : List Entry). In e es) (sym own) (in_right e (mine s c) (e ∷ []) (inl refl));
+    object = refl;
+    answer = refl;
+  }
+
   -- what the entry needs
   pub record DrawsOn : Type 0 where
     pub there : c < many_callers s

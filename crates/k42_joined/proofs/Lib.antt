@@ -26,3 +26,4 @@ pub mod Timely
 pub mod AnswersBegin
 pub mod AnswersPhases
 pub mod AnswersDrawn
+pub mod AnswersDraws
