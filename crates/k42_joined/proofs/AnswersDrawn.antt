@@ -5,6 +5,7 @@ use Rattle.std.proofs.lemmas.List.{get_or-set_same, get_or-set_other}
 use Rattle.k42_kinds.specs.declared.entry.Answer.{Answer}
 use Rattle.k42_kinds.specs.declared.entry.Answer.TheVariants.{Replied, Swapped, Busy, Spent, Gone, Abandoned}
 use Rattle.k42_kinds.specs.declared.entry.Entry.{Entry}
+use Rattle.k42_kinds.specs.Legal.{Settles}
 use Rattle.phase_core.specs.Stages.{named_by, is_idle}
 use Rattle.phase_core.specs.declared.caller.SwapAt.TheVariants.{Moved}
 use Rattle.turn_core.specs.Plain.{Turns}
@@ -39,6 +40,28 @@ module _ {L : Type 0} (s : Joined L) (c : ℕ) (e : Entry) (abandons : Bool) (tu
       (λ (other : d ≢ c).
       record { entry = has.entry; drawn = subst (λ (es : List Entry). In has.entry es) (sym (mines d other)) has.drawn; object = has.object; answer = has.answer })
       (cases_eq d c)
+
+  pub rival_own : mine t c ≡ mine s c ++ e ∷ [] → ((d : ℕ) → d ≢ c → mine t d ≡ mine s d) → (d o number : ℕ) → HasRival s d o number → HasRival t d o number
+  rival_own own mines d o number rival =
+      ⊎_elim {C = HasRival t d o number}
+      (λ (is : IsSettled s d o number).
+      let has = still_answered own mines is.rival o is.entry.answer (record { entry = is.entry; drawn = is.drawn; object = is.object; answer = refl }) in
+      inl (record {
+        rival = is.rival;
+        other = is.other;
+        entry = has.entry;
+        drawn = has.drawn;
+        object = has.object;
+        settles = subst (λ answer. Settles number answer) (sym has.answer) is.settles;
+      }))
+      (λ (is : IsUnderWay s d o number). inr (record {
+        rival = is.rival;
+        other = is.other;
+        there = is.there;
+        named = is.named;
+        granted = is.granted;
+        number = is.number;
+      })) rival
 
   pub newly_answered : mine t c ≡ mine s c ++ e ∷ [] → HasAnswered t c e.object e.answer
   newly_answered own = record {

@@ -37,7 +37,7 @@ use Rattle.k42_joined.specs.Found.{swap_number, tells_over}
 use Rattle.k42_joined.specs.Locks.{AreLocked}
 use Rattle.k42_joined.specs.Refusals.{is_given_up, IsRefused, IsAbandoned, IsAnsweredAlone, MayDrawAlone, tells_abandoned}
 use Rattle.k42_joined.specs.State.{many_callers, many_objects, object, incarnation, swap_of, mine, kept_of, many_hands, is_handed}
-use Rattle.k42_joined.proofs.AnswersDrawn.{DrawsOn, still_answered, newly_answered, rival_more, drawn_answered}
+use Rattle.k42_joined.proofs.AnswersDrawn.{DrawsOn, still_answered, newly_answered, rival_own, drawn_answered}
 use Rattle.k42_joined.proofs.Timely.{IsLaterFor, IsTimelyLast, timely_push}
 
 -- the callers after one of them drew an entry
@@ -193,3 +193,209 @@ module _ {L : Type 0} (s : Joined L) (locked : AreLocked s) (answered : AreAnswe
           ⊎_elim (λ old. last c n other there old same is)
           (λ new. ⊎_elim (λ (same_e : other ≡ e). absurd (over_not_swapped e.answer n over (sym (ap (λ (x : Entry). x.answer) same_e) ∙ is))) (λ none. absurd none) new)
           (in-append other (mine s c) (e ∷ []) listed)
+
+  -- a refusal, and a swap that is given up
+
+  alone_own : (e' : Entry) → drawn_by (turn_events.effect s.turns (Alone c e')).callers c ≡ mine s c ++ e' ∷ []
+  alone_own e' = own_drawn s.turns.callers c e' callers_there
+
+  module _ (no_call : is_call e.act ≡ false) (begun : (kept_of s c).begun ≡ Some e.object) where
+    busy_answers : (number : ℕ) → e.caller ≡ c → e.answer ≡ Busy number → IsRefused s c e number
+        → AreAnswered (record s { turns = turn_events.effect s.turns (Alone c e); kept = kept_drawn s c false })
+    busy_answers number caller answer refused =
+        entry_keeps false (turn_events.effect s.turns (Alone c e)) (alone_own e) (λ d other. else_drawn s.turns.callers c d e other)
+        (λ n is. let bad : Busy number ≡ Swapped n = sym answer ∙ is in cc) (λ o name is bad. absurd (cc))
+        (found.timely number e refl (record { caller = caller; object = refl; incarnation = refused.before; answer = answer }))
+        (record {
+          there = (answered c there).kept.there e.object begun;
+          replied = λ is. let bad : false ≡ true = sym no_call ∙ is in absurd (cc);
+          known = let low = found.busy number refl in let most = number_most (object s e.object) in let before = refused.before in omega (arith, low, most, before);
+          done = λ n is. let bad : Busy number ≡ Swapped n = sym answer ∙ is in absurd (cc);
+          over = subst (λ a. IsTrueOf (object s e.object) e.incarnation a) (sym answer) tt;
+          last = λ over d n other within listed same is. let bad : tells_over (Busy number) ≡ true = subst (λ a. tells_over a ≡ true) answer over in absurd (cc);
+          busy = λ n is. let same : number ≡ n = busy_same (sym answer ∙ is) in subst (λ m. m ≤ swap_number (object s e.object)) same (found.busy number refl);
+          abandoned = λ n is. let bad : Busy number ≡ Abandoned n = sym answer ∙ is in absurd (cc);
+          rival = λ n is. let same : number ≡ n = busy_same (sym answer ∙ is) in
+              subst (HasRival (record s { turns = turn_events.effect s.turns (Alone c e); kept = kept_drawn s c false }) c e.object) same (rival_on (found.rival number refl));
+        })
+      where
+        busy_same : {m n : ℕ} → Busy m ≡ Busy n → m ≡ n
+        busy_same same = cc
+
+        found : IsFound s c e.object (Busy number)
+        found = (answered c there).found e.object (Busy number) begun refused.found
+
+        rival_on : HasRival s c e.object number → HasRival (record s { turns = turn_events.effect s.turns (Alone c e); kept = kept_drawn s c false }) c e.object number
+        rival_on rival =
+            rival_own s c e false (turn_events.effect s.turns (Alone c e)) s.hands (alone_own e) (λ d other. else_drawn s.turns.callers c d e other) c e.object number rival
+
+    -- COMPLETE is clear where the swap is given up
+    given_clear : (sound : phases.IsSound s.phases) → is_given_up (swap_of s c) (object s e.object) e.object ≡ true → (object s e.object).complete ≡ false
+    given_clear sound is = by_swap (swap_of s c) refl is where
+      bits : (q : ℕ) → named_by (swap_of s c) ≡ Some q → BitsFollow (bits_of (object s q)) (object s q).layout (object s q).incarnation (swap_of s c)
+      bits q named =
+          let stage = ((visitor_known s.phases sound c there).swap_alone.owned q named).1 in
+          subst (λ w. BitsFollow (bits_of (object s q)) (object s q).layout (object s q).incarnation w) stage
+          (object_known s.phases sound q ((answered c there).kept.there q ((answered c there).kept.begun q named))).bits_follow.bits
+
+      by_swap : (swap : SwapAt) → swap_of s c ≡ swap → is_given_up swap (object s e.object) e.object ≡ true → (object s e.object).complete ≡ false
+      by_swap (Reopening q p) at given =
+          let same : q ≡ e.object = eqb-true q e.object given in
+          let clear = rw at at (bits q (ap named_by at)) in
+          subst (λ o. (object s o).complete ≡ false) same clear.2
+      by_swap (Opened q) at given = not-true (object s e.object).complete (and_parts (eqb q e.object) (not (object s e.object).complete) given).1
+      by_swap swap at given = absurd (cc)
+
+    abandoned_answers : (number : ℕ) → phases.IsSound s.phases → e.answer ≡ Abandoned number → IsAbandoned s c e number
+        → AreAnswered (record s { turns = turn_events.effect s.turns (Alone c e); kept = kept_drawn s c true })
+    abandoned_answers number sound answer is_abandoned =
+        entry_keeps true t (alone_own e) (λ d other. else_drawn s.turns.callers c d e other)
+        (λ n is. let bad : Abandoned number ≡ Swapped n = sym answer ∙ is in cc)
+        (λ o name is some.
+        let same : e.object ≡ o = same_Some e.object o (sym begun ∙ (answered c there).kept.begun o name) in
+        let new = newly_answered s c e true t s.hands (alone_own e) in
+        let told : e.answer ≡ Abandoned (incarnation s e.object + 1) = answer ∙ ap Abandoned is_abandoned.next in
+        subst (λ r. HasAnswered (record s { turns = t; kept = kept_drawn s c true }) c r (Abandoned (incarnation s r + 1))) same
+        (subst (λ a. HasAnswered (record s { turns = t; kept = kept_drawn s c true }) c e.object a) told new))
+        (timely_push (mine s c) e (answered c there).timely (late_now is_abandoned.present)
+        (λ n is. let bad : Abandoned number ≡ Busy n = sym answer ∙ is in absurd (cc))
+        (λ n is. let same : number ≡ n = abandoned_same (sym answer ∙ is) in
+        subst (IsTimelyLast (mine s c) e) same
+        (record {
+          incarnation = let next = is_abandoned.next in let present = is_abandoned.present in omega (arith, next, present);
+          earlier = λ f listed own. not_past f listed own;
+        })))
+        (record {
+          there = (answered c there).kept.there e.object begun;
+          replied = λ is. let bad : false ≡ true = sym no_call ∙ is in absurd (cc);
+          known = let present = is_abandoned.present in omega (arith, present);
+          done = λ n is. let bad : Abandoned number ≡ Swapped n = sym answer ∙ is in absurd (cc);
+          over = subst (λ a. IsTrueOf (object s e.object) e.incarnation a) (sym answer) tt;
+          last = λ over d n other within listed same is. let bad : tells_over (Abandoned number) ≡ true = subst (λ a. tells_over a ≡ true) answer over in absurd (cc);
+          busy = λ n is. let bad : Abandoned number ≡ Busy n = sym answer ∙ is in absurd (cc);
+          abandoned = λ n is.
+              let same : number ≡ n = abandoned_same (sym answer ∙ is) in
+              let clear = ap (λ b. cond b (incarnation s e.object) (incarnation s e.object + 1)) (given_clear sound is_abandoned.given_up) in
+              let next = is_abandoned.next in
+              omega (arith, same, clear, next);
+          rival = λ n is. let bad : Abandoned number ≡ Busy n = sym answer ∙ is in absurd (cc);
+        })
+      where
+        t : Turns
+        t = turn_events.effect s.turns (Alone c e)
+
+        abandoned_same : {m n : ℕ} → Abandoned m ≡ Abandoned n → m ≡ n
+        abandoned_same same = cc
+
+        carried : (a : Answer) → ((j : ℕ) → a ≡ Swapped j → j ≤ number) → number_carried_out a ≤ number
+        carried (Swapped j) low = low j refl
+        carried a low = omega arith
+
+        not_past : (f : Entry) → In f (mine s c) → IsOwn e f → IsNotPast number f
+        not_past f listed own =
+            let next = is_abandoned.next in
+            let known : f.incarnation ≤ incarnation s e.object = subst (λ o. f.incarnation ≤ incarnation s o) own.object (each f listed).known in
+            record {
+              incarnation = omega (arith, known, next);
+              carried_out = carried f.answer
+                  (λ j said. ⊎_elim
+                  (λ (low : j ≤ incarnation s f.object). let low' : j ≤ incarnation s e.object = subst (λ o. j ≤ incarnation s o) own.object low in omega (arith, low', next))
+                  (λ (ahead : (j ≡ incarnation s f.object + 1) × (swap_of s c ≡ Moved f.object)).
+                  let here : j ≡ incarnation s e.object + 1 = subst (λ o. j ≡ incarnation s o + 1) own.object ahead.0 in omega (arith, here, next))
+                  ((each f listed).done j said));
+            }
+
+  alone_by : (answer : Answer) → e.answer ≡ answer → phases.IsSound s.phases → e.caller ≡ c → is_call e.act ≡ false → (kept_of s c).begun ≡ Some e.object
+      → IsAnsweredAlone s c e answer
+      → AreAnswered (record s { turns = turn_events.effect s.turns (Alone c e); kept = kept_drawn s c (tells_abandoned answer) })
+  alone_by (Busy number) is sound caller no_call begun refused = busy_answers no_call begun number caller is refused
+  alone_by (Abandoned number) is sound caller no_call begun abandoned = abandoned_answers no_call begun number sound is abandoned
+  alone_by answer is sound caller no_call begun none = absurd none
+
+  pub alone_answers : phases.IsSound s.phases → e.caller ≡ c → MayDrawAlone s c e
+      → AreAnswered (record s { turns = turn_events.effect s.turns (Alone c e); kept = kept_drawn s c (tells_abandoned e.answer) })
+  alone_answers sound caller may = alone_by e.answer refl sound caller may.act may.begun may.answer
+
+  -- a hand
+
+  pub hand_answers : (sound : phases.IsSound s.phases) (from onto : List ℕ) (layout : L) → is_call e.act ≡ false → e.object < many_objects s
+      → swap_of s c ≡ Moved e.object → e.incarnation ≡ incarnation s e.object → e.answer ≡ Swapped (incarnation s e.object + 1)
+      → AreAnswered (record s {
+        turns = turn_events.effect s.turns (Hand c from onto e);
+        hands = hands_with s e.object layout;
+        kept = kept_drawn s c false;
+      })
+  hand_answers sound from onto layout no_call named moved now answer =
+      drawn_answered s c e false t h locked answered (record {
+        there = there;
+        own = own;
+        mines = mines;
+        handed = handed;
+        given_up = λ o name is bad. absurd (cc);
+        timely = timely_now now (λ n is. let bad : Swapped (incarnation s e.object + 1) ≡ Busy n = sym answer ∙ is in cc)
+            (λ n is. let bad : Swapped (incarnation s e.object + 1) ≡ Abandoned n = sym answer ∙ is in cc);
+        not_over = λ f n is same over true_is. alive f same (f.answer) over true_is;
+        new = record {
+          there = named;
+          replied = λ is. let bad : false ≡ true = sym no_call ∙ is in absurd (cc);
+          known = let same = now in omega (arith, same);
+          done = λ n is. let same : incarnation s e.object + 1 ≡ n = swapped_same (sym answer ∙ is) in inr (sym same, moved);
+          over = subst (λ a. IsTrueOf (object s e.object) e.incarnation a) (sym answer) tt;
+          last = λ over d n other within listed same is.
+              let bad : tells_over (Swapped (incarnation s e.object + 1)) ≡ true = subst (λ a. tells_over a ≡ true) answer over in absurd (cc);
+          busy = λ n is. let bad : Swapped (incarnation s e.object + 1) ≡ Busy n = sym answer ∙ is in absurd (cc);
+          abandoned = λ n is. let bad : Swapped (incarnation s e.object + 1) ≡ Abandoned n = sym answer ∙ is in absurd (cc);
+          rival = λ n is. let bad : Swapped (incarnation s e.object + 1) ≡ Busy n = sym answer ∙ is in absurd (cc);
+        };
+      })
+    where
+      swapped_same : {m n : ℕ} → Swapped m ≡ Swapped n → m ≡ n
+      swapped_same same = cc
+
+      drawing : Turns
+      drawing = change_caller (caller_drawn e) s.turns c
+
+      t : Turns
+      t = turn_events.effect s.turns (Hand c from onto e)
+
+      h : List (List L)
+      h = hands_with s e.object layout
+
+      callers_same : t.callers ≡ drawing.callers
+      callers_same = callers-change_cells cell_closed (change_cells (cell_begun e) drawing onto) from ∙ callers-change_cells (cell_begun e) drawing onto
+
+      own : drawn_by t.callers c ≡ mine s c ++ e ∷ []
+      own = ap (λ callers. drawn_by callers c) callers_same ∙ own_drawn s.turns.callers c e callers_there
+
+      mines : (d : ℕ) → d ≢ c → drawn_by t.callers d ≡ mine s d
+      mines d other = ap (λ callers. drawn_by callers d) callers_same ∙ else_drawn s.turns.callers c d e other
+
+      handed : (d o : ℕ) → d < many_callers s → swap_of s d ≡ Moved o
+          → is_handed (record s { turns = t; hands = h; kept = kept_drawn s c false }) o ≡ true
+          → HasAnswered (record s { turns = t; hands = h; kept = kept_drawn s c false }) d o (Swapped (incarnation s o + 1))
+      handed d o within moves is =
+          ⊎_elim {C = HasAnswered (record s { turns = t; hands = h; kept = kept_drawn s c false }) d o (Swapped (incarnation s o + 1))}
+          (λ (same : o ≡ e.object).
+          let mover : d ≡ c = (one_swap s.phases sound e.object named).one d c within there (ap named_by moves ∙ ap Some same) (ap named_by moved) in
+          let new = newly_answered s c e false t h own in
+          subst (λ g. HasAnswered (record s { turns = t; hands = h; kept = kept_drawn s c false }) g o (Swapped (incarnation s o + 1))) (sym mover)
+          (subst (λ r. HasAnswered (record s { turns = t; hands = h; kept = kept_drawn s c false }) c r (Swapped (incarnation s r + 1))) (sym same)
+          (subst (λ a. HasAnswered (record s { turns = t; hands = h; kept = kept_drawn s c false }) c e.object a) answer new)))
+          (λ (other : o ≢ e.object).
+          let hands_same = get_or-set_other s.hands e.object o (layout ∷ get_or s.hands e.object []) [] other in
+          still_answered s c e false t h own mines d o (Swapped (incarnation s o + 1))
+          (((answered d within).drawn o (ap named_by moves)).handed moves (sym (ap (λ ls. ltb (incarnation s o) (length ls)) hands_same) ∙ is)))
+          (cases_eq o e.object)
+
+      alive : (f : Entry) → e.object ≡ f.object → (a : Answer) → tells_over a ≡ true → IsTrueOf (object s f.object) f.incarnation a → ⊥
+      alive f same Spent over is =
+          let ready = moved_is_ready s.phases sound c e.object there moved in
+          let next = ready.next in
+          let last : incarnation s e.object ≡ LAST_INCARNATION = subst (λ o. incarnation s o ≡ LAST_INCARNATION) (sym same) is.1 in
+          absurd (omega (arith, next, last))
+      alive f same Gone over is =
+          let ready = moved_is_ready s.phases sound c e.object there moved in
+          let alive_is = ready.alive in
+          let two : (object s e.object).layout ≡ 2 = subst (λ o. (object s o).layout ≡ 2) (sym same) is.1 in
+          absurd (omega (arith, alive_is, two))
+      alive f same a over is = absurd (cc)
