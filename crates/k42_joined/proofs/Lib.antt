@@ -27,3 +27,6 @@ pub mod AnswersBegin
 pub mod AnswersPhases
 pub mod AnswersDrawn
 pub mod AnswersDraws
+pub mod AnswersCells
+pub mod AnswersTouch
+pub mod Kept
