@@ -30,3 +30,4 @@ pub mod AnswersDraws
 pub mod AnswersCells
 pub mod AnswersTouch
 pub mod Kept
+pub mod Fresh
