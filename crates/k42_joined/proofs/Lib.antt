@@ -31,3 +31,6 @@ pub mod AnswersCells
 pub mod AnswersTouch
 pub mod Kept
 pub mod Fresh
+pub mod Reached
+pub mod SafeStates
+pub mod Trace

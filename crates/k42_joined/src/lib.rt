@@ -3,4 +3,4 @@
 
 mod laws;
 
-pub use laws::nothing;
+pub use laws::{each_event_keeps, sound_states_are_safe, stays_sound, trace_is_legal};
