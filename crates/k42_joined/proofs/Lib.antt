@@ -34,3 +34,4 @@ pub mod Fresh
 pub mod Reached
 pub mod SafeStates
 pub mod Trace
+pub mod Readers

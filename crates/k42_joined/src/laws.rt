@@ -9,7 +9,9 @@ ghost use Rattle.k42_joined.specs.Effects.{effect};
 ghost use Rattle.k42_joined.specs.Fitting.{lists_of};
 ghost use Rattle.k42_joined.specs.Sound.{IsSound};
 ghost use Rattle.k42_joined.specs.Safe.{IsSafe};
-ghost use Rattle.k42_joined.specs.Runs.{IsReached};
+ghost use Rattle.phase_core.specs.Runs.{HasRead};
+ghost use Rattle.k42_joined.specs.Runs.{Leads, IsReached, Leaves, IsFreedOnce, TakesRow};
+ghost use Rattle.k42_joined.specs.State.{many_callers};
 
 use k42_kinds::Layout;
 
@@ -47,4 +49,23 @@ pub fn trace_is_legal<L: Layout>(procs: u32)
         let F = layouts_with L.object L.tag_of L.ways L.whole L.serves L.admitted L.act_of procs proc_of in
         (declared : List L) (s : Joined L) (merged : List Entry) → IsSound F declared s →
         IsMerged (lists_of s) merged → AreLegal F declared is_drawn merged }
+{}
+
+/// Rows that are freed stay freed, a row is freed once, and cells begin each life once.
+pub fn rows_are_freed_once<L: Layout>(procs: u32)
+    requires { 0 < procs }
+    ensures { (proc_of : ℕ → ℕ) → ((caller : ℕ) → proc_of caller < procs) →
+        let F = layouts_with L.object L.tag_of L.ways L.whole L.serves L.admitted L.act_of procs proc_of in
+        (declared : List L) (s t : Joined L) (events : List (Event L)) → Leads F declared events s t →
+        IsFreedOnce s t }
+{}
+
+/// A row that an activity has read is freed, and its cells are given again, only after that activity has left.
+pub fn readers_leave_before<L: Layout>(procs: u32)
+    requires { 0 < procs }
+    ensures { (proc_of : ℕ → ℕ) → ((caller : ℕ) → proc_of caller < procs) →
+        let F = layouts_with L.object L.tag_of L.ways L.whole L.serves L.admitted L.act_of procs proc_of in
+        (declared : List L) (s t : Joined L) (events : List (Event L)) (last : Event L) (c o i : ℕ) →
+        IsSound F declared s → Leads F declared events s t → IsPossible F declared t last →
+        c < many_callers s → HasRead s.phases c o i → TakesRow t last o i → Leaves c events }
 {}
