@@ -1,7 +1,9 @@
 -- Rows are freed once and given again once, and only after those who have read them have left.
-use Rattle.std.proofs.Common.{◌≡◌, ◌≢◌, ℕ, zero, suc, ◌+◌, ◌<◌, ◌≤◌, ◌⊎◌, ◌∙◌, Bool, true, false, List, [], ◌∷◌, length, refl, sym, ap, subst, inl, inr, ⊎_elim, arith}
+use Rattle.std.proofs.Common.{◌≡◌, ◌≢◌, ℕ, zero, suc, ◌+◌, ◌<◌, ◌≤◌, ◌⊎◌, ◌∙◌, Bool, true, false, ltb, List, [], ◌∷◌, length, refl, sym, ap, subst, inl, inr, ⊎_elim, arith}
 use Rattle.std.proofs.Math.Nat.{le_refl, le_trans}
 use Rattle.std.proofs.lemmas.Bool.{cases_eq}
+use Rattle.std.proofs.lemmas.Bool.Decides.{nat_tests}
+use Rattle.k42_places.proofs.Written.{get_or-set_related}
 use Rattle.std.proofs.lemmas.List.{get_or-set_same, get_or-set_other}
 use Rattle.std.proofs.lemmas.Option.{same_Some, slice_get-get_or, get_or_from_slice_get}
 use Rattle.std.specs.List.{slice_get}
@@ -23,7 +25,7 @@ use Rattle.k42_joined.specs.Effects.{effect}
 use Rattle.k42_joined.specs.Possible.{MaySwap, MayTurn, MayHandWith, IsPossible}
 use Rattle.k42_joined.specs.Runs.{Leads, FreesRow, GivesLife, Leaves, TakesRow, IsFreedOnce}
 use Rattle.k42_joined.specs.Sound.{IsSound}
-use Rattle.k42_joined.specs.State.{many_callers, object, incarnation}
+use Rattle.k42_joined.specs.State.{many_callers, object, incarnation, layouts_of, many_hands, is_handed}
 use Rattle.k42_joined.proofs.Kept.{joined_keeps}
 use Rattle.k42_joined.proofs.PhaseSteps.{object_after, only_its_caller}
 use Rattle.k42_joined.proofs.RowsPhases.{same_read}
@@ -36,20 +38,22 @@ module _ {S L P : Type 0} (F : Layouts S L P) (laws : AreLaws F) (declared : Lis
   freed_rises s (AtCells event) possible o = le_refl (object s o).freed
   freed_rises s (HandWith c from onto layout e) possible o = le_refl (object s o).freed
 
-  incarnation_rises : (s : Joined L) (event : Event L) → IsPossible F declared s event → (o : ℕ) → incarnation s o ≤ incarnation (effect s event) o
-  incarnation_rises s (AtPhases event) possible o = ((object_after s.phases event possible.may.core).goes o).incarnation
-  incarnation_rises s (AtCells event) possible o = le_refl (incarnation s o)
-  incarnation_rises s (HandWith c from onto layout e) possible o = le_refl (incarnation s o)
+  hands_rise : (s : Joined L) (event : Event L) → (o : ℕ) → many_hands s o ≤ many_hands (effect s event) o
+  hands_rise s (AtPhases event) o = le_refl (many_hands s o)
+  hands_rise s (AtCells event) o = le_refl (many_hands s o)
+  hands_rise s (HandWith c from onto layout e) o =
+      get_or-set_related (λ (xs ys : List L). length xs ≤ length ys) (λ xs. le_refl (length xs)) s.hands e.object o (layout ∷ layouts_of s e.object) []
+      (omega arith)
 
   pub freed_never_falls : (events : List (Event L)) (s t : Joined L) → Leads F declared events s t → (o : ℕ) → (object s o).freed ≤ (object t o).freed
   freed_never_falls [] s t leads o = subst (λ (u : Joined L). (object s o).freed ≤ (object u o).freed) (sym leads) (le_refl (object s o).freed)
   freed_never_falls (event ∷ events) s t leads o =
       le_trans (freed_rises s event leads.0 o) (freed_never_falls events (effect s event) t leads.1 o)
 
-  incarnation_never_falls : (events : List (Event L)) (s t : Joined L) → Leads F declared events s t → (o : ℕ) → incarnation s o ≤ incarnation t o
-  incarnation_never_falls [] s t leads o = subst (λ (u : Joined L). incarnation s o ≤ incarnation u o) (sym leads) (le_refl (incarnation s o))
-  incarnation_never_falls (event ∷ events) s t leads o =
-      le_trans (incarnation_rises s event leads.0 o) (incarnation_never_falls events (effect s event) t leads.1 o)
+  hands_never_fall : (events : List (Event L)) (s t : Joined L) → Leads F declared events s t → (o : ℕ) → many_hands s o ≤ many_hands t o
+  hands_never_fall [] s t leads o = subst (λ (u : Joined L). many_hands s o ≤ many_hands u o) (sym leads) (le_refl (many_hands s o))
+  hands_never_fall (event ∷ events) s t leads o =
+      le_trans (hands_rise s event o) (hands_never_fall events (effect s event) t leads.1 o)
 
   -- a row that was freed is not freed again
   freed_once : (events : List (Event L)) (s t : Joined L) (event : Event L) (o i : ℕ) → Leads F declared events s t → i < (object s o).freed
@@ -164,12 +168,24 @@ module _ {S L P : Type 0} (F : Layouts S L P) (laws : AreLaws F) (declared : Lis
       ⊎_elim {C = Leaves c events} (λ frees. readers_left_freed events s t event c o i sound leads possible there read frees)
       (λ gives. readers_left_given events s t event c o i sound leads possible there read gives) takes
 
-  pub each_once : (events : List (Event L)) (s t : Joined L) → Leads F declared events s t → IsFreedOnce s t
+  -- a row is handed on where none is ahead
+  given_first : (t : Joined L) (event : Event L) (o j : ℕ) → IsPossible F declared t event → GivesLife t event o j → many_hands t o < j
+  given_first t event o j possible gives =
+      let may = subst (IsPossible F declared t) gives.hand possible in
+      let first : is_handed t o ≡ false = subst (λ r. is_handed t r ≡ false) gives.object may.may.beside.once in
+      let none = not_less (incarnation t o) (many_hands t o) first in
+      let life = gives.life in
+      omega (arith, none, life)
+    where
+      not_less : (m n : ℕ) → ltb m n ≡ false → n ≤ m
+      not_less m n is = grind (arith, nat_tests, is)
+
+  pub each_once : (events : List (Event L)) (s t : Joined L) → Leads F declared events s t → IsFreedOnce F declared s t
   each_once events s t leads = record {
     kept = λ o. freed_never_falls events s t leads o;
     once = λ event o i gone frees. freed_once events s t event o i leads gone frees;
-    given = λ event o j had gives.
-        let rises = incarnation_never_falls events s t leads o in
-        let life = gives.life in
-        absurd (omega (arith, had, rises, life));
+    given = λ event o j possible had gives.
+        let rises = hands_never_fall events s t leads o in
+        let first = given_first t event o j possible gives in
+        absurd (omega (arith, had, rises, first));
   }

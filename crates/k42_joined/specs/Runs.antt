@@ -8,7 +8,7 @@ use Rattle.k42_stamp.specs.Layouts.{Layouts}
 use Rattle.k42_stamp.specs.Orders.{In}
 use Rattle.k42_joined.specs.Plain.{Joined}
 use Rattle.k42_joined.specs.Event.{Event, AtPhases, HandWith}
-use Rattle.k42_joined.specs.State.{object, incarnation}
+use Rattle.k42_joined.specs.State.{object, incarnation, many_hands}
 use Rattle.k42_joined.specs.Possible.{IsPossible}
 use Rattle.k42_joined.specs.Effects.{effect}
 use Rattle.k42_joined.specs.Fresh.{fresh, IsPlan}
@@ -46,11 +46,12 @@ abbrev pub TakesRow : {L : Type 0} → Joined L → Event L → ℕ → ℕ → 
 TakesRow s event o i = FreesRow s event o i ⊎ GivesLife s event o (i + 2)
 
 -- In the later state nothing is undone: rows that were freed stay so, no event frees one of them again, and
--- none begins a life that cells had already begun.
-pub record IsFreedOnce {L : Type 0} (s t : Joined L) : Type 0 where
+-- none that is possible begins a life again for which a row was handed on.
+pub record IsFreedOnce {S L P : Type 0} (F : Layouts S L P) (declared : List L) (s t : Joined L) : Type 0 where
   pub kept : (o : ℕ) → (object s o).freed ≤ (object t o).freed
   pub once : (event : Event L) (o i : ℕ) → i < (object s o).freed → ¬ FreesRow t event o i
-  pub given : (event : Event L) (o j : ℕ) → j ≤ incarnation s o → ¬ GivesLife t event o j
+  pub given :
+    (event : Event L) (o j : ℕ) → IsPossible F declared t event → j ≤ many_hands s o → ¬ GivesLife t event o j
 
 -- the caller's Leave stands among the events
 abbrev pub Leaves : {L : Type 0} → ℕ → List (Event L) → Type 0

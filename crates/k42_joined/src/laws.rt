@@ -57,7 +57,7 @@ pub fn rows_are_freed_once<L: Layout>(procs: u32)
     ensures { (proc_of : ℕ → ℕ) → ((caller : ℕ) → proc_of caller < procs) →
         let F = layouts_with L.object L.tag_of L.ways L.whole L.serves L.admitted L.act_of procs proc_of in
         (declared : List L) (s t : Joined L) (events : List (Event L)) → Leads F declared events s t →
-        IsFreedOnce s t }
+        IsFreedOnce F declared s t }
 {}
 
 /// A row that an activity has read is freed, and its cells are given again, only after that activity has left.
