@@ -35,3 +35,4 @@ pub mod Reached
 pub mod SafeStates
 pub mod Trace
 pub mod Readers
+pub mod AnswersTrace
