@@ -24,13 +24,10 @@ use Rattle.k42_joined.specs.Plain.{Joined}
 use Rattle.k42_joined.specs.Answers.{is_refused, IsUnderWay, IsSettled, IsAnswered, AreAnswered}
 use Rattle.k42_joined.specs.Fitting.{lists_of}
 use Rattle.k42_joined.specs.Locks.{AreAsMany}
+use Rattle.k42_joined.specs.Rest.{IsAtRest}
 use Rattle.k42_joined.specs.State.{many_callers, swap_of, mine}
 use Rattle.k42_joined.proofs.RowsCells.{list_here}
 use Rattle.k42_joined.proofs.RowsStamps.{in_place, place_in, in_own, own_caller}
-
--- no swap is under way: whoever names an object was refused
-abbrev pub NoneIsUnderWay : {L : Type 0} → Joined L → Type 0
-NoneIsUnderWay s = (c o : ℕ) → c < many_callers s → named_by (swap_of s c) ≡ Some o → is_refused (swap_of s c) ≡ true
 
 -- what a refusal, and an abandoned swap, of a history must meet
 abbrev pub IsLegallyHeldUp : List Entry → Entry → List Entry → Type 0
@@ -108,16 +105,16 @@ ordered_back (x ∷ front) h back y ordered is = ordered_back front h back y ord
 abbrev stamped : Entry → ℕ → Entry
 stamped entry stamp = record entry { stamp = stamp }
 
-record IsNumberedCut (n : ℕ) (es before : List Entry) (e : Entry) (after : List Entry) : Type 0 where
-  front : List Entry
-  here : Entry
-  back : List Entry
-  cut : es ≡ front ++ here ∷ back
-  stamp : ℕ
-  before_is : before ≡ numbered_from n front
-  here_is : e ≡ stamped here stamp
-  next : ℕ
-  after_is : after ≡ numbered_from next back
+pub record IsNumberedCut (n : ℕ) (es before : List Entry) (e : Entry) (after : List Entry) : Type 0 where
+  pub front : List Entry
+  pub here : Entry
+  pub back : List Entry
+  pub cut : es ≡ front ++ here ∷ back
+  pub stamp : ℕ
+  pub before_is : before ≡ numbered_from n front
+  pub here_is : e ≡ stamped here stamp
+  pub next : ℕ
+  pub after_is : after ≡ numbered_from next back
 
 record AreHeads (x y : Entry) (xs ys : List Entry) : Type 0 where
   head : x ≡ y
@@ -126,7 +123,7 @@ record AreHeads (x y : Entry) (xs ys : List Entry) : Type 0 where
 are_heads : (x y : Entry) (xs ys : List Entry) → x ∷ xs ≡ y ∷ ys → AreHeads x y xs ys
 are_heads x y xs ys same = record { head = cc; tail = cc }
 
-numbered_cut : (n : ℕ) (es before : List Entry) (e : Entry) (after : List Entry) → numbered_from n es ≡ before ++ e ∷ after → IsNumberedCut n es before e after
+pub numbered_cut : (n : ℕ) (es before : List Entry) (e : Entry) (after : List Entry) → numbered_from n es ≡ before ++ e ∷ after → IsNumberedCut n es before e after
 numbered_cut n [] [] e after is = absurd (cc)
 numbered_cut n [] (b ∷ before) e after is = absurd (cc)
 numbered_cut n (x ∷ es) [] e after is =
@@ -299,7 +296,7 @@ module _ {L : Type 0} (s : Joined L) (many : AreAsMany s) (turns_sound : turns.I
       }
 
     -- where no swap is under way, the rival's swap is settled
-    settled : NoneIsUnderWay s → (number : ℕ) → here.answer ≡ Busy number → IsSettled s here.caller here.object number
+    settled : IsAtRest s → (number : ℕ) → here.answer ≡ Busy number → IsSettled s here.caller here.object number
     settled none number busy =
         ⊎_elim (λ is. is)
         (λ (is : IsUnderWay s here.caller here.object number).
@@ -333,7 +330,7 @@ module _ {L : Type 0} (s : Joined L) (many : AreAsMany s) (turns_sound : turns.I
         late)
         (in-append settles.entry front (here ∷ back) has)
 
-    held_up_here : NoneIsUnderWay s → (n stamp next : ℕ) → IsLegallyHeldUp (numbered_from n front) (stamped here stamp) (numbered_from next back)
+    held_up_here : IsAtRest s → (n stamp next : ℕ) → IsLegallyHeldUp (numbered_from n front) (stamped here stamp) (numbered_from next back)
     held_up_here none n stamp next = (
       (λ number busy. record {
         timely = numbered_timely number (λ before after split. (own.timely before here after split).0 number busy) n stamp next;
@@ -343,7 +340,7 @@ module _ {L : Type 0} (s : Joined L) (many : AreAsMany s) (turns_sound : turns.I
     )
 
   -- each refusal and each abandoned swap of the numbered trace
-  pub held_up_legal : NoneIsUnderWay s → AtEachPlace IsLegallyHeldUp (numbered_from 1 trace)
+  pub held_up_legal : IsAtRest s → AtEachPlace IsLegallyHeldUp (numbered_from 1 trace)
   held_up_legal none before e after split =
       let at = numbered_cut 1 trace before e after split in
       subst (λ es. IsLegallyHeldUp es e after) (sym at.before_is)

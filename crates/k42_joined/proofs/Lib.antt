@@ -36,3 +36,4 @@ pub mod SafeStates
 pub mod Trace
 pub mod Readers
 pub mod AnswersTrace
+pub mod TraceAtRest
