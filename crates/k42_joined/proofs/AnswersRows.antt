@@ -55,7 +55,7 @@ pub record IsDoneIn {L P : Type 0} (past : List (Turn L P)) (e : Entry) (n : ℕ
   pub stamp : IsUpTo past e
 
 module _ {S L P : Type 0} (F : Layouts S L P) (declared : L) (o : ℕ) (e : Entry) (n : ℕ) (answer : e.answer ≡ Swapped n) (call : is_call e.act ≡ false) where
-  not_in_row : (past : List (Turn L P)) (row : Row L P) → IsRow F declared o past row → In e row.entries → ⊥
+  pub not_in_row : (past : List (Turn L P)) (row : Row L P) → IsRow F declared o past row → In e row.entries → ⊥
   not_in_row past row is inside =
       let own : IsEntryOf F row.layout o (length past) e = all_at (IsEntryOf F row.layout o (length past)) row.entries e is.own inside in
       not_served (F.object_of row.layout) (F.tag_of row.layout) (length past) n e.act e.answer answer call own.served
@@ -64,7 +64,7 @@ module _ {S L P : Type 0} (F : Layouts S L P) (declared : L) (o : ℕ) (e : Entr
   later [] turn f above low = absurd low
   later (last ∷ past) turn f above low = omega (arith, above, low)
 
-  same_swap : (k : ℕ) (f : Entry) → e ≡ f → f.answer ≡ Swapped k → n ≡ k
+  pub same_swap : (k : ℕ) (f : Entry) → e ≡ f → f.answer ≡ Swapped k → n ≡ k
   same_swap k f same is =
       let told : Swapped n ≡ Swapped k = sym answer ∙ ap (λ (g : Entry). g.answer) same ∙ is in number told
     where
@@ -116,31 +116,29 @@ module _ {S L P : Type 0} (F : Layouts S L P) (laws : AreLaws F) (declared : Lis
   listed : (d : ℕ) (e : Entry) → d < many_callers s → In e (mine s d) → InSome (lists_of s) e
   listed d e there is = record { place = d; list = mine s d; there = list_here s d (rw locked.many.callers there); has = is }
 
-  no_call : (d n : ℕ) (e : Entry) → d < many_callers s → In e (mine s d) → e.answer ≡ Swapped n → (b : Bool) → is_call e.act ≡ b → b ≡ false
+  pub no_call : (d n : ℕ) (e : Entry) → d < many_callers s → In e (mine s d) → e.answer ≡ Swapped n → (b : Bool) → is_call e.act ≡ b → b ≡ false
   no_call d n e there is answer true call =
       let reply = ((answered d there).each e is).replied call in
       let told : Swapped n ≡ Replied reply.0 = sym answer ∙ reply.1 in absurd (cc)
   no_call d n e there is answer false call = refl
 
-  -- a carried-out swap is the hand of one of the rows that were handed on
+  -- a carried-out swap stands among the entries of its object's rows
+  pub entry_in_chain : (d n : ℕ) (e : Entry) → d < many_callers s → In e (mine s d) → e.answer ≡ Swapped n → (at : RowsAt e.object) → In e (entries_of at.chain)
+  entry_in_chain d n e there is answer at =
+      let placed = rows.those.placed e (listed d e there is) (subst (λ a. is_drawn e.act a ≡ true) (sym answer) (drawn_swap e.act n)) in
+      let same : placed.chain ≡ at.chain = same_Some placed.chain at.chain (sym placed.there ∙ at.at) in
+      rows_in_chain F at.declaration e.object (history_in s e.object) at.chain e at.has.rows.fits
+      (subst (λ (x : Chain L P). InRows F.procs (length x.past) (history_in s e.object) e) same placed.has)
+
+  -- it is the hand of one of the rows that were handed on
   pub done_in : (d n : ℕ) (e : Entry) → d < many_callers s → In e (mine s d) → e.answer ≡ Swapped n → (at : RowsAt e.object) → IsDoneIn at.chain.past e n
   done_in d n e there is answer at =
       let call = no_call d n e there is answer (is_call e.act) refl in
-      let placed = rows.those.placed e (listed d e there is) (subst (λ a. is_drawn e.act a ≡ true) (sym answer) (drawn_swap e.act n)) in
-      let same : placed.chain ≡ at.chain = same_chain placed.chain at.chain (sym placed.there ∙ at.at) in
-      let inside = rows_in_chain F at.declaration e.object (history_in s e.object) at.chain e at.has.rows.fits
-      (subst (λ (x : Chain L P). In-rows x) same placed.has) in
       ⊎_elim {C = IsDoneIn at.chain.past e n}
       (λ (before : In e (past_entries at.chain.past)).
       in_past F at.declaration e.object e n answer call at.chain.past at.chain.row at.has.rows.fits.row at.has.rows.fits.past before)
       (λ (now : In e at.chain.row.entries). absurd (not_in_row F at.declaration e.object e n answer call at.chain.past at.chain.row at.has.rows.fits.row now))
-      (in-append e (past_entries at.chain.past) at.chain.row.entries inside)
-    where
-      same_chain : (x y : Chain L P) → Some x ≡ Some y → x ≡ y
-      same_chain x y same = same_Some x y same
-
-      In-rows : Chain L P → Type 0
-      In-rows x = InRows F.procs (length x.past) (history_in s e.object) e
+      (in-append e (past_entries at.chain.past) at.chain.row.entries (entry_in_chain d n e there is answer at))
 
   pub done_at : (d n : ℕ) (e : Entry) → d < many_callers s → In e (mine s d) → e.answer ≡ Swapped n → (o : ℕ) → e.object ≡ o → (at : RowsAt o)
       → IsDoneIn at.chain.past e n

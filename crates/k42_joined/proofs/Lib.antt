@@ -37,3 +37,4 @@ pub mod Trace
 pub mod Readers
 pub mod AnswersTrace
 pub mod TraceAtRest
+pub mod SeenBelow

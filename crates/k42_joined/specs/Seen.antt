@@ -1,12 +1,15 @@
--- What a caller has seen: its own entries, and what stood before its calls and its carried-out swaps in the
--- histories of the cells at which these were drawn.
-use Rattle.std.specs.Prelude.{◌≡◌, ◌⊎◌, ℕ, ◌+◌, ◌<◌, ◌≤◌, true, List, ◌∷◌, ◌++◌, Some, slice_get}
+-- What a caller has seen: its own entries, what stood before its calls in the histories of their cells, and
+-- what stood in the cells that its carried-out swaps closed or began.
+use Rattle.std.specs.Prelude.{◌≡◌, ◌⊎◌, ℕ, ◌+◌, ◌<◌, ◌≤◌, true, List, [], ◌∷◌, ◌++◌, Option, Some, None, slice_get}
 use Rattle.k42_kinds.specs.declared.entry.Answer.TheVariants.{Swapped}
 use Rattle.k42_kinds.specs.declared.entry.Entry.{Entry}
+use Rattle.turn_core.specs.Names.{names}
 use Rattle.turn_core.specs.Sound.{histories_of}
+use Rattle.turn_core.specs.declared.event.TurnEvent.TheVariants.{Draw, Alone}
 use Rattle.k42_stamp.specs.Orders.{In}
 use Rattle.k42_stamp.specs.Lists.{is_step}
 use Rattle.k42_joined.specs.Plain.{Joined}
+use Rattle.k42_joined.specs.Event.{Event, AtCells, HandWith}
 use Rattle.k42_joined.specs.Rows.{history_in}
 use Rattle.k42_joined.specs.State.{many_procs, cell, mine}
 
@@ -39,3 +42,21 @@ pub record WasHanded {L : Type 0} (s : Joined L) (c : ℕ) (entry : Entry) : Typ
 
 abbrev pub HasSeen : {L : Type 0} → Joined L → ℕ → Entry → Type 0
 HasSeen s c entry = In entry (mine s c) ⊎ StoodBefore s c entry ⊎ WasHanded s c entry
+
+-- the cells at which an entry is drawn, and the entry
+pub record Drawn : Type 0 where
+  pub cells : List ℕ
+  pub entry : Entry
+
+-- what an event draws
+abbrev pub drawn_by : {L : Type 0} → Event L → Option Drawn
+drawn_by (AtCells (Draw c cells entry)) = Some (record { cells = cells; entry = entry })
+drawn_by (AtCells (Alone c entry)) = Some (record { cells = []; entry = entry })
+drawn_by (HandWith c from onto layout entry) = Some (record { cells = from ++ onto; entry = entry })
+drawn_by event = None
+
+-- the entry stands in the history of one of the cells
+pub record StandsAt {L : Type 0} (s : Joined L) (cells : List ℕ) (entry : Entry) : Type 0 where
+  pub number : ℕ
+  pub named : names cells number ≡ true
+  pub stands : In entry (cell s number).history

@@ -1,15 +1,17 @@
-ghost use Rattle.std.specs.Prelude.{◌≡◌, ◌<◌, ℕ, List};
+ghost use Rattle.std.specs.Prelude.{◌≡◌, ◌⊎◌, ◌<◌, ℕ, List, Some};
 ghost use Rattle.k42_kinds.specs.declared.entry.Entry.{Entry};
 ghost use Rattle.k42_stamp.specs.Layouts.{layouts_with};
 ghost use Rattle.k42_stamp.specs.Lists.{IsMerged, AreLegal, is_drawn};
 ghost use Rattle.k42_joined.specs.Plain.{Joined};
-ghost use Rattle.k42_joined.specs.Event.{Event};
+ghost use Rattle.k42_joined.specs.Event.{Event, caller_of};
 ghost use Rattle.k42_joined.specs.Possible.{IsPossible};
 ghost use Rattle.k42_joined.specs.Effects.{effect};
 ghost use Rattle.k42_joined.specs.Fitting.{lists_of};
 ghost use Rattle.k42_joined.specs.Sound.{IsSound};
 ghost use Rattle.k42_joined.specs.Safe.{IsSafe};
 ghost use Rattle.phase_core.specs.Runs.{HasRead};
+ghost use Rattle.k42_joined.specs.Rest.{IsAtRest, IsHistoryOf};
+ghost use Rattle.k42_joined.specs.Seen.{HasSeen, StandsAt, Drawn, drawn_by};
 ghost use Rattle.k42_joined.specs.Runs.{Leads, IsReached, Leaves, IsFreedOnce, TakesRow};
 ghost use Rattle.k42_joined.specs.State.{many_callers};
 
@@ -68,4 +70,25 @@ pub fn readers_leave_before<L: Layout>(procs: u32)
         (declared : List L) (s t : Joined L) (events : List (Event L)) (last : Event L) (c o i : ℕ) →
         IsSound F declared s → Leads F declared events s t → IsPossible F declared t last →
         c < many_callers s → HasRead s.phases c o i → TakesRow t last o i → Leaves c events }
+{}
+
+/// Where no swap is under way, the entries of all callers, in order and numbered anew, are one legal history of
+/// all objects, refusals by another swap among them, and each caller's entries stand in it in order.
+pub fn trace_at_rest_is_a_history<L: Layout>(procs: u32)
+    requires { 0 < procs }
+    ensures { (proc_of : ℕ → ℕ) → ((caller : ℕ) → proc_of caller < procs) →
+        let F = layouts_with L.object L.tag_of L.ways L.whole L.serves L.admitted L.act_of procs proc_of in
+        (declared : List L) (s : Joined L) (merged : List Entry) → IsSound F declared s → IsAtRest s →
+        IsMerged (lists_of s) merged → IsHistoryOf F declared s merged }
+{}
+
+/// The stamp of a drawn entry is above that of each entry that its caller has seen, and above those of the
+/// cells at which it is drawn.
+pub fn stamps_pass_what_was_seen<L: Layout>(procs: u32)
+    requires { 0 < procs }
+    ensures { (proc_of : ℕ → ℕ) → ((caller : ℕ) → proc_of caller < procs) →
+        let F = layouts_with L.object L.tag_of L.ways L.whole L.serves L.admitted L.act_of procs proc_of in
+        (declared : List L) (s : Joined L) (event : Event L) (drawn : Drawn) (seen : Entry) →
+        IsSound F declared s → IsPossible F declared s event → drawn_by event ≡ Some drawn →
+        HasSeen s (caller_of event) seen ⊎ StandsAt s drawn.cells seen → seen.stamp < drawn.entry.stamp }
 {}
