@@ -38,3 +38,4 @@ pub mod Readers
 pub mod AnswersTrace
 pub mod TraceAtRest
 pub mod SeenBelow
+pub mod OneChain
