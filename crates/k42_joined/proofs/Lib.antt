@@ -39,3 +39,4 @@ pub mod AnswersTrace
 pub mod TraceAtRest
 pub mod SeenBelow
 pub mod OneChain
+pub mod Following

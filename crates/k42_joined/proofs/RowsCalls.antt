@@ -35,6 +35,7 @@ use Rattle.k42_joined.specs.Answers.{IsTrueOf, IsAnswered, AreAnswered}
 use Rattle.k42_joined.specs.Drawing.{newest_layout, IsCall, IsMark, IsDrawnAs, MayDraw}
 use Rattle.k42_joined.specs.Effects.{kept_drawn}
 use Rattle.k42_joined.specs.Fitting.{IsTagged, HasRows, Fitting}
+use Rattle.k42_joined.specs.Following.{FollowsDraw}
 use Rattle.k42_joined.specs.Found.{tells_over}
 use Rattle.k42_joined.specs.Locks.{AreLocked}
 use Rattle.k42_joined.specs.Possible.{MayTurn}
@@ -42,7 +43,7 @@ use Rattle.k42_joined.specs.Rows.{cells_reached, layouts_in, AreRowsOf}
 use Rattle.k42_joined.specs.State.{many_procs, many_callers, many_objects, object, incarnation, layouts_of, many_hands, is_handed, kept_of}
 use Rattle.k42_joined.specs.Touching.{is_inside}
 use Rattle.k42_joined.proofs.LocksCells.{AreOfRow}
-use Rattle.k42_joined.proofs.RowsDraw.{IsCoreDraw, core_draw, of_row, not_handed, hands_now, past_now, draw_keeps_rows}
+use Rattle.k42_joined.proofs.RowsDraw.{IsCoreDraw, core_draw, of_row, not_handed, hands_now, past_now, drew, y, here_rows, draw_keeps_rows}
 
 pub inside_is : (place : Place) (o i : ℕ) → is_inside place o i ≡ true → IsInside place o i
 inside_is (Missed q j) o i is = let parts = and_parts (eqb q o) (eqb j i) is in (eqb-true q o parts.0, eqb-true j i parts.1)
@@ -68,6 +69,14 @@ pub record IsDrawn {S L P : Type 0} (F : Layouts S L P) (declared : List L) (s :
   pub of_row : AreOfRow s e.object cells
   pub not_handed : is_handed s e.object ≡ false
   pub rows : Fitting F declared (record s { turns = turn_events.effect s.turns (Draw c cells e); kept = kept_drawn s c false })
+  -- the object's rows before and after
+  pub declaration : L
+  pub declares : slice_get declared e.object ≡ Some declaration
+  pub chain : Chain L P
+  pub was : AreRowsOf F declaration s e.object chain
+  pub after : Chain L P
+  pub is : AreRowsOf F declaration (record s { turns = turn_events.effect s.turns (Draw c cells e); kept = kept_drawn s c false }) e.object after
+  pub follows : FollowsDraw F e chain after
 
 -- a mark is true of the row, by its layout's tag
 mark_of : (k : Object) (tag number : ℕ) (answer : Answer) → tells_over answer ≡ true → tag ≤ 2 → tag ≡ k.layout → number ≡ k.incarnation
@@ -115,6 +124,17 @@ module _ {S L P : Type 0} (F : Layouts S L P) (laws : AreLaws F) (declared : Lis
     of_row = of_row F laws declared s turns_sound locked rows c cells e there core call.declaration x call.declares at present within reached;
     not_handed = not_handed F laws declared s turns_sound locked rows c cells e there core call.declaration x call.declares at present within reached;
     rows = draw_keeps_rows F laws declared s turns_sound locked rows c cells e there core call.declaration x call.declares at present within reached (served (length x.past)) replied;
+    declaration = call.declaration;
+    declares = call.declares;
+    chain = x;
+    was = has.rows;
+    after = y F laws declared s turns_sound locked rows c cells e there core call.declaration x call.declares at present within reached (served (length x.past)) replied;
+    is = (here_rows F laws declared s turns_sound locked rows c cells e there core call.declaration x call.declares at present within reached (served (length x.past)) replied).rows;
+    follows = record {
+      past = refl;
+      layout = refl;
+      parts = (drew F laws declared s turns_sound locked rows c cells e there core call.declaration x call.declares at present within reached (served (length x.past)) replied).moved;
+    };
   } where
     named_at : slice_get declared e.object ≡ Some call.declaration → e.object < many_objects s
     named_at declares = rw (← rows.objects) (slice_get_within declared e.object call.declaration declares)
@@ -161,6 +181,17 @@ module _ {S L P : Type 0} (F : Layouts S L P) (laws : AreLaws F) (declared : Lis
     of_row = of_row F laws declared s turns_sound locked rows c cells e there core declaration x declares at mark.present within reached;
     not_handed = not_handed F laws declared s turns_sound locked rows c cells e there core declaration x declares at mark.present within reached;
     rows = draw_keeps_rows F laws declared s turns_sound locked rows c cells e there core declaration x declares at mark.present within reached served replied;
+    declaration = declaration;
+    declares = declares;
+    chain = x;
+    was = has.rows;
+    after = y F laws declared s turns_sound locked rows c cells e there core declaration x declares at mark.present within reached served replied;
+    is = (here_rows F laws declared s turns_sound locked rows c cells e there core declaration x declares at mark.present within reached served replied).rows;
+    follows = record {
+      past = refl;
+      layout = refl;
+      parts = (drew F laws declared s turns_sound locked rows c cells e there core declaration x declares at mark.present within reached served replied).moved;
+    };
   } where
     own : IsAnswered s c
     own = answered c there

@@ -253,7 +253,7 @@ module _ {S L P : Type 0} (F : Layouts S L P) (laws : AreLaws F) (declared : Lis
     y_there : slice_get newer o ≡ Some y
     y_there = slice_get-set_here rows.chains o y (slice_get_within rows.chains o x at)
 
-    here_rows : HasRows F t o declaration y
+    pub here_rows : HasRows F t o declaration y
     here_rows = record {
       rows = record {
         fits = fits_same F drawn (history_in t o) declaration o y (λ row p le lt. history_after row p le lt) drew.fits;

@@ -37,7 +37,7 @@ use Rattle.k42_joined.specs.Fitting.{lists_of, IsTagged, HasRows, Fitting}
 use Rattle.k42_joined.specs.Locks.{AreOfLives, AreLocked}
 use Rattle.k42_joined.specs.Numbers.{cell_of, row_cells}
 use Rattle.k42_joined.specs.Possible.{MayHandWith}
-use Rattle.k42_joined.specs.Rows.{history_in, layouts_in}
+use Rattle.k42_joined.specs.Rows.{history_in, layouts_in, AreRowsOf}
 use Rattle.k42_joined.specs.State.{many_procs, many_callers, many_objects, object, incarnation, cell, cell_in, mine, layouts_of, many_hands, is_handed}
 use Rattle.k42_joined.proofs.CellNumbers.{row_names, cell_of-parity}
 use Rattle.k42_joined.proofs.LocksHand.{IsCoreHand, core_hand, names_more, hands_now, at_present, at_next, at_other, hands_here, hands_else, hands_after}
@@ -292,6 +292,17 @@ module _ {S L P : Type 0} (F : Layouts S L P) (laws : AreLaws F) (declared : Lis
           (grown_those F.procs is_drawn (lists_of s) c (mine s c) e (list_here s c (rw locked.many.callers there)) (history_in s) (history_in t) rows.chains newer
           grows (λ pass. stands) rows.those);
     }
+
+  -- the object's rows before and after
+  pub record IsHanded : Type 0 where
+    pub chain : Chain L P
+    pub was : AreRowsOf F declaration s o chain
+    pub is : AreRowsOf F declaration t o (handed F chain layout e)
+
+  pub handed_rows : IsHanded
+  handed_rows =
+      let found = some_at rows.chains o (rw rows.many (slice_get_within declared o declaration declares)) in
+      record { chain = found.0; was = (has found.0 found.1).rows; is = (here_rows found.0 found.1).rows }
 
   pub hand_keeps_rows : Fitting F declared t
   hand_keeps_rows =

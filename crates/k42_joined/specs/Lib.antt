@@ -5,6 +5,7 @@ pub mod State
 pub mod Touching
 pub mod Found
 pub mod Rows
+pub mod Following
 pub mod Swapping
 pub mod Drawing
 pub mod Refusals
