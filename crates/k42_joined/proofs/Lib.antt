@@ -40,3 +40,4 @@ pub mod TraceAtRest
 pub mod SeenBelow
 pub mod OneChain
 pub mod Following
+pub mod Frame

@@ -19,5 +19,6 @@ pub mod Sound
 pub mod Safe
 pub mod Seen
 pub mod Rest
+pub mod Frame
 pub mod Fresh
 pub mod Runs

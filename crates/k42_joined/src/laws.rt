@@ -1,15 +1,20 @@
-ghost use Rattle.std.specs.Prelude.{◌≡◌, ◌⊎◌, ◌<◌, ℕ, List, Some};
+ghost use Rattle.std.specs.Prelude.{◌≡◌, ◌⊎◌, ◌<◌, ℕ, List, Some, slice_get};
 ghost use Rattle.k42_kinds.specs.declared.entry.Entry.{Entry};
 ghost use Rattle.k42_stamp.specs.Layouts.{layouts_with};
 ghost use Rattle.k42_stamp.specs.Lists.{IsMerged, AreLegal, is_drawn};
 ghost use Rattle.k42_joined.specs.Plain.{Joined};
-ghost use Rattle.k42_joined.specs.Event.{Event, caller_of};
+ghost use Rattle.k42_joined.specs.Event.{Event, AtCells, HandWith, caller_of};
 ghost use Rattle.k42_joined.specs.Possible.{IsPossible};
 ghost use Rattle.k42_joined.specs.Effects.{effect};
 ghost use Rattle.k42_joined.specs.Fitting.{lists_of};
 ghost use Rattle.k42_joined.specs.Sound.{IsSound};
 ghost use Rattle.k42_joined.specs.Safe.{IsSafe};
 ghost use Rattle.phase_core.specs.Runs.{HasRead};
+ghost use Rattle.k42_stamp.specs.Chains.{Chain};
+ghost use Rattle.k42_joined.specs.Frame.{cells_of, object_of, LeavesOthers};
+ghost use Rattle.k42_joined.specs.Rows.{AreRowsOf};
+ghost use Rattle.k42_joined.specs.Following.{FollowsDraw, FollowsHand};
+ghost use Rattle.turn_core.specs.declared.event.TurnEvent.TheVariants.{Draw};
 ghost use Rattle.k42_joined.specs.Rest.{IsAtRest, IsHistoryOf};
 ghost use Rattle.k42_joined.specs.Seen.{HasSeen, StandsAt, Drawn, drawn_by};
 ghost use Rattle.k42_joined.specs.Runs.{Leads, IsReached, Leaves, IsFreedOnce, TakesRow};
@@ -91,4 +96,47 @@ pub fn stamps_pass_what_was_seen<L: Layout>(procs: u32)
         (declared : List L) (s : Joined L) (event : Event L) (drawn : Drawn) (seen : Entry) →
         IsSound F declared s → IsPossible F declared s event → drawn_by event ≡ Some drawn →
         HasSeen s (caller_of event) seen ⊎ StandsAt s drawn.cells seen → seen.stamp < drawn.entry.stamp }
+{}
+
+/// An event leaves all callers but its own, all cells that it does not name, and all objects but one.
+pub fn others_stay<L: Layout>(procs: u32)
+    requires { 0 < procs }
+    ensures { (proc_of : ℕ → ℕ) → ((caller : ℕ) → proc_of caller < procs) →
+        let F = layouts_with L.object L.tag_of L.ways L.whole L.serves L.admitted L.act_of procs proc_of in
+        (declared : List L) (s : Joined L) (event : Event L) → IsSound F declared s →
+        IsPossible F declared s event →
+        LeavesOthers s (effect s event) (caller_of event) (cells_of event) (object_of s event) }
+{}
+
+/// The histories of its cells and the layouts of its hands tell an object's rows.
+pub fn rows_that_fit_are_one<L: Layout>(procs: u32)
+    requires { 0 < procs }
+    ensures { (proc_of : ℕ → ℕ) → ((caller : ℕ) → proc_of caller < procs) →
+        let F = layouts_with L.object L.tag_of L.ways L.whole L.serves L.admitted L.act_of procs proc_of in
+        (declaration : L) (s : Joined L) (o : ℕ) (x y : Chain L L.Part) →
+        AreRowsOf F declaration s o x → AreRowsOf F declaration s o y → x ≡ y }
+{}
+
+/// A draw moves the parts of the row as its entry says.
+pub fn parts_follow_draws<L: Layout>(procs: u32)
+    requires { 0 < procs }
+    ensures { (proc_of : ℕ → ℕ) → ((caller : ℕ) → proc_of caller < procs) →
+        let F = layouts_with L.object L.tag_of L.ways L.whole L.serves L.admitted L.act_of procs proc_of in
+        (declared : List L) (s : Joined L) (o c : ℕ) (declaration : L) (x y : Chain L L.Part)
+        (cells : List ℕ) (entry : Entry) → IsSound F declared s → slice_get declared o ≡ Some declaration →
+        AreRowsOf F declaration s o x → IsPossible F declared s (AtCells (Draw c cells entry)) →
+        entry.object ≡ o → AreRowsOf F declaration (effect s (AtCells (Draw c cells entry))) o y →
+        FollowsDraw F entry x y }
+{}
+
+/// A hand begins a row that stands for what the new layout admits of the old row's state.
+pub fn parts_follow_hands<L: Layout>(procs: u32)
+    requires { 0 < procs }
+    ensures { (proc_of : ℕ → ℕ) → ((caller : ℕ) → proc_of caller < procs) →
+        let F = layouts_with L.object L.tag_of L.ways L.whole L.serves L.admitted L.act_of procs proc_of in
+        (declared : List L) (s : Joined L) (o c : ℕ) (declaration layout : L) (x y : Chain L L.Part)
+        (from onto : List ℕ) (entry : Entry) → IsSound F declared s → slice_get declared o ≡ Some declaration →
+        AreRowsOf F declaration s o x → IsPossible F declared s (HandWith c from onto layout entry) →
+        entry.object ≡ o → AreRowsOf F declaration (effect s (HandWith c from onto layout entry)) o y →
+        FollowsHand F layout entry x y }
 {}
