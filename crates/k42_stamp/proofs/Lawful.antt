@@ -37,7 +37,7 @@ module _ {S L P : Type 0} (F : Layouts S L P) (laws : AreLaws F) (declared : L) 
   Stands past row is front parts = StandsBehind F laws row.layout is.known o (length past) thread front parts
 
   -- the entries of a row, behind those of the rows before
-  row_runs : (past : List (Turn L P)) (row : Row L P) (is : IsRow F declared o past row) (front : List Entry) → Stands past row is front row.start → RunsOn F laws row.layout is.known o (length past) thread front row.entries row.start
+  pub row_runs : (past : List (Turn L P)) (row : Row L P) (is : IsRow F declared o past row) (front : List Entry) → Stands past row is front row.start → RunsOn F laws row.layout is.known o (length past) thread front row.entries row.start
   row_runs past row is front s =
       subst (λ (object : OneThread S). RunsOn F laws row.layout is.known o (length past) object front row.entries row.start) is.kind
       (entries_run F laws row.layout is.known o (length past) front row.entries row.start
@@ -78,11 +78,11 @@ module _ {S L P : Type 0} (F : Layouts S L P) (laws : AreLaws F) (declared : L) 
       }
 
   -- the entries before a row, and how it begins
-  record Begun (past : List (Turn L P)) (row : Row L P) (is : IsRow F declared o past row) : Type 0 where
-    legal : EachBehind (LegalBehind thread) [] (past_entries past)
-    stands : Stands past row is (past_entries past) row.start
+  pub record Begun (past : List (Turn L P)) (row : Row L P) (is : IsRow F declared o past row) : Type 0 where
+    pub legal : EachBehind (LegalBehind thread) [] (past_entries past)
+    pub stands : Stands past row is (past_entries past) row.start
 
-  begun : F.tag_of declared ≤ 1 → (past : List (Turn L P)) → ArePast F declared o past → (row : Row L P) (is : IsRow F declared o past row) → Begun past row is
+  pub begun : F.tag_of declared ≤ 1 → (past : List (Turn L P)) → ArePast F declared o past → (row : Row L P) (is : IsRow F declared o past row) → Begun past row is
   begun live [] turns row is =
       let begins = laws.begins row.layout is.known in
       record {
