@@ -95,6 +95,7 @@ one_list stamp caller (x ∷ xs) up = elim (eqb_tells x.stamp stamp) [
     by_test : (p : Entry → Bool) (x : Entry) (xs : List Entry) (b : Bool) → p x ≡ b → count_by p xs ≡ 0 → count_by p (x ∷ xs) ≤ 1
     by_test p x xs true is none = rw (count-cons p x xs, is) (omega arith)
     by_test p x xs false is none = rw (count-cons p x xs, is) (omega arith)
+
   skip : (p : Entry → Bool) (x : Entry) (xs : List Entry) → p x ≡ false → count_by p xs ≤ 1 → count_by p (x ∷ xs) ≤ 1
   skip p x xs is rest = rw (count-cons p x xs, is) (omega arith)
 
@@ -146,15 +147,15 @@ apart_from e f fails stamps callers =
 all_apart : (xs : List Entry) → ((stamp caller : ℕ) → count_by (has_both stamp caller) xs ≤ 1) → Ordered IsApart xs
 all_apart [] few = tt
 all_apart (x ∷ xs) few =
-    let own : has_both x.stamp x.caller x ≡ true = rw (eq-eqb x.stamp x.stamp refl, eq-eqb x.caller x.caller refl) refl in
-    (
+    let own : has_both x.stamp x.caller x ≡ true = rw (eq-eqb x.stamp x.stamp refl, eq-eqb x.caller x.caller refl) refl in (
       all_weaker (λ y. has_both x.stamp x.caller y ≡ false) (IsApart x) (λ y fails. apart_from x y fails) xs (none-count (has_both x.stamp x.caller) xs (after (has_both x.stamp x.caller) x xs own (few x.stamp x.caller))),
       all_apart xs (λ stamp caller. fewer (has_both stamp caller) x xs (few stamp caller)),
     ) where
-  after : (p : Entry → Bool) (x : Entry) (xs : List Entry) → p x ≡ true → count_by p (x ∷ xs) ≤ 1 → count_by p xs ≡ 0
-  after p x xs is le = let h : 1 + count_by p xs ≤ 1 = rw (count-cons p x xs, is) at le in omega arith
-  fewer : (p : Entry → Bool) (x : Entry) (xs : List Entry) → count_by p (x ∷ xs) ≤ 1 → count_by p xs ≤ 1
-  fewer p x xs le = let h : cond (p x) 1 0 + count_by p xs ≤ 1 = rw (count-cons p x xs) at le in omega arith
+      after : (p : Entry → Bool) (x : Entry) (xs : List Entry) → p x ≡ true → count_by p (x ∷ xs) ≤ 1 → count_by p xs ≡ 0
+      after p x xs is le = let h : 1 + count_by p xs ≤ 1 = rw (count-cons p x xs, is) at le in omega arith
+
+      fewer : (p : Entry → Bool) (x : Entry) (xs : List Entry) → count_by p (x ∷ xs) ≤ 1 → count_by p xs ≤ 1
+      fewer p x xs le = let h : cond (p x) 1 0 + count_by p xs ≤ 1 = rw (count-cons p x xs) at le in omega arith
 
 -- keys as the sort compares them
 

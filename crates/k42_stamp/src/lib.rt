@@ -9,4 +9,3 @@ pub use merging::merge;
 
 #[cfg(test)]
 mod tests;
-

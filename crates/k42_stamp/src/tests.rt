@@ -35,12 +35,12 @@ fn list_of(alloc: Global, caller: u32, entries: &[(u64, u32, u32)]) -> Result<Ve
     Ok(list)
 }
 
-/// The callers' lists, one for each of these.
-fn lists_of(alloc: Global, callers: &[&[(u64, u32, u32)]]) -> Result<Vec<Vec<Entry>>, Memory>
+/// The lists of four callers.
+fn lists_of(alloc: Global, callers: &[&[(u64, u32, u32)]; 4]) -> Result<Vec<Vec<Entry>>, Memory>
     ensures { IfOk result (λ lists. AreLists (map vec_items lists.items)) }
 {
     let mut lists = Vec::new(alloc);
-    for caller in 0..callers.len() as u32 {
+    for caller in 0..4 {
         lists.push(list_of(alloc, caller, callers[caller as usize])?)?;
     }
     Ok(lists)
@@ -70,7 +70,9 @@ fn entries_of_one_stamp_are_ordered_by_object_cell_and_caller(rt: HostRuntime) -
     ];
     let lists = lists_of(rt.alloc(), &callers)?;
     let merged = merge(rt.alloc(), lists)?;
-    let told = merged.iter().map(|entry| (entry.object, entry.cell, entry.caller));
+    let told = merged
+        .iter()
+        .map(|entry| (entry.object, entry.cell, entry.caller));
     assert!(rt; told.eq(due));
     assert!(rt; merged.iter().map(|entry| entry.stamp).eq(1..=11));
     Ok(())
