@@ -1,6 +1,5 @@
 -- The entries of an object's rows that fit, in order, are a legal history of the object.
-use Rattle.std.proofs.Common.{◌≡◌, ◌≢◌, ℕ, suc, ◌+◌, ◌<◌, ◌≤◌, Bool, true, false, eqb, ◌==◌, List, [], ◌∷◌, ◌++◌, length, refl, sym, ap, ◌∙◌, subst, append_assoc, arith}
-use Rattle.std.specs.List.{AllByRecursion}
+use Rattle.std.proofs.Common.{◌≡◌, ℕ, suc, ◌<◌, ◌≤◌, true, false, ◌==◌, List, [], ◌∷◌, ◌++◌, length, refl, sym, ap, ◌∙◌, subst, append_assoc, arith}
 use Rattle.std.proofs.lemmas.Bool.{ne_eqb}
 use Rattle.std.proofs.lemmas.List.{append-nil}
 use Rattle.k42_limits.specs.declared.TheConstants.{LAST_INCARNATION}
@@ -10,12 +9,12 @@ use Rattle.k42_kinds.specs.declared.entry.Answer.{Answer}
 use Rattle.k42_kinds.specs.declared.entry.Answer.TheVariants.{Swapped}
 use Rattle.k42_kinds.specs.declared.entry.Entry.{Entry}
 use Rattle.k42_kinds.specs.OneThread.{OneThread}
-use Rattle.k42_kinds.specs.Histories.{is_call, is_carried_out, state_moved, state_in, number_of}
-use Rattle.k42_kinds.specs.Legal.{IsLegalSwapOf, IsAnswerSoFar, IsActSoFar, is_ended_in}
+use Rattle.k42_kinds.specs.Histories.{is_call, is_carried_out, state_moved, number_of}
+use Rattle.k42_kinds.specs.Legal.{IsAnswerSoFar, IsActSoFar, is_ended_in}
 use Rattle.k42_kinds.proofs.Splits.{EachBehind}
 use Rattle.k42_stamp.specs.Layouts.{Layouts}
-use Rattle.k42_stamp.specs.Chains.{Row, Turn, Chain, parts_of, state_of, start_of, past_entries, entries_of}
-use Rattle.k42_stamp.specs.Fits.{IsHandOf, IsBegun, IsRow, IsTurn, ArePast, Fits}
+use Rattle.k42_stamp.specs.Chains.{Row, Turn, Chain, parts_of, state_of, past_entries, entries_of}
+use Rattle.k42_stamp.specs.Fits.{IsHandOf, IsRow, IsTurn, ArePast, Fits}
 use Rattle.k42_stamp.specs.Laws.{AreLaws}
 use Rattle.k42_stamp.proofs.Standing.{LegalBehind, state_after_own, number_after_own, StandsBehind, ended_by_tag, RunsOn, entries_run}
 

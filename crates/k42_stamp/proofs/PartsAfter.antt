@@ -1,5 +1,5 @@
 -- The parts of a row: how they begin, what an entry adds to them, and that they are whole.
-use Rattle.std.proofs.Common.{◌≡◌, ◌≢◌, ℕ, zero, suc, ◌+◌, ◌<◌, ◌≤◌, false, List, [], ◌∷◌, ◌++◌, length, Option, Some, None, option_map, refl, sym, ap, ◌∙◌, subst, arith}
+use Rattle.std.proofs.Common.{◌≡◌, ◌≢◌, ℕ, zero, suc, ◌+◌, ◌<◌, ◌≤◌, false, List, [], ◌∷◌, length, Some, None, option_map, refl, ap, ◌∙◌, arith}
 use Rattle.k42_kinds.specs.declared.operation.Op.{Op}
 use Rattle.k42_kinds.specs.declared.entry.Act.{Act}
 use Rattle.k42_kinds.specs.declared.entry.Act.TheVariants.{Call, Swap, Destroy}
@@ -7,15 +7,13 @@ use Rattle.k42_kinds.specs.declared.entry.Entry.{Entry}
 use Rattle.k42_kinds.specs.declared.entry.Reach.{Reach}
 use Rattle.k42_kinds.specs.declared.entry.Reach.TheVariants.{One, All}
 use Rattle.k42_kinds.specs.Histories.{is_call}
-use Rattle.k42_kinds.specs.Rows.{Ways, cells_of, made_from, empty_row, part_at, changed_at, row_replied}
-use Rattle.k42_kinds.specs.LayoutLaws.{StandsFor}
+use Rattle.k42_kinds.specs.Rows.{Ways, cells_of, made_from, empty_row, part_at}
 use Rattle.k42_stamp.specs.Layouts.{Layouts}
 use Rattle.k42_stamp.specs.Parts.{reach_of, act_moves, act_replies, part_steps}
-use Rattle.k42_stamp.specs.Chains.{Row, Turn, Chain, parts_of, part_of}
-use Rattle.k42_stamp.specs.Fits.{ArePast, IsTurn, Leaves, PastLeaves, Fits}
+use Rattle.k42_stamp.specs.Chains.{Turn, Chain, parts_of}
+use Rattle.k42_stamp.specs.Fits.{ArePast, IsTurn, PastLeaves, Fits}
 use Rattle.k42_stamp.specs.Laws.{AreLaws}
 use Rattle.k42_stamp.proofs.PartSteps.{part_at-changed, part_at-else}
-use Rattle.k42_stamp.proofs.Needed.{past_left-same}
 use Rattle.k42_stamp.proofs.Lawful.{begun, row_runs, chain_stands}
 
 act_else : {S P : Type 0} (w : Ways S P) (parts : List P) (act : Act) (c d : ℕ) → c ≢ d → part_at (act_moves w parts act (One c)) d ≡ part_at parts d
