@@ -1,5 +1,5 @@
 -- A draw keeps that the rows fit, wherever in the order its entry comes.
-use Rattle.std.proofs.Common.{◌≡◌, ◌≢◌, ℕ, ◌<◌, ◌≤◌, Bool, true, false, cond, eqb, List, [], ◌∷◌, ◌++◌, length, refl, sym, ap, ◌∙◌, ◌⊎◌, ⊎_elim, append_assoc, arith}
+use Rattle.std.proofs.Common.{◌≡◌, ◌≢◌, ℕ, ◌<◌, Bool, true, false, cond, List, [], ◌∷◌, ◌++◌, length, refl, sym, ap, ◌∙◌, ◌⊎◌, ⊎_elim, append_assoc, arith}
 use Rattle.std.specs.List.{AllByRecursion}
 use Rattle.std.proofs.lemmas.Bool.{eq-eqb, ne_eqb}
 use Rattle.std.proofs.lemmas.List.{append-nil}
@@ -11,8 +11,8 @@ use Rattle.k42_stamp.specs.Replays.{replayed}
 use Rattle.k42_stamp.specs.Layouts.{Layouts}
 use Rattle.k42_stamp.specs.Parts.{reach_of, touches, those_at, part_steps}
 use Rattle.k42_stamp.specs.Chains.{Chain, first_of}
-use Rattle.k42_stamp.specs.Fits.{IsEntryOf, IsAbove, Leaves, PastLeaves, Fits}
-use Rattle.k42_stamp.specs.Draws.{IsLater, IsNext, drawn_at, row_with, chain_with, Draws}
+use Rattle.k42_stamp.specs.Fits.{IsEntryOf, IsAbove, Fits}
+use Rattle.k42_stamp.specs.Draws.{IsLater, IsNext, drawn_at, Draws}
 use Rattle.k42_stamp.specs.Laws.{AreLaws}
 use Rattle.k42_stamp.proofs.Elements.{all_weaker, all_both, all_back, all_inserted, filter-none}
 use Rattle.k42_stamp.proofs.Ordering.{Placed, placed, Ordered-inserted, before-trans, before_stamp, side_of}

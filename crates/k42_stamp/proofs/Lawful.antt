@@ -1,6 +1,5 @@
 -- The entries of an object's rows that fit, in order, are a legal history of the object.
-use Rattle.std.proofs.Common.{◌≡◌, ◌≢◌, ℕ, suc, ◌+◌, ◌<◌, ◌≤◌, Bool, true, false, eqb, ◌==◌, List, [], ◌∷◌, ◌++◌, length, refl, sym, ap, ◌∙◌, subst, append_assoc, arith}
-use Rattle.std.specs.List.{AllByRecursion}
+use Rattle.std.proofs.Common.{◌≡◌, ℕ, suc, ◌<◌, ◌≤◌, true, false, ◌==◌, List, [], ◌∷◌, ◌++◌, length, refl, sym, ap, ◌∙◌, subst, append_assoc, arith}
 use Rattle.std.proofs.lemmas.Bool.{ne_eqb}
 use Rattle.std.proofs.lemmas.List.{append-nil}
 use Rattle.k42_limits.specs.declared.TheConstants.{LAST_INCARNATION}
@@ -10,12 +9,12 @@ use Rattle.k42_kinds.specs.declared.entry.Answer.{Answer}
 use Rattle.k42_kinds.specs.declared.entry.Answer.TheVariants.{Swapped}
 use Rattle.k42_kinds.specs.declared.entry.Entry.{Entry}
 use Rattle.k42_kinds.specs.OneThread.{OneThread}
-use Rattle.k42_kinds.specs.Histories.{is_call, is_carried_out, state_moved, state_in, number_of}
-use Rattle.k42_kinds.specs.Legal.{IsLegalSwapOf, IsAnswerSoFar, IsActSoFar, is_ended_in}
+use Rattle.k42_kinds.specs.Histories.{is_call, is_carried_out, state_moved, number_of}
+use Rattle.k42_kinds.specs.Legal.{IsAnswerSoFar, IsActSoFar, is_ended_in}
 use Rattle.k42_kinds.proofs.Splits.{EachBehind}
 use Rattle.k42_stamp.specs.Layouts.{Layouts}
-use Rattle.k42_stamp.specs.Chains.{Row, Turn, Chain, parts_of, state_of, start_of, past_entries, entries_of}
-use Rattle.k42_stamp.specs.Fits.{IsHandOf, IsBegun, IsRow, IsTurn, ArePast, Fits}
+use Rattle.k42_stamp.specs.Chains.{Row, Turn, Chain, parts_of, state_of, past_entries, entries_of}
+use Rattle.k42_stamp.specs.Fits.{IsHandOf, IsRow, IsTurn, ArePast, Fits}
 use Rattle.k42_stamp.specs.Laws.{AreLaws}
 use Rattle.k42_stamp.proofs.Standing.{LegalBehind, state_after_own, number_after_own, StandsBehind, ended_by_tag, RunsOn, entries_run}
 
@@ -37,7 +36,7 @@ module _ {S L P : Type 0} (F : Layouts S L P) (laws : AreLaws F) (declared : L) 
   Stands past row is front parts = StandsBehind F laws row.layout is.known o (length past) thread front parts
 
   -- the entries of a row, behind those of the rows before
-  row_runs : (past : List (Turn L P)) (row : Row L P) (is : IsRow F declared o past row) (front : List Entry) → Stands past row is front row.start → RunsOn F laws row.layout is.known o (length past) thread front row.entries row.start
+  pub row_runs : (past : List (Turn L P)) (row : Row L P) (is : IsRow F declared o past row) (front : List Entry) → Stands past row is front row.start → RunsOn F laws row.layout is.known o (length past) thread front row.entries row.start
   row_runs past row is front s =
       subst (λ (object : OneThread S). RunsOn F laws row.layout is.known o (length past) object front row.entries row.start) is.kind
       (entries_run F laws row.layout is.known o (length past) front row.entries row.start
@@ -78,11 +77,11 @@ module _ {S L P : Type 0} (F : Layouts S L P) (laws : AreLaws F) (declared : L) 
       }
 
   -- the entries before a row, and how it begins
-  record Begun (past : List (Turn L P)) (row : Row L P) (is : IsRow F declared o past row) : Type 0 where
-    legal : EachBehind (LegalBehind thread) [] (past_entries past)
-    stands : Stands past row is (past_entries past) row.start
+  pub record Begun (past : List (Turn L P)) (row : Row L P) (is : IsRow F declared o past row) : Type 0 where
+    pub legal : EachBehind (LegalBehind thread) [] (past_entries past)
+    pub stands : Stands past row is (past_entries past) row.start
 
-  begun : F.tag_of declared ≤ 1 → (past : List (Turn L P)) → ArePast F declared o past → (row : Row L P) (is : IsRow F declared o past row) → Begun past row is
+  pub begun : F.tag_of declared ≤ 1 → (past : List (Turn L P)) → ArePast F declared o past → (row : Row L P) (is : IsRow F declared o past row) → Begun past row is
   begun live [] turns row is =
       let begins = laws.begins row.layout is.known in
       record {

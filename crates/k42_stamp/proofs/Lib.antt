@@ -11,3 +11,7 @@ pub mod Rowed
 pub mod MergeLaw
 pub mod Numbering
 pub mod Sorted
+pub mod PartsAfter
+pub mod Unique
+pub mod Examples
+pub mod Listed

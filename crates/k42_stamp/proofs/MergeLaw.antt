@@ -1,9 +1,9 @@
 -- Lists whose entries are those of rows that fit merge to one legal history.
-use Rattle.std.proofs.Common.{◌≡◌, ◌≢◌, ℕ, zero, suc, ◌+◌, ◌<◌, ◌≤◌, Bool, true, false, cond, ◌&&◌, eqb, ◌==◌, List, [], ◌∷◌, ◌++◌, length, Option, Some, refl, sym, ap, ◌∙◌, subst, inl, inr, ◌⊎◌, ⊎_elim, arith}
-use Rattle.std.specs.Prelude.{fold, sum_by, slice_get}
-use Rattle.std.specs.List.{AllByRecursion, filter}
-use Rattle.std.proofs.lemmas.Bool.{eq-eqb, ne_eqb}
-use Rattle.std.proofs.lemmas.Bool.Decides.{eqb_tells, nat_tests}
+use Rattle.std.proofs.Common.{◌≡◌, ℕ, zero, suc, ◌+◌, Bool, true, false, cond, ◌&&◌, eqb, ◌==◌, List, [], ◌∷◌, ◌++◌, length, Some, refl, sym, ap, ◌∙◌, subst, inl, arith}
+use Rattle.std.specs.Prelude.{fold, slice_get}
+use Rattle.std.specs.List.{filter}
+use Rattle.std.proofs.lemmas.Bool.{eq-eqb}
+use Rattle.std.proofs.lemmas.Bool.Decides.{nat_tests}
 use Rattle.std.proofs.lemmas.Option.{same_Some}
 use Rattle.std.proofs.lemmas.List.Elements.{filter-append}
 use Rattle.k42_kinds.specs.declared.operation.Op.{Op}
@@ -14,19 +14,19 @@ use Rattle.k42_kinds.specs.declared.entry.Answer.TheVariants.{Replied, Swapped, 
 use Rattle.k42_kinds.specs.declared.entry.Entry.{Entry}
 use Rattle.k42_kinds.specs.OneThread.{OneThread}
 use Rattle.k42_kinds.specs.Histories.{is_carried_out, is_carried_out_on, state_moved, state_moved_by, state_in, number_of}
-use Rattle.k42_kinds.specs.Legal.{is_ended_in, IsAnswerSoFar, IsActSoFar, IsSoFarAmongObjects}
+use Rattle.k42_kinds.specs.Legal.{IsAnswerSoFar, IsActSoFar, IsSoFarAmongObjects}
 use Rattle.k42_kinds.proofs.Splits.{each_split}
-use Rattle.k42_stamp.specs.Orders.{IsBefore, Ordered, In}
+use Rattle.k42_stamp.specs.Orders.{IsBefore, In}
 use Rattle.k42_stamp.specs.Layouts.{Layouts}
 use Rattle.k42_stamp.specs.Chains.{Chain, entries_of}
 use Rattle.k42_stamp.specs.Fits.{Fits}
 use Rattle.k42_stamp.specs.Laws.{AreLaws}
-use Rattle.k42_stamp.specs.Lists.{InSome, numbered_from, IsTrace, IsMerged, is_step, LetsSteps, InRows, InHistory, AreThose, AllFit, AreLegal}
-use Rattle.k42_stamp.proofs.Elements.{all_at, in_right, in-filter, in-from_filter}
+use Rattle.k42_stamp.specs.Lists.{numbered_from, IsTrace, IsMerged, is_step, LetsSteps, InRows, AreThose, AllFit, AreLegal}
+use Rattle.k42_stamp.proofs.Elements.{in_right, in-filter, in-from_filter}
 use Rattle.k42_stamp.proofs.Ordering.{Ordered-filter, same_entries}
 use Rattle.k42_stamp.proofs.Standing.{LegalBehind}
 use Rattle.k42_stamp.proofs.Lawful.{chain_legal}
-use Rattle.k42_stamp.proofs.Rowed.{chain_ordered, chain_objects, rows_in_chain, chain_in_rows}
+use Rattle.k42_stamp.proofs.Rowed.{chain_ordered, rows_in_chain, chain_in_rows}
 
 -- numbering anew changes stamps alone
 

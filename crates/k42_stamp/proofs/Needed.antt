@@ -1,6 +1,6 @@
 -- The cells that entries need, and what the histories tell of the entries of a row.
-use Rattle.std.proofs.Common.{◌≡◌, ◌≢◌, ℕ, suc, ◌<◌, ◌≤◌, true, false, eqb, List, [], ◌∷◌, ◌++◌, length, refl, sym, ap, ◌∙◌, inl, inr, ◌⊎◌, ⊎_elim, arith}
-use Rattle.std.specs.List.{AllByRecursion, filter}
+use Rattle.std.proofs.Common.{◌≡◌, ◌≢◌, ℕ, ◌<◌, ◌≤◌, true, false, eqb, List, [], ◌∷◌, ◌++◌, length, refl, sym, ◌∙◌, inl, inr, ◌⊎◌, ⊎_elim, arith}
+use Rattle.std.specs.List.{AllByRecursion}
 use Rattle.std.proofs.lemmas.Bool.Decides.{eqb_tells, nat_tests}
 use Rattle.k42_kinds.specs.declared.entry.Act.{Act}
 use Rattle.k42_kinds.specs.declared.entry.Act.TheVariants.{Call, Swap, Destroy}
@@ -11,8 +11,8 @@ use Rattle.k42_kinds.specs.declared.entry.Reach.TheVariants.{One, All}
 use Rattle.k42_kinds.specs.Rows.{cells_of, IsWithin}
 use Rattle.k42_stamp.specs.Layouts.{Layouts}
 use Rattle.k42_stamp.specs.Parts.{reached, reach_of, touches, those_at}
-use Rattle.k42_stamp.specs.Chains.{Row, Turn, first_of}
-use Rattle.k42_stamp.specs.Fits.{IsServed, IsEntryOf, IsAbove, IsRow, Leaves, PastLeaves}
+use Rattle.k42_stamp.specs.Chains.{Turn, first_of}
+use Rattle.k42_stamp.specs.Fits.{IsServed, IsEntryOf, IsAbove, PastLeaves}
 use Rattle.k42_stamp.specs.Laws.{AreLaws}
 use Rattle.k42_stamp.proofs.Elements.{all_weaker, all_both, all_back, all_for, all-from_filter}
 use Rattle.k42_stamp.proofs.PartSteps.{AreDisjoint}

@@ -1,13 +1,13 @@
 -- The entries of an object's rows: their order, and the histories in which they stand.
-use Rattle.std.proofs.Common.{◌≡◌, ◌≢◌, ℕ, suc, ◌<◌, ◌≤◌, true, List, [], ◌∷◌, ◌++◌, append_assoc, length, refl, sym, ap, ◌∙◌, inl, inr, ◌⊎◌, ⊎_elim, arith}
-use Rattle.std.specs.List.{AllByRecursion, filter}
+use Rattle.std.proofs.Common.{◌≡◌, ℕ, ◌<◌, ◌≤◌, List, [], ◌∷◌, ◌++◌, append_assoc, length, inl, inr, ⊎_elim, arith}
+use Rattle.std.specs.List.{AllByRecursion}
 use Rattle.std.proofs.lemmas.Bool.Decides.{eqb_tells}
 use Rattle.k42_kinds.specs.declared.entry.Entry.{Entry}
 use Rattle.k42_stamp.specs.Orders.{IsBefore, Ordered, In}
 use Rattle.k42_stamp.specs.Layouts.{Layouts}
 use Rattle.k42_stamp.specs.Parts.{reach_of, touches, those_at}
 use Rattle.k42_stamp.specs.Chains.{Row, Turn, Chain, first_of, past_entries, entries_of}
-use Rattle.k42_stamp.specs.Fits.{IsEntryOf, IsBegun, IsAbove, IsRow, IsTurn, ArePast, Leaves, PastLeaves, Fits}
+use Rattle.k42_stamp.specs.Fits.{IsEntryOf, IsBegun, IsAbove, IsRow, ArePast, Leaves, PastLeaves, Fits}
 use Rattle.k42_stamp.specs.Laws.{AreLaws}
 use Rattle.k42_stamp.specs.Lists.{InRows}
 use Rattle.k42_stamp.proofs.Elements.{all_weaker, all_append, all_at, in_left, in_right, in-append, in-filter, in-from_filter}

@@ -1,5 +1,5 @@
 -- The entries of callers' lists, sorted by their keys, are in order and no two of them have one key.
-use Rattle.std.proofs.Common.{◌≡◌, ◌≢◌, ℕ, zero, suc, ◌+◌, ◌<◌, ◌≤◌, Bool, true, false, cond, ◌&&◌, eqb, List, [], ◌∷◌, ◌++◌, map, flat_map, length, Some, get_or, refl, sym, ap, ◌∙◌, subst, inl, inr, ◌⊎◌, ⊎_elim, count_by, arith}
+use Rattle.std.proofs.Common.{◌≡◌, ◌≢◌, ℕ, zero, suc, ◌+◌, ◌<◌, ◌≤◌, Bool, true, false, cond, ◌&&◌, eqb, List, [], ◌∷◌, ◌++◌, map, flat_map, length, Some, get_or, refl, sym, ◌∙◌, subst, inl, inr, ◌⊎◌, ⊎_elim, count_by, arith}
 use Rattle.std.specs.Prelude.{slice_get, Contains, IsPermutation, IsSortedBy}
 use Rattle.std.specs.List.{AllByRecursion}
 use Rattle.std.specs.Ordering.{is_lt, nat_cmp, ordering_then}
@@ -9,7 +9,7 @@ use Rattle.std.proofs.lemmas.Option.{same_Some}
 use Rattle.std.proofs.lemmas.List.Sums.{sum_by-cons, sum_by-append}
 use Rattle.std.proofs.lemmas.List.Sorted.{sum_by-IsPermutation, Contains-permutation, IsPermutation-sym}
 use Rattle.std.specs.declared.cmp.Ordering.{Ordering}
-use Rattle.std.specs.declared.cmp.Ordering.TheVariants.{Less, Equal, Greater}
+use Rattle.std.specs.declared.cmp.Ordering.TheVariants.{Less, Equal}
 use Rattle.k42_kinds.specs.declared.entry.Entry.{Entry}
 use Rattle.k42_stamp.specs.Orders.{IsBelow, key_of, IsBefore, Ordered, In}
 use Rattle.k42_stamp.specs.Lists.{IsListOf, InSome, IsTrace}
@@ -95,6 +95,7 @@ one_list stamp caller (x ∷ xs) up = elim (eqb_tells x.stamp stamp) [
     by_test : (p : Entry → Bool) (x : Entry) (xs : List Entry) (b : Bool) → p x ≡ b → count_by p xs ≡ 0 → count_by p (x ∷ xs) ≤ 1
     by_test p x xs true is none = rw (count-cons p x xs, is) (omega arith)
     by_test p x xs false is none = rw (count-cons p x xs, is) (omega arith)
+
   skip : (p : Entry → Bool) (x : Entry) (xs : List Entry) → p x ≡ false → count_by p xs ≤ 1 → count_by p (x ∷ xs) ≤ 1
   skip p x xs is rest = rw (count-cons p x xs, is) (omega arith)
 
@@ -146,15 +147,15 @@ apart_from e f fails stamps callers =
 all_apart : (xs : List Entry) → ((stamp caller : ℕ) → count_by (has_both stamp caller) xs ≤ 1) → Ordered IsApart xs
 all_apart [] few = tt
 all_apart (x ∷ xs) few =
-    let own : has_both x.stamp x.caller x ≡ true = rw (eq-eqb x.stamp x.stamp refl, eq-eqb x.caller x.caller refl) refl in
-    (
+    let own : has_both x.stamp x.caller x ≡ true = rw (eq-eqb x.stamp x.stamp refl, eq-eqb x.caller x.caller refl) refl in (
       all_weaker (λ y. has_both x.stamp x.caller y ≡ false) (IsApart x) (λ y fails. apart_from x y fails) xs (none-count (has_both x.stamp x.caller) xs (after (has_both x.stamp x.caller) x xs own (few x.stamp x.caller))),
       all_apart xs (λ stamp caller. fewer (has_both stamp caller) x xs (few stamp caller)),
     ) where
-  after : (p : Entry → Bool) (x : Entry) (xs : List Entry) → p x ≡ true → count_by p (x ∷ xs) ≤ 1 → count_by p xs ≡ 0
-  after p x xs is le = let h : 1 + count_by p xs ≤ 1 = rw (count-cons p x xs, is) at le in omega arith
-  fewer : (p : Entry → Bool) (x : Entry) (xs : List Entry) → count_by p (x ∷ xs) ≤ 1 → count_by p xs ≤ 1
-  fewer p x xs le = let h : cond (p x) 1 0 + count_by p xs ≤ 1 = rw (count-cons p x xs) at le in omega arith
+      after : (p : Entry → Bool) (x : Entry) (xs : List Entry) → p x ≡ true → count_by p (x ∷ xs) ≤ 1 → count_by p xs ≡ 0
+      after p x xs is le = let h : 1 + count_by p xs ≤ 1 = rw (count-cons p x xs, is) at le in omega arith
+
+      fewer : (p : Entry → Bool) (x : Entry) (xs : List Entry) → count_by p (x ∷ xs) ≤ 1 → count_by p xs ≤ 1
+      fewer p x xs le = let h : cond (p x) 1 0 + count_by p xs ≤ 1 = rw (count-cons p x xs) at le in omega arith
 
 -- keys as the sort compares them
 

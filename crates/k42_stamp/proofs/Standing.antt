@@ -1,10 +1,9 @@
 -- A row's parts stand for the object of one thread, and each entry of a row is legal after those before it.
-use Rattle.std.proofs.Common.{◌≡◌, ◌≢◌, ℕ, suc, ◌+◌, ◌<◌, ◌≤◌, Bool, true, false, cond, ◌&&◌, ◌==◌, eqb, IsTrue, List, [], ◌∷◌, ◌++◌, length, Option, Some, None, refl, sym, ap, ◌∙◌, subst, append_assoc, arith}
+use Rattle.std.proofs.Common.{◌≡◌, ℕ, ◌+◌, ◌≤◌, Bool, false, cond, ◌==◌, IsTrue, List, [], ◌∷◌, ◌++◌, Some, refl, sym, ap, ◌∙◌, subst, append_assoc, arith}
 use Rattle.std.specs.List.{AllByRecursion}
 use Rattle.std.proofs.lemmas.Bool.{eq-eqb, ne_eqb}
 use Rattle.std.proofs.lemmas.List.{append-nil}
 use Rattle.std.proofs.lemmas.Option.{same_Some}
-use Rattle.k42_limits.specs.declared.TheConstants.{LAST_INCARNATION}
 use Rattle.k42_kinds.specs.declared.operation.Op.{Op}
 use Rattle.k42_kinds.specs.declared.operation.Reply.{Reply}
 use Rattle.k42_kinds.specs.declared.entry.Act.{Act}
@@ -13,8 +12,8 @@ use Rattle.k42_kinds.specs.declared.entry.Answer.{Answer}
 use Rattle.k42_kinds.specs.declared.entry.Answer.TheVariants.{Replied, Swapped, Busy, Spent, Gone, Abandoned}
 use Rattle.k42_kinds.specs.declared.entry.Entry.{Entry}
 use Rattle.k42_kinds.specs.OneThread.{OneThread}
-use Rattle.k42_kinds.specs.Histories.{is_call, is_carried_out, is_carried_out_on, state_moved, state_moved_by, state_in, number_of}
-use Rattle.k42_kinds.specs.Legal.{IsLegalCallOf, IsLegalSwapOf, IsAnswerSoFar, IsActSoFar, is_ended_in}
+use Rattle.k42_kinds.specs.Histories.{is_call, is_carried_out, state_moved, state_in, number_of}
+use Rattle.k42_kinds.specs.Legal.{IsAnswerSoFar, IsActSoFar, is_ended_in}
 use Rattle.k42_kinds.specs.LayoutLaws.{StepsRow}
 use Rattle.k42_kinds.proofs.LongerHistories.{state_in-push, number_of-push}
 use Rattle.k42_kinds.proofs.Splits.{EachBehind}

@@ -19,13 +19,13 @@ pub record IsNext
     : Type 0 where
   pub own : IsEntryOf F chain.row.layout o (length chain.past) entry
   pub later :
-    (cell : ℕ) → cell < F.procs → touches (reach_of F chain.row.layout entry) cell ≡ true
-    → AllByRecursion (IsLater entry) (histories (length chain.past) cell)
+      (cell : ℕ) → cell < F.procs → touches (reach_of F chain.row.layout entry) cell ≡ true
+      → AllByRecursion (IsLater entry) (histories (length chain.past) cell)
   pub after_own :
-    AllByRecursion (λ other. other.caller ≡ entry.caller → IsLater entry other) chain.row.entries
+      AllByRecursion (λ other. other.caller ≡ entry.caller → IsLater entry other) chain.row.entries
   pub replied :
-    (part_steps F chain.row.layout).answers (parts_of F chain.row) entry
-    ≡ (part_steps F chain.row.layout).tells entry
+      (part_steps F chain.row.layout).answers (parts_of F chain.row) entry
+      ≡ (part_steps F chain.row.layout).tells entry
 
 -- the histories with the entry at the end of those cells of the row that it needs
 abbrev pub drawn_at :
@@ -51,8 +51,8 @@ pub record Draws
   pub back : List Entry
   pub cut : chain.row.entries ≡ front ++ back
   pub fits :
-    Fits F declared o (drawn_at F chain.row.layout entry (length chain.past) histories)
-    (chain_with chain (front ++ entry ∷ back))
+      Fits F declared o (drawn_at F chain.row.layout entry (length chain.past) histories)
+      (chain_with chain (front ++ entry ∷ back))
   pub moved :
-    parts_of F (row_with chain.row (front ++ entry ∷ back))
-    ≡ (part_steps F chain.row.layout).moves (parts_of F chain.row) entry
+      parts_of F (row_with chain.row (front ++ entry ∷ back))
+      ≡ (part_steps F chain.row.layout).moves (parts_of F chain.row) entry

@@ -18,8 +18,8 @@ pub record IsHand
   pub known : F.tag_of layout ≤ 2
   pub told : IsHandOf (F.act_of layout) o (suc (length chain.past)) entry
   pub later :
-    (cell : ℕ) → cell < F.procs
-    → AllByRecursion (IsLater entry) (histories (length chain.past) cell)
+      (cell : ℕ) → cell < F.procs
+      → AllByRecursion (IsLater entry) (histories (length chain.past) cell)
   pub live : F.tag_of chain.row.layout ≤ 1
   pub unspent : length chain.past < LAST_INCARNATION
 

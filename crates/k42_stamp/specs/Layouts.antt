@@ -1,5 +1,5 @@
 -- The layouts of one type, on the processors of one system.
-use Rattle.std.specs.Prelude.{ℕ, ◌<◌, List}
+use Rattle.std.specs.Prelude.{ℕ, List}
 use Rattle.k42_kinds.specs.declared.entry.Act.{Act}
 use Rattle.k42_kinds.specs.OneThread.{OneThread}
 use Rattle.k42_kinds.specs.Rows.{Ways}
@@ -33,8 +33,3 @@ layouts_with object_of tag_of ways_of Whole Serves admitted act_of procs proc_of
   procs = procs;
   proc_of = proc_of;
 }
-
--- there are processors, and each caller is on one of them
-pub record AreProcessors {S L P : Type 0} (F : Layouts S L P) : Type 0 where
-  pub some : 0 < F.procs
-  pub on_one : (caller : ℕ) → F.proc_of caller < F.procs

@@ -88,12 +88,12 @@ pub record AreThose
     (histories : ℕ → ℕ → ℕ → List Entry) (chains : List (Chain L P))
     : Type 0 where
   pub placed :
-    (entry : Entry) → InSome lists entry → passes entry.act entry.answer ≡ true
-    → InHistory procs histories chains entry
+      (entry : Entry) → InSome lists entry → passes entry.act entry.answer ≡ true
+      → InHistory procs histories chains entry
   pub given :
-    (o : ℕ) (chain : Chain L P) (entry : Entry) → slice_get chains o ≡ Some chain
-    → InRows procs (length chain.past) (histories o) entry
-    → passes entry.act entry.answer ≡ true → InSome lists entry
+      (o : ℕ) (chain : Chain L P) (entry : Entry) → slice_get chains o ≡ Some chain
+      → InRows procs (length chain.past) (histories o) entry
+      → passes entry.act entry.answer ≡ true → InSome lists entry
 
 -- Each declared object has rows, which fit the histories of its cells.
 pub record AllFit
@@ -108,5 +108,5 @@ abbrev pub AreLegal :
     {S L P : Type 0} → Layouts S L P → List L → (Act → Answer → Bool) → List Entry → Type 0
 AreLegal F declarations passes history =
     AtEachPlace (λ before entry after.
-      passes entry.act entry.answer ≡ true → IsSoFarAmongObjects F.object_of declarations before entry after)
+    passes entry.act entry.answer ≡ true → IsSoFarAmongObjects F.object_of declarations before entry after)
     history

@@ -7,3 +7,5 @@ mod merging;
 pub use laws::{draw_keeps, hand_begins, merged_is_legal};
 pub use merging::merge;
 
+#[cfg(test)]
+mod tests;

@@ -15,12 +15,12 @@ fn number(entries: &mut Vec<Entry>)
 }
 
 /// The entries of all lists, one list after the other.
-fn joined(alloc: Global, lists: &[Vec<Entry>]) -> Result<Vec<Entry>, Memory>
-    ensures { IfOk result (λ entries. entries.items ≡ flat_map vec_items lists.now) }
+fn joined(alloc: Global, lists: Vec<Vec<Entry>>) -> Result<Vec<Entry>, Memory>
+    ensures { IfOk result (λ entries. entries.items ≡ flat_map vec_items lists.items) }
 {
     let mut entries = Vec::new(alloc);
-    for list in lists {
-        entries.extend_from_slice(list)?;
+    for mut list in lists {
+        entries.append(&mut list)?;
     }
     Ok(entries)
 }
@@ -30,8 +30,8 @@ pub fn merge(alloc: Global, lists: Vec<Vec<Entry>>) -> Result<Vec<Entry>, Memory
     requires { AreLists (map vec_items lists.items) }
     ensures { IfOk result (λ merged. IsMerged (map vec_items lists.items) merged.items) }
 {
-    let mut entries = joined(alloc, &lists)?;
-    entries.sort_by_key(|entry| (entry.stamp, entry.object, entry.cell, entry.caller))?;
+    let mut entries = joined(alloc, lists)?;
+    entries.sort_by_cached_key(|entry| (entry.stamp, entry.object, entry.cell, entry.caller))?;
     number(&mut entries);
     Ok(entries)
 }
