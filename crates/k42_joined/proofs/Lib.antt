@@ -41,3 +41,5 @@ pub mod SeenBelow
 pub mod OneChain
 pub mod Following
 pub mod Frame
+pub mod Toy
+pub mod Examples
