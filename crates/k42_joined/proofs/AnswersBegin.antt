@@ -1,11 +1,11 @@
 -- A Begin keeps the answers, and keeps what it found.
-use Rattle.std.proofs.Common.{◌≡◌, ◌≢◌, ℕ, zero, suc, ◌+◌, ◌<◌, ◌≤◌, ◌⊎◌, ◌∙◌, Bool, true, false, not, ◌&&◌, ◌||◌, cond, eqb, List, [], ◌∷◌, ◌++◌, Option, Some, None, length, set, refl, sym, ap, subst, inl, inr, ⊎_elim, arith}
+use Rattle.std.proofs.Common.{◌≡◌, ◌≢◌, ℕ, ◌+◌, ◌<◌, ◌≤◌, ◌⊎◌, ◌∙◌, Bool, true, false, ◌||◌, cond, eqb, List, [], ◌∷◌, ◌++◌, Some, None, refl, sym, ap, subst, ⊎_elim, arith}
 use Rattle.std.proofs.lemmas.Bool.{and_parts, eqb-true, eq-eqb}
 use Rattle.std.proofs.lemmas.List.{get_or-set_same, get_or-set_other}
 use Rattle.std.proofs.lemmas.Option.{same_Some}
 use Rattle.k42_limits.specs.declared.TheConstants.{LAST_INCARNATION}
 use Rattle.k42_kinds.specs.declared.entry.Answer.{Answer}
-use Rattle.k42_kinds.specs.declared.entry.Answer.TheVariants.{Replied, Swapped, Busy, Spent, Gone, Abandoned}
+use Rattle.k42_kinds.specs.declared.entry.Answer.TheVariants.{Swapped, Busy, Spent, Gone, Abandoned}
 use Rattle.k42_kinds.specs.declared.entry.Entry.{Entry}
 use Rattle.k42_kinds.specs.Legal.{IsOwn, IsNotPast, number_carried_out}
 use Rattle.gen_core.specs.Events as gen
@@ -23,19 +23,19 @@ use Rattle.phase_core.proofs.InSound.{object_known, visitor_known, one_swap}
 use Rattle.k42_stamp.specs.Layouts.{Layouts}
 use Rattle.k42_stamp.specs.Orders.{In}
 use Rattle.k42_joined.specs.Plain.{Kept, Joined}
-use Rattle.k42_joined.specs.Answers.{is_refused, is_turned, AreTimely, IsBusyOf, IsTrueOf, IsKept, IsUnderWay, HasRival, IsReached, IsAnswer, IsFound, HasDrawn, IsAnswered, AreAnswered}
+use Rattle.k42_joined.specs.Answers.{is_refused, is_turned, AreTimely, IsBusyOf, IsTrueOf, IsUnderWay, IsAnswer, IsFound, AreAnswered}
 use Rattle.k42_joined.specs.Event.{AtPhases}
 use Rattle.k42_joined.specs.Effects.{effect}
 use Rattle.k42_joined.specs.Found.{swap_number, answer_found}
 use Rattle.k42_joined.specs.Locks.{AreLocked}
 use Rattle.k42_joined.specs.Possible.{MaySwap}
 use Rattle.k42_joined.specs.Refusals.{is_given_up}
-use Rattle.k42_joined.specs.State.{nothing_kept, many_callers, many_objects, object, incarnation, swap_of, mine, kept_of, keep, many_hands, is_handed}
+use Rattle.k42_joined.specs.State.{nothing_kept, many_callers, many_objects, object, incarnation, swap_of, mine, kept_of, keep}
 use Rattle.k42_joined.proofs.AnswersOwn.{MovesOn, steps, own_keeps}
-use Rattle.k42_joined.proofs.AnswersStaged.{same_on, swap_here, object_here, many_callers_same, many_objects_same, words_same, moves_same}
-use Rattle.k42_joined.proofs.AnswersSteps.{WordGoesOn, StepsOn, true_now}
+use Rattle.k42_joined.proofs.AnswersStaged.{same_on, swap_here, words_same, moves_same}
+use Rattle.k42_joined.proofs.AnswersSteps.{true_now}
 use Rattle.k42_joined.proofs.AnswersWords.{IsSameWord, same_word, same_number, word_on}
-use Rattle.k42_joined.proofs.Timely.{IsLaterFor, IsTimelyLast, timely_push}
+use Rattle.k42_joined.proofs.Timely.{IsTimelyLast, timely_push}
 
 -- what an answer tells of the word that was found
 pub record IsOfWord (k : Object) (answer : Answer) : Type 0 where

@@ -1,5 +1,5 @@
 -- A swap or destroy that found its object over is drawn above all that swapped it.
-use Rattle.std.proofs.Common.{◌≡◌, ◌≢◌, ℕ, zero, suc, ◌+◌, ◌/◌, ◌||◌, eqb, ◌<◌, ◌≤◌, ◌⊎◌, ◌∙◌, Bool, true, false, List, [], ◌∷◌, ◌++◌, Some, length, refl, sym, ap, subst, inl, inr, ⊎_elim, arith}
+use Rattle.std.proofs.Common.{◌≡◌, ℕ, ◌/◌, ◌||◌, eqb, ◌<◌, ◌∙◌, true, false, List, [], ◌∷◌, length, refl, sym, ap, subst, inl, ⊎_elim, arith}
 use Rattle.std.proofs.lemmas.Bool.{lt-ltb, eq-eqb}
 use Rattle.k42_kinds.specs.declared.entry.Act.{Act}
 use Rattle.k42_kinds.specs.declared.entry.Act.TheVariants.{Call, Swap, Destroy}
@@ -8,7 +8,7 @@ use Rattle.k42_kinds.specs.declared.entry.Entry.{Entry}
 use Rattle.k42_kinds.specs.Histories.{is_call}
 use Rattle.phase_core.specs.Sound as phases
 use Rattle.turn_core.specs.Sound as turns
-use Rattle.turn_core.specs.declared.event.TurnEvent.TheVariants.{Draw, Hand}
+use Rattle.turn_core.specs.declared.event.TurnEvent.TheVariants.{Draw}
 use Rattle.turn_core.specs.Events as turn_events
 use Rattle.turn_core.specs.Names.{names}
 use Rattle.k42_stamp.specs.Chains.{Turn, first_of}
@@ -18,17 +18,16 @@ use Rattle.k42_stamp.specs.Orders.{In}
 use Rattle.k42_stamp.specs.Parts.{those_at}
 use Rattle.k42_stamp.proofs.Elements.{in_left}
 use Rattle.k42_joined.specs.Plain.{Joined}
-use Rattle.k42_joined.specs.Answers.{IsAnswered, AreAnswered}
-use Rattle.k42_joined.specs.Drawing.{IsMark, IsCall, IsDrawnAs, MayDraw}
+use Rattle.k42_joined.specs.Answers.{AreAnswered}
+use Rattle.k42_joined.specs.Drawing.{IsMark, IsDrawnAs, MayDraw}
 use Rattle.k42_joined.specs.Effects.{kept_drawn}
 use Rattle.k42_joined.specs.Fitting.{Fitting}
 use Rattle.k42_joined.specs.Locks.{AreLocked}
 use Rattle.k42_joined.specs.Numbers.{cell_of}
 use Rattle.k42_joined.specs.Rows.{history_in}
-use Rattle.k42_joined.specs.State.{many_procs, many_callers, many_objects, incarnation, cell_in, mine, many_hands, is_handed, kept_of}
+use Rattle.k42_joined.specs.State.{many_procs, many_callers, incarnation, cell_in, mine, many_hands}
 use Rattle.k42_joined.proofs.AnswersDraws.{call_answers, mark_answers}
-use Rattle.k42_joined.proofs.AnswersRows.{IsUpTo, IsDoneIn, RowsAt, rows_at, many_past, done_at}
-use Rattle.k42_joined.proofs.CellNumbers.{row_names}
+use Rattle.k42_joined.proofs.AnswersRows.{IsUpTo, RowsAt, rows_at, many_past, done_at}
 use Rattle.k42_joined.proofs.RowsCalls.{IsDrawn}
 use Rattle.k42_joined.proofs.RowsDraw.{IsCoreDraw}
 use Rattle.k42_joined.proofs.RowsHistories.{at_present_life}

@@ -1,24 +1,23 @@
 -- An entry more: what it needs so that the answers stay.
-use Rattle.std.proofs.Common.{◌≡◌, ◌≢◌, ℕ, zero, suc, ◌+◌, ◌<◌, ◌≤◌, ◌⊎◌, ◌∙◌, Bool, true, false, not, ◌&&◌, ◌||◌, List, [], ◌∷◌, ◌++◌, Option, Some, None, length, set, refl, sym, ap, subst, inl, inr, ⊎_elim, arith}
+use Rattle.std.proofs.Common.{◌≡◌, ◌≢◌, ℕ, ◌+◌, ◌<◌, ◌⊎◌, ◌∙◌, Bool, true, false, ◌||◌, List, [], ◌∷◌, ◌++◌, Some, None, refl, sym, ap, subst, inl, inr, ⊎_elim}
 use Rattle.std.proofs.lemmas.Bool.{cases_eq}
 use Rattle.std.proofs.lemmas.List.{get_or-set_same, get_or-set_other}
 use Rattle.k42_kinds.specs.declared.entry.Answer.{Answer}
-use Rattle.k42_kinds.specs.declared.entry.Answer.TheVariants.{Replied, Swapped, Busy, Spent, Gone, Abandoned}
+use Rattle.k42_kinds.specs.declared.entry.Answer.TheVariants.{Swapped, Abandoned}
 use Rattle.k42_kinds.specs.declared.entry.Entry.{Entry}
 use Rattle.k42_kinds.specs.Legal.{Settles}
-use Rattle.phase_core.specs.Stages.{named_by, is_idle}
+use Rattle.phase_core.specs.Stages.{named_by}
 use Rattle.phase_core.specs.declared.caller.SwapAt.TheVariants.{Moved}
 use Rattle.turn_core.specs.Plain.{Turns}
-use Rattle.turn_core.specs.Sound.{drawn_by}
 use Rattle.k42_stamp.specs.Orders.{In}
 use Rattle.k42_stamp.proofs.Elements.{in_left, in_right, in-append}
 use Rattle.k42_joined.specs.Plain.{Kept, Joined}
-use Rattle.k42_joined.specs.Answers.{is_refused, is_turned, HasAnswered, AreTimely, IsTrueOf, IsKept, IsUnderWay, IsSettled, HasRival, IsReached, IsAnswer, IsFound, HasDrawn, IsAnswered, AreAnswered}
+use Rattle.k42_joined.specs.Answers.{HasAnswered, AreTimely, IsTrueOf, IsKept, IsUnderWay, IsSettled, HasRival, IsAnswer, IsFound, HasDrawn, AreAnswered}
 use Rattle.k42_joined.specs.Effects.{kept_drawn}
-use Rattle.k42_joined.specs.Found.{swap_number, tells_over}
+use Rattle.k42_joined.specs.Found.{tells_over}
 use Rattle.k42_joined.specs.Locks.{AreLocked}
 use Rattle.k42_joined.specs.Refusals.{is_given_up}
-use Rattle.k42_joined.specs.State.{nothing_kept, many_callers, many_objects, object, incarnation, swap_of, mine, kept_of, many_hands, is_handed}
+use Rattle.k42_joined.specs.State.{nothing_kept, many_callers, object, incarnation, swap_of, mine, kept_of, is_handed}
 
 module _ {L : Type 0} (s : Joined L) (c : ℕ) (e : Entry) (abandons : Bool) (turns : Turns) (hands : List (List L)) where
   abbrev pub t : Joined L
@@ -78,8 +77,8 @@ module _ {L : Type 0} (s : Joined L) (c : ℕ) (e : Entry) (abandons : Bool) (tu
     pub mines : (d : ℕ) → d ≢ c → mine t d ≡ mine s d
     pub handed : (d o : ℕ) → d < many_callers s → swap_of s d ≡ Moved o → is_handed t o ≡ true → HasAnswered t d o (Swapped (incarnation s o + 1))
     pub given_up :
-      (o : ℕ) → named_by (swap_of s c) ≡ Some o → is_given_up (swap_of s c) (object s o) o ≡ true → abandons ≡ true
-      → HasAnswered t c o (Abandoned (incarnation s o + 1))
+        (o : ℕ) → named_by (swap_of s c) ≡ Some o → is_given_up (swap_of s c) (object s o) o ≡ true → abandons ≡ true
+        → HasAnswered t c o (Abandoned (incarnation s o + 1))
     pub timely : AreTimely (mine s c ++ e ∷ [])
     -- no carried-out swap comes where the object is over
     pub not_over : (f : Entry) (n : ℕ) → e.answer ≡ Swapped n → e.object ≡ f.object → tells_over f.answer ≡ true

@@ -1,13 +1,12 @@
 -- Each entry that is drawn keeps the answers.
-use Rattle.std.proofs.Common.{◌≡◌, ◌≢◌, ℕ, zero, suc, ◌+◌, ◌<◌, ◌≤◌, ◌⊎◌, ◌∙◌, Bool, true, false, not, ◌&&◌, ◌||◌, cond, eqb, ltb, List, [], ◌∷◌, ◌++◌, Option, Some, None, length, get_or, set, refl, sym, ap, subst, inl, inr, ⊎_elim, arith}
+use Rattle.std.proofs.Common.{◌≡◌, ◌≢◌, ℕ, ◌+◌, ◌<◌, ◌≤◌, ◌∙◌, Bool, true, false, not, cond, eqb, ltb, List, [], ◌∷◌, ◌++◌, Some, length, get_or, set, refl, sym, ap, subst, inr, ⊎_elim, arith}
 use Rattle.std.proofs.lemmas.Bool.{and_parts, not-true, eqb-true, cases_eq}
 use Rattle.std.proofs.lemmas.List.{get_or-set_same, get_or-set_other}
 use Rattle.std.proofs.lemmas.Option.{same_Some}
 use Rattle.k42_limits.specs.declared.TheConstants.{LAST_INCARNATION}
 use Rattle.k42_kinds.specs.Histories.{is_call}
 use Rattle.k42_kinds.specs.Legal.{IsOwn, IsNotPast, number_carried_out}
-use Rattle.k42_kinds.specs.declared.entry.Act.{Act}
-use Rattle.k42_kinds.specs.declared.entry.Act.TheVariants.{Call, Swap, Destroy}
+use Rattle.k42_kinds.specs.declared.entry.Act.TheVariants.{Call}
 use Rattle.k42_kinds.specs.declared.entry.Answer.{Answer}
 use Rattle.k42_kinds.specs.declared.entry.Answer.TheVariants.{Replied, Swapped, Busy, Spent, Gone, Abandoned}
 use Rattle.k42_kinds.specs.declared.entry.Entry.{Entry}
@@ -16,13 +15,12 @@ use Rattle.k42_kinds.specs.declared.operation.Reply.{Reply}
 use Rattle.phase_core.specs.Objects.{bits_of, BitsFollow}
 use Rattle.phase_core.specs.Plain.{Object}
 use Rattle.phase_core.specs.Sound as phases
-use Rattle.phase_core.specs.Stages.{named_by, is_idle}
+use Rattle.phase_core.specs.Stages.{named_by}
 use Rattle.phase_core.specs.declared.caller.SwapAt.{SwapAt}
 use Rattle.phase_core.specs.declared.caller.SwapAt.TheVariants.{Moved, Reopening, Opened}
 use Rattle.phase_core.proofs.InSound.{object_known, visitor_known, one_swap, moved_is_ready}
 use Rattle.turn_core.specs.Events.{cell_told, cell_begun, cell_closed, caller_drawn}
 use Rattle.turn_core.specs.Plain.{Caller, Turns}
-use Rattle.turn_core.specs.Sound as turns
 use Rattle.turn_core.specs.Sound.{drawn_by}
 use Rattle.turn_core.specs.State.{fresh_caller, change_caller, change_cells}
 use Rattle.turn_core.specs.declared.event.TurnEvent.TheVariants.{Draw, Alone, Hand}
@@ -31,13 +29,13 @@ use Rattle.turn_core.proofs.Changed.{callers-change_cells}
 use Rattle.k42_stamp.specs.Orders.{In}
 use Rattle.k42_stamp.proofs.Elements.{in-append}
 use Rattle.k42_joined.specs.Plain.{Joined}
-use Rattle.k42_joined.specs.Answers.{HasAnswered, AreTimely, IsBusyOf, IsTrueOf, HasRival, IsReached, IsAnswer, IsFound, HasDrawn, IsAnswered, AreAnswered}
+use Rattle.k42_joined.specs.Answers.{HasAnswered, AreTimely, IsTrueOf, HasRival, IsAnswer, IsFound, AreAnswered}
 use Rattle.k42_joined.specs.Effects.{kept_drawn, hands_with}
 use Rattle.k42_joined.specs.Found.{swap_number, tells_over}
 use Rattle.k42_joined.specs.Locks.{AreLocked}
 use Rattle.k42_joined.specs.Refusals.{is_given_up, IsRefused, IsAbandoned, IsAnsweredAlone, MayDrawAlone, tells_abandoned}
-use Rattle.k42_joined.specs.State.{many_callers, many_objects, object, incarnation, swap_of, mine, kept_of, many_hands, is_handed}
-use Rattle.k42_joined.proofs.AnswersDrawn.{DrawsOn, still_answered, newly_answered, rival_own, drawn_answered}
+use Rattle.k42_joined.specs.State.{many_callers, many_objects, object, incarnation, swap_of, mine, kept_of, is_handed}
+use Rattle.k42_joined.proofs.AnswersDrawn.{still_answered, newly_answered, rival_own, drawn_answered}
 use Rattle.k42_joined.proofs.Timely.{IsLaterFor, IsTimelyLast, timely_push}
 
 -- the callers after one of them drew an entry
@@ -85,7 +83,7 @@ module _ {L : Type 0} (s : Joined L) (locked : AreLocked s) (answered : AreAnswe
   module _ (abandons : Bool) (t : Turns) (own : drawn_by t.callers c ≡ mine s c ++ e ∷ []) (mines : (d : ℕ) → d ≢ c → drawn_by t.callers d ≡ mine s d)
       (not_done : (n : ℕ) → e.answer ≡ Swapped n → ⊥)
       (given_up : (o : ℕ) → named_by (swap_of s c) ≡ Some o → is_given_up (swap_of s c) (object s o) o ≡ true → abandons ≡ true
-        → HasAnswered (record s { turns = t; kept = kept_drawn s c abandons }) c o (Abandoned (incarnation s o + 1)))
+      → HasAnswered (record s { turns = t; kept = kept_drawn s c abandons }) c o (Abandoned (incarnation s o + 1)))
       (timely : AreTimely (mine s c ++ e ∷ []))
       (new : IsAnswer (record s { turns = t; kept = kept_drawn s c abandons }) c e) where
     entry_keeps : AreAnswered (record s { turns = t; kept = kept_drawn s c abandons })

@@ -1,29 +1,25 @@
 -- A swap that moves its object, turns it over, or gives up before its hand keeps the answers.
-use Rattle.std.proofs.Common.{◌≡◌, ◌≢◌, ℕ, zero, suc, ◌+◌, ◌<◌, ◌≤◌, ◌⊎◌, ◌∙◌, Bool, true, false, not, ◌&&◌, ◌||◌, cond, eqb, ltb, List, Option, Some, None, length, get_or, set, refl, sym, ap, subst, inl, inr, ⊎_elim, arith}
+use Rattle.std.proofs.Common.{◌≡◌, ℕ, ◌+◌, ◌<◌, ◌∙◌, Bool, true, false, not, ◌||◌, cond, eqb, ltb, List, Some, refl, sym, ap, subst, inl, ⊎_elim, arith}
 use Rattle.std.proofs.lemmas.Bool.{and_parts, not-true, lt-ltb}
 use Rattle.std.proofs.lemmas.List.{get_or-set_same, get_or-set_other}
 use Rattle.std.proofs.lemmas.Option.{same_Some}
-use Rattle.std.specs.Prelude.{slice_index_or}
 use Rattle.k42_limits.specs.declared.TheConstants.{LAST_INCARNATION}
 use Rattle.k42_kinds.specs.declared.entry.Answer.{Answer}
-use Rattle.k42_kinds.specs.declared.entry.Answer.TheVariants.{Swapped, Abandoned}
-use Rattle.k42_kinds.specs.declared.entry.Entry.{Entry}
+use Rattle.k42_kinds.specs.declared.entry.Answer.TheVariants.{Swapped}
 use Rattle.phase_core.specs.Effects.{turned_over, unblocked}
-use Rattle.phase_core.specs.Event.{Event, Move, TurnOver, Unblock, caller_of}
-use Rattle.phase_core.specs.Events.{staged, moved}
-use Rattle.phase_core.specs.Plain.{Object, Phases}
+use Rattle.phase_core.specs.Event.{Move, TurnOver, Unblock}
+use Rattle.phase_core.specs.Events.{staged}
+use Rattle.phase_core.specs.Plain.{Object}
 use Rattle.phase_core.specs.Sound as phases
 use Rattle.phase_core.specs.Stages.{named_by, object_named, is_idle, is_blocking, is_moved}
-use Rattle.phase_core.specs.State.{object_at, visitor_at}
 use Rattle.phase_core.specs.declared.caller.SwapAt.{SwapAt}
-use Rattle.phase_core.specs.declared.caller.SwapAt.TheVariants.{Idle, Blocking, Moved, Opening, Reopening}
+use Rattle.phase_core.specs.declared.caller.SwapAt.TheVariants.{Blocking, Moved, Opening, Reopening}
 use Rattle.phase_core.proofs.InSound.{object_known, visitor_known, one_swap, moved_is_ready}
 use Rattle.turn_core.specs.Sound as turns
 use Rattle.k42_stamp.specs.Laws.{AreLaws}
 use Rattle.k42_stamp.specs.Layouts.{Layouts}
-use Rattle.k42_stamp.specs.Orders.{In}
 use Rattle.k42_joined.specs.Plain.{Kept, Joined}
-use Rattle.k42_joined.specs.Answers.{is_refused, is_turned, HasAnswered, IsKept, HasRival, IsReached, IsFound, HasDrawn, IsAnswered, AreAnswered}
+use Rattle.k42_joined.specs.Answers.{is_refused, is_turned, HasAnswered, IsKept, IsReached, HasDrawn, AreAnswered}
 use Rattle.k42_joined.specs.Event.{AtPhases}
 use Rattle.k42_joined.specs.Effects.{effect}
 use Rattle.k42_joined.specs.Fitting.{Fitting}
@@ -31,15 +27,15 @@ use Rattle.k42_joined.specs.Found.{swap_number}
 use Rattle.k42_joined.specs.Locks.{AreLocked}
 use Rattle.k42_joined.specs.Possible.{MaySwap}
 use Rattle.k42_joined.specs.Refusals.{is_given_up}
-use Rattle.k42_joined.specs.State.{nothing_kept, many_callers, many_objects, object, incarnation, swap_of, held, mine, kept_of, keep, many_hands, is_handed}
+use Rattle.k42_joined.specs.State.{nothing_kept, many_callers, many_objects, object, incarnation, swap_of, held, kept_of, keep, many_hands, is_handed}
 use Rattle.k42_joined.specs.Swapping.{holds_none}
 use Rattle.k42_joined.proofs.AnswersOwn.{MovesOn, steps, own_keeps}
-use Rattle.k42_joined.proofs.AnswersRows.{done_handed, IsMover, handed_moved}
+use Rattle.k42_joined.proofs.AnswersRows.{done_handed, handed_moved}
 use Rattle.k42_joined.proofs.AnswersStaged.{swap_here, object_here, many_objects_same, words_same, moves_same, moves_changed, still_under_way}
 use Rattle.k42_joined.proofs.AnswersSteps.{WordGoesOn, answered_on}
 use Rattle.k42_joined.proofs.AnswersWords.{IsSameWord, same_number}
 use Rattle.k42_joined.proofs.Lends.{from_is_moved}
-use Rattle.k42_joined.proofs.LocksPhases.{turned_handed, turned_ahead}
+use Rattle.k42_joined.proofs.LocksPhases.{turned_handed}
 
 from_is_blocking : (swap : SwapAt) → is_blocking swap ≡ true → swap ≡ Blocking (object_named swap)
 from_is_blocking (Blocking q) is = refl

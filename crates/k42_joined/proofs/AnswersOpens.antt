@@ -1,32 +1,30 @@
 -- A swap that opens its object's entries, and one that ends, keep the answers.
-use Rattle.std.proofs.Common.{◌≡◌, ◌≢◌, ℕ, zero, suc, ◌+◌, ◌<◌, ◌≤◌, ◌⊎◌, ◌∙◌, Bool, true, false, not, ◌&&◌, ◌||◌, cond, eqb, ltb, List, Option, Some, None, length, refl, sym, ap, subst, inl, inr, ⊎_elim, arith}
-use Rattle.std.proofs.lemmas.Bool.{and_parts, eq-eqb, eqb-true}
+use Rattle.std.proofs.Common.{◌≡◌, ℕ, ◌+◌, ◌<◌, ◌≤◌, ◌∙◌, Bool, true, false, not, ◌||◌, cond, eqb, ltb, List, Some, length, refl, sym, ap, subst, inl, arith}
+use Rattle.std.proofs.lemmas.Bool.{and_parts, eq-eqb}
 use Rattle.std.proofs.lemmas.Option.{same_Some}
 use Rattle.k42_kinds.specs.declared.entry.Answer.{Answer}
 use Rattle.k42_kinds.specs.declared.entry.Answer.TheVariants.{Swapped, Abandoned}
-use Rattle.k42_kinds.specs.declared.entry.Entry.{Entry}
 use Rattle.k42_kinds.specs.Legal.{Settles}
 use Rattle.phase_core.specs.Effects.{cleared}
-use Rattle.phase_core.specs.Event.{Event, Open, Clear}
+use Rattle.phase_core.specs.Event.{Open, Clear}
 use Rattle.phase_core.specs.Events.{staged, opened}
 use Rattle.phase_core.specs.Objects.{bits_of, BitsFollow}
-use Rattle.phase_core.specs.Plain.{Object, Phases}
+use Rattle.phase_core.specs.Plain.{Object}
 use Rattle.phase_core.specs.Sound as phases
-use Rattle.phase_core.specs.Stages.{named_by, object_named, is_idle, is_opening, is_ended}
-use Rattle.phase_core.specs.State.{empty_entry, put_entry, object_at, visitor_at}
+use Rattle.phase_core.specs.Stages.{named_by, object_named, is_idle, is_ended}
+use Rattle.phase_core.specs.State.{empty_entry, put_entry}
 use Rattle.phase_core.specs.declared.caller.SwapAt.{SwapAt}
 use Rattle.phase_core.specs.declared.caller.SwapAt.TheVariants.{Idle, Refused, Moved, Opening, Reopening, Opened}
 use Rattle.phase_core.proofs.InSound.{object_known, visitor_known}
 use Rattle.k42_stamp.specs.Layouts.{Layouts}
-use Rattle.k42_stamp.specs.Orders.{In}
-use Rattle.k42_joined.specs.Plain.{Kept, Joined}
-use Rattle.k42_joined.specs.Answers.{is_refused, is_turned, HasAnswered, IsKept, IsSettled, HasRival, IsReached, IsFound, HasDrawn, IsAnswered, AreAnswered}
+use Rattle.k42_joined.specs.Plain.{Joined}
+use Rattle.k42_joined.specs.Answers.{is_refused, is_turned, HasAnswered, HasDrawn, AreAnswered}
 use Rattle.k42_joined.specs.Event.{AtPhases}
 use Rattle.k42_joined.specs.Effects.{effect}
 use Rattle.k42_joined.specs.Found.{swap_number}
 use Rattle.k42_joined.specs.Possible.{MaySwap}
 use Rattle.k42_joined.specs.Refusals.{is_given_up}
-use Rattle.k42_joined.specs.State.{many_callers, many_objects, object, incarnation, swap_of, mine, kept_of}
+use Rattle.k42_joined.specs.State.{many_callers, many_objects, object, incarnation, swap_of, kept_of}
 use Rattle.k42_joined.specs.Swapping.{may_clear}
 use Rattle.k42_joined.proofs.AnswersMoves.{nothing_found}
 use Rattle.k42_joined.proofs.AnswersOwn.{MovesOn, steps, own_keeps}

@@ -1,5 +1,5 @@
 -- An event that moves its own caller's swap on: what every other caller has stays.
-use Rattle.std.proofs.Common.{◌≡◌, ◌≢◌, ℕ, zero, suc, ◌+◌, ◌<◌, ◌≤◌, ◌⊎◌, ◌∙◌, Bool, true, false, ◌||◌, List, Option, Some, None, length, refl, sym, ap, subst, inl, inr, ⊎_elim, arith}
+use Rattle.std.proofs.Common.{◌≡◌, ◌≢◌, ℕ, ◌+◌, ◌<◌, ◌≤◌, ◌∙◌, Bool, false, ◌||◌, Some, sym, ap, subst, inl, inr, ⊎_elim, arith}
 use Rattle.std.proofs.lemmas.Bool.{cases_eq}
 use Rattle.k42_kinds.specs.declared.entry.Answer.{Answer}
 use Rattle.k42_kinds.specs.declared.entry.Answer.TheVariants.{Swapped}
@@ -11,7 +11,7 @@ use Rattle.phase_core.specs.declared.caller.SwapAt.TheVariants.{Moved}
 use Rattle.phase_core.proofs.InSound.{one_swap}
 use Rattle.k42_stamp.specs.Orders.{In}
 use Rattle.k42_joined.specs.Plain.{Kept, Joined}
-use Rattle.k42_joined.specs.Answers.{is_refused, HasAnswered, IsKept, IsUnderWay, HasRival, IsReached, IsFound, HasDrawn, IsAnswered, AreAnswered}
+use Rattle.k42_joined.specs.Answers.{is_refused, IsKept, IsUnderWay, HasRival, IsReached, IsFound, HasDrawn, AreAnswered}
 use Rattle.k42_joined.specs.Found.{swap_number}
 use Rattle.k42_joined.specs.State.{many_callers, many_objects, object, incarnation, swap_of, mine, kept_of, many_hands}
 use Rattle.k42_joined.proofs.AnswersSteps.{WordGoesOn, StepsOn, answered_on, found_on, answered_after}
@@ -29,11 +29,11 @@ pub record MovesOn {L : Type 0} (s t : Joined L) (c : ℕ) : Type 0 where
   pub words : (o : ℕ) → WordGoesOn (object s o) (object t o)
   pub word_else : (o : ℕ) → (named_by (swap_of s c) ≡ Some o → ⊥) → IsSameWord (object s o) (object t o)
   pub reached :
-    (number : ℕ) (e : Entry) → In e (mine s c) → e.answer ≡ Swapped number → number ≡ incarnation s e.object + 1
-    → swap_of s c ≡ Moved e.object → IsReached t c e.object number
+      (number : ℕ) (e : Entry) → In e (mine s c) → e.answer ≡ Swapped number → number ≡ incarnation s e.object + 1
+      → swap_of s c ≡ Moved e.object → IsReached t c e.object number
   pub rival :
-    (d o number : ℕ) → c ≢ d → named_by (swap_of s c) ≡ Some o → is_refused (swap_of s c) ≡ false
-    → number ≡ swap_number (object s o) → HasRival t d o number
+      (d o number : ℕ) → c ≢ d → named_by (swap_of s c) ≡ Some o → is_refused (swap_of s c) ≡ false
+      → number ≡ swap_number (object s o) → HasRival t d o number
 
 module _ {L : Type 0} (s t : Joined L) (sound : phases.IsSound s.phases) (answered : AreAnswered s) (c : ℕ) (there : c < many_callers s)
     (moves : MovesOn s t c) where

@@ -1,5 +1,5 @@
 -- Each event of tables and swaps keeps the answers.
-use Rattle.std.proofs.Common.{◌≡◌, ℕ, ◌<◌, List, refl}
+use Rattle.std.proofs.Common.{◌<◌, List, refl}
 use Rattle.phase_core.specs.Event.{Event, Begin, Move, TurnOver, Unblock, Open, Clear, caller_of}
 use Rattle.phase_core.specs.Sound as phases
 use Rattle.turn_core.specs.Sound as turns

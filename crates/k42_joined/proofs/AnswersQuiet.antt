@@ -1,29 +1,25 @@
 -- An event that changes no stage and no word that answers tell of keeps them.
-use Rattle.std.proofs.Common.{◌≡◌, ◌≢◌, ℕ, zero, suc, ◌+◌, ◌<◌, ◌≤◌, ◌⊎◌, ◌∙◌, Bool, true, false, not, ◌&&◌, ◌||◌, cond, ltb, eqb, List, [], ◌∷◌, Option, Some, None, length, refl, sym, ap, subst, inl, inr, ⊎_elim, arith}
+use Rattle.std.proofs.Common.{◌≡◌, ℕ, ◌+◌, ◌<◌, ◌∙◌, true, false, not, ◌&&◌, ◌||◌, ltb, eqb, List, refl, sym, ap, subst, inl, inr, ⊎_elim, arith}
 use Rattle.k42_kinds.specs.declared.entry.Answer.{Answer}
 use Rattle.k42_kinds.specs.declared.entry.Answer.TheVariants.{Swapped, Abandoned}
-use Rattle.k42_kinds.specs.declared.entry.Entry.{Entry}
 use Rattle.phase_core.specs.Event.{Event, Begin, TurnOver, Unblock, Clear, caller_of}
-use Rattle.phase_core.specs.Events.{effect as phase_effect}
 use Rattle.phase_core.specs.Plain.{Object}
 use Rattle.phase_core.specs.Sound as phases
 use Rattle.phase_core.specs.Stages.{named_by, is_idle}
-use Rattle.phase_core.specs.State.{object_at, visitor_at}
 use Rattle.phase_core.specs.declared.caller.SwapAt.{SwapAt}
 use Rattle.phase_core.specs.declared.caller.SwapAt.TheVariants.{Moved, Opening, Reopening, Opened}
 use Rattle.k42_stamp.specs.Layouts.{Layouts}
-use Rattle.k42_stamp.specs.Orders.{In}
 use Rattle.k42_joined.specs.Plain.{Kept, Joined}
 use Rattle.k42_joined.specs.Event.{AtPhases}
 use Rattle.k42_joined.specs.Effects.{effect}
-use Rattle.k42_joined.specs.Answers.{is_refused, is_turned, HasAnswered, IsKept, IsUnderWay, HasRival, IsReached, IsFound, HasDrawn, IsAnswered, AreAnswered}
+use Rattle.k42_joined.specs.Answers.{is_refused, is_turned, HasAnswered, IsKept, IsUnderWay, IsReached, HasDrawn, AreAnswered}
 use Rattle.k42_joined.specs.Found.{swap_number}
 use Rattle.k42_joined.specs.Possible.{MaySwap}
 use Rattle.k42_joined.specs.Refusals.{is_given_up}
 use Rattle.std.specs.Prelude.{slice_index_or}
-use Rattle.k42_joined.specs.State.{nothing_kept, many_callers, many_objects, object, incarnation, swap_of, mine, kept_of, many_hands, is_handed}
+use Rattle.k42_joined.specs.State.{nothing_kept, many_callers, many_objects, object, incarnation, swap_of, kept_of, many_hands}
 use Rattle.k42_joined.specs.Swapping.{kept_after}
-use Rattle.k42_joined.proofs.AnswersSteps.{WordGoesOn, StepsOn, answered_on, found_on, answered_after}
+use Rattle.k42_joined.proofs.AnswersSteps.{StepsOn, answered_on, found_on, answered_after}
 use Rattle.k42_joined.proofs.AnswersWords.{IsSameWord, same_number, word_on, is_quiet, changes_word, word_stays, IsAlike, quiet_alike}
 use Rattle.k42_joined.proofs.PhaseSteps.{only_its_caller}
 

@@ -1,7 +1,6 @@
 -- What the rows tell of carried-out swaps.
-use Rattle.std.proofs.Common.{◌≡◌, ◌≢◌, ℕ, zero, suc, ◌+◌, ◌<◌, ◌≤◌, ◌⊎◌, ◌∙◌, Bool, true, false, ltb, List, [], ◌∷◌, ◌++◌, Some, length, map, refl, sym, ap, subst, inl, inr, ⊎_elim, length-append, arith}
+use Rattle.std.proofs.Common.{◌≡◌, ℕ, suc, ◌+◌, ◌<◌, ◌≤◌, ◌∙◌, Bool, true, false, List, [], ◌∷◌, ◌++◌, Some, length, refl, sym, ap, subst, inl, ⊎_elim, length-append, arith}
 use Rattle.std.specs.List.{slice_get}
-use Rattle.std.proofs.Math.Nat.{le_refl}
 use Rattle.std.proofs.lemmas.Bool.{ltb-true}
 use Rattle.std.proofs.lemmas.List.{length-map}
 use Rattle.std.proofs.lemmas.Option.{same_Some}
@@ -14,16 +13,16 @@ use Rattle.k42_kinds.specs.declared.entry.Answer.TheVariants.{Replied, Swapped}
 use Rattle.k42_kinds.specs.declared.entry.Entry.{Entry}
 use Rattle.phase_core.specs.declared.caller.SwapAt.TheVariants.{Moved}
 use Rattle.turn_core.specs.Sound as turns
-use Rattle.k42_stamp.specs.Chains.{Row, Turn, Chain, first_of, past_entries, entries_of}
+use Rattle.k42_stamp.specs.Chains.{Row, Turn, Chain, past_entries, entries_of}
 use Rattle.k42_stamp.specs.Fits.{IsServed, IsEntryOf, IsHandOf, IsBegun, IsAbove, IsRow, ArePast, Fits}
 use Rattle.k42_stamp.specs.Laws.{AreLaws}
 use Rattle.k42_stamp.specs.Layouts.{Layouts}
-use Rattle.k42_stamp.specs.Lists.{InSome, InRows, InHistory, is_drawn}
+use Rattle.k42_stamp.specs.Lists.{InSome, InRows, is_drawn}
 use Rattle.k42_stamp.specs.Orders.{In}
 use Rattle.k42_stamp.proofs.Elements.{all_at, in_left, in_right, in-append}
 use Rattle.k42_stamp.proofs.Rowed.{rows_in_chain, chain_in_rows}
 use Rattle.k42_joined.specs.Plain.{Joined}
-use Rattle.k42_joined.specs.Answers.{IsReached, IsAnswer, IsAnswered, AreAnswered}
+use Rattle.k42_joined.specs.Answers.{AreAnswered}
 use Rattle.k42_joined.specs.Fitting.{lists_of, HasRows, Fitting}
 use Rattle.k42_joined.specs.Locks.{AreLocked}
 use Rattle.k42_joined.specs.Rows.{history_in}

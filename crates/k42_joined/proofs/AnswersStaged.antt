@@ -1,27 +1,23 @@
 -- A swap that goes to a stage, and whose object changes with it.
-use Rattle.std.proofs.Common.{◌≡◌, ◌≢◌, ℕ, zero, suc, ◌+◌, ◌<◌, ◌≤◌, ◌⊎◌, ◌∙◌, Bool, true, false, ◌||◌, List, Option, Some, None, length, get_or, set, length-set, refl, sym, ap, subst, inl, inr, ⊎_elim, arith}
-use Rattle.std.proofs.lemmas.Bool.{cases_eq}
+use Rattle.std.proofs.Common.{◌≡◌, ◌≢◌, ℕ, ◌+◌, ◌<◌, ◌∙◌, false, List, Some, length-set, refl, sym, ap, subst, inr}
 use Rattle.std.proofs.lemmas.List.{get_or-set_same, get_or-set_other}
-use Rattle.std.proofs.lemmas.Option.{same_Some}
-use Rattle.std.proofs.Math.Nat.{le_refl}
 use Rattle.k42_kinds.specs.declared.entry.Answer.TheVariants.{Swapped}
 use Rattle.k42_kinds.specs.declared.entry.Entry.{Entry}
 use Rattle.k42_places.proofs.Written.{get_or-set_related}
-use Rattle.phase_core.specs.Consequences.{IsSameRow}
 use Rattle.phase_core.specs.Effects.{at_stage}
 use Rattle.phase_core.specs.Events.{staged}
 use Rattle.phase_core.specs.Plain.{Object}
 use Rattle.phase_core.specs.Stages.{named_by}
-use Rattle.phase_core.specs.State.{fresh_object, fresh_visitor, object_at, visitor_at}
+use Rattle.phase_core.specs.State.{fresh_object, fresh_visitor, visitor_at}
 use Rattle.phase_core.specs.declared.caller.SwapAt.{SwapAt}
 use Rattle.phase_core.specs.declared.caller.SwapAt.TheVariants.{Moved}
 use Rattle.k42_stamp.specs.Orders.{In}
 use Rattle.k42_joined.specs.Plain.{Kept, Joined}
-use Rattle.k42_joined.specs.Answers.{is_refused, IsUnderWay, HasRival, IsReached}
+use Rattle.k42_joined.specs.Answers.{is_refused, HasRival, IsReached}
 use Rattle.k42_joined.specs.Found.{swap_number}
 use Rattle.k42_joined.specs.State.{many_callers, many_objects, object, incarnation, swap_of, mine, kept_of}
 use Rattle.k42_joined.proofs.AnswersSteps.{WordGoesOn}
-use Rattle.k42_joined.proofs.AnswersWords.{IsSameWord, same_word, same_number, word_on}
+use Rattle.k42_joined.proofs.AnswersWords.{IsSameWord, same_word, word_on}
 use Rattle.k42_joined.proofs.AnswersOwn.{MovesOn}
 
 pub same_on : (k : Object) → WordGoesOn k k

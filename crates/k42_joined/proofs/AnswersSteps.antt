@@ -1,6 +1,6 @@
 -- What the answers of swaps need of a step that draws no entry.
-use Rattle.std.proofs.Common.{◌≡◌, ◌≢◌, ℕ, zero, suc, ◌+◌, ◌<◌, ◌≤◌, ◌⊎◌, ◌∙◌, Bool, true, false, not, ◌&&◌, ◌||◌, List, [], ◌∷◌, ◌++◌, length, refl, sym, ap, subst, inl, inr, ⊎_elim, arith}
-use Rattle.std.specs.Prelude.{Option, Some, None}
+use Rattle.std.proofs.Common.{◌≡◌, ℕ, ◌<◌, ◌≤◌, ◌⊎◌, ◌∙◌, List, [], ◌∷◌, ◌++◌, refl, sym, subst, inl, inr, ⊎_elim, arith}
+use Rattle.std.specs.Prelude.{Some}
 use Rattle.k42_limits.specs.declared.TheConstants.{LAST_INCARNATION}
 use Rattle.k42_kinds.specs.declared.entry.Answer.{Answer}
 use Rattle.k42_kinds.specs.declared.entry.Answer.TheVariants.{Replied, Swapped, Busy, Spent, Gone, Abandoned}
@@ -10,9 +10,9 @@ use Rattle.phase_core.specs.Plain.{Object}
 use Rattle.phase_core.specs.Stages.{named_by}
 use Rattle.k42_stamp.specs.Orders.{In}
 use Rattle.k42_joined.specs.Plain.{Joined}
-use Rattle.k42_joined.specs.Answers.{HasAnswered, AreTimely, IsTrueOf, IsKept, IsUnderWay, IsSettled, HasRival, IsReached, IsAnswer, IsFound, HasDrawn, IsAnswered, AreAnswered}
+use Rattle.k42_joined.specs.Answers.{HasAnswered, AreTimely, IsTrueOf, IsKept, IsUnderWay, IsSettled, HasRival, IsReached, IsAnswer, IsFound, HasDrawn, AreAnswered}
 use Rattle.k42_joined.specs.Found.{swap_number}
-use Rattle.k42_joined.specs.State.{many_callers, many_objects, object, incarnation, swap_of, mine, kept_of}
+use Rattle.k42_joined.specs.State.{many_callers, many_objects, object, swap_of, mine, kept_of}
 
 -- the word of an object goes on: its numbers do not fall, and nothing comes after the end
 pub record WordGoesOn (k l : Object) : Type 0 where
@@ -46,8 +46,8 @@ module _ {L : Type 0} (s t : Joined L) where
     pub mines : (d : ℕ) → mine t d ≡ mine s d
     pub words : (o : ℕ) → WordGoesOn (object s o) (object t o)
     pub reached :
-      (d number : ℕ) (e : Entry) → d < many_callers s → In e (mine s d) → e.answer ≡ Swapped number
-      → IsReached s d e.object number → IsReached t d e.object number
+        (d number : ℕ) (e : Entry) → d < many_callers s → In e (mine s d) → e.answer ≡ Swapped number
+        → IsReached s d e.object number → IsReached t d e.object number
     pub rivals : (d o number : ℕ) → IsUnderWay s d o number → HasRival t d o number
 
   module _ (on : StepsOn) where

@@ -1,6 +1,5 @@
 -- Locking, taking, putting and unlocking keep the answers.
-use Rattle.std.proofs.Common.{◌≡◌, ℕ, ◌<◌, Bool, true, false, List, Option, Some, None, get_or, set, refl, ap, inr}
-use Rattle.k42_kinds.specs.declared.entry.Entry.{Entry}
+use Rattle.std.proofs.Common.{◌≡◌, ℕ, ◌<◌, Bool, true, false, List, Option, Some, None, get_or, set, refl, inr}
 use Rattle.k42_places.proofs.Written.{get_or-set_related}
 use Rattle.turn_core.specs.declared.event.TurnEvent.{TurnEvent}
 use Rattle.turn_core.specs.declared.event.TurnEvent.TheVariants.{Lock, Take, Draw, Alone, Hand, Put, Unlock}
@@ -10,7 +9,7 @@ use Rattle.turn_core.specs.Plain.{Caller, Turns}
 use Rattle.turn_core.specs.Sound.{drawn_by}
 use Rattle.turn_core.specs.State.{cell_at, caller_at, fresh_caller}
 use Rattle.k42_joined.specs.Plain.{Joined}
-use Rattle.k42_joined.specs.Answers.{IsKept, IsAnswered, AreAnswered}
+use Rattle.k42_joined.specs.Answers.{IsKept, AreAnswered}
 use Rattle.k42_joined.specs.State.{many_callers, object, swap_of}
 use Rattle.k42_joined.proofs.AnswersSteps.{StepsOn, answered_on, found_on, answered_after}
 use Rattle.k42_joined.proofs.AnswersQuiet.{under_way_on, drawn_alike}

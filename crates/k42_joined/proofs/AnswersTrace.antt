@@ -1,5 +1,5 @@
 -- In the trace of a state in which no swap is under way, each refusal and each abandoned swap is legal.
-use Rattle.std.proofs.Common.{◌≡◌, ◌≢◌, ℕ, zero, suc, ◌+◌, ◌<◌, ◌≤◌, ◌∙◌, true, List, [], ◌∷◌, ◌++◌, length, Any, refl, sym, ap, subst, inl, inr, ⊎_elim, arith}
+use Rattle.std.proofs.Common.{◌≡◌, ◌≢◌, ℕ, zero, suc, ◌+◌, ◌<◌, ◌≤◌, ◌∙◌, List, [], ◌∷◌, ◌++◌, length, Any, refl, sym, ap, subst, inl, inr, ⊎_elim, arith}
 use Rattle.std.specs.List.{slice_get}
 use Rattle.std.specs.Prelude.{Some}
 use Rattle.std.proofs.lemmas.Bool.{cases_lt, cases_eq}
@@ -10,7 +10,6 @@ use Rattle.k42_kinds.specs.Histories.{AtEachPlace}
 use Rattle.k42_kinds.specs.Legal.{IsOwn, IsNotPast, IsRival, IsTimely, IsLegalRefusal}
 use Rattle.k42_kinds.specs.declared.entry.Answer.TheVariants.{Busy, Abandoned}
 use Rattle.k42_kinds.specs.declared.entry.Entry.{Entry}
-use Rattle.phase_core.specs.Stages.{named_by}
 use Rattle.turn_core.specs.Plain.{Caller}
 use Rattle.turn_core.specs.Sound.{drawn_by}
 use Rattle.turn_core.specs.Sound as turns
@@ -21,11 +20,11 @@ use Rattle.k42_stamp.specs.Orders.{IsBefore, Ordered, In}
 use Rattle.k42_stamp.proofs.Elements.{all_at, all_in, in_left, in_right, in-append}
 use Rattle.k42_stamp.proofs.Ordering.{before-irreflexive, before_stamp}
 use Rattle.k42_joined.specs.Plain.{Joined}
-use Rattle.k42_joined.specs.Answers.{is_refused, IsUnderWay, IsSettled, IsAnswered, AreAnswered}
+use Rattle.k42_joined.specs.Answers.{IsUnderWay, IsSettled, IsAnswered, AreAnswered}
 use Rattle.k42_joined.specs.Fitting.{lists_of}
 use Rattle.k42_joined.specs.Locks.{AreAsMany}
 use Rattle.k42_joined.specs.Rest.{IsAtRest}
-use Rattle.k42_joined.specs.State.{many_callers, swap_of, mine}
+use Rattle.k42_joined.specs.State.{many_callers, mine}
 use Rattle.k42_joined.proofs.RowsCells.{list_here}
 use Rattle.k42_joined.proofs.RowsStamps.{in_place, place_in, in_own, own_caller}
 

@@ -1,6 +1,5 @@
 -- What an event of tables and swaps does to the words of objects and to the stages of swaps.
-use Rattle.std.proofs.Common.{◌≡◌, ◌≢◌, ℕ, zero, suc, ◌+◌, ◌<◌, ◌≤◌, ◌⊎◌, ◌∙◌, Bool, true, false, not, ◌&&◌, ◌||◌, cond, eqb, ltb, List, [], ◌∷◌, Option, Some, None, length, get_or, set, refl, sym, ap, subst, inl, inr, ⊎_elim, arith}
-use Rattle.std.proofs.Math.Nat.{le_refl}
+use Rattle.std.proofs.Common.{◌≡◌, ℕ, ◌+◌, ◌⊎◌, ◌∙◌, Bool, true, false, cond, eqb, ltb, List, Option, Some, None, length, get_or, set, refl, sym, ap, subst, inl, inr, ⊎_elim, arith}
 use Rattle.std.proofs.lemmas.Bool.{and_parts}
 use Rattle.std.specs.Option.{unwrap_or}
 use Rattle.gen_core.specs.Events as turns
@@ -10,15 +9,14 @@ use Rattle.gen_core.specs.declared.event.GenEvent.TheVariants.{Enter, Leave, Tak
 use Rattle.gen_core.specs.declared.state.GraceAt.{GraceAt}
 use Rattle.gen_core.specs.declared.state.GraceAt.TheVariants as graces
 use Rattle.k42_places.proofs.Written.{get_or-set_related}
-use Rattle.phase_core.specs.Consequences.{IsSameRow}
-use Rattle.phase_core.specs.Effects.{is_empty_at, knocked, drained_at, draining_from, after_interpose, visitor_turned}
-use Rattle.phase_core.specs.Event.{Event, Turn, TakeRoleWith, LookUp, RootLoad, Install, Knock, StepOut, EndCall, Begin, Interpose, Block, Move, TurnOver, Unblock, Open, Clear, Free, caller_of}
+use Rattle.phase_core.specs.Effects.{is_empty_at, knocked, drained_at, draining_from}
+use Rattle.phase_core.specs.Event.{Event, Turn, TakeRoleWith, LookUp, RootLoad, Install, Knock, StepOut, EndCall, Begin, Interpose, Block, Move, TurnOver, Unblock, Open, Clear, Free}
 use Rattle.phase_core.specs.Events.{turned, taken_with, interposed, opened, is_possible, effect}
 use Rattle.phase_core.specs.Plain.{Object, Visitor, Phases}
 use Rattle.phase_core.specs.Stages.{named_by, object_named, object_of, row_of, is_idle, is_drained}
-use Rattle.phase_core.specs.State.{fresh_object, fresh_visitor, object_at, visitor_at, entry_at, proc_of, put_object, put_visitor, note_at}
+use Rattle.phase_core.specs.State.{fresh_object, fresh_visitor, object_at, visitor_at, entry_at, proc_of, note_at}
 use Rattle.phase_core.specs.declared.caller.SwapAt.{SwapAt}
-use Rattle.phase_core.specs.declared.caller.SwapAt.TheVariants.{Idle, Refused, Begun, Interposing, Interposed, Draining, Drained, Blocking, Moved, Opening, Reopening, Opened}
+use Rattle.phase_core.specs.declared.caller.SwapAt.TheVariants.{Begun, Interposing, Interposed, Draining, Drained, Blocking, Moved, Opening, Reopening}
 use Rattle.k42_joined.specs.Answers.{is_refused, is_turned}
 use Rattle.k42_joined.specs.Found.{swap_number}
 use Rattle.k42_joined.specs.Refusals.{is_given_up}

@@ -1,8 +1,8 @@
 -- The numbers of cells, and which of them a row names.
-use Rattle.std.proofs.Common.{◌≡◌, ◌≢◌, ℕ, zero, suc, ◌+◌, ◌*◌, ◌/◌, ◌%◌, ◌<◌, ◌≤◌, Bool, true, false, not, ◌&&◌, ◌||◌, eqb, List, [], ◌∷◌, length, refl, sym, ◌∙◌, arith}
-use Rattle.std.proofs.lemmas.Bool.{eqb-true, eq-eqb, ne_eqb}
+use Rattle.std.proofs.Common.{◌≡◌, ◌≢◌, ℕ, zero, suc, ◌+◌, ◌*◌, ◌%◌, ◌<◌, ◌≤◌, Bool, true, false, ◌||◌, eqb, refl, sym, arith}
+use Rattle.std.proofs.lemmas.Bool.{eqb-true, eq-eqb}
 use Rattle.k42_kinds.specs.Rows.{made_from}
-use Rattle.turn_core.specs.Names.{names, names_once}
+use Rattle.turn_core.specs.Names.{names}
 use Rattle.k42_joined.specs.Numbers.{cell_of, object_of, place_of, row_cells}
 
 pub object_of-cell : (o i p : ℕ) → p < 8 → object_of (cell_of o i p) ≡ o

@@ -1,5 +1,5 @@
 -- Computed events of the joined machine, possible ones and others that are not.
-use Rattle.std.proofs.Common.{◌≡◌, ℕ, zero, suc, ◌<◌, Bool, true, false, List, [], ◌∷◌, Some, None, refl, sym, ◌∙◌, subst, inl, arith}
+use Rattle.std.proofs.Common.{◌≡◌, ℕ, zero, suc, ◌<◌, true, false, List, [], ◌∷◌, Some, None, refl, sym, subst, inl, arith}
 use Rattle.std.proofs.lemmas.Option.{same_Some}
 use Rattle.gen_core.specs.declared.event.GenEvent.TheVariants.{Enter, LookAhead, Flip, Look, GiveRole}
 use Rattle.k42_kinds.specs.Rows.{row_replied}
@@ -8,9 +8,7 @@ use Rattle.k42_kinds.specs.declared.operation.Op.{Op}
 use Rattle.k42_kinds.specs.declared.operation.Op.TheVariants.{Add, Get}
 use Rattle.k42_kinds.specs.declared.operation.Reply.{Reply}
 use Rattle.k42_kinds.specs.declared.operation.Reply.TheVariants.{Done, Number}
-use Rattle.k42_kinds.specs.declared.entry.Act.{Act}
 use Rattle.k42_kinds.specs.declared.entry.Act.TheVariants.{Call, Swap}
-use Rattle.k42_kinds.specs.declared.entry.Answer.{Answer}
 use Rattle.k42_kinds.specs.declared.entry.Answer.TheVariants.{Replied, Swapped, Busy}
 use Rattle.k42_kinds.specs.declared.entry.Entry.{Entry}
 use Rattle.phase_core.specs.Event.{Turn, TakeRoleWith, LookUp, Install, Knock, Begin, Interpose, Block, Move, Unblock}
@@ -64,11 +62,11 @@ seven = call 2 0 1 (Add 7) Done
 -- both callers are inside, caller 0 has drawn twice at its cell, and caller 1 has taken its own
 abbrev inside : Joined Toy
 inside = run (
-  AtPhases (Turn (Enter 0)) ∷ AtPhases (LookUp 0 0) ∷ AtPhases (Install 0 0)
-  ∷ AtPhases (Turn (Enter 1)) ∷ AtPhases (LookUp 1 0) ∷ AtPhases (Install 1 0)
-  ∷ AtCells (Lock 0 0) ∷ AtCells (Take 0 0) ∷ AtCells (Draw 0 (0 ∷ []) five) ∷ AtCells (Draw 0 (0 ∷ []) seven)
-  ∷ AtCells (Lock 1 1) ∷ AtCells (Take 1 1) ∷ []
-) begin
+    AtPhases (Turn (Enter 0)) ∷ AtPhases (LookUp 0 0) ∷ AtPhases (Install 0 0)
+    ∷ AtPhases (Turn (Enter 1)) ∷ AtPhases (LookUp 1 0) ∷ AtPhases (Install 1 0)
+    ∷ AtCells (Lock 0 0) ∷ AtCells (Take 0 0) ∷ AtCells (Draw 0 (0 ∷ []) five) ∷ AtCells (Draw 0 (0 ∷ []) seven)
+    ∷ AtCells (Lock 1 1) ∷ AtCells (Take 1 1) ∷ []
+    ) begin
 
 abbrev chain : Chain Toy ℕ
 chain = record { past = []; row = record { layout = spread; start = 0 ∷ 0 ∷ []; entries = five ∷ seven ∷ [] } }
@@ -152,13 +150,13 @@ one_of_all possible =
 -- a swap up to its hand, while caller 1 waits at the mediator
 abbrev waiting : Joined Toy
 waiting = run (
-  AtPhases (Begin 0 0) ∷ AtPhases (Interpose 0) ∷ AtPhases (Interpose 0) ∷ AtPhases (TakeRoleWith 0 ((0, 0) ∷ []))
-  ∷ AtPhases (Turn (LookAhead 0)) ∷ AtPhases (Turn (Flip 0)) ∷ AtPhases (Turn (LookAhead 0)) ∷ AtPhases (Turn (Flip 0))
-  ∷ AtPhases (Turn (Look 0)) ∷ AtPhases (Turn (Look 0)) ∷ AtPhases (Turn (GiveRole 0)) ∷ AtPhases (Block 0) ∷ AtPhases (Move 0)
-  ∷ AtPhases (Turn (Enter 1)) ∷ AtPhases (LookUp 1 0) ∷ AtPhases (Knock 1 0)
-  ∷ AtCells (Lock 0 0) ∷ AtCells (Take 0 0) ∷ AtCells (Lock 0 1) ∷ AtCells (Take 0 1)
-  ∷ AtCells (Lock 0 8) ∷ AtCells (Take 0 8) ∷ AtCells (Lock 0 9) ∷ AtCells (Take 0 9) ∷ []
-) begin
+    AtPhases (Begin 0 0) ∷ AtPhases (Interpose 0) ∷ AtPhases (Interpose 0) ∷ AtPhases (TakeRoleWith 0 ((0, 0) ∷ []))
+    ∷ AtPhases (Turn (LookAhead 0)) ∷ AtPhases (Turn (Flip 0)) ∷ AtPhases (Turn (LookAhead 0)) ∷ AtPhases (Turn (Flip 0))
+    ∷ AtPhases (Turn (Look 0)) ∷ AtPhases (Turn (Look 0)) ∷ AtPhases (Turn (GiveRole 0)) ∷ AtPhases (Block 0) ∷ AtPhases (Move 0)
+    ∷ AtPhases (Turn (Enter 1)) ∷ AtPhases (LookUp 1 0) ∷ AtPhases (Knock 1 0)
+    ∷ AtCells (Lock 0 0) ∷ AtCells (Take 0 0) ∷ AtCells (Lock 0 1) ∷ AtCells (Take 0 1)
+    ∷ AtCells (Lock 0 8) ∷ AtCells (Take 0 8) ∷ AtCells (Lock 0 9) ∷ AtCells (Take 0 9) ∷ []
+    ) begin
 
 waits : (visitor_at waiting.phases 1).place ≡ Blocked 0
 waits = refl

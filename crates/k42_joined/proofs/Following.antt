@@ -1,27 +1,26 @@
 -- The rows of a state after an event, and their parts.
-use Rattle.std.proofs.Common.{◌≡◌, ℕ, ◌<◌, ◌∙◌, List, [], ◌∷◌, refl, sym, ap, subst}
+use Rattle.std.proofs.Common.{◌≡◌, ℕ, ◌∙◌, List, refl, sym, ap, subst}
 use Rattle.std.specs.List.{slice_get}
 use Rattle.std.specs.Prelude.{Some}
 use Rattle.std.proofs.lemmas.Option.{same_Some}
 use Rattle.k42_kinds.specs.declared.entry.Entry.{Entry}
 use Rattle.phase_core.specs.Event as phases
 use Rattle.turn_core.specs.declared.event.TurnEvent.TheVariants.{Draw}
-use Rattle.k42_stamp.specs.Chains.{Chain, Turn, parts_of}
+use Rattle.k42_stamp.specs.Chains.{Chain}
 use Rattle.k42_stamp.specs.Hands.{handed}
 use Rattle.k42_stamp.specs.Laws.{AreLaws}
 use Rattle.k42_stamp.specs.Layouts.{Layouts}
 use Rattle.k42_joined.specs.Plain.{Joined}
-use Rattle.k42_joined.specs.Event.{Event, AtPhases, AtCells, HandWith}
+use Rattle.k42_joined.specs.Event.{AtPhases, AtCells, HandWith}
 use Rattle.k42_joined.specs.Effects.{effect}
 use Rattle.k42_joined.specs.Following.{FollowsDraw, FollowsHand}
-use Rattle.k42_joined.specs.Possible.{MayTurn, MayHandWith, IsPossible}
+use Rattle.k42_joined.specs.Possible.{IsPossible}
 use Rattle.k42_joined.specs.Rows.{AreRowsOf}
 use Rattle.k42_joined.specs.Sound.{IsSound}
-use Rattle.k42_joined.specs.State.{many_callers}
 use Rattle.k42_joined.proofs.OneChain.{rows_are_one}
-use Rattle.k42_joined.proofs.RowsCalls.{IsDrawn, draw_drawn}
+use Rattle.k42_joined.proofs.RowsCalls.{draw_drawn}
 use Rattle.k42_joined.proofs.RowsDraw.{core_draw}
-use Rattle.k42_joined.proofs.RowsHand.{IsHanded, handed_rows}
+use Rattle.k42_joined.proofs.RowsHand.{handed_rows}
 
 module _ {S L P : Type 0} (F : Layouts S L P) (laws : AreLaws F) (declared : List L) (s : Joined L) (sound : IsSound F declared s)
     (o : ℕ) (declaration : L) (declares : slice_get declared o ≡ Some declaration) (x y : Chain L P) (was : AreRowsOf F declaration s o x) where

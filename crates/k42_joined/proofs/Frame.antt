@@ -1,5 +1,5 @@
 -- An event leaves all callers but its own, all cells that it does not name, and all objects but one.
-use Rattle.std.proofs.Common.{◌≡◌, ◌≢◌, ℕ, ◌<◌, ◌∙◌, true, false, List, [], ◌∷◌, ◌++◌, Option, Some, None, get_or, set, refl, sym, ap, subst}
+use Rattle.std.proofs.Common.{◌≡◌, ◌≢◌, ℕ, ◌∙◌, true, false, List, [], Some, get_or, refl, sym, ap, subst}
 use Rattle.std.proofs.lemmas.List.{get_or-set_other}
 use Rattle.phase_core.specs.Consequences as phases
 use Rattle.phase_core.specs.Event as phase_events
@@ -8,7 +8,7 @@ use Rattle.phase_core.specs.Sound as phases_sound
 use Rattle.phase_core.proofs.Others.{others_stay}
 use Rattle.phase_core.proofs.Reached.{turn_there}
 use Rattle.turn_core.specs.declared.event.TurnEvent.{TurnEvent}
-use Rattle.turn_core.specs.declared.event.TurnEvent.TheVariants.{Lock, Take, Draw, Alone, Hand, Put, Unlock}
+use Rattle.turn_core.specs.declared.event.TurnEvent.TheVariants.{Draw, Alone, Hand}
 use Rattle.turn_core.specs.Events as turns
 use Rattle.turn_core.specs.Names.{names}
 use Rattle.turn_core.specs.Plain.{Turns}
@@ -16,11 +16,11 @@ use Rattle.turn_core.specs.Runs.{happens}
 use Rattle.turn_core.specs.State as cells
 use Rattle.turn_core.proofs.Alone.{caller-happens, cell-happens}
 use Rattle.k42_stamp.specs.Layouts.{Layouts}
-use Rattle.k42_joined.specs.Plain.{Kept, Joined}
+use Rattle.k42_joined.specs.Plain.{Joined}
 use Rattle.k42_joined.specs.Event.{Event, AtPhases, AtCells, HandWith, caller_of}
 use Rattle.k42_joined.specs.Effects.{effect, kept_turned}
 use Rattle.k42_joined.specs.Frame.{cells_of, object_of, LeavesOthers}
-use Rattle.k42_joined.specs.Possible.{MaySwap, MayTurn, MayHandWith, IsPossible}
+use Rattle.k42_joined.specs.Possible.{IsPossible}
 use Rattle.k42_joined.specs.State.{nothing_kept, kept_of}
 use Rattle.k42_joined.specs.Swapping.{kept_after}
 use Rattle.k42_joined.proofs.PhaseSteps.{happened}

@@ -1,40 +1,36 @@
 -- A new state meets every fact.
-use Rattle.std.proofs.Common.{◌≡◌, ◌≢◌, ℕ, zero, suc, ◌+◌, ◌-◌, ◌*◌, ◌/◌, ◌%◌, ◌<◌, ◌≤◌, ◌⊎◌, ◌∙◌, Bool, true, false, cond, ltb, List, [], ◌∷◌, ◌++◌, Option, Some, None, length, map, replicate, get_or, refl, sym, ap, subst, inl, inr, ⊎_elim, arith}
+use Rattle.std.proofs.Common.{◌≡◌, ℕ, zero, suc, ◌+◌, ◌-◌, ◌*◌, ◌<◌, ◌≤◌, ◌∙◌, false, ltb, List, [], ◌∷◌, ◌++◌, Option, Some, None, length, map, replicate, get_or, refl, sym, ap, subst, inl, ⊎_elim, arith}
 use Rattle.std.specs.List.{slice_get}
 use Rattle.std.specs.Prelude.{option_map}
 use Rattle.std.proofs.lemmas.Bool.{cases_lt}
-use Rattle.std.proofs.lemmas.List.{get_or-map, get_or_past, length-map, length-replicate, length-append, get_or_append_left, get_or-append-add}
+use Rattle.std.proofs.lemmas.List.{get_or-map, get_or_past, length-map, length-replicate, get_or_append_left, get_or-append-add}
 use Rattle.std.proofs.Math.ListN.{get_or-replicate}
-use Rattle.std.proofs.lemmas.Option.{same_Some, slice_get-map, slice_get_within, get_or_from_slice_get, slice_get-get_or}
+use Rattle.std.proofs.lemmas.Option.{same_Some, slice_get-map, slice_get_within, get_or_from_slice_get}
 use Rattle.k42_kinds.specs.Rows.{empty_row}
 use Rattle.k42_kinds.specs.declared.entry.Entry.{Entry}
 use Rattle.gen_core.specs.Plain.{Caller as GenCaller}
 use Rattle.gen_core.specs.State as gen
 use Rattle.phase_core.specs.Plain.{Object, Visitor}
 use Rattle.phase_core.specs.Stages.{named_by}
-use Rattle.phase_core.specs.State.{fresh_object, fresh_visitor, new_object, new_visitor, object_at, visitor_at, proc_of}
+use Rattle.phase_core.specs.State.{fresh_object, fresh_visitor, new_object, new_visitor, proc_of}
 use Rattle.phase_core.specs.declared.caller.SwapAt.TheVariants.{Idle}
 use Rattle.phase_core.proofs.Fresh.{IsSound-new}
 use Rattle.turn_core.specs.Plain.{Cell, Caller}
-use Rattle.turn_core.specs.State.{fresh_cell, fresh_caller, cell_at}
-use Rattle.turn_core.specs.Sound.{drawn_by}
+use Rattle.turn_core.specs.State.{fresh_cell, fresh_caller}
 use Rattle.turn_core.proofs.Fresh.{sound-fresh}
-use Rattle.k42_stamp.specs.Chains.{Turn, Chain}
-use Rattle.k42_stamp.specs.Fits.{Fits}
-use Rattle.k42_stamp.specs.Laws.{AreLaws}
+use Rattle.k42_stamp.specs.Chains.{Chain}
 use Rattle.k42_stamp.specs.Layouts.{Layouts}
-use Rattle.k42_stamp.specs.Lists.{InSome, AreThose, is_drawn}
+use Rattle.k42_stamp.specs.Lists.{InSome}
 use Rattle.k42_stamp.specs.Orders.{In}
 use Rattle.k42_joined.proofs.RowsStamps.{at_list}
 use Rattle.k42_joined.specs.Plain.{Kept, Joined}
-use Rattle.k42_joined.specs.Answers.{IsKept, IsAnswered, AreAnswered}
-use Rattle.k42_joined.specs.Fitting.{lists_of, AreFor, IsTagged, HasRows, Fitting}
+use Rattle.k42_joined.specs.Answers.{AreAnswered}
+use Rattle.k42_joined.specs.Fitting.{lists_of, HasRows, Fitting}
 use Rattle.k42_joined.specs.Fresh.{first_lives, fresh, IsPlan}
-use Rattle.k42_joined.specs.Locks.{other_life, is_past, IsOfLife, IsCounted, AreOfLives, AreLocked}
-use Rattle.k42_joined.specs.Numbers.{cell_of}
+use Rattle.k42_joined.specs.Locks.{AreOfLives, AreLocked}
 use Rattle.k42_joined.specs.Rows.{history_in}
 use Rattle.k42_joined.specs.Sound.{IsSound}
-use Rattle.k42_joined.specs.State.{nothing_kept, many_procs, many_callers, many_objects, object, incarnation, swap_of, cell, cell_in, mine, kept_of, layouts_of, many_hands, is_handed}
+use Rattle.k42_joined.specs.State.{nothing_kept, many_procs, many_callers, many_objects, object, incarnation, swap_of, cell, cell_in, mine, kept_of, layouts_of, many_hands}
 
 -- the lives of the cells
 

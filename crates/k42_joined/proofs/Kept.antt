@@ -1,45 +1,40 @@
 -- Each possible event keeps every fact.
-use Rattle.std.proofs.Common.{◌≡◌, ℕ, zero, suc, ◌<◌, ◌≤◌, ◌⊎◌, ◌∙◌, Bool, true, false, not, ◌&&◌, List, [], ◌∷◌, ◌++◌, Option, Some, None, length, refl, sym, ap, subst, ⊎_elim, arith}
-use Rattle.std.specs.Prelude.{All}
+use Rattle.std.proofs.Common.{◌≡◌, ℕ, ◌<◌, ◌∙◌, Bool, true, List, [], ◌∷◌, ◌++◌, length, refl, ap, arith}
 use Rattle.std.specs.List.{list_all, AllByRecursion}
 use Rattle.std.proofs.lemmas.Bool.{and_parts}
 use Rattle.std.proofs.lemmas.List.Elements.{All-from_recursion}
 use Rattle.k42_kinds.specs.Histories.{is_call}
 use Rattle.k42_kinds.specs.declared.entry.Entry.{Entry}
 use Rattle.phase_core.specs.Event as phase_events
-use Rattle.phase_core.specs.Sound as phases
 use Rattle.phase_core.proofs.Kept.{event_keeps}
 use Rattle.phase_core.proofs.Reached.{turn_there}
 use Rattle.turn_core.specs.declared.event.TurnEvent.{TurnEvent}
 use Rattle.turn_core.specs.declared.event.TurnEvent.TheVariants.{Lock, Take, Draw, Alone, Hand, Put, Unlock}
 use Rattle.turn_core.specs.Events as turn_events
 use Rattle.turn_core.specs.Events.{is_caller, holds, has_taken, has_open, has_beginning, is_next}
-use Rattle.turn_core.specs.Names.{names}
 use Rattle.turn_core.specs.Plain.{Turns}
 use Rattle.turn_core.specs.Sound as turns
 use Rattle.turn_core.specs.State.{cell_at}
 use Rattle.turn_core.proofs.Drawing.{next_parts}
-use Rattle.turn_core.proofs.Kept.{IsInRange, keeps_effect}
+use Rattle.turn_core.proofs.Kept.{keeps_effect}
 use Rattle.k42_stamp.specs.Laws.{AreLaws}
 use Rattle.k42_stamp.specs.Layouts.{Layouts}
 use Rattle.k42_joined.specs.Plain.{Joined}
-use Rattle.k42_joined.specs.Event.{Event, AtPhases, AtCells, HandWith, caller_of}
+use Rattle.k42_joined.specs.Event.{Event, AtPhases, AtCells, HandWith}
 use Rattle.k42_joined.specs.Effects.{effect}
-use Rattle.k42_joined.specs.Numbers.{object_of, place_of, cell_of}
 use Rattle.k42_joined.specs.Possible.{MayTouch, MaySwap, MayTurn, MayHandWith, IsPossible}
-use Rattle.k42_joined.specs.Sound.{AreCells, IsSound}
-use Rattle.k42_joined.specs.State.{many_callers, many_objects, cell}
+use Rattle.k42_joined.specs.Sound.{IsSound}
+use Rattle.k42_joined.specs.State.{many_callers, cell}
 use Rattle.k42_joined.proofs.AnswersCells.{draw_keeps_answers}
 use Rattle.k42_joined.proofs.AnswersDraws.{alone_answers, hand_answers}
 use Rattle.k42_joined.proofs.AnswersPhases.{phases_keep_answers}
 use Rattle.k42_joined.proofs.AnswersTouch.{touch_answers}
-use Rattle.k42_joined.proofs.CellNumbers.{cell_there}
 use Rattle.k42_joined.proofs.LocksCells.{lock_keeps, take_keeps, put_keeps, unlock_keeps, alone_keeps, draw_keeps}
-use Rattle.k42_joined.proofs.LocksHand.{IsCoreHand, core_hand, from_is_caller, hand_keeps}
+use Rattle.k42_joined.proofs.LocksHand.{core_hand, from_is_caller, hand_keeps}
 use Rattle.k42_joined.proofs.LocksPhases.{phases_keep_locks, held_there}
-use Rattle.k42_joined.proofs.RowsCalls.{IsDrawn, draw_drawn}
+use Rattle.k42_joined.proofs.RowsCalls.{draw_drawn}
 use Rattle.k42_joined.proofs.RowsCells.{lock_keeps_rows, take_keeps_rows, put_keeps_rows, unlock_keeps_rows, alone_keeps_rows}
-use Rattle.k42_joined.proofs.RowsDraw.{IsCoreDraw, core_draw}
+use Rattle.k42_joined.proofs.RowsDraw.{core_draw}
 use Rattle.k42_joined.proofs.RowsHand.{hand_keeps_rows, named}
 use Rattle.k42_joined.proofs.RowsPhases.{phases_keep_rows}
 

@@ -1,8 +1,7 @@
 -- Which events of tables and swaps leave each caller what it may touch.
-use Rattle.std.proofs.Common.{◌≡◌, ℕ, zero, suc, ◌<◌, ◌≤◌, ◌≢◌, ◌∙◌, Bool, true, false, not, ◌||◌, ◌&&◌, cond, ltb, leb, eqb, List, [], ◌∷◌, Option, Some, None, length, get_or, set, sym, refl, ap, subst, ⊎_elim, arith}
-use Rattle.std.specs.List.{slice_get}
+use Rattle.std.proofs.Common.{◌≡◌, ℕ, zero, suc, ◌<◌, ◌≢◌, ◌∙◌, Bool, true, false, not, ◌||◌, cond, ltb, leb, eqb, List, [], ◌∷◌, Option, Some, None, length, get_or, set, sym, refl, ap, subst, ⊎_elim, arith}
 use Rattle.std.specs.Option.{unwrap_or, is_some}
-use Rattle.std.proofs.lemmas.List.{get_or-set_same, get_or-set_other}
+use Rattle.std.proofs.lemmas.List.{get_or-set_other}
 use Rattle.std.proofs.lemmas.Option.{same_Some, slice_get-get_or}
 use Rattle.std.proofs.lemmas.Bool.{and_parts, eqb-true, leb-true, ltb-true, cases_eq}
 use Rattle.k42_limits.specs.declared.TheConstants.{LAST_INCARNATION}
@@ -16,18 +15,17 @@ use Rattle.gen_core.proofs.Stages.{from_is_quiet}
 use Rattle.gen_core.proofs.Frames.{holder_from_grace}
 use Rattle.gen_core.proofs.Reached.{holds_from}
 use Rattle.phase_core.specs.declared.caller.Place.{Place}
-use Rattle.phase_core.specs.declared.caller.Place.TheVariants.{Out, Missed, Direct, AtMediator, Tracked, Blocked}
+use Rattle.phase_core.specs.declared.caller.Place.TheVariants.{Out, Direct, AtMediator}
 use Rattle.phase_core.specs.declared.caller.SwapAt.{SwapAt}
-use Rattle.phase_core.specs.declared.caller.SwapAt.TheVariants.{Idle, Refused, Begun, Interposing, Interposed, Draining, Drained, Blocking, Moved, Opening, Reopening, Opened}
+use Rattle.phase_core.specs.declared.caller.SwapAt.TheVariants.{Idle, Refused, Begun, Interposing, Drained, Blocking, Moved, Opening, Reopening, Opened}
 use Rattle.phase_core.specs.Plain.{Object, Visitor, Phases}
 use Rattle.phase_core.specs.Event.{Event, Turn, TakeRoleWith, LookUp, RootLoad, Install, Knock, StepOut, EndCall, Begin, Interpose, Block, Move, TurnOver, Unblock, Open, Clear, Free, caller_of, NamesObjects}
 use Rattle.phase_core.specs.State.{fresh_object, fresh_visitor, object_at, visitor_at, entry_at, proc_of, put_object, put_visitor, note_at, span_at}
-use Rattle.phase_core.specs.Stages.{is_out, is_at_mediator, is_idle, is_interposing, is_drained, is_blocking, is_moved, is_opening, is_ended, row_of, object_of, object_named}
+use Rattle.phase_core.specs.Stages.{is_out, is_at_mediator, is_idle, is_drained, is_blocking, is_moved, is_ended, row_of, object_of, object_named}
 use Rattle.phase_core.specs.Effects.{is_over, is_empty_at, at_place, at_stage, begun_as, knocked, looked_up, drained_at, draining_from, role_taken_with}
 use Rattle.phase_core.specs.Events.{turned, taken_with, interposed, opened, staged, freed_to, is_possible, effect}
 use Rattle.phase_core.specs.Notes.{numbers_of}
 use Rattle.phase_core.specs.Callers.{IsFreeing}
-use Rattle.phase_core.specs.Consequences.{IsReadyToMove}
 use Rattle.phase_core.specs.Sound.{IsSound}
 use Rattle.phase_core.proofs.Reached.{same_callers}
 use Rattle.phase_core.proofs.InSound.{object_known, visitor_known, moved_is_ready}

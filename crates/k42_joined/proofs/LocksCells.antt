@@ -1,23 +1,23 @@
 -- Locking, taking, putting, unlocking and drawing keep locks and lives.
-use Rattle.std.proofs.Common.{◌≡◌, ℕ, zero, suc, ◌+◌, ◌*◌, ◌/◌, ◌%◌, ◌<◌, ◌≤◌, ◌≢◌, ◌⊎◌, ◌∙◌, Bool, true, false, not, ◌&&◌, ◌||◌, cond, eqb, List, [], ◌∷◌, ◌++◌, Option, Some, None, length, length-set, get_or, set, sym, refl, ap, subst, inl, inr, ⊎_elim, arith}
-use Rattle.std.proofs.lemmas.List.{get_or-set_same, get_or-set_other}
+use Rattle.std.proofs.Common.{◌≡◌, ℕ, ◌+◌, ◌%◌, ◌<◌, ◌≤◌, ◌≢◌, ◌∙◌, Bool, true, false, List, [], ◌∷◌, Option, Some, None, length, length-set, sym, refl, ap, subst, ⊎_elim, arith}
+use Rattle.std.proofs.lemmas.List.{get_or-set_other}
 use Rattle.std.proofs.lemmas.Option.{same_Some}
-use Rattle.std.proofs.lemmas.Bool.{and_parts, not-true, cases_eq}
+use Rattle.std.proofs.lemmas.Bool.{cases_eq}
 use Rattle.k42_kinds.specs.declared.entry.Entry.{Entry}
 use Rattle.k42_places.proofs.Written.{get_or-set_related}
-use Rattle.turn_core.specs.declared.event.TurnEvent.TheVariants.{Lock, Take, Draw, Alone, Hand, Put, Unlock}
+use Rattle.turn_core.specs.declared.event.TurnEvent.TheVariants.{Lock, Take, Draw, Alone, Put, Unlock}
 use Rattle.turn_core.specs.Plain.{Cell, Caller, Turns}
-use Rattle.turn_core.specs.State.{cell_at, caller_at, fresh_cell, change_cell, change_caller, change_cells}
+use Rattle.turn_core.specs.State.{cell_at, fresh_cell, change_cell, change_caller, change_cells}
 use Rattle.turn_core.specs.Names.{names}
 use Rattle.turn_core.specs.Events as turns
 use Rattle.turn_core.specs.Events.{cell_locked, cell_unlocked, cell_taken, cell_put, cell_told, caller_locked, caller_unlocked, caller_drawn}
 use Rattle.turn_core.proofs.Changed.{length-change_cells, callers-change_cells}
 use Rattle.k42_joined.specs.Plain.{Kept, Joined}
 use Rattle.k42_joined.specs.Effects.{kept_drawn}
-use Rattle.k42_joined.specs.Locks.{AreAsMany, AreLawfullyHeld, AreLocked}
+use Rattle.k42_joined.specs.Locks.{AreLocked}
 use Rattle.k42_joined.specs.Numbers.{cell_of, object_of}
 use Rattle.k42_joined.specs.Possible.{MayTouch}
-use Rattle.k42_joined.specs.State.{many_procs, many_callers, many_objects, incarnation, cell, cell_in}
+use Rattle.k42_joined.specs.State.{many_procs, many_objects, incarnation, cell, cell_in}
 use Rattle.k42_joined.specs.Touching.{may_touch}
 use Rattle.k42_joined.proofs.CellNumbers.{IsAmong, same_cell}
 use Rattle.k42_joined.proofs.CellChanges.{cell_at-else, cell_at-here}

@@ -1,5 +1,5 @@
 -- A hand keeps locks and lives.
-use Rattle.std.proofs.Common.{◌≡◌, ℕ, zero, suc, ◌+◌, ◌*◌, ◌/◌, ◌%◌, ◌<◌, ◌≤◌, ◌≢◌, ◌⊎◌, ◌∙◌, Bool, true, false, not, ◌&&◌, ◌||◌, cond, eqb, ltb, List, [], ◌∷◌, ◌++◌, Option, Some, None, length, length-set, get_or, set, sym, refl, ap, subst, inl, inr, ⊎_elim, arith, eq-eqb}
+use Rattle.std.proofs.Common.{◌≡◌, ℕ, ◌+◌, ◌%◌, ◌<◌, ◌≤◌, ◌≢◌, ◌⊎◌, ◌∙◌, Bool, true, false, not, ◌&&◌, ◌||◌, cond, eqb, ltb, List, [], ◌∷◌, ◌++◌, Option, Some, None, length, length-set, sym, refl, ap, subst, inl, inr, ⊎_elim, arith, eq-eqb}
 use Rattle.std.proofs.lemmas.List.{get_or-set_same, get_or-set_other}
 use Rattle.std.proofs.lemmas.Option.{same_Some}
 use Rattle.std.proofs.lemmas.Bool.{and_parts, not-true, cases_eq, lt-ltb}
@@ -7,7 +7,7 @@ use Rattle.std.proofs.lemmas.Bool.Decides.{nat_tests}
 use Rattle.std.specs.List.{list_all}
 use Rattle.k42_kinds.specs.declared.entry.Entry.{Entry}
 use Rattle.phase_core.specs.Plain.{Visitor}
-use Rattle.phase_core.specs.State.{object_at, visitor_at}
+use Rattle.phase_core.specs.State.{visitor_at}
 use Rattle.phase_core.specs.declared.caller.SwapAt.TheVariants.{Moved}
 use Rattle.turn_core.specs.declared.event.TurnEvent.TheVariants.{Hand}
 use Rattle.turn_core.specs.Plain.{Cell, Turns}
@@ -21,16 +21,15 @@ use Rattle.k42_places.proofs.Written.{get_or-set_related}
 use Rattle.k42_stamp.specs.Layouts.{Layouts}
 use Rattle.k42_joined.specs.Plain.{Joined}
 use Rattle.k42_joined.specs.Event.{HandWith}
-use Rattle.k42_joined.specs.Effects.{effect, hands_with}
-use Rattle.k42_joined.specs.Handing.{MayHand}
-use Rattle.k42_joined.specs.Locks.{AreAsMany, AreLawfullyHeld, IsCounted, AreOfLives, AreLocked}
+use Rattle.k42_joined.specs.Effects.{effect}
+use Rattle.k42_joined.specs.Locks.{AreLawfullyHeld, IsCounted, AreOfLives, AreLocked}
 use Rattle.k42_joined.specs.Numbers.{cell_of, object_of, row_cells}
-use Rattle.k42_joined.specs.Possible.{MayTouch, MayHandWith}
-use Rattle.k42_joined.specs.State.{many_procs, many_callers, many_objects, object, incarnation, swap_of, cell, cell_in, many_hands, layouts_of, is_handed}
-use Rattle.k42_joined.specs.Touching.{is_inside, is_moving, is_freeing, has_way, is_over_in, may_touch}
-use Rattle.k42_joined.proofs.CellNumbers.{IsAmong, named_in_row, row_names, same_cell, object_of-cell, cell_there}
+use Rattle.k42_joined.specs.Possible.{MayHandWith}
+use Rattle.k42_joined.specs.State.{many_procs, many_objects, object, incarnation, cell, cell_in, many_hands, layouts_of, is_handed}
+use Rattle.k42_joined.specs.Touching.{is_inside, is_moving, is_freeing, has_way, may_touch}
+use Rattle.k42_joined.proofs.CellNumbers.{named_in_row, row_names, same_cell, object_of-cell, cell_there}
 use Rattle.k42_joined.proofs.CellChanges.{cell_at-else, cell_at-named}
-use Rattle.k42_joined.proofs.LocksLives.{IsSameLife, lives_handed}
+use Rattle.k42_joined.proofs.LocksLives.{lives_handed}
 use Rattle.k42_joined.proofs.LocksCells.{kept_locks}
 
 or_left : (a b : Bool) → a ≡ true → a || b ≡ true

@@ -1,12 +1,12 @@
 -- How lives, closing and histories of an object's two cells at a place go on.
-use Rattle.std.proofs.Common.{◌≡◌, ◌≢◌, ℕ, zero, suc, ◌+◌, ◌-◌, ◌*◌, ◌/◌, ◌%◌, ◌<◌, ◌≤◌, Bool, true, false, not, ◌&&◌, ◌||◌, cond, eqb, ltb, List, [], ◌∷◌, ◌++◌, length, refl, sym, ap, ◌∙◌, subst, arith}
+use Rattle.std.proofs.Common.{◌≡◌, ℕ, ◌+◌, ◌-◌, ◌/◌, ◌<◌, Bool, true, false, not, cond, eqb, [], ◌∷◌, ◌++◌, length, refl, sym, ap, ◌∙◌, subst, arith}
 use Rattle.std.proofs.lemmas.Bool.Decides.{nat_tests}
 use Rattle.std.proofs.lemmas.List.{length-append}
 use Rattle.k42_kinds.specs.declared.entry.Answer.TheVariants.{Swapped}
 use Rattle.k42_kinds.specs.declared.entry.Entry.{Entry}
 use Rattle.turn_core.specs.Plain.{Cell}
 use Rattle.turn_core.specs.Events.{cell_told, cell_opened, cell_begun, cell_closed}
-use Rattle.k42_joined.specs.Locks.{other_life, is_past, IsOfLife, BeginsNext, AreOfLives}
+use Rattle.k42_joined.specs.Locks.{other_life, is_past, IsOfLife, AreOfLives}
 
 -- a cell of the life of another, closed as it
 pub record IsSameLife (x y : Cell) : Type 0 where

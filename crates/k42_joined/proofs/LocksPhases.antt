@@ -1,5 +1,5 @@
 -- An event of tables and swaps keeps locks and lives.
-use Rattle.std.proofs.Common.{◌≡◌, ℕ, suc, ◌+◌, ◌*◌, ◌%◌, ◌<◌, ◌≤◌, ◌≢◌, ◌⊎◌, ◌∙◌, Bool, true, false, not, ◌&&◌, cond, ltb, eqb, List, [], ◌∷◌, Option, Some, None, length, length-set, get_or, set, sym, refl, ap, subst, inl, inr, ⊎_elim, arith}
+use Rattle.std.proofs.Common.{◌≡◌, ℕ, ◌+◌, ◌*◌, ◌<◌, ◌≢◌, ◌∙◌, Bool, true, false, not, ltb, List, [], ◌∷◌, Some, None, length, length-set, sym, refl, ap, subst, inl, ⊎_elim, arith}
 use Rattle.std.proofs.lemmas.Bool.{and_parts, ltb-true, cases_eq, cases_lt}
 use Rattle.std.proofs.lemmas.Bool.Decides.{nat_tests}
 use Rattle.std.proofs.lemmas.List.{get_or_past}
@@ -9,12 +9,11 @@ use Rattle.phase_core.specs.Event.{Event, Turn, Install, EndCall, StepOut, Begin
 use Rattle.phase_core.specs.Plain.{Object}
 use Rattle.phase_core.specs.Sound as phases
 use Rattle.phase_core.specs.Stages.{object_named}
-use Rattle.phase_core.specs.State.{object_at, visitor_at}
 use Rattle.phase_core.proofs.Changed.{turns_over}
 use Rattle.phase_core.proofs.InSound.{moved_is_ready}
 use Rattle.phase_core.proofs.Reached.{turn_there}
 use Rattle.turn_core.specs.Names.{names}
-use Rattle.turn_core.specs.Plain.{Cell, Turns}
+use Rattle.turn_core.specs.Plain.{Turns}
 use Rattle.turn_core.specs.Sound as turns
 use Rattle.turn_core.specs.Sound.{held_by}
 use Rattle.turn_core.specs.State.{cell_at, fresh_cell}
@@ -24,9 +23,9 @@ use Rattle.k42_joined.specs.Event.{AtPhases}
 use Rattle.k42_joined.specs.Effects.{effect}
 use Rattle.k42_joined.specs.Locks.{AreAsMany, AreLawfullyHeld, IsCounted, AreOfLives, AreLocked}
 use Rattle.k42_joined.specs.Numbers.{cell_of, object_of}
-use Rattle.k42_joined.specs.Possible.{MayTouch, MaySwap}
+use Rattle.k42_joined.specs.Possible.{MaySwap}
 use Rattle.k42_joined.specs.State.{many_procs, many_callers, many_objects, object, incarnation, swap_of, cell, cell_in, held, many_hands, is_handed}
-use Rattle.k42_joined.specs.Swapping.{holds_none, may_turn_over, may_swap, kept_after}
+use Rattle.k42_joined.specs.Swapping.{holds_none, may_swap, kept_after}
 use Rattle.k42_joined.proofs.CellNumbers.{cell_of-parity}
 use Rattle.k42_joined.proofs.Lends.{releases, event_lends}
 use Rattle.k42_joined.proofs.LocksLives.{lives_turned}

@@ -1,11 +1,9 @@
 -- The rows that fit are one: the histories and the layouts of the hands tell them.
-use Rattle.std.proofs.Common.{◌≡◌, ◌≢◌, ℕ, zero, suc, ◌+◌, ◌<◌, ◌≤◌, ◌⊎◌, ◌∙◌, Bool, true, false, List, [], ◌∷◌, ◌++◌, length, map, refl, sym, ap, subst, inl, inr, ⊎_elim, arith}
-use Rattle.std.specs.List.{slice_get}
-use Rattle.std.specs.Prelude.{Some}
+use Rattle.std.proofs.Common.{◌≡◌, ℕ, ◌<◌, ◌≤◌, ◌∙◌, List, [], ◌∷◌, ◌++◌, length, map, refl, sym, ap, subst, arith}
 use Rattle.std.proofs.lemmas.List.{length-map}
 use Rattle.k42_kinds.specs.declared.entry.Entry.{Entry}
 use Rattle.k42_stamp.specs.Chains.{Row, Turn, Chain, start_of, first_of}
-use Rattle.k42_stamp.specs.Fits.{IsEntryOf, IsRow, IsTurn, ArePast, Leaves, PastLeaves, Fits}
+use Rattle.k42_stamp.specs.Fits.{IsEntryOf, IsRow, ArePast, Leaves, PastLeaves, Fits}
 use Rattle.k42_stamp.specs.Laws.{AreLaws}
 use Rattle.k42_stamp.specs.Layouts.{Layouts}
 use Rattle.k42_stamp.specs.Orders.{In}

@@ -1,19 +1,18 @@
 -- What an event of tables and swaps leaves of objects and callers, for the facts on cells and on answers.
-use Rattle.std.proofs.Common.{◌≡◌, ℕ, ◌+◌, ◌<◌, ◌≢◌, ◌∙◌, Bool, true, false, cond, List, Some, length, get_or, set, sym, refl, ap, subst}
+use Rattle.std.proofs.Common.{◌≡◌, ℕ, ◌<◌, ◌≢◌, true, false, length, refl, subst}
 use Rattle.std.proofs.lemmas.List.{get_or-set_same, get_or-set_other}
 use Rattle.std.proofs.lemmas.Bool.{and_parts}
 use Rattle.phase_core.specs.Consequences.{object_changed, IsSameRow}
 use Rattle.phase_core.specs.Effects.{turned_over}
 use Rattle.phase_core.specs.Event.{Event, TurnOver, caller_of}
 use Rattle.phase_core.specs.Events.{is_possible, effect, happens}
-use Rattle.phase_core.specs.Plain.{Object, Phases}
+use Rattle.phase_core.specs.Plain.{Phases}
 use Rattle.phase_core.specs.Sound.{IsSound}
 use Rattle.phase_core.specs.Stages.{object_named, is_moved}
 use Rattle.phase_core.specs.State.{fresh_object, object_at, visitor_at}
-use Rattle.phase_core.specs.declared.caller.SwapAt.{SwapAt}
 use Rattle.phase_core.specs.declared.caller.SwapAt.TheVariants.{Moved}
 use Rattle.phase_core.proofs.Alone.{ChangesOnly, only_who, is_leave}
-use Rattle.phase_core.proofs.Changed.{turns_over, GoesOn, ObjectAfter, happens_after}
+use Rattle.phase_core.proofs.Changed.{turns_over, ObjectAfter, happens_after}
 use Rattle.phase_core.proofs.Reached.{same_callers, turn_there}
 use Rattle.k42_joined.proofs.Lends.{from_is_moved}
 

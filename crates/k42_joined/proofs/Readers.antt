@@ -1,15 +1,10 @@
 -- Rows are freed once and given again once, and only after those who have read them have left.
-use Rattle.std.proofs.Common.{◌≡◌, ◌≢◌, ℕ, zero, suc, ◌+◌, ◌<◌, ◌≤◌, ◌⊎◌, ◌∙◌, Bool, true, false, ltb, List, [], ◌∷◌, length, refl, sym, ap, subst, inl, inr, ⊎_elim, arith}
+use Rattle.std.proofs.Common.{◌≡◌, ◌≢◌, ℕ, ◌+◌, ◌<◌, ◌≤◌, ◌⊎◌, ◌∙◌, Bool, true, false, ltb, List, [], ◌∷◌, length, refl, sym, ap, subst, inl, inr, ⊎_elim, arith}
 use Rattle.std.proofs.Math.Nat.{le_refl, le_trans}
 use Rattle.std.proofs.lemmas.Bool.{cases_eq}
 use Rattle.std.proofs.lemmas.Bool.Decides.{nat_tests}
 use Rattle.k42_places.proofs.Written.{get_or-set_related}
-use Rattle.std.proofs.lemmas.List.{get_or-set_same, get_or-set_other}
-use Rattle.std.proofs.lemmas.Option.{same_Some, slice_get-get_or, get_or_from_slice_get}
-use Rattle.std.specs.List.{slice_get}
-use Rattle.std.specs.Prelude.{Some}
-use Rattle.gen_core.specs.declared.event.GenEvent.{GenEvent}
-use Rattle.gen_core.specs.declared.event.GenEvent.TheVariants.{Enter, Leave, TakeRole, LookAhead, Flip, Look, GiveRole}
+use Rattle.gen_core.specs.declared.event.GenEvent.TheVariants.{Leave}
 use Rattle.phase_core.specs.Event as phase_events
 use Rattle.phase_core.specs.Event.{Turn}
 use Rattle.phase_core.specs.Plain.{Visitor}
@@ -18,11 +13,10 @@ use Rattle.phase_core.specs.State.{fresh_visitor, visitor_at, has_row}
 use Rattle.phase_core.proofs.Alone.{is_leave}
 use Rattle.k42_stamp.specs.Laws.{AreLaws}
 use Rattle.k42_stamp.specs.Layouts.{Layouts}
-use Rattle.k42_stamp.specs.Orders.{In}
 use Rattle.k42_joined.specs.Plain.{Joined}
-use Rattle.k42_joined.specs.Event.{Event, AtPhases, AtCells, HandWith, caller_of}
+use Rattle.k42_joined.specs.Event.{Event, AtPhases, AtCells, HandWith}
 use Rattle.k42_joined.specs.Effects.{effect}
-use Rattle.k42_joined.specs.Possible.{MaySwap, MayTurn, MayHandWith, IsPossible}
+use Rattle.k42_joined.specs.Possible.{IsPossible}
 use Rattle.k42_joined.specs.Runs.{Leads, FreesRow, GivesLife, Leaves, TakesRow, IsFreedOnce}
 use Rattle.k42_joined.specs.Sound.{IsSound}
 use Rattle.k42_joined.specs.State.{many_callers, object, incarnation, layouts_of, many_hands, is_handed}

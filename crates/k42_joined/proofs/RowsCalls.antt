@@ -1,14 +1,14 @@
 -- A call, and a swap or destroy that found its object over, is an entry of the present row.
-use Rattle.std.proofs.Common.{◌≡◌, ◌≢◌, ℕ, zero, suc, ◌+◌, ◌-◌, ◌<◌, ◌≤◌, ◌⊎◌, ◌∙◌, Bool, true, false, not, ◌&&◌, ◌||◌, eqb, List, [], ◌∷◌, ◌++◌, length, map, refl, sym, ap, subst, inl, inr, ⊎_elim, arith}
+use Rattle.std.proofs.Common.{◌≡◌, ◌≢◌, ℕ, zero, suc, ◌<◌, ◌≤◌, ◌∙◌, true, false, not, eqb, List, [], ◌∷◌, ◌++◌, length, refl, sym, ap, subst, arith}
 use Rattle.std.specs.List.{slice_get}
-use Rattle.std.specs.Prelude.{Option, Some, None, IsTrue}
+use Rattle.std.specs.Prelude.{Some, None, IsTrue}
 use Rattle.std.proofs.lemmas.Bool.{and_parts, eqb-true}
 use Rattle.std.proofs.lemmas.Option.{same_Some, slice_get_within}
 use Rattle.k42_kinds.specs.Rows.{IsWithin}
 use Rattle.k42_kinds.specs.declared.entry.Act.{Act}
 use Rattle.k42_kinds.specs.declared.entry.Act.TheVariants.{Call, Swap, Destroy}
 use Rattle.k42_kinds.specs.declared.entry.Answer.{Answer}
-use Rattle.k42_kinds.specs.declared.entry.Answer.TheVariants.{Replied, Swapped, Busy, Spent, Gone, Abandoned}
+use Rattle.k42_kinds.specs.declared.entry.Answer.TheVariants.{Spent, Gone}
 use Rattle.k42_kinds.specs.declared.entry.Entry.{Entry}
 use Rattle.k42_kinds.specs.declared.entry.Reach.TheVariants.{One}
 use Rattle.k42_kinds.specs.declared.operation.LayoutName.{LayoutName}
@@ -25,7 +25,7 @@ use Rattle.turn_core.specs.Sound as turns
 use Rattle.turn_core.specs.declared.event.TurnEvent.TheVariants.{Draw}
 use Rattle.turn_core.specs.Events as turn_events
 use Rattle.k42_stamp.specs.Chains.{Chain, parts_of}
-use Rattle.k42_stamp.specs.Fits.{IsMark as IsMarkOf, IsServed, IsEntryOf}
+use Rattle.k42_stamp.specs.Fits.{IsMark as IsMarkOf, IsServed}
 use Rattle.k42_stamp.specs.Laws.{AreLaws}
 use Rattle.k42_stamp.specs.Layouts.{Layouts}
 use Rattle.k42_stamp.specs.Parts.{reached as needs, reach_of, part_steps, act_replies, reply_in}
@@ -34,16 +34,15 @@ use Rattle.k42_joined.specs.Plain.{Joined}
 use Rattle.k42_joined.specs.Answers.{IsTrueOf, IsAnswered, AreAnswered}
 use Rattle.k42_joined.specs.Drawing.{newest_layout, IsCall, IsMark, IsDrawnAs, MayDraw}
 use Rattle.k42_joined.specs.Effects.{kept_drawn}
-use Rattle.k42_joined.specs.Fitting.{IsTagged, HasRows, Fitting}
+use Rattle.k42_joined.specs.Fitting.{HasRows, Fitting}
 use Rattle.k42_joined.specs.Following.{FollowsDraw}
 use Rattle.k42_joined.specs.Found.{tells_over}
 use Rattle.k42_joined.specs.Locks.{AreLocked}
-use Rattle.k42_joined.specs.Possible.{MayTurn}
-use Rattle.k42_joined.specs.Rows.{cells_reached, layouts_in, AreRowsOf}
-use Rattle.k42_joined.specs.State.{many_procs, many_callers, many_objects, object, incarnation, layouts_of, many_hands, is_handed, kept_of}
+use Rattle.k42_joined.specs.Rows.{cells_reached, AreRowsOf}
+use Rattle.k42_joined.specs.State.{many_procs, many_callers, many_objects, object, incarnation, layouts_of, many_hands, is_handed}
 use Rattle.k42_joined.specs.Touching.{is_inside}
 use Rattle.k42_joined.proofs.LocksCells.{AreOfRow}
-use Rattle.k42_joined.proofs.RowsDraw.{IsCoreDraw, core_draw, of_row, not_handed, hands_now, past_now, drew, y, here_rows, draw_keeps_rows}
+use Rattle.k42_joined.proofs.RowsDraw.{IsCoreDraw, of_row, not_handed, hands_now, past_now, drew, y, here_rows, draw_keeps_rows}
 
 pub inside_is : (place : Place) (o i : ℕ) → is_inside place o i ≡ true → IsInside place o i
 inside_is (Missed q j) o i is = let parts = and_parts (eqb q o) (eqb j i) is in (eqb-true q o parts.0, eqb-true j i parts.1)

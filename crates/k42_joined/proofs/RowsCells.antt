@@ -1,31 +1,29 @@
 -- What changes no history keeps the rows: locking, taking, putting and unlocking, and an entry drawn at no cell.
-use Rattle.std.proofs.Common.{◌≡◌, ◌≢◌, ℕ, zero, suc, ◌+◌, ◌/◌, ◌<◌, ◌≤◌, ◌⊎◌, ◌∙◌, Bool, true, false, List, [], ◌∷◌, ◌++◌, Option, Some, None, length, map, get_or, set, length-set, refl, sym, ap, subst, inl, inr, ⊎_elim, arith}
+use Rattle.std.proofs.Common.{◌≡◌, ℕ, zero, suc, ◌/◌, ◌<◌, ◌∙◌, Bool, true, false, List, [], ◌∷◌, ◌++◌, Option, Some, None, length, map, get_or, set, refl, sym, ap, subst, inr, arith}
 use Rattle.std.specs.List.{slice_get}
 use Rattle.std.proofs.Math.Nat.{le_refl}
-use Rattle.std.proofs.lemmas.Option.{slice_get-get_or}
 use Rattle.k42_kinds.specs.Histories.{is_call}
 use Rattle.k42_kinds.specs.declared.entry.Act.{Act}
 use Rattle.k42_kinds.specs.declared.entry.Act.TheVariants.{Call, Swap, Destroy}
 use Rattle.k42_kinds.specs.declared.entry.Answer.{Answer}
-use Rattle.k42_kinds.specs.declared.entry.Answer.TheVariants.{Replied, Swapped, Busy, Spent, Gone, Abandoned}
+use Rattle.k42_kinds.specs.declared.entry.Answer.TheVariants.{Busy, Abandoned}
 use Rattle.k42_kinds.specs.declared.entry.Entry.{Entry}
-use Rattle.turn_core.specs.declared.event.TurnEvent.TheVariants.{Lock, Take, Draw, Alone, Hand, Put, Unlock}
+use Rattle.turn_core.specs.declared.event.TurnEvent.TheVariants.{Lock, Take, Alone, Put, Unlock}
 use Rattle.turn_core.specs.Events as turns
 use Rattle.turn_core.specs.Events.{cell_locked, cell_unlocked, cell_taken, cell_put, caller_locked, caller_unlocked, caller_drawn}
 use Rattle.turn_core.specs.Plain.{Cell, Caller, Turns}
 use Rattle.turn_core.specs.Sound.{histories_of, drawn_by}
-use Rattle.turn_core.specs.State.{cell_at, caller_at, fresh_caller, change_cell, change_caller}
+use Rattle.turn_core.specs.State.{cell_at, caller_at, fresh_caller, change_cell}
 use Rattle.k42_stamp.specs.Chains.{Chain}
 use Rattle.k42_stamp.specs.Layouts.{Layouts}
-use Rattle.k42_stamp.specs.Lists.{InSome, InHistory, AreThose, is_drawn}
+use Rattle.k42_stamp.specs.Lists.{InSome, AreThose, is_drawn}
 use Rattle.k42_joined.specs.Plain.{Kept, Joined}
 use Rattle.k42_joined.specs.Effects.{kept_drawn}
-use Rattle.k42_joined.specs.Fitting.{lists_of, AreFor, HasRows, Fitting}
-use Rattle.k42_joined.specs.Locks.{AreLocked}
+use Rattle.k42_joined.specs.Fitting.{lists_of, HasRows, Fitting}
 use Rattle.k42_joined.specs.Numbers.{cell_of}
 use Rattle.k42_joined.specs.Refusals.{MayDrawAlone, IsAnsweredAlone}
 use Rattle.k42_joined.specs.Rows.{history_in}
-use Rattle.k42_joined.specs.State.{many_callers, cell, mine}
+use Rattle.k42_joined.specs.State.{cell, mine}
 use Rattle.k42_joined.proofs.LocksCells.{IsSameTold, told_at}
 use Rattle.k42_joined.proofs.RowsHistories.{fits_same}
 use Rattle.k42_joined.proofs.RowsLists.{map-set_same, map-set, Grows, grown_those}

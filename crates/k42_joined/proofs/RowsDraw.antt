@@ -1,8 +1,8 @@
 -- An entry drawn at cells of the present row keeps the rows.
-use Rattle.std.proofs.Common.{◌≡◌, ◌≢◌, ℕ, zero, suc, ◌+◌, ◌*◌, ◌/◌, ◌%◌, ◌<◌, ◌≤◌, ◌⊎◌, ◌∙◌, Bool, true, false, not, ◌&&◌, ◌||◌, cond, eqb, ltb, List, [], ◌∷◌, ◌++◌, Some, length, map, get_or, set, length-set, length-append, refl, sym, ap, subst, inl, inr, ⊎_elim, arith}
-use Rattle.std.specs.List.{slice_get, list_all, AllByRecursion}
+use Rattle.std.proofs.Common.{◌≡◌, ◌≢◌, ℕ, ◌/◌, ◌%◌, ◌<◌, ◌≤◌, ◌⊎◌, ◌∙◌, Bool, true, false, ◌&&◌, cond, eqb, List, [], ◌∷◌, ◌++◌, Some, length, map, set, length-set, length-append, refl, sym, ap, subst, inl, inr, ⊎_elim, arith}
+use Rattle.std.specs.List.{slice_get, list_all}
 use Rattle.std.proofs.Math.Nat.{le_refl}
-use Rattle.std.proofs.lemmas.Bool.{and_parts, eqb-true, eq-eqb, cases_eq, lt-ltb}
+use Rattle.std.proofs.lemmas.Bool.{and_parts, eq-eqb, cases_eq, lt-ltb}
 use Rattle.std.proofs.lemmas.Bool.Decides.{nat_tests}
 use Rattle.std.proofs.lemmas.List.{length-map}
 use Rattle.std.proofs.lemmas.Option.{same_Some, slice_get_within}
@@ -11,24 +11,24 @@ use Rattle.k42_kinds.specs.Rows.{IsWithin}
 use Rattle.k42_kinds.specs.declared.entry.Act.{Act}
 use Rattle.k42_kinds.specs.declared.entry.Act.TheVariants.{Call, Swap, Destroy}
 use Rattle.k42_kinds.specs.declared.entry.Answer.{Answer}
-use Rattle.k42_kinds.specs.declared.entry.Answer.TheVariants.{Replied, Swapped, Busy, Spent, Gone, Abandoned}
+use Rattle.k42_kinds.specs.declared.entry.Answer.TheVariants.{Spent, Gone}
 use Rattle.k42_kinds.specs.declared.entry.Entry.{Entry}
 use Rattle.k42_places.proofs.Written.{at_set, slice_get-set_here, slice_get-set_else}
 use Rattle.turn_core.specs.declared.event.TurnEvent.TheVariants.{Draw}
 use Rattle.turn_core.specs.Events as turns
 use Rattle.turn_core.specs.Events.{cell_told, caller_drawn, has_taken, has_open}
 use Rattle.turn_core.specs.Names.{names, names_once}
-use Rattle.turn_core.specs.Plain.{Cell, Caller, Turns}
+use Rattle.turn_core.specs.Plain.{Caller, Turns}
 use Rattle.turn_core.specs.Sound as turns_sound
-use Rattle.turn_core.specs.State.{cell_at, fresh_caller, change_cells, change_caller}
+use Rattle.turn_core.specs.State.{cell_at, change_caller}
 use Rattle.turn_core.proofs.Changed.{callers-change_cells}
 use Rattle.turn_core.proofs.Drawing.{IsNext as IsNextStamp, next_parts}
-use Rattle.k42_stamp.specs.Chains.{Turn, Chain, past_entries, entries_of, parts_of}
+use Rattle.k42_stamp.specs.Chains.{Turn, Chain, past_entries, parts_of}
 use Rattle.k42_stamp.specs.Draws.{IsLater, IsNext, drawn_at, chain_with, Draws}
-use Rattle.k42_stamp.specs.Fits.{IsMark, IsServed, IsEntryOf, Fits}
+use Rattle.k42_stamp.specs.Fits.{IsServed, IsEntryOf}
 use Rattle.k42_stamp.specs.Laws.{AreLaws}
 use Rattle.k42_stamp.specs.Layouts.{Layouts}
-use Rattle.k42_stamp.specs.Lists.{InRows, InHistory, AreThose, is_drawn}
+use Rattle.k42_stamp.specs.Lists.{InHistory, AreThose, is_drawn}
 use Rattle.k42_stamp.specs.Orders.{In}
 use Rattle.k42_stamp.specs.Parts.{reach_of, touches, part_steps}
 use Rattle.k42_stamp.proofs.Drawing.{drawn_else, draw_keeps}
@@ -38,12 +38,12 @@ use Rattle.k42_stamp.proofs.Rowed.{chain_in_rows}
 use Rattle.k42_joined.specs.Plain.{Joined}
 use Rattle.k42_joined.specs.Effects.{kept_drawn}
 use Rattle.k42_joined.specs.Fitting.{lists_of, HasRows, Fitting}
-use Rattle.k42_joined.specs.Locks.{is_past, AreOfLives, AreLocked}
+use Rattle.k42_joined.specs.Locks.{is_past, AreLocked}
 use Rattle.k42_joined.specs.Numbers.{cell_of}
-use Rattle.k42_joined.specs.Rows.{history_in, cells_reached, layouts_in}
+use Rattle.k42_joined.specs.Rows.{history_in, cells_reached}
 use Rattle.k42_joined.specs.State.{many_procs, many_callers, many_objects, incarnation, cell, cell_in, mine, layouts_of, many_hands, is_handed}
 use Rattle.k42_joined.proofs.CellChanges.{cell_at-else, cell_at-named}
-use Rattle.k42_joined.proofs.CellNumbers.{IsAmong, same_cell, cell_there, cell_of-parity}
+use Rattle.k42_joined.proofs.CellNumbers.{same_cell, cell_there, cell_of-parity}
 use Rattle.k42_joined.proofs.LocksCells.{AreOfRow}
 use Rattle.k42_joined.proofs.LocksHand.{each_named}
 use Rattle.k42_joined.proofs.RowsCells.{list_here, lists_drawn}

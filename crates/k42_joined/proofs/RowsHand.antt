@@ -1,13 +1,10 @@
 -- A hand keeps the rows: the next one begins.
-use Rattle.std.proofs.Common.{◌≡◌, ◌≢◌, ℕ, zero, suc, ◌+◌, ◌-◌, ◌*◌, ◌/◌, ◌%◌, ◌<◌, ◌≤◌, ◌⊎◌, ◌∙◌, Bool, true, false, not, ◌&&◌, ◌||◌, cond, eqb, ltb, List, [], ◌∷◌, ◌++◌, Some, length, map, get_or, set, length-set, length-append, refl, sym, ap, subst, inl, inr, ⊎_elim, arith}
-use Rattle.std.specs.List.{slice_get, list_all, AllByRecursion}
+use Rattle.std.proofs.Common.{◌≡◌, ◌≢◌, ℕ, suc, ◌+◌, ◌-◌, ◌/◌, ◌%◌, ◌<◌, ◌≤◌, ◌⊎◌, ◌∙◌, Bool, true, false, cond, List, [], ◌∷◌, ◌++◌, Some, length, map, set, length-set, length-append, refl, sym, ap, subst, inl, inr, ⊎_elim, arith}
+use Rattle.std.specs.List.{slice_get}
 use Rattle.std.proofs.Math.Nat.{le_refl}
-use Rattle.std.proofs.lemmas.Bool.{and_parts, eqb-true, eq-eqb, cases_eq}
+use Rattle.std.proofs.lemmas.Bool.{cases_eq}
 use Rattle.std.proofs.lemmas.List.{length-map}
 use Rattle.std.proofs.lemmas.Option.{same_Some, slice_get_within}
-use Rattle.k42_kinds.specs.declared.entry.Act.{Act}
-use Rattle.k42_kinds.specs.declared.entry.Act.TheVariants.{Call, Swap, Destroy}
-use Rattle.k42_kinds.specs.declared.entry.Answer.{Answer}
 use Rattle.k42_kinds.specs.declared.entry.Answer.TheVariants.{Swapped}
 use Rattle.k42_kinds.specs.declared.entry.Entry.{Entry}
 use Rattle.k42_places.proofs.Written.{at_set, slice_get-set_here, slice_get-set_else}
@@ -16,18 +13,18 @@ use Rattle.phase_core.specs.Sound as phases
 use Rattle.phase_core.proofs.InSound.{moved_is_ready}
 use Rattle.turn_core.specs.Events.{cell_begun, cell_closed, caller_drawn}
 use Rattle.turn_core.specs.Names.{names}
-use Rattle.turn_core.specs.Plain.{Cell, Caller, Turns}
+use Rattle.turn_core.specs.Plain.{Caller, Turns}
 use Rattle.turn_core.specs.Sound as turns
 use Rattle.turn_core.specs.State.{cell_at, change_cells, change_caller}
 use Rattle.turn_core.proofs.Changed.{callers-change_cells}
 use Rattle.turn_core.proofs.Drawing.{IsNext as IsNextStamp, next_parts}
 use Rattle.k42_stamp.specs.Chains.{Turn, Chain}
 use Rattle.k42_stamp.specs.Draws.{IsLater}
-use Rattle.k42_stamp.specs.Fits.{IsHandOf, Fits}
+use Rattle.k42_stamp.specs.Fits.{Fits}
 use Rattle.k42_stamp.specs.Hands.{IsHand, handed, begun_at}
 use Rattle.k42_stamp.specs.Laws.{AreLaws}
 use Rattle.k42_stamp.specs.Layouts.{Layouts}
-use Rattle.k42_stamp.specs.Lists.{InRows, InHistory, AreThose, is_drawn}
+use Rattle.k42_stamp.specs.Lists.{InHistory, AreThose, is_drawn}
 use Rattle.k42_stamp.specs.Orders.{In}
 use Rattle.k42_stamp.proofs.Handing.{begun_here, begun_else, hand_begins}
 use Rattle.k42_joined.specs.Plain.{Joined}
@@ -35,10 +32,10 @@ use Rattle.k42_joined.specs.Event.{HandWith}
 use Rattle.k42_joined.specs.Effects.{effect}
 use Rattle.k42_joined.specs.Fitting.{lists_of, IsTagged, HasRows, Fitting}
 use Rattle.k42_joined.specs.Locks.{AreOfLives, AreLocked}
-use Rattle.k42_joined.specs.Numbers.{cell_of, row_cells}
+use Rattle.k42_joined.specs.Numbers.{cell_of}
 use Rattle.k42_joined.specs.Possible.{MayHandWith}
-use Rattle.k42_joined.specs.Rows.{history_in, layouts_in, AreRowsOf}
-use Rattle.k42_joined.specs.State.{many_procs, many_callers, many_objects, object, incarnation, cell, cell_in, mine, layouts_of, many_hands, is_handed}
+use Rattle.k42_joined.specs.Rows.{history_in, AreRowsOf}
+use Rattle.k42_joined.specs.State.{many_procs, many_callers, many_objects, object, incarnation, cell, cell_in, mine, layouts_of, many_hands}
 use Rattle.k42_joined.proofs.CellNumbers.{row_names, cell_of-parity}
 use Rattle.k42_joined.proofs.LocksHand.{IsCoreHand, core_hand, names_more, hands_now, at_present, at_next, at_other, hands_here, hands_else, hands_after}
 use Rattle.k42_joined.proofs.RowsCalls.{some_at}

@@ -1,5 +1,5 @@
 -- The histories of cells by their rows, before and after a step.
-use Rattle.std.proofs.Common.{◌≡◌, ◌≢◌, ℕ, zero, suc, ◌+◌, ◌*◌, ◌/◌, ◌%◌, ◌<◌, ◌≤◌, Bool, true, false, not, ◌&&◌, ◌||◌, cond, eqb, List, [], ◌∷◌, ◌++◌, length, get_or, refl, sym, ap, ◌∙◌, subst, ⊎_elim, arith}
+use Rattle.std.proofs.Common.{◌≡◌, ◌≢◌, ℕ, ◌+◌, ◌/◌, ◌<◌, ◌≤◌, Bool, true, false, not, ◌||◌, cond, eqb, List, [], ◌∷◌, ◌++◌, length, get_or, refl, sym, ap, ◌∙◌, subst, arith}
 use Rattle.std.proofs.lemmas.Bool.{eq-eqb, eqb-true, ne_eqb}
 use Rattle.std.proofs.lemmas.Bool.Decides.{nat_tests}
 use Rattle.std.proofs.lemmas.List.{get_or_append_left, get_or_push, length-append}
@@ -7,18 +7,18 @@ use Rattle.k42_kinds.specs.Rows.{IsWithin}
 use Rattle.k42_kinds.specs.declared.entry.Entry.{Entry}
 use Rattle.k42_kinds.specs.declared.entry.Reach.{Reach}
 use Rattle.k42_kinds.specs.declared.entry.Reach.TheVariants.{One, All}
-use Rattle.turn_core.specs.Events.{cell_told, cell_opened, cell_begun, cell_closed}
+use Rattle.turn_core.specs.Events.{cell_told, cell_opened, cell_begun}
 use Rattle.turn_core.specs.Names.{names}
 use Rattle.turn_core.specs.Plain.{Cell}
 use Rattle.turn_core.specs.Sound.{histories_of}
 use Rattle.k42_stamp.specs.Chains.{Turn, Chain}
-use Rattle.k42_stamp.specs.Fits.{Leaves, PastLeaves, Fits}
+use Rattle.k42_stamp.specs.Fits.{PastLeaves, Fits}
 use Rattle.k42_stamp.specs.Layouts.{Layouts}
 use Rattle.k42_stamp.specs.Parts.{touches}
-use Rattle.k42_joined.specs.Numbers.{cell_of, row_cells}
+use Rattle.k42_joined.specs.Numbers.{cell_of}
 use Rattle.k42_joined.specs.Rows.{cells_reached}
 use Rattle.k42_joined.proofs.CellNumbers.{IsAmong, same_cell, named_in_row, row_names}
-use Rattle.k42_joined.proofs.LocksLives.{IsWaiting, IsBegun, waiting, cell_begins}
+use Rattle.k42_joined.proofs.LocksLives.{IsWaiting, waiting, cell_begins}
 use Rattle.k42_joined.specs.Locks.{AreOfLives}
 
 -- histories that are the same at the rows that there are

@@ -1,9 +1,9 @@
 -- The callers' lists and the histories before and after a step, and which entries stand in both.
-use Rattle.std.proofs.Common.{◌≡◌, ◌≢◌, ℕ, zero, suc, ◌+◌, ◌<◌, ◌≤◌, ◌⊎◌, ◌∙◌, Bool, true, false, List, [], ◌∷◌, ◌++◌, length, map, get_or, set, length-set, refl, sym, ap, subst, inl, inr, ⊎_elim, arith}
+use Rattle.std.proofs.Common.{◌≡◌, ◌≢◌, ℕ, zero, suc, ◌<◌, ◌≤◌, ◌⊎◌, ◌∙◌, Bool, true, List, [], ◌∷◌, ◌++◌, length, map, get_or, set, refl, sym, ap, subst, inl, inr, ⊎_elim, arith}
 use Rattle.std.specs.List.{slice_get}
 use Rattle.std.specs.Prelude.{Some}
 use Rattle.std.proofs.lemmas.Bool.{cases_eq}
-use Rattle.std.proofs.lemmas.Option.{same_Some, slice_get_within, slice_get-map, get_or_from_slice_get}
+use Rattle.std.proofs.lemmas.Option.{same_Some, slice_get_within}
 use Rattle.k42_kinds.specs.declared.entry.Entry.{Entry}
 use Rattle.k42_kinds.specs.declared.entry.Act.{Act}
 use Rattle.k42_kinds.specs.declared.entry.Answer.{Answer}
@@ -72,11 +72,11 @@ pub record Grows {L P : Type 0} (procs : ℕ) (old new : ℕ → ℕ → ℕ →
   -- every chain goes on, and none is new
   pub chain : (o : ℕ) (x : Chain L P) → slice_get chains o ≡ Some x → (y : Chain L P) × (slice_get newer o ≡ Some y) × (length x.past ≤ length y.past)
   pub kept :
-    (o row p : ℕ) (x : Chain L P) (f : Entry) → slice_get chains o ≡ Some x → row ≤ length x.past → p < procs
-    → In f (old o row p) → In f (new o row p)
+      (o row p : ℕ) (x : Chain L P) (f : Entry) → slice_get chains o ≡ Some x → row ≤ length x.past → p < procs
+      → In f (old o row p) → In f (new o row p)
   pub split :
-    (o row p : ℕ) (y : Chain L P) (f : Entry) → slice_get newer o ≡ Some y → row ≤ length y.past → p < procs
-    → In f (new o row p) → (f ≡ e) ⊎ ((x : Chain L P) × (slice_get chains o ≡ Some x) × InRows procs (length x.past) (old o) f)
+      (o row p : ℕ) (y : Chain L P) (f : Entry) → slice_get newer o ≡ Some y → row ≤ length y.past → p < procs
+      → In f (new o row p) → (f ≡ e) ⊎ ((x : Chain L P) × (slice_get chains o ≡ Some x) × InRows procs (length x.past) (old o) f)
 
 -- the entry stands in the lists and, where it passes, in the histories
 pub grown_those : {L P : Type 0} (procs : ℕ) (passes : Act → Answer → Bool) (lists : List (List Entry)) (c : ℕ) (mine : List Entry) (e : Entry)

@@ -1,12 +1,10 @@
 -- An event of tables and swaps keeps the rows: it changes no cell, and turns an object over to the layout of its hand.
-use Rattle.std.proofs.Common.{◌≡◌, ℕ, zero, suc, ◌+◌, ◌-◌, ◌<◌, ◌≤◌, ◌≢◌, ◌⊎◌, ◌∙◌, Bool, true, false, not, ◌&&◌, cond, eqb, ltb, List, [], ◌∷◌, ◌++◌, Option, Some, None, length, get_or, set, sym, refl, ap, subst, ⊎_elim, arith}
+use Rattle.std.proofs.Common.{◌≡◌, ℕ, ◌+◌, ◌-◌, ◌<◌, ◌≢◌, ◌∙◌, Bool, true, false, not, cond, eqb, ltb, List, [], ◌∷◌, ◌++◌, Option, Some, None, length, get_or, sym, refl, ap, subst, ⊎_elim, arith}
 use Rattle.std.specs.List.{slice_get}
 use Rattle.std.proofs.lemmas.Bool.{and_parts, eqb-true, cases_eq}
 use Rattle.std.proofs.lemmas.Option.{same_Some, unwrap_or-slice_get, slice_get_within}
 use Rattle.std.specs.Option.{unwrap_or}
 use Rattle.gen_core.specs.Plain.{Caller}
-use Rattle.gen_core.specs.State.{caller_at}
-use Rattle.gen_core.specs.Events as gen
 use Rattle.gen_core.proofs.Alone.{only_caller}
 use Rattle.k42_places.proofs.Written.{get_or-set_related}
 use Rattle.phase_core.specs.Event.{Event, Turn, TakeRoleWith, LookUp, RootLoad, Install, Knock, StepOut, EndCall, Begin, Interpose, Block, Move, TurnOver, Unblock, Open, Clear, Free, caller_of}
@@ -18,7 +16,6 @@ use Rattle.phase_core.specs.Stages.{object_named, row_of}
 use Rattle.phase_core.specs.State.{object_at, visitor_at, entry_at, proc_of, note_at}
 use Rattle.phase_core.specs.declared.caller.SwapAt.{SwapAt}
 use Rattle.phase_core.specs.declared.caller.SwapAt.TheVariants.{Begun, Interposing, Opening, Reopening}
-use Rattle.phase_core.proofs.Alone.{ChangesOnly}
 use Rattle.phase_core.proofs.Changed.{turns_over}
 use Rattle.phase_core.proofs.Reached.{turn_there}
 use Rattle.turn_core.specs.Sound as turns
@@ -26,10 +23,10 @@ use Rattle.k42_stamp.specs.Layouts.{Layouts}
 use Rattle.k42_joined.specs.Plain.{Joined}
 use Rattle.k42_joined.specs.Event.{AtPhases}
 use Rattle.k42_joined.specs.Effects.{effect}
-use Rattle.k42_joined.specs.Fitting.{AreFor, IsTagged, HasRows, Fitting}
+use Rattle.k42_joined.specs.Fitting.{AreFor, IsTagged, Fitting}
 use Rattle.k42_joined.specs.Locks.{AreLocked}
 use Rattle.k42_joined.specs.Possible.{MaySwap}
-use Rattle.k42_joined.specs.State.{many_procs, many_callers, many_objects, object, incarnation, swap_of, held, layouts_of, many_hands, is_handed}
+use Rattle.k42_joined.specs.State.{many_callers, many_objects, incarnation, swap_of, held, layouts_of, many_hands, is_handed}
 use Rattle.k42_joined.specs.Swapping.{holds_none, is_newest_tag}
 use Rattle.k42_joined.proofs.LocksPhases.{turned_ahead}
 use Rattle.k42_joined.proofs.PhaseSteps.{only_its_caller, row_else, turned_here, turned_else}

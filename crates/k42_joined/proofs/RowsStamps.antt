@@ -1,13 +1,12 @@
 -- What the stamp of a step is above.
-use Rattle.std.proofs.Common.{◌≡◌, ◌≢◌, ℕ, zero, suc, ◌+◌, ◌<◌, ◌≤◌, ◌⊎◌, ◌∙◌, Bool, true, false, List, [], ◌∷◌, ◌++◌, length, map, refl, sym, ap, subst, inl, inr, ⊎_elim, arith}
+use Rattle.std.proofs.Common.{◌≡◌, ℕ, zero, suc, ◌<◌, true, List, [], ◌∷◌, length, map, refl, sym, ap, subst, inl, inr, ⊎_elim, arith}
 use Rattle.std.specs.List.{slice_get, AllByRecursion}
-use Rattle.std.specs.Prelude.{Option, Some, None}
-use Rattle.std.proofs.lemmas.Option.{same_Some, slice_get_within, slice_get-get_or, get_or_from_slice_get}
+use Rattle.std.specs.Prelude.{Some}
+use Rattle.std.proofs.lemmas.Option.{same_Some, slice_get-get_or}
 use Rattle.k42_kinds.specs.declared.entry.Entry.{Entry}
 use Rattle.turn_core.specs.Plain.{Caller, Turns}
-use Rattle.turn_core.specs.Sound.{drawn_by, IsSound, IsRising}
+use Rattle.turn_core.specs.Sound.{drawn_by, IsSound}
 use Rattle.turn_core.specs.State.{cell_at, caller_at, fresh_caller}
-use Rattle.turn_core.specs.Stamps.{last_stamp}
 use Rattle.turn_core.specs.Names.{names}
 use Rattle.turn_core.proofs.Drawing.{IsNext, above_mine, above_history, history_of-cell}
 use Rattle.turn_core.proofs.Reached.{lists-rise}

@@ -1,6 +1,5 @@
 -- A state that meets every fact is safe.
-use Rattle.std.proofs.Common.{◌≡◌, ◌≢◌, ℕ, zero, suc, ◌+◌, ◌-◌, ◌%◌, ◌<◌, ◌≤◌, ◌⊎◌, ◌∙◌, Bool, true, false, ◌||◌, cond, eqb, List, [], length, Some, refl, sym, ap, subst, inl, inr, ⊎_elim, arith}
-use Rattle.std.specs.Prelude.{IsTrue}
+use Rattle.std.proofs.Common.{◌≡◌, ◌≢◌, ℕ, ◌+◌, ◌-◌, ◌%◌, ◌<◌, ◌≤◌, ◌∙◌, Bool, true, false, ◌||◌, cond, eqb, List, length, refl, sym, ap, subst, ⊎_elim, arith}
 use Rattle.std.proofs.lemmas.Bool.{cases_eq}
 use Rattle.std.proofs.lemmas.Bool.Decides.{nat_tests}
 use Rattle.gen_core.specs.State.{caller_at}
@@ -9,7 +8,7 @@ use Rattle.phase_core.specs.Plain.{Phases}
 use Rattle.phase_core.specs.Runs.{HasRead}
 use Rattle.phase_core.specs.Sound as phases
 use Rattle.phase_core.specs.Stages.{IsInside, named_by}
-use Rattle.phase_core.specs.State.{object_at, visitor_at}
+use Rattle.phase_core.specs.State.{visitor_at}
 use Rattle.phase_core.specs.declared.caller.Place.{Place}
 use Rattle.phase_core.specs.declared.caller.Place.TheVariants.{Out, Missed, Direct, AtMediator, Tracked, Blocked}
 use Rattle.phase_core.proofs.InSound.{object_known, visitor_known, one_swap, inside_is_present, moved_is_ready}

@@ -1,5 +1,5 @@
 -- The stamp of a drawn entry is above that of each entry that its caller has seen.
-use Rattle.std.proofs.Common.{◌≡◌, ◌≢◌, ℕ, zero, suc, ◌+◌, ◌<◌, ◌≤◌, ◌⊎◌, ◌∙◌, Bool, true, false, List, [], ◌∷◌, ◌++◌, length, refl, sym, ap, subst, inl, inr, ⊎_elim, arith}
+use Rattle.std.proofs.Common.{◌≡◌, ◌≢◌, ℕ, zero, suc, ◌<◌, ◌≤◌, ◌⊎◌, false, List, [], ◌∷◌, ◌++◌, length, refl, ap, subst, ⊎_elim, arith}
 use Rattle.std.specs.List.{slice_get}
 use Rattle.std.specs.Prelude.{Some}
 use Rattle.k42_kinds.specs.declared.entry.Answer.TheVariants.{Swapped}
@@ -7,9 +7,7 @@ use Rattle.k42_kinds.specs.declared.entry.Entry.{Entry}
 use Rattle.k42_kinds.specs.Histories.{is_call}
 use Rattle.std.proofs.lemmas.Bool.{cases_eq}
 use Rattle.std.proofs.lemmas.Option.{same_Some}
-use Rattle.turn_core.specs.Sound as turns
-use Rattle.turn_core.specs.Sound.{histories_of, IsHistory, IsRising}
-use Rattle.turn_core.specs.State.{cell_at}
+use Rattle.turn_core.specs.Sound.{IsRising}
 use Rattle.turn_core.specs.declared.event.TurnEvent.TheVariants.{Draw, Alone}
 use Rattle.turn_core.proofs.Drawing.{IsNext, next_parts}
 use Rattle.turn_core.proofs.Reached.{histories-rise}
@@ -26,8 +24,8 @@ use Rattle.k42_joined.specs.Possible.{IsPossible}
 use Rattle.k42_joined.specs.Rows.{history_in}
 use Rattle.k42_joined.specs.Seen.{StoodBefore, WasHanded, HasSeen, StandsAt, Drawn, drawn_by}
 use Rattle.k42_joined.specs.Sound.{IsSound}
-use Rattle.k42_joined.specs.State.{many_callers, cell, mine}
-use Rattle.k42_joined.proofs.AnswersRows.{RowsAt, rows_at, no_call, not_in_row, same_swap, entry_in_chain}
+use Rattle.k42_joined.specs.State.{many_callers, mine}
+use Rattle.k42_joined.proofs.AnswersRows.{rows_at, no_call, not_in_row, same_swap, entry_in_chain}
 use Rattle.k42_joined.proofs.LocksHand.{core_hand}
 use Rattle.k42_joined.proofs.RowsDraw.{core_draw}
 use Rattle.k42_joined.proofs.RowsStamps.{in_place, above_own, above_cell}

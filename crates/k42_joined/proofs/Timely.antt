@@ -1,12 +1,8 @@
 -- One more entry at the end of a caller's list: when refusals stay timely.
-use Rattle.std.proofs.Common.{◌≡◌, ◌≢◌, ℕ, zero, suc, ◌+◌, ◌<◌, ◌≤◌, ◌⊎◌, ◌∙◌, List, [], ◌∷◌, ◌++◌, length, length-append, refl, sym, ap, subst, inl, inr, ⊎_elim, arith}
-use Rattle.std.specs.Prelude.{All}
-use Rattle.std.specs.List.{AllByRecursion}
+use Rattle.std.proofs.Common.{◌≡◌, ℕ, ◌+◌, ◌≤◌, ◌⊎◌, ◌∙◌, List, [], ◌∷◌, ◌++◌, refl, sym, ap, subst, inl, inr, ⊎_elim}
 use Rattle.std.proofs.lemmas.List.Elements.{All-append, All-from_recursion}
-use Rattle.k42_kinds.specs.declared.entry.Answer.{Answer}
 use Rattle.k42_kinds.specs.declared.entry.Answer.TheVariants.{Busy, Abandoned}
 use Rattle.k42_kinds.specs.declared.entry.Entry.{Entry}
-use Rattle.k42_kinds.specs.Histories.{AtEachPlace}
 use Rattle.k42_kinds.specs.Legal.{IsOwn, IsNotPast, IsTimely}
 use Rattle.k42_stamp.specs.Orders.{In}
 use Rattle.k42_stamp.proofs.Elements.{in_right}
@@ -81,9 +77,10 @@ timely_push m e timely late busy abandoned before f after cut =
     (λ (more : IsBeforeLast before after m f e).
     let inside : In f m = subst (λ (es : List Entry). In f es) (sym more.front) (in_right f before (f ∷ more.rest) (inl refl)) in
     let old = timely before f more.rest more.front in
-    subst (λ a. Stands before f a) (sym more.back)
-    ((λ number is. timely_more before more.rest f e number (late.busy f number inside is) (old.0 number is)),
-    (λ number is. timely_more before more.rest f e number (late.abandoned f number inside is) (old.1 number is))))
+    subst (λ a. Stands before f a) (sym more.back) (
+      (λ number is. timely_more before more.rest f e number (late.busy f number inside is) (old.0 number is)),
+      (λ number is. timely_more before more.rest f e number (late.abandoned f number inside is) (old.1 number is)),
+    ))
     (split_push before after m f e cut)
   where
     Stands : List Entry → Entry → List Entry → Type 0

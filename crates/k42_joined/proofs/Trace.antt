@@ -1,15 +1,11 @@
 -- What all callers drew, in order, is legal so far.
-use Rattle.std.proofs.Common.{◌≡◌, ℕ, Bool, true, List, refl}
-use Rattle.std.specs.List.{slice_get}
-use Rattle.k42_kinds.specs.Histories.{is_carried_out}
-use Rattle.k42_kinds.specs.declared.entry.Act.{Act}
+use Rattle.std.proofs.Common.{List, refl}
 use Rattle.k42_kinds.specs.declared.entry.Act.TheVariants.{Call, Swap, Destroy}
-use Rattle.k42_kinds.specs.declared.entry.Answer.{Answer}
 use Rattle.k42_kinds.specs.declared.entry.Answer.TheVariants.{Swapped}
 use Rattle.k42_kinds.specs.declared.entry.Entry.{Entry}
 use Rattle.k42_stamp.specs.Laws.{AreLaws}
 use Rattle.k42_stamp.specs.Layouts.{Layouts}
-use Rattle.k42_stamp.specs.Lists.{LetsSteps, AllFit, IsMerged, AreLegal, is_step, is_drawn}
+use Rattle.k42_stamp.specs.Lists.{LetsSteps, AllFit, IsMerged, AreLegal, is_drawn}
 use Rattle.k42_stamp.proofs.MergeLaw.{merged_legal}
 use Rattle.k42_joined.specs.Plain.{Joined}
 use Rattle.k42_joined.specs.Fitting.{lists_of, Fitting}

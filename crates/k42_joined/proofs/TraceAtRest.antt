@@ -1,11 +1,11 @@
 -- In a state at rest what all callers drew is one legal history.
-use Rattle.std.proofs.Common.{◌≡◌, ◌≢◌, ℕ, zero, suc, ◌+◌, ◌<◌, ◌≤◌, ◌⊎◌, ◌∙◌, Bool, true, false, ◌==◌, cond, eqb, List, [], ◌∷◌, ◌++◌, length, map, refl, sym, ap, subst, inl, inr, ⊎_elim, arith}
-use Rattle.std.specs.List.{slice_get, filter, AllByRecursion}
-use Rattle.std.specs.Prelude.{Option, Some, None}
+use Rattle.std.proofs.Common.{◌≡◌, ℕ, suc, ◌+◌, ◌<◌, ◌∙◌, Bool, true, false, ◌==◌, cond, eqb, List, [], ◌∷◌, ◌++◌, length, map, refl, sym, ap, subst, inl, arith}
+use Rattle.std.specs.List.{slice_get, AllByRecursion}
+use Rattle.std.specs.Prelude.{Some}
 use Rattle.std.proofs.lemmas.Bool.{eqb-true, eq-eqb}
-use Rattle.std.proofs.lemmas.Option.{same_Some, slice_get_within, slice_get-get_or}
-use Rattle.k42_kinds.specs.Histories.{AtEachPlace, IsNumbered, IsInOrder, entries_of, unstamped, is_call}
-use Rattle.k42_kinds.specs.Legal.{IsLegalAnswerOf, IsLegalActOf, IsAnswerSoFar, IsActSoFar, IsSoFarAmongObjects, IsLegalAmongObjects, IsLegalHistoryOf}
+use Rattle.std.proofs.lemmas.Option.{same_Some, slice_get-get_or}
+use Rattle.k42_kinds.specs.Histories.{AtEachPlace, entries_of, unstamped}
+use Rattle.k42_kinds.specs.Legal.{IsLegalAnswerOf, IsLegalActOf, IsAnswerSoFar, IsActSoFar, IsLegalAmongObjects}
 use Rattle.k42_kinds.specs.OneThread.{OneThread}
 use Rattle.k42_kinds.specs.declared.entry.Act.{Act}
 use Rattle.k42_kinds.specs.declared.entry.Act.TheVariants.{Call, Swap, Destroy}
@@ -18,20 +18,19 @@ use Rattle.turn_core.specs.State.{caller_at, fresh_caller}
 use Rattle.turn_core.proofs.Reached.{lists-rise}
 use Rattle.k42_stamp.specs.Laws.{AreLaws}
 use Rattle.k42_stamp.specs.Layouts.{Layouts}
-use Rattle.k42_stamp.specs.Lists.{InSome, numbered_from, IsTrace, IsMerged, AreLegal, is_answer_drawn, is_drawn}
+use Rattle.k42_stamp.specs.Lists.{numbered_from, IsTrace, IsMerged, AreLegal, is_answer_drawn, is_drawn}
 use Rattle.k42_stamp.specs.Orders.{IsBefore, Ordered, In}
 use Rattle.k42_stamp.proofs.Elements.{in-filter, in-from_filter, in_right}
 use Rattle.k42_stamp.proofs.Ordering.{Ordered-filter, same_entries}
 use Rattle.k42_joined.specs.Plain.{Joined}
-use Rattle.k42_joined.specs.Answers.{IsAnswer, IsAnswered, AreAnswered}
 use Rattle.k42_joined.specs.Fitting.{lists_of}
 use Rattle.k42_joined.specs.Rest.{IsAtRest, IsHistoryOf}
 use Rattle.k42_joined.specs.Sound.{IsSound}
 use Rattle.k42_joined.specs.State.{many_callers, many_objects, mine}
-use Rattle.k42_joined.proofs.AnswersTrace.{IsLegallyHeldUp, IsNumberedCut, numbered_cut, held_up_legal}
+use Rattle.k42_joined.proofs.AnswersTrace.{IsLegallyHeldUp, numbered_cut, held_up_legal}
 use Rattle.k42_joined.proofs.RowsCalls.{some_at}
 use Rattle.k42_joined.proofs.RowsCells.{list_here}
-use Rattle.k42_joined.proofs.RowsStamps.{in_own, own_caller, place_in}
+use Rattle.k42_joined.proofs.RowsStamps.{in_own, own_caller}
 use Rattle.k42_joined.proofs.Trace.{trace_legal}
 
 -- each numbered entry has its place as stamp

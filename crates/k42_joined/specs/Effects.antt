@@ -1,6 +1,5 @@
 -- What each joined event does.
 use Rattle.std.specs.Prelude.{ℕ, Bool, false, ◌||◌, List, ◌∷◌, None, slice_set}
-use Rattle.k42_kinds.specs.declared.entry.Entry.{Entry}
 use Rattle.phase_core.specs.Events as phases
 use Rattle.turn_core.specs.Events as turns
 use Rattle.turn_core.specs.declared.event.TurnEvent.{TurnEvent}

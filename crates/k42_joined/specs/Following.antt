@@ -1,8 +1,8 @@
 -- What becomes of an object's rows and of their parts by a step.
-use Rattle.std.specs.Prelude.{◌≡◌, ℕ, List, ◌∷◌, Some, slice_get}
+use Rattle.std.specs.Prelude.{◌≡◌, ◌∷◌}
 use Rattle.k42_kinds.specs.declared.entry.Entry.{Entry}
 use Rattle.k42_stamp.specs.Layouts.{Layouts}
-use Rattle.k42_stamp.specs.Chains.{Turn, Chain, parts_of, state_of}
+use Rattle.k42_stamp.specs.Chains.{Chain, parts_of, state_of}
 use Rattle.k42_stamp.specs.Parts.{part_steps}
 
 -- A draw moves the parts of the newest row as the entry says, and leaves all other rows.
@@ -19,5 +19,5 @@ pub record FollowsHand
   pub past : y.past ≡ record { row = x.row; done = entry } ∷ x.past
   pub layout_is : y.row.layout ≡ layout
   pub parts :
-    parts_of F y.row
-    ≡ (F.ways_of layout).imported F.procs (F.admitted layout (state_of F x.row))
+      parts_of F y.row
+      ≡ (F.ways_of layout).imported F.procs (F.admitted layout (state_of F x.row))

@@ -26,8 +26,8 @@ object_of s (HandWith c from onto layout entry) = Some entry.object
 pub record LeavesOthers {L : Type 0} (s t : Joined L) (caller : ℕ) (named : List ℕ) (changed : Option ℕ) : Type 0 where
   pub visitors : (c : ℕ) → c ≢ caller → visitor_at t.phases c ≡ visitor_at s.phases c
   pub activities :
-    (c : ℕ) → c ≢ caller
-    → generations.caller_at t.phases.turns c ≡ generations.caller_at s.phases.turns c
+      (c : ℕ) → c ≢ caller
+      → generations.caller_at t.phases.turns c ≡ generations.caller_at s.phases.turns c
   pub lists : (c : ℕ) → c ≢ caller → cells.caller_at t.turns c ≡ cells.caller_at s.turns c
   pub kept : (c : ℕ) → c ≢ caller → kept_of t c ≡ kept_of s c
   pub cells : (n : ℕ) → names named n ≡ false → cell t n ≡ cell s n

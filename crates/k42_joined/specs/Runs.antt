@@ -51,7 +51,7 @@ pub record IsFreedOnce {S L P : Type 0} (F : Layouts S L P) (declared : List L) 
   pub kept : (o : ℕ) → (object s o).freed ≤ (object t o).freed
   pub once : (event : Event L) (o i : ℕ) → i < (object s o).freed → ¬ FreesRow t event o i
   pub given :
-    (event : Event L) (o j : ℕ) → IsPossible F declared t event → j ≤ many_hands s o → ¬ GivesLife t event o j
+      (event : Event L) (o j : ℕ) → IsPossible F declared t event → j ≤ many_hands s o → ¬ GivesLife t event o j
 
 -- the caller's Leave stands among the events
 abbrev pub Leaves : {L : Type 0} → ℕ → List (Event L) → Type 0

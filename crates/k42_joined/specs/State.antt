@@ -1,5 +1,5 @@
 -- Reading the joined state, and what is kept beside phases and cells.
-use Rattle.std.specs.Prelude.{ℕ, ◌+◌, Bool, false, nat_lt, List, [], Option, None, length, slice_index_or, slice_set}
+use Rattle.std.specs.Prelude.{ℕ, Bool, false, nat_lt, List, [], None, length, slice_index_or, slice_set}
 use Rattle.k42_kinds.specs.declared.entry.Entry.{Entry}
 use Rattle.phase_core.specs.Plain.{Object}
 use Rattle.phase_core.specs.State.{object_at, visitor_at}
