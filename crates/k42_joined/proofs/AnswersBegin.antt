@@ -28,7 +28,7 @@ use Rattle.k42_joined.specs.Event.{AtPhases}
 use Rattle.k42_joined.specs.Effects.{effect}
 use Rattle.k42_joined.specs.Found.{swap_number, answer_found}
 use Rattle.k42_joined.specs.Locks.{AreLocked}
-use Rattle.k42_joined.specs.Possible.{MaySwap}
+use Rattle.k42_joined.specs.Possible.{MayAtPhases}
 use Rattle.k42_joined.specs.Refusals.{is_given_up}
 use Rattle.k42_joined.specs.State.{nothing_kept, many_callers, many_objects, object, incarnation, swap_of, mine, kept_of, keep}
 use Rattle.k42_joined.proofs.AnswersOwn.{MovesOn, steps, own_keeps}
@@ -333,7 +333,7 @@ module _ {L : Type 0} (s : Joined L) (sound : phases.IsSound s.phases) (locked :
   begun_answers false is = begun_free is
 
 pub begin_answers : {S L P : Type 0} (F : Layouts S L P) (declared : List L) (s : Joined L) → phases.IsSound s.phases → AreLocked s → AreAnswered s
-    → (c q : ℕ) → c < many_callers s → MaySwap F declared s (Begin c q) → AreAnswered (effect s (AtPhases (Begin c q)))
+    → (c q : ℕ) → c < many_callers s → MayAtPhases F declared s (Begin c q) → AreAnswered (effect s (AtPhases (Begin c q)))
 begin_answers F declared s sound locked answered c q there may =
     begun_answers s sound locked answered c there
     (from_is_idle (swap_of s c) (and_parts (gen.is_free (caller_at s.phases.turns c)) _ may.core).1) q may.objects (object s q).swap refl

@@ -19,7 +19,7 @@ use Rattle.k42_stamp.specs.Parts.{those_at}
 use Rattle.k42_stamp.proofs.Elements.{in_left}
 use Rattle.k42_joined.specs.Plain.{Joined}
 use Rattle.k42_joined.specs.Answers.{AreAnswered}
-use Rattle.k42_joined.specs.Drawing.{IsMark, IsDrawnAs, MayDraw}
+use Rattle.k42_joined.specs.Drawing.{FoundOver, IsDrawnAs, MayDraw}
 use Rattle.k42_joined.specs.Effects.{kept_drawn}
 use Rattle.k42_joined.specs.Fitting.{Fitting}
 use Rattle.k42_joined.specs.Locks.{AreLocked}
@@ -81,7 +81,7 @@ module _ {S L P : Type 0} (F : Layouts S L P) (laws : AreLaws F) (declared : Lis
       let is = done_at F laws declared s turns_sound locked rows answered d n other within listed answer o same at in
       first_below at.chain.past refl named other is.stamp
 
-  mark_named : IsMark F declared s c cells e → names cells (cell_of o i 0) ≡ true
+  mark_named : FoundOver F declared s c cells e → names cells (cell_of o i 0) ≡ true
   mark_named mark =
       rw mark.first (ap (λ j. eqb (cell_of o j 0) (cell_of o i 0) || false) mark.present ∙ ap (λ b. b || false) (eq-eqb (cell_of o i 0) (cell_of o i 0) refl))
 

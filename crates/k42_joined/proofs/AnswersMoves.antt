@@ -19,13 +19,13 @@ use Rattle.turn_core.specs.Sound as turns
 use Rattle.k42_stamp.specs.Laws.{AreLaws}
 use Rattle.k42_stamp.specs.Layouts.{Layouts}
 use Rattle.k42_joined.specs.Plain.{Kept, Joined}
-use Rattle.k42_joined.specs.Answers.{is_refused, is_turned, HasAnswered, IsKept, IsReached, HasDrawn, AreAnswered}
+use Rattle.k42_joined.specs.Answers.{is_refused, is_turned, HasAnswered, IsKept, IsKnownNumber, HasDrawn, AreAnswered}
 use Rattle.k42_joined.specs.Event.{AtPhases}
 use Rattle.k42_joined.specs.Effects.{effect}
 use Rattle.k42_joined.specs.Fitting.{Fitting}
 use Rattle.k42_joined.specs.Found.{swap_number}
 use Rattle.k42_joined.specs.Locks.{AreLocked}
-use Rattle.k42_joined.specs.Possible.{MaySwap}
+use Rattle.k42_joined.specs.Possible.{MayAtPhases}
 use Rattle.k42_joined.specs.Refusals.{is_given_up}
 use Rattle.k42_joined.specs.State.{nothing_kept, many_callers, many_objects, object, incarnation, swap_of, held, kept_of, keep, many_hands, is_handed}
 use Rattle.k42_joined.specs.Swapping.{holds_none}
@@ -140,7 +140,7 @@ module _ {S L P : Type 0} (F : Layouts S L P) (laws : AreLaws F) (declared : Lis
 
     -- it is turned over
 
-    module _ (tag : ℕ) (may : MaySwap F declared s (TurnOver c tag)) where
+    module _ (tag : ℕ) (may : MayAtPhases F declared s (TurnOver c tag)) where
       abbrev u : Joined L
       u = record s { phases = staged s.phases c q (Opening q 0) (turned_over k tag); kept = s.kept }
 
@@ -168,7 +168,7 @@ module _ {S L P : Type 0} (F : Layouts S L P) (laws : AreLaws F) (declared : Lis
           moves_changed s c there q (Opening q 0) (turned_over k tag) s.kept moved_names u_word (λ d other. refl)
           (λ number e is answer ahead moved.
           let same : q ≡ e.object = same_Some q e.object (sym moved_names ∙ ap named_by moved) in
-          subst (λ o. IsReached u c o number) same
+          subst (λ o. IsKnownNumber u c o number) same
           (inl (let rises = ap (λ (l : Object). l.incarnation) u_object in
           let here : number ≡ incarnation s q + 1 = subst (λ o. number ≡ incarnation s o + 1) (sym same) ahead in
           omega (arith, here, rises))))
@@ -201,7 +201,7 @@ module _ {S L P : Type 0} (F : Layouts S L P) (laws : AreLaws F) (declared : Lis
 
     -- it is given up
 
-    module _ (may : MaySwap F declared s (Unblock c)) where
+    module _ (may : MayAtPhases F declared s (Unblock c)) where
       abbrev kept : List Kept
       kept = keep s c (record (kept_of s c) { abandoned = false })
 
@@ -254,9 +254,9 @@ module _ {S L P : Type 0} (F : Layouts S L P) (laws : AreLaws F) (declared : Lis
             given_up = λ is abandons. let bad : false ≡ true = sym (ap (λ (x : Kept). x.abandoned) v_kept) ∙ abandons in absurd (cc);
           })
 
-  pub turn_over_answers : (tag : ℕ) → MaySwap F declared s (TurnOver c tag) → AreAnswered (effect s (AtPhases (TurnOver c tag)))
+  pub turn_over_answers : (tag : ℕ) → MayAtPhases F declared s (TurnOver c tag) → AreAnswered (effect s (AtPhases (TurnOver c tag)))
   turn_over_answers tag may =
       turn_over_keeps (from_is_moved (swap_of s c) (and_parts (is_moved (swap_of s c)) _ may.core).0) tag may
 
-  pub unblock_answers : MaySwap F declared s (Unblock c) → AreAnswered (effect s (AtPhases (Unblock c)))
+  pub unblock_answers : MayAtPhases F declared s (Unblock c) → AreAnswered (effect s (AtPhases (Unblock c)))
   unblock_answers may = unblock_keeps (from_is_moved (swap_of s c) may.core) may

@@ -22,7 +22,7 @@ use Rattle.k42_joined.specs.Answers.{is_refused, is_turned, HasAnswered, HasDraw
 use Rattle.k42_joined.specs.Event.{AtPhases}
 use Rattle.k42_joined.specs.Effects.{effect}
 use Rattle.k42_joined.specs.Found.{swap_number}
-use Rattle.k42_joined.specs.Possible.{MaySwap}
+use Rattle.k42_joined.specs.Possible.{MayAtPhases}
 use Rattle.k42_joined.specs.Refusals.{is_given_up}
 use Rattle.k42_joined.specs.State.{many_callers, many_objects, object, incarnation, swap_of, kept_of}
 use Rattle.k42_joined.specs.Swapping.{may_clear}
@@ -218,5 +218,5 @@ module _ {L : Type 0} (s : Joined L) (sound : phases.IsSound s.phases) (answered
       )
   clear_by swap at is may = absurd (cc)
 
-  pub clear_answers : {S P : Type 0} (F : Layouts S L P) (declared : List L) → MaySwap F declared s (Clear c) → AreAnswered (effect s (AtPhases (Clear c)))
+  pub clear_answers : {S P : Type 0} (F : Layouts S L P) (declared : List L) → MayAtPhases F declared s (Clear c) → AreAnswered (effect s (AtPhases (Clear c)))
   clear_answers F declared may = clear_by (swap_of s c) refl may.core may.beside

@@ -11,7 +11,7 @@ use Rattle.phase_core.specs.declared.caller.SwapAt.TheVariants.{Moved}
 use Rattle.phase_core.proofs.InSound.{one_swap}
 use Rattle.k42_stamp.specs.Orders.{In}
 use Rattle.k42_joined.specs.Plain.{Kept, Joined}
-use Rattle.k42_joined.specs.Answers.{is_refused, IsKept, IsUnderWay, HasRival, IsReached, IsFound, HasDrawn, AreAnswered}
+use Rattle.k42_joined.specs.Answers.{is_refused, IsKept, IsUnderWay, HasRival, IsKnownNumber, IsFound, HasDrawn, AreAnswered}
 use Rattle.k42_joined.specs.Found.{swap_number}
 use Rattle.k42_joined.specs.State.{many_callers, many_objects, object, incarnation, swap_of, mine, kept_of, many_hands}
 use Rattle.k42_joined.proofs.AnswersSteps.{WordGoesOn, StepsOn, answered_on, found_on, answered_after}
@@ -30,7 +30,7 @@ pub record MovesOn {L : Type 0} (s t : Joined L) (c : ℕ) : Type 0 where
   pub word_else : (o : ℕ) → (named_by (swap_of s c) ≡ Some o → ⊥) → IsSameWord (object s o) (object t o)
   pub reached :
       (number : ℕ) (e : Entry) → In e (mine s c) → e.answer ≡ Swapped number → number ≡ incarnation s e.object + 1
-      → swap_of s c ≡ Moved e.object → IsReached t c e.object number
+      → swap_of s c ≡ Moved e.object → IsKnownNumber t c e.object number
   pub rival :
       (d o number : ℕ) → c ≢ d → named_by (swap_of s c) ≡ Some o → is_refused (swap_of s c) ≡ false
       → number ≡ swap_number (object s o) → HasRival t d o number
@@ -47,14 +47,14 @@ module _ {L : Type 0} (s t : Joined L) (sound : phases.IsSound s.phases) (answer
   named_moved swap o is = ap named_by is
 
   reached_all : (d number : ℕ) (e : Entry) → d < many_callers s → In e (mine s d) → e.answer ≡ Swapped number
-      → IsReached s d e.object number → IsReached t d e.object number
+      → IsKnownNumber s d e.object number → IsKnownNumber t d e.object number
   reached_all d number e within is answer reached =
-      ⊎_elim {C = IsReached t d e.object number}
+      ⊎_elim {C = IsKnownNumber t d e.object number}
       (λ (low : number ≤ incarnation s e.object). let rises = (moves.words e.object).incarnation in inl (omega (arith, low, rises)))
       (λ (ahead : (number ≡ incarnation s e.object + 1) × (swap_of s d ≡ Moved e.object)).
-      ⊎_elim {C = IsReached t d e.object number}
+      ⊎_elim {C = IsKnownNumber t d e.object number}
       (λ (same : d ≡ c).
-      subst (λ f. IsReached t f e.object number) (sym same)
+      subst (λ f. IsKnownNumber t f e.object number) (sym same)
       (moves.reached number e (subst (λ f. In e (mine s f)) same is) answer ahead.0 (subst (λ f. swap_of s f ≡ Moved e.object) same ahead.1)))
       (λ (other : d ≢ c).
       let word = moves.word_else e.object (other_named d e.object within other (named_moved (swap_of s d) e.object ahead.1)) in

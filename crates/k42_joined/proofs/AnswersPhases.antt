@@ -11,7 +11,7 @@ use Rattle.k42_joined.specs.Event.{AtPhases}
 use Rattle.k42_joined.specs.Effects.{effect}
 use Rattle.k42_joined.specs.Fitting.{Fitting}
 use Rattle.k42_joined.specs.Locks.{AreLocked}
-use Rattle.k42_joined.specs.Possible.{MaySwap}
+use Rattle.k42_joined.specs.Possible.{MayAtPhases}
 use Rattle.k42_joined.specs.State.{many_callers}
 use Rattle.k42_joined.proofs.AnswersBegin.{begin_answers}
 use Rattle.k42_joined.proofs.AnswersMoves.{move_answers, turn_over_answers, unblock_answers}
@@ -21,7 +21,7 @@ use Rattle.k42_joined.proofs.AnswersQuiet.{quiet_keeps}
 module _ {S L P : Type 0} (F : Layouts S L P) (laws : AreLaws F) (declared : List L) (s : Joined L)
     (sound : phases.IsSound s.phases) (turns_sound : turns.IsSound s.turns) (locked : AreLocked s) (rows : Fitting F declared s)
     (answered : AreAnswered s) where
-  pub phases_keep_answers : (event : Event) → caller_of event < many_callers s → MaySwap F declared s event
+  pub phases_keep_answers : (event : Event) → caller_of event < many_callers s → MayAtPhases F declared s event
       → AreAnswered (effect s (AtPhases event))
   phases_keep_answers (Begin c q) there may = begin_answers F declared s sound locked answered c q there may
   phases_keep_answers (Move c) there may = move_answers F laws declared s sound turns_sound locked rows answered c there may.core

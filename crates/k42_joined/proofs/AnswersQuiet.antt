@@ -12,13 +12,13 @@ use Rattle.k42_stamp.specs.Layouts.{Layouts}
 use Rattle.k42_joined.specs.Plain.{Kept, Joined}
 use Rattle.k42_joined.specs.Event.{AtPhases}
 use Rattle.k42_joined.specs.Effects.{effect}
-use Rattle.k42_joined.specs.Answers.{is_refused, is_turned, HasAnswered, IsKept, IsUnderWay, IsReached, HasDrawn, AreAnswered}
+use Rattle.k42_joined.specs.Answers.{is_refused, is_turned, HasAnswered, IsKept, IsUnderWay, IsKnownNumber, HasDrawn, AreAnswered}
 use Rattle.k42_joined.specs.Found.{swap_number}
-use Rattle.k42_joined.specs.Possible.{MaySwap}
+use Rattle.k42_joined.specs.Possible.{MayAtPhases}
 use Rattle.k42_joined.specs.Refusals.{is_given_up}
 use Rattle.std.specs.Prelude.{slice_index_or}
 use Rattle.k42_joined.specs.State.{nothing_kept, many_callers, many_objects, object, incarnation, swap_of, kept_of, many_hands}
-use Rattle.k42_joined.specs.Swapping.{kept_after}
+use Rattle.k42_joined.specs.Swapping.{kept_after_phases}
 use Rattle.k42_joined.proofs.AnswersSteps.{StepsOn, answered_on, found_on, answered_after}
 use Rattle.k42_joined.proofs.AnswersWords.{IsSameWord, same_number, word_on, is_quiet, changes_word, word_stays, IsAlike, quiet_alike}
 use Rattle.k42_joined.proofs.PhaseSteps.{only_its_caller}
@@ -50,9 +50,9 @@ under_way_on s t d o number callers is named refused same = record {
 
 -- a number that was reached stays so, where the incarnation and the stage stay
 pub reached_on : {L : Type 0} (s t : Joined L) (d o number : ℕ) → incarnation t o ≡ incarnation s o
-    → (swap_of s d ≡ Moved o → swap_of t d ≡ Moved o) → IsReached s d o number → IsReached t d o number
+    → (swap_of s d ≡ Moved o → swap_of t d ≡ Moved o) → IsKnownNumber s d o number → IsKnownNumber t d o number
 reached_on s t d o number same moved is =
-    ⊎_elim {C = IsReached t d o number} (λ low. inl (omega (arith, low, same)))
+    ⊎_elim {C = IsKnownNumber t d o number} (λ low. inl (omega (arith, low, same)))
     (λ (ahead : (number ≡ incarnation s o + 1) × (swap_of s d ≡ Moved o)).
     let next = ahead.0 in inr (omega (arith, next, same), moved ahead.1)) is
 
@@ -86,7 +86,7 @@ module _ {L : Type 0} (s t : Joined L) (d : ℕ) (same : IsAlike (swap_of s d) (
   }
 
 -- a quiet event keeps what is kept beside
-kept_still : {L : Type 0} (s : Joined L) (event : Event) → is_quiet event ≡ true → kept_after s event ≡ s.kept
+kept_still : {L : Type 0} (s : Joined L) (event : Event) → is_quiet event ≡ true → kept_after_phases s event ≡ s.kept
 kept_still s (Begin c o) quiet = absurd (cc)
 kept_still s (Unblock c) quiet = absurd (cc)
 kept_still s event quiet = refl
@@ -97,7 +97,7 @@ no_change (Clear c) quiet = absurd (cc)
 no_change event quiet = refl
 
 module _ {S L P : Type 0} (F : Layouts S L P) (declared : List L) (s : Joined L) (sound : phases.IsSound s.phases) (answered : AreAnswered s)
-    (event : Event) (there : caller_of event < many_callers s) (may : MaySwap F declared s event) (quiet : is_quiet event ≡ true) where
+    (event : Event) (there : caller_of event < many_callers s) (may : MayAtPhases F declared s event) (quiet : is_quiet event ≡ true) where
   abbrev t : Joined L
   t = effect s (AtPhases event)
 

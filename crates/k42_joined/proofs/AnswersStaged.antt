@@ -13,7 +13,7 @@ use Rattle.phase_core.specs.declared.caller.SwapAt.{SwapAt}
 use Rattle.phase_core.specs.declared.caller.SwapAt.TheVariants.{Moved}
 use Rattle.k42_stamp.specs.Orders.{In}
 use Rattle.k42_joined.specs.Plain.{Kept, Joined}
-use Rattle.k42_joined.specs.Answers.{is_refused, HasRival, IsReached}
+use Rattle.k42_joined.specs.Answers.{is_refused, HasRival, IsKnownNumber}
 use Rattle.k42_joined.specs.Found.{swap_number}
 use Rattle.k42_joined.specs.State.{many_callers, many_objects, object, incarnation, swap_of, mine, kept_of}
 use Rattle.k42_joined.proofs.AnswersSteps.{WordGoesOn}
@@ -49,7 +49,7 @@ module _ {L : Type 0} (s : Joined L) (c : ℕ) (there : c < many_callers s) (q :
   abbrev Reached : Type 0
   Reached =
       (number : ℕ) (e : Entry) → In e (mine s c) → e.answer ≡ Swapped number → number ≡ incarnation s e.object + 1
-      → swap_of s c ≡ Moved e.object → IsReached t c e.object number
+      → swap_of s c ≡ Moved e.object → IsKnownNumber t c e.object number
 
   abbrev Rival : Type 0
   Rival =

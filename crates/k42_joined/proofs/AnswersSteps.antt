@@ -10,7 +10,7 @@ use Rattle.phase_core.specs.Plain.{Object}
 use Rattle.phase_core.specs.Stages.{named_by}
 use Rattle.k42_stamp.specs.Orders.{In}
 use Rattle.k42_joined.specs.Plain.{Joined}
-use Rattle.k42_joined.specs.Answers.{HasAnswered, AreTimely, IsTrueOf, IsKept, IsUnderWay, IsSettled, HasRival, IsReached, IsAnswer, IsFound, HasDrawn, AreAnswered}
+use Rattle.k42_joined.specs.Answers.{HasAnswered, AreTimely, IsTrueOf, IsKept, IsUnderWay, IsSettled, HasRival, IsKnownNumber, IsAnswer, IsFound, HasDrawn, AreAnswered}
 use Rattle.k42_joined.specs.Found.{swap_number}
 use Rattle.k42_joined.specs.State.{many_callers, many_objects, object, swap_of, mine, kept_of}
 
@@ -47,7 +47,7 @@ module _ {L : Type 0} (s t : Joined L) where
     pub words : (o : ℕ) → WordGoesOn (object s o) (object t o)
     pub reached :
         (d number : ℕ) (e : Entry) → d < many_callers s → In e (mine s d) → e.answer ≡ Swapped number
-        → IsReached s d e.object number → IsReached t d e.object number
+        → IsKnownNumber s d e.object number → IsKnownNumber t d e.object number
     pub rivals : (d o number : ℕ) → IsUnderWay s d o number → HasRival t d o number
 
   module _ (on : StepsOn) where

@@ -18,23 +18,23 @@ use Rattle.turn_core.proofs.Alone.{caller-happens, cell-happens}
 use Rattle.k42_stamp.specs.Layouts.{Layouts}
 use Rattle.k42_joined.specs.Plain.{Joined}
 use Rattle.k42_joined.specs.Event.{Event, AtPhases, AtCells, HandWith, caller_of}
-use Rattle.k42_joined.specs.Effects.{effect, kept_turned}
+use Rattle.k42_joined.specs.Effects.{effect, kept_after_cells}
 use Rattle.k42_joined.specs.Frame.{cells_of, object_of, LeavesOthers}
 use Rattle.k42_joined.specs.Possible.{IsPossible}
 use Rattle.k42_joined.specs.State.{nothing_kept, kept_of}
-use Rattle.k42_joined.specs.Swapping.{kept_after}
+use Rattle.k42_joined.specs.Swapping.{kept_after_phases}
 use Rattle.k42_joined.proofs.PhaseSteps.{happened}
 
 turned : (s : Turns) (event : TurnEvent) → turns.is_possible s event ≡ true → happens s event ≡ turns.effect s event
 turned s event possible = rw possible refl
 
 module _ {S L P : Type 0} (F : Layouts S L P) (declared : List L) (s : Joined L) (sound : phases_sound.IsSound s.phases) where
-  kept_swap : (event : phase_events.Event) (d : ℕ) → d ≢ phase_events.caller_of event → get_or (kept_after s event) d nothing_kept ≡ kept_of s d
+  kept_swap : (event : phase_events.Event) (d : ℕ) → d ≢ phase_events.caller_of event → get_or (kept_after_phases s event) d nothing_kept ≡ kept_of s d
   kept_swap (Begin c o) d other = get_or-set_other s.kept c d _ nothing_kept other
   kept_swap (Unblock c) d other = get_or-set_other s.kept c d _ nothing_kept other
   kept_swap event d other = refl
 
-  kept_turn : (event : TurnEvent) (d : ℕ) → d ≢ turns.caller_of event → get_or (kept_turned s event) d nothing_kept ≡ kept_of s d
+  kept_turn : (event : TurnEvent) (d : ℕ) → d ≢ turns.caller_of event → get_or (kept_after_cells s event) d nothing_kept ≡ kept_of s d
   kept_turn (Draw c ns entry) d other = get_or-set_other s.kept c d _ nothing_kept other
   kept_turn (Alone c entry) d other = get_or-set_other s.kept c d _ nothing_kept other
   kept_turn event d other = refl

@@ -22,7 +22,7 @@ use Rattle.k42_stamp.specs.Layouts.{Layouts}
 use Rattle.k42_joined.specs.Plain.{Joined}
 use Rattle.k42_joined.specs.Event.{Event, AtPhases, AtCells, HandWith}
 use Rattle.k42_joined.specs.Effects.{effect}
-use Rattle.k42_joined.specs.Possible.{MayTouch, MaySwap, MayTurn, MayHandWith, IsPossible}
+use Rattle.k42_joined.specs.Possible.{MayTouch, MayAtPhases, MayAtCells, MayHandOn, IsPossible}
 use Rattle.k42_joined.specs.Sound.{IsSound}
 use Rattle.k42_joined.specs.State.{many_callers, cell}
 use Rattle.k42_joined.proofs.AnswersCells.{draw_keeps_answers}
@@ -59,7 +59,7 @@ all_more P (x ∷ xs) ys left right = (left.0, all_more P xs ys left.1 right)
 
 module _ {S L P : Type 0} (F : Layouts S L P) (laws : AreLaws F) (declared : List L) (s : Joined L) (sound : IsSound F declared s) where
   -- an event of tables and swaps
-  phases_keep : (event : phase_events.Event) → phase_events.caller_of event < many_callers s → MaySwap F declared s event
+  phases_keep : (event : phase_events.Event) → phase_events.caller_of event < many_callers s → MayAtPhases F declared s event
       → IsSound F declared (effect s (AtPhases event))
   phases_keep event there may = record {
     phases = event_keeps s.phases event sound.phases (turn_there s.phases sound.phases (phase_events.caller_of event) there) may.objects may.core;
@@ -85,7 +85,7 @@ module _ {S L P : Type 0} (F : Layouts S L P) (laws : AreLaws F) (declared : Lis
       omega (arith, object, long)
 
   -- an event of cells
-  cells_keep : (event : TurnEvent) → turn_events.caller_of event < many_callers s → MayTurn F declared s event
+  cells_keep : (event : TurnEvent) → turn_events.caller_of event < many_callers s → MayAtCells F declared s event
       → IsSound F declared (effect s (AtCells event))
   cells_keep (Lock c n) there may =
       let in_range = touched_there c n may.beside in
@@ -158,7 +158,7 @@ module _ {S L P : Type 0} (F : Layouts S L P) (laws : AreLaws F) (declared : Lis
   cells_keep (Hand c from onto e) there may = absurd may.beside
 
   -- a hand
-  hand_keep : (c : ℕ) (from onto : List ℕ) (layout : L) (e : Entry) → c < many_callers s → MayHandWith F declared s c from onto layout e
+  hand_keep : (c : ℕ) (from onto : List ℕ) (layout : L) (e : Entry) → c < many_callers s → MayHandOn F declared s c from onto layout e
       → IsSound F declared (effect s (HandWith c from onto layout e))
   hand_keep c from onto layout e there may =
       let core = core_hand s.turns c from onto e may.core in

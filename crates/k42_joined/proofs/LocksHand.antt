@@ -22,9 +22,9 @@ use Rattle.k42_stamp.specs.Layouts.{Layouts}
 use Rattle.k42_joined.specs.Plain.{Joined}
 use Rattle.k42_joined.specs.Event.{HandWith}
 use Rattle.k42_joined.specs.Effects.{effect}
-use Rattle.k42_joined.specs.Locks.{AreLawfullyHeld, IsCounted, AreOfLives, AreLocked}
+use Rattle.k42_joined.specs.Locks.{AreLawfullyHeld, CountsRows, AreOfLives, AreLocked}
 use Rattle.k42_joined.specs.Numbers.{cell_of, object_of, row_cells}
-use Rattle.k42_joined.specs.Possible.{MayHandWith}
+use Rattle.k42_joined.specs.Possible.{MayHandOn}
 use Rattle.k42_joined.specs.State.{many_procs, many_objects, object, incarnation, cell, cell_in, many_hands, layouts_of, is_handed}
 use Rattle.k42_joined.specs.Touching.{is_inside, is_moving, is_freeing, has_way, may_touch}
 use Rattle.k42_joined.proofs.CellNumbers.{named_in_row, row_names, same_cell, object_of-cell, cell_there}
@@ -119,7 +119,7 @@ apart_row procs o j q k p few within apart = by_test (names (row_cells procs o j
   by_test false named = refl
 
 module _ {S L P : Type 0} (F : Layouts S L P) (declared : List L) (s : Joined L) (locked : AreLocked s)
-    (c : ℕ) (from onto : List ℕ) (layout : L) (entry : Entry) (may : MayHandWith F declared s c from onto layout entry)
+    (c : ℕ) (from onto : List ℕ) (layout : L) (entry : Entry) (may : MayHandOn F declared s c from onto layout entry)
     (named : entry.object < many_objects s) where
   abbrev t : Joined L
   t = effect s (HandWith c from onto layout entry)
@@ -266,9 +266,9 @@ module _ {S L P : Type 0} (F : Layouts S L P) (declared : List L) (s : Joined L)
     };
     held = still_held;
     counted = λ q there. ⊎_elim
-        (λ (same : q ≡ o). subst (λ r. IsCounted (incarnation t r) (many_hands t r) (object t r).freed) (sym same)
+        (λ (same : q ≡ o). subst (λ r. CountsRows (incarnation t r) (many_hands t r) (object t r).freed) (sym same)
         (record { ahead = inr hands_after; kept = (locked.counted o named).kept }))
-        (λ other. subst (λ ls. IsCounted (incarnation s q) (length ls) (object s q).freed) (sym (hands_else q other)) (locked.counted q there))
+        (λ other. subst (λ ls. CountsRows (incarnation s q) (length ls) (object s q).freed) (sym (hands_else q other)) (locked.counted q there))
         (cases_eq q o);
     lives = λ q p there within. ⊎_elim
         (λ (same : q ≡ o). subst (λ r. AreOfLives (incarnation t r) (is_handed t r) (cell_in t r (incarnation t r) p) (cell_in t r (incarnation t r + 1) p)) (sym same)

@@ -6,7 +6,7 @@ use Rattle.k42_kinds.specs.declared.entry.Answer.TheVariants.{Swapped}
 use Rattle.k42_kinds.specs.declared.entry.Entry.{Entry}
 use Rattle.turn_core.specs.Plain.{Cell}
 use Rattle.turn_core.specs.Events.{cell_told, cell_opened, cell_begun, cell_closed}
-use Rattle.k42_joined.specs.Locks.{other_life, is_past, IsOfLife, AreOfLives}
+use Rattle.k42_joined.specs.Locks.{other_life, is_closed_in, IsOfLife, AreOfLives}
 
 -- a cell of the life of another, closed as it
 pub record IsSameLife (x y : Cell) : Type 0 where
@@ -41,13 +41,13 @@ pub lives_turned : (i : ℕ) (x y : Cell) → AreOfLives i true x y → AreOfLiv
 lives_turned i x y are =
     let own : other_life i true ≡ i + 1 = grind (arith, nat_tests) in
     let back : other_life (i + 1) false ≡ i = grind (arith, nat_tests) in
-    let opened : is_past i true (i + 1) ≡ is_past (i + 1) false (i + 1) = grind (arith, nat_tests) in
-    let closed : is_past i true i ≡ is_past (i + 1) false i = grind (arith, nat_tests) in
+    let opened : is_closed_in i true (i + 1) ≡ is_closed_in (i + 1) false (i + 1) = grind (arith, nat_tests) in
+    let closed : is_closed_in i true i ≡ is_closed_in (i + 1) false i = grind (arith, nat_tests) in
     record {
-      present = record { life = are.other.life ∙ own; closed = are.other.closed ∙ ap (is_past i true) own ∙ opened; past = are.other.past ∙ ap (λ n. n / 2) own };
+      present = record { life = are.other.life ∙ own; closed = are.other.closed ∙ ap (is_closed_in i true) own ∙ opened; past = are.other.past ∙ ap (λ n. n / 2) own };
       other = record {
         life = are.present.life ∙ sym back;
-        closed = are.present.closed ∙ closed ∙ sym (ap (is_past (i + 1) false) back);
+        closed = are.present.closed ∙ closed ∙ sym (ap (is_closed_in (i + 1) false) back);
         past = are.present.past ∙ ap (λ n. n / 2) (sym back);
       };
       next = λ life. let is = are.present.life in absurd (omega (arith, is, life));
@@ -66,24 +66,24 @@ waiting i x y are = by_test (eqb i 0) refl where
   by_test true e =
       let zero_is : i ≡ 0 = grind (arith, nat_tests, e) in
       let one : other_life i false ≡ i + 1 = grind (arith, nat_tests, e) in
-      let opened : is_past i false (i + 1) ≡ false = grind (arith, nat_tests) in
+      let opened : is_closed_in i false (i + 1) ≡ false = grind (arith, nat_tests) in
       let life : y.life ≡ i + 1 = are.other.life ∙ one in
       let past : length y.past ≡ (i + 1) / 2 = are.other.past ∙ ap (λ n. n / 2) one in
       record {
         life = omega (arith, life);
-        closed_is = are.other.closed ∙ ap (is_past i false) one ∙ opened;
+        closed_is = are.other.closed ∙ ap (is_closed_in i false) one ∙ opened;
         past = omega (arith, past);
         history = λ is. (are.next life).empty refl;
       }
   by_test false e =
       let more : 0 < i = grind (arith, nat_tests, e) in
       let less : other_life i false ≡ i - 1 = grind (arith, nat_tests, e) in
-      let closed : is_past i false (i - 1) ≡ true = grind (arith, nat_tests, more) in
+      let closed : is_closed_in i false (i - 1) ≡ true = grind (arith, nat_tests, more) in
       let life : y.life ≡ i - 1 = are.other.life ∙ less in
       let past : length y.past ≡ (i - 1) / 2 = are.other.past ∙ ap (λ n. n / 2) less in
       record {
         life = omega (arith, life, more);
-        closed_is = are.other.closed ∙ ap (is_past i false) less ∙ closed;
+        closed_is = are.other.closed ∙ ap (is_closed_in i false) less ∙ closed;
         past = omega (arith, past, more);
         history = λ is. absurd (cc);
       }
@@ -124,13 +124,13 @@ pub lives_handed : (i : ℕ) (x y : Cell) (e : Entry) → e.answer ≡ Swapped (
 lives_handed i x y e answer are =
     let begun = cell_begins i x y e are in
     let own : other_life i true ≡ i + 1 = grind (arith, nat_tests) in
-    let opened : is_past i true (i + 1) ≡ false = grind (arith, nat_tests) in
-    let shut : is_past i true i ≡ true = grind (arith, nat_tests) in
+    let opened : is_closed_in i true (i + 1) ≡ false = grind (arith, nat_tests) in
+    let shut : is_closed_in i true i ≡ true = grind (arith, nat_tests) in
     record {
       present = record { life = are.present.life; closed = sym shut; past = are.present.past };
       other = record {
         life = begun.life ∙ sym own;
-        closed = begun.closed ∙ sym opened ∙ sym (ap (is_past i true) own);
+        closed = begun.closed ∙ sym opened ∙ sym (ap (is_closed_in i true) own);
         past = begun.past ∙ ap (λ n. n / 2) (sym own);
       };
       next = λ life. record { empty = λ not. absurd (cc); begun = λ is. (e, begun.history, answer) };

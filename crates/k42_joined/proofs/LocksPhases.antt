@@ -21,11 +21,11 @@ use Rattle.k42_stamp.specs.Layouts.{Layouts}
 use Rattle.k42_joined.specs.Plain.{Joined}
 use Rattle.k42_joined.specs.Event.{AtPhases}
 use Rattle.k42_joined.specs.Effects.{effect}
-use Rattle.k42_joined.specs.Locks.{AreAsMany, AreLawfullyHeld, IsCounted, AreOfLives, AreLocked}
+use Rattle.k42_joined.specs.Locks.{AreAsMany, AreLawfullyHeld, CountsRows, AreOfLives, AreLocked}
 use Rattle.k42_joined.specs.Numbers.{cell_of, object_of}
-use Rattle.k42_joined.specs.Possible.{MaySwap}
+use Rattle.k42_joined.specs.Possible.{MayAtPhases}
 use Rattle.k42_joined.specs.State.{many_procs, many_callers, many_objects, object, incarnation, swap_of, cell, cell_in, held, many_hands, is_handed}
-use Rattle.k42_joined.specs.Swapping.{holds_none, may_swap, kept_after}
+use Rattle.k42_joined.specs.Swapping.{holds_none, may_at_phases, kept_after_phases}
 use Rattle.k42_joined.proofs.CellNumbers.{cell_of-parity}
 use Rattle.k42_joined.proofs.Lends.{releases, event_lends}
 use Rattle.k42_joined.proofs.LocksLives.{lives_turned}
@@ -50,7 +50,7 @@ held_listed t sound n c lock =
 module _ {S L P : Type 0} (F : Layouts S L P) (declared : List L) (s : Joined L)
     (sound : phases.IsSound s.phases) (turns_sound : turns.IsSound s.turns) (locked : AreLocked s) where
   -- where an event asks it, its caller holds no cell
-  released : (event : Event) → releases event ≡ true → may_swap s F.tag_of event ≡ true
+  released : (event : Event) → releases event ≡ true → may_at_phases s F.tag_of event ≡ true
       → holds_none (held s (caller_of event)) ≡ true
   released (Install c o) r may = may
   released (EndCall c) r may = may
@@ -60,12 +60,12 @@ module _ {S L P : Type 0} (F : Layouts S L P) (declared : List L) (s : Joined L)
   released (Turn (GiveRole c)) r may = may
   released event r may = absurd (cc)
 
-  as_many_kept : (event : Event) → length (kept_after s event) ≡ length s.kept
+  as_many_kept : (event : Event) → length (kept_after_phases s event) ≡ length s.kept
   as_many_kept (Begin c o) = length-set s.kept c _
   as_many_kept (Unblock c) = length-set s.kept c _
   as_many_kept event = refl
 
-  module _ (event : Event) (there : caller_of event < many_callers s) (may : MaySwap F declared s event) where
+  module _ (event : Event) (there : caller_of event < many_callers s) (may : MayAtPhases F declared s event) where
     abbrev t : Joined L
     t = effect s (AtPhases event)
 
@@ -95,7 +95,7 @@ module _ {S L P : Type 0} (F : Layouts S L P) (declared : List L) (s : Joined L)
         }
 
     module _ (not : turns_over event ≡ false) (o : ℕ) (named : o < many_objects s) where
-      still_counted : IsCounted (incarnation t o) (many_hands t o) (object t o).freed
+      still_counted : CountsRows (incarnation t o) (many_hands t o) (object t o).freed
       still_counted =
           let same = (row_else s.phases event may.core not o).incarnation in
           let rises = ((object_after s.phases event may.core).goes o).freed in
@@ -111,7 +111,7 @@ module _ {S L P : Type 0} (F : Layouts S L P) (declared : List L) (s : Joined L)
           (locked.lives o p named within)
 
   -- the object that is turned over
-  module _ (c tag : ℕ) (there : c < many_callers s) (may : MaySwap F declared s (TurnOver c tag)) where
+  module _ (c tag : ℕ) (there : c < many_callers s) (may : MayAtPhases F declared s (TurnOver c tag)) where
     abbrev q : ℕ
     q = object_named (swap_of s c)
 
@@ -126,11 +126,11 @@ module _ {S L P : Type 0} (F : Layouts S L P) (declared : List L) (s : Joined L)
         ⊎_elim (λ same. let more = ltb-true (incarnation s q) (many_hands s q) turned_handed in absurd (omega (arith, same, more)))
         (λ more. more) (locked.counted q named).ahead
 
-    turned_counted : q < many_objects s → IsCounted (incarnation u q) (many_hands u q) (object u q).freed
+    turned_counted : q < many_objects s → CountsRows (incarnation u q) (many_hands u q) (object u q).freed
     turned_counted named =
         let here = turned_here s.phases c tag named in
         let freed = (moved_is_ready s.phases sound c q there (turns_its s.phases c tag may.core)).freed in
-        subst (λ (k : Object). IsCounted k.incarnation (many_hands s q) k.freed) (sym here)
+        subst (λ (k : Object). CountsRows k.incarnation (many_hands s q) k.freed) (sym here)
         (record { ahead = inl (turned_ahead named); kept = omega (arith, freed) })
 
     turned_lives : q < many_objects s → (p : ℕ) → p < many_procs s
@@ -147,9 +147,9 @@ module _ {S L P : Type 0} (F : Layouts S L P) (declared : List L) (s : Joined L)
         subst (λ j. AreOfLives j (ltb j (many_hands s q)) (cell_in s q j p) (cell_in s q (j + 1) p))
         (sym (ap (λ k. k.incarnation) (turned_here s.phases c tag named))) new
 
-    turned_else_counted : (o : ℕ) → o ≢ q → o < many_objects s → IsCounted (incarnation u o) (many_hands u o) (object u o).freed
+    turned_else_counted : (o : ℕ) → o ≢ q → o < many_objects s → CountsRows (incarnation u o) (many_hands u o) (object u o).freed
     turned_else_counted o other named =
-        subst (λ (k : Object). IsCounted k.incarnation (many_hands s o) k.freed) (sym (turned_else s.phases c tag o other)) (locked.counted o named)
+        subst (λ (k : Object). CountsRows k.incarnation (many_hands s o) k.freed) (sym (turned_else s.phases c tag o other)) (locked.counted o named)
 
     turned_else_lives : (o p : ℕ) → o ≢ q → o < many_objects s → p < many_procs s
         → AreOfLives (incarnation u o) (is_handed u o) (cell_in u o (incarnation u o) p) (cell_in u o (incarnation u o + 1) p)
@@ -164,7 +164,7 @@ module _ {S L P : Type 0} (F : Layouts S L P) (declared : List L) (s : Joined L)
           many = still_many (TurnOver c tag) there may;
           held = still_held (TurnOver c tag) there may;
           counted = λ o named. ⊎_elim
-              (λ (same : o ≡ q). subst (λ r. IsCounted (incarnation u r) (many_hands u r) (object u r).freed) (sym same)
+              (λ (same : o ≡ q). subst (λ r. CountsRows (incarnation u r) (many_hands u r) (object u r).freed) (sym same)
               (turned_counted (subst (λ r. r < many_objects s) same (rw only.many_objects at named))))
               (λ other. turned_else_counted o other (rw only.many_objects at named)) (cases_eq o q);
           lives = λ o p named within. ⊎_elim
@@ -173,7 +173,7 @@ module _ {S L P : Type 0} (F : Layouts S L P) (declared : List L) (s : Joined L)
               (λ other. turned_else_lives o p other (rw only.many_objects at named) within) (cases_eq o q);
         }
 
-  else_keeps : (event : Event) → caller_of event < many_callers s → MaySwap F declared s event → turns_over event ≡ false
+  else_keeps : (event : Event) → caller_of event < many_callers s → MayAtPhases F declared s event → turns_over event ≡ false
       → AreLocked (effect s (AtPhases event))
   else_keeps event there may not =
       let only = only_its_caller s.phases event sound there in
@@ -184,12 +184,12 @@ module _ {S L P : Type 0} (F : Layouts S L P) (declared : List L) (s : Joined L)
         lives = λ o p named within. still_lives event there may not o (rw only.many_objects at named) p (rw only.many_procs at within);
       }
 
-  by_turn : (event : Event) (b : Bool) → turns_over event ≡ b → caller_of event < many_callers s → MaySwap F declared s event
+  by_turn : (event : Event) (b : Bool) → turns_over event ≡ b → caller_of event < many_callers s → MayAtPhases F declared s event
       → AreLocked (effect s (AtPhases event))
   by_turn (TurnOver c tag) true e there may = turn_over_keeps c tag there may
   by_turn event true e there may = absurd (cc)
   by_turn event false e there may = else_keeps event there may e
 
-  pub phases_keep_locks : (event : Event) → caller_of event < many_callers s → MaySwap F declared s event
+  pub phases_keep_locks : (event : Event) → caller_of event < many_callers s → MayAtPhases F declared s event
       → AreLocked (effect s (AtPhases event))
   phases_keep_locks event there may = by_turn event (turns_over event) refl there may

@@ -32,7 +32,7 @@ use Rattle.k42_stamp.specs.Parts.{reached as needs, reach_of, part_steps, act_re
 use Rattle.k42_stamp.proofs.Needed.{entry_within}
 use Rattle.k42_joined.specs.Plain.{Joined}
 use Rattle.k42_joined.specs.Answers.{IsTrueOf, IsAnswered, AreAnswered}
-use Rattle.k42_joined.specs.Drawing.{newest_layout, IsCall, IsMark, IsDrawnAs, MayDraw}
+use Rattle.k42_joined.specs.Drawing.{newest_layout, IsCall, FoundOver, IsDrawnAs, MayDraw}
 use Rattle.k42_joined.specs.Effects.{kept_drawn}
 use Rattle.k42_joined.specs.Fitting.{HasRows, Fitting}
 use Rattle.k42_joined.specs.Following.{FollowsDraw}
@@ -173,7 +173,7 @@ module _ {S L P : Type 0} (F : Layouts S L P) (laws : AreLaws F) (declared : Lis
 
   -- a swap or destroy that found its object over
 
-  mark_drawn : ((op : Op) → e.act ≡ Call op → ⊥) → IsMark F declared s c cells e → IsDrawn F declared s c cells e
+  mark_drawn : ((op : Op) → e.act ≡ Call op → ⊥) → FoundOver F declared s c cells e → IsDrawn F declared s c cells e
   mark_drawn not mark = record {
     named = named;
     present = mark.present;

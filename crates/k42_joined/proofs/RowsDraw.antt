@@ -38,7 +38,7 @@ use Rattle.k42_stamp.proofs.Rowed.{chain_in_rows}
 use Rattle.k42_joined.specs.Plain.{Joined}
 use Rattle.k42_joined.specs.Effects.{kept_drawn}
 use Rattle.k42_joined.specs.Fitting.{lists_of, HasRows, Fitting}
-use Rattle.k42_joined.specs.Locks.{is_past, AreLocked}
+use Rattle.k42_joined.specs.Locks.{is_closed_in, AreLocked}
 use Rattle.k42_joined.specs.Numbers.{cell_of}
 use Rattle.k42_joined.specs.Rows.{history_in, cells_reached}
 use Rattle.k42_joined.specs.State.{many_procs, many_callers, many_objects, incarnation, cell, cell_in, mine, layouts_of, many_hands, is_handed}
@@ -129,8 +129,8 @@ module _ {S L P : Type 0} (F : Layouts S L P) (laws : AreLaws F) (declared : Lis
         let n = cell_of o i p.0 in
         let hit : names cells n ≡ true = names_is p.0 lt ∙ p.2 in
         let opens = (and_parts (has_taken s.turns c n) _ (each_named (has_open s.turns c) cells n core.opened hit)).1 in
-        let past : is_past i true i ≡ true = grind (arith, nat_tests) in
-        let closed : (cell s n).closed ≡ true = (locked.lives o p.0 named lt).present.closed ∙ ap (λ b. is_past i b i) is ∙ past in
+        let past : is_closed_in i true i ≡ true = grind (arith, nat_tests) in
+        let closed : (cell s n).closed ≡ true = (locked.lives o p.0 named lt).present.closed ∙ ap (λ b. is_closed_in i b i) is ∙ past in
         absurd (cc)
 
   pub hands_now : many_hands s o ≡ i

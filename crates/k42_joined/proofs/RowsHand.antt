@@ -30,10 +30,10 @@ use Rattle.k42_stamp.proofs.Handing.{begun_here, begun_else, hand_begins}
 use Rattle.k42_joined.specs.Plain.{Joined}
 use Rattle.k42_joined.specs.Event.{HandWith}
 use Rattle.k42_joined.specs.Effects.{effect}
-use Rattle.k42_joined.specs.Fitting.{lists_of, IsTagged, HasRows, Fitting}
+use Rattle.k42_joined.specs.Fitting.{lists_of, HasItsTag, HasRows, Fitting}
 use Rattle.k42_joined.specs.Locks.{AreOfLives, AreLocked}
 use Rattle.k42_joined.specs.Numbers.{cell_of}
-use Rattle.k42_joined.specs.Possible.{MayHandWith}
+use Rattle.k42_joined.specs.Possible.{MayHandOn}
 use Rattle.k42_joined.specs.Rows.{history_in, AreRowsOf}
 use Rattle.k42_joined.specs.State.{many_procs, many_callers, many_objects, object, incarnation, cell, cell_in, mine, layouts_of, many_hands}
 use Rattle.k42_joined.proofs.CellNumbers.{row_names, cell_of-parity}
@@ -51,7 +51,7 @@ in_begun f e h false is = inr is
 module _ {S L P : Type 0} (F : Layouts S L P) (laws : AreLaws F) (declared : List L) (s : Joined L)
     (sound : phases.IsSound s.phases) (turns_sound : turns.IsSound s.turns) (locked : AreLocked s) (rows : Fitting F declared s)
     (c : ℕ) (from onto : List ℕ) (layout : L) (e : Entry) (there : c < many_callers s)
-    (may : MayHandWith F declared s c from onto layout e) where
+    (may : MayHandOn F declared s c from onto layout e) where
   abbrev o : ℕ
   o = e.object
 
@@ -184,7 +184,7 @@ module _ {S L P : Type 0} (F : Layouts S L P) (laws : AreLaws F) (declared : Lis
     y_there : slice_get newer o ≡ Some y
     y_there = slice_get-set_here rows.chains o y (slice_get_within rows.chains o x at)
 
-    here_tagged : IsTagged F declaration t o
+    here_tagged : HasItsTag F declaration t o
     here_tagged lay is =
         let after = hands_after F declared s locked c from onto layout e may named in
         let same = now in

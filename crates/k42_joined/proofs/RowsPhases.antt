@@ -23,9 +23,9 @@ use Rattle.k42_stamp.specs.Layouts.{Layouts}
 use Rattle.k42_joined.specs.Plain.{Joined}
 use Rattle.k42_joined.specs.Event.{AtPhases}
 use Rattle.k42_joined.specs.Effects.{effect}
-use Rattle.k42_joined.specs.Fitting.{AreFor, IsTagged, Fitting}
+use Rattle.k42_joined.specs.Fitting.{AreFor, HasItsTag, Fitting}
 use Rattle.k42_joined.specs.Locks.{AreLocked}
-use Rattle.k42_joined.specs.Possible.{MaySwap}
+use Rattle.k42_joined.specs.Possible.{MayAtPhases}
 use Rattle.k42_joined.specs.State.{many_callers, many_objects, incarnation, swap_of, held, layouts_of, many_hands, is_handed}
 use Rattle.k42_joined.specs.Swapping.{holds_none, is_newest_tag}
 use Rattle.k42_joined.proofs.LocksPhases.{turned_ahead}
@@ -105,27 +105,27 @@ module _ {S L P : Type 0} (F : Layouts S L P) (declared : List L) (s : Joined L)
             rows.told.proc_of c (rw only.many_callers at within) ∙ sym (proc_stays s.phases event sound there c);
       }
 
-  still_tagged : (event : Event) → MaySwap F declared s event → turns_over event ≡ false → (o : ℕ) (declaration : L)
-      → IsTagged F declaration s o → IsTagged F declaration (effect s (AtPhases event)) o
+  still_tagged : (event : Event) → MayAtPhases F declared s event → turns_over event ≡ false → (o : ℕ) (declaration : L)
+      → HasItsTag F declaration s o → HasItsTag F declaration (effect s (AtPhases event)) o
   still_tagged event may not o declaration tagged layout there =
       let same = row_else s.phases event may.core not o in
       tagged layout (subst (λ i. slice_get (layouts_of s o ++ declaration ∷ []) (many_hands s o - i) ≡ Some layout) same.incarnation there)
       ∙ sym same.layout
 
-  turned_tagged : (c tag : ℕ) → c < many_callers s → MaySwap F declared s (TurnOver c tag) → (o : ℕ) → o < many_objects s
-      → (declaration : L) → IsTagged F declaration s o → IsTagged F declaration (effect s (AtPhases (TurnOver c tag))) o
+  turned_tagged : (c tag : ℕ) → c < many_callers s → MayAtPhases F declared s (TurnOver c tag) → (o : ℕ) → o < many_objects s
+      → (declaration : L) → HasItsTag F declaration s o → HasItsTag F declaration (effect s (AtPhases (TurnOver c tag))) o
   turned_tagged c tag caller may o named declaration tagged =
       let q = object_named (swap_of s c) in
       let t = effect s (AtPhases (TurnOver c tag)) in
-      ⊎_elim {C = IsTagged F declaration t o}
-      (λ (same : o ≡ q). subst (λ r. IsTagged F declaration t r) (sym same) (here (subst (λ r. r < many_objects s) same named)))
+      ⊎_elim {C = HasItsTag F declaration t o}
+      (λ (same : o ≡ q). subst (λ r. HasItsTag F declaration t r) (sym same) (here (subst (λ r. r < many_objects s) same named)))
       (λ (other : o ≢ q) layout there.
       let same = turned_else s.phases c tag o other in
       tagged layout (subst (λ (k : Object). slice_get (layouts_of s o ++ declaration ∷ []) (many_hands s o - k.incarnation) ≡ Some layout) same there)
       ∙ sym (ap (λ (k : Object). k.layout) same))
       (cases_eq o q)
     where
-      here : object_named (swap_of s c) < many_objects s → IsTagged F declaration (effect s (AtPhases (TurnOver c tag))) (object_named (swap_of s c))
+      here : object_named (swap_of s c) < many_objects s → HasItsTag F declaration (effect s (AtPhases (TurnOver c tag))) (object_named (swap_of s c))
       here named layout there =
           let q = object_named (swap_of s c) in
           let same = turned_here s.phases c tag named in
@@ -137,13 +137,13 @@ module _ {S L P : Type 0} (F : Layouts S L P) (declared : List L) (s : Joined L)
           (subst (λ (k : Object). slice_get (layouts_of s q ++ declaration ∷ []) (many_hands s q - k.incarnation) ≡ Some layout) same there))
           ∙ sym (ap (λ (k : Object). k.layout) same)
 
-  tagged_by : (event : Event) (b : Bool) → turns_over event ≡ b → caller_of event < many_callers s → MaySwap F declared s event
-      → (o : ℕ) → o < many_objects s → (declaration : L) → IsTagged F declaration s o → IsTagged F declaration (effect s (AtPhases event)) o
+  tagged_by : (event : Event) (b : Bool) → turns_over event ≡ b → caller_of event < many_callers s → MayAtPhases F declared s event
+      → (o : ℕ) → o < many_objects s → (declaration : L) → HasItsTag F declaration s o → HasItsTag F declaration (effect s (AtPhases event)) o
   tagged_by (TurnOver c tag) true e there may o named declaration tagged = turned_tagged c tag there may o named declaration tagged
   tagged_by event true e there may o named declaration tagged = absurd (cc)
   tagged_by event false e there may o named declaration tagged = still_tagged event may e o declaration tagged
 
-  pub phases_keep_rows : (event : Event) → caller_of event < many_callers s → MaySwap F declared s event
+  pub phases_keep_rows : (event : Event) → caller_of event < many_callers s → MayAtPhases F declared s event
       → Fitting F declared (effect s (AtPhases event))
   phases_keep_rows event there may = record {
     told = still_for event there;

@@ -16,7 +16,7 @@ use Rattle.phase_core.proofs.Reached.{turn_there, moving_alone}
 use Rattle.k42_stamp.specs.Laws.{AreLaws}
 use Rattle.k42_stamp.specs.Layouts.{Layouts}
 use Rattle.k42_joined.specs.Plain.{Joined}
-use Rattle.k42_joined.specs.Locks.{other_life, is_past}
+use Rattle.k42_joined.specs.Locks.{other_life, is_closed_in}
 use Rattle.k42_joined.specs.Numbers.{cell_of}
 use Rattle.k42_joined.specs.Safe.{IsOpenRow, IsSafe}
 use Rattle.k42_joined.specs.Sound.{IsSound}
@@ -54,8 +54,8 @@ module _ {S L P : Type 0} (F : Layouts S L P) (laws : AreLaws F) (declared : Lis
   present_open : (o p : ℕ) → o < many_objects s → p < many_procs s → is_handed s o ≡ false → IsOpenRow s o (incarnation s o) p
   present_open o p named lt handed =
       let is = (sound.cells.locks.lives o p named lt).present in
-      let opened : is_past (incarnation s o) false (incarnation s o) ≡ false = grind (arith, nat_tests) in
-      record { life = is.life; opened = is.closed ∙ ap (λ b. is_past (incarnation s o) b (incarnation s o)) handed ∙ opened }
+      let opened : is_closed_in (incarnation s o) false (incarnation s o) ≡ false = grind (arith, nat_tests) in
+      record { life = is.life; opened = is.closed ∙ ap (λ b. is_closed_in (incarnation s o) b (incarnation s o)) handed ∙ opened }
 
   inside_opened : (c o i p : ℕ) → c < many_callers s → IsInside (visitor_at s.phases c).place o i → p < many_procs s → IsOpenRow s o i p
   inside_opened c o i p there inside lt =

@@ -56,8 +56,8 @@ IsTrueOf k i Gone = (i ≡ k.incarnation) × (k.layout ≡ 2)
 IsTrueOf k i _ = ⊤
 
 module _ {L : Type 0} (s : Joined L) where
-  -- what is kept of a caller: a swap is of the object that was begun last, which is there, and only before
-  -- and after it is an answer kept
+  -- What is kept of a caller: its swap is of the object that was begun last, which is there, and an answer is
+  -- kept only while no swap is under way, or a refused one.
   pub record IsKept (c : ℕ) : Type 0 where
     pub begun : (o : ℕ) → named_by (swap_of s c) ≡ Some o → (kept_of s c).begun ≡ Some o
     pub there : (o : ℕ) → (kept_of s c).begun ≡ Some o → o < many_objects s
@@ -84,8 +84,8 @@ module _ {L : Type 0} (s : Joined L) where
   HasRival c o number = IsSettled c o number ⊎ IsUnderWay c o number
 
   -- the number of a drawn answer is known to the object; Hand's is ahead while its caller still moves the object
-  abbrev pub IsReached : ℕ → ℕ → ℕ → Type 0
-  IsReached c o number =
+  abbrev pub IsKnownNumber : ℕ → ℕ → ℕ → Type 0
+  IsKnownNumber c o number =
       (number ≤ incarnation s o) ⊎ ((number ≡ incarnation s o + 1) × (swap_of s c ≡ Moved o))
 
   -- an entry that the caller has drawn
@@ -94,7 +94,7 @@ module _ {L : Type 0} (s : Joined L) where
     -- a call has a reply
     pub replied : is_call entry.act ≡ true → (reply : Reply) × (entry.answer ≡ Replied reply)
     pub known : entry.incarnation ≤ incarnation s entry.object
-    pub done : (number : ℕ) → entry.answer ≡ Swapped number → IsReached c entry.object number
+    pub done : (number : ℕ) → entry.answer ≡ Swapped number → IsKnownNumber c entry.object number
     pub over : IsTrueOf (object s entry.object) entry.incarnation entry.answer
     -- what tells of an object that is over comes after all swaps of it
     pub last :

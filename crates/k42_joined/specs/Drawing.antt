@@ -57,7 +57,7 @@ module _ {S L P : Type 0} (F : Layouts S L P) (declared : List L) (s : Joined L)
 
   -- A swap or destroy whose caller found the object dead or at its last incarnation is drawn, with that
   -- answer, at the first cell of the present row.
-  pub record IsMark (c : ℕ) (cells : List ℕ) (entry : Entry) : Type 0 where
+  pub record FoundOver (c : ℕ) (cells : List ℕ) (entry : Entry) : Type 0 where
     pub begun : (kept_of s c).begun ≡ Some entry.object
     pub found : (kept_of s c).found ≡ Some entry.answer
     pub over : tells_over entry.answer ≡ true
@@ -68,7 +68,7 @@ module _ {S L P : Type 0} (F : Layouts S L P) (declared : List L) (s : Joined L)
   -- by the entry's act
   abbrev pub IsDrawnAs : ℕ → List ℕ → Entry → Act → Type 0
   IsDrawnAs c cells entry (Call op) = IsCall c cells entry op
-  IsDrawnAs c cells entry _ = IsMark c cells entry
+  IsDrawnAs c cells entry _ = FoundOver c cells entry
 
   pub record MayDraw (c : ℕ) (cells : List ℕ) (entry : Entry) : Type 0 where
     pub bears : Bears s c cells entry

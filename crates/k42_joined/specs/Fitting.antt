@@ -21,8 +21,8 @@ pub record AreFor {S L P : Type 0} (F : Layouts S L P) (s : Joined L) : Type 0 w
   pub proc_of : (c : ℕ) → c < many_callers s → F.proc_of c ≡ proc_of s.phases c
 
 -- the object has the tag of the layout of its incarnation's row
-abbrev pub IsTagged : {S L P : Type 0} → Layouts S L P → L → Joined L → ℕ → Type 0
-IsTagged {S} {L} F declaration s o =
+abbrev pub HasItsTag : {S L P : Type 0} → Layouts S L P → L → Joined L → ℕ → Type 0
+HasItsTag {S} {L} F declaration s o =
     (layout : L)
     → slice_get (layouts_of s o ++ declaration ∷ []) (many_hands s o - incarnation s o) ≡ Some layout
     → F.tag_of layout ≡ (object s o).layout
@@ -32,7 +32,7 @@ pub record HasRows
     {S L P : Type 0} (F : Layouts S L P) (s : Joined L) (o : ℕ) (declaration : L) (chain : Chain L P)
     : Type 0 where
   pub rows : AreRowsOf F declaration s o chain
-  pub tagged : IsTagged F declaration s o
+  pub tagged : HasItsTag F declaration s o
 
 pub record Fitting {S L P : Type 0} (F : Layouts S L P) (declared : List L) (s : Joined L) : Type 0 where
   pub told : AreFor F s

@@ -21,7 +21,7 @@ AreLawfullyHeld s = (n c : ℕ) → (cell s n).lock ≡ Some c → MayTouch s c 
 
 -- Of an object in this incarnation, so many of whose rows were handed on and freed: no row is handed on ahead
 -- of the next, and none is kept but the one before.
-pub record IsCounted (i hands freed : ℕ) : Type 0 where
+pub record CountsRows (i hands freed : ℕ) : Type 0 where
   pub ahead : (hands ≡ i) ⊎ (hands ≡ i + 1)
   pub kept : i ≤ freed + 1
 
@@ -30,13 +30,13 @@ abbrev pub other_life : ℕ → Bool → ℕ
 other_life i handed = if (i == 0) || handed then i + 1 else i - 1
 
 -- the cells of former rows are closed, and those of the incarnation once it was handed on
-abbrev pub is_past : ℕ → Bool → ℕ → Bool
-is_past i handed life = nat_lt life i || ((life == i) && handed)
+abbrev pub is_closed_in : ℕ → Bool → ℕ → Bool
+is_closed_in i handed life = nat_lt life i || ((life == i) && handed)
 
 -- a cell of this life, in an incarnation whose row was handed on or was not
 pub record IsOfLife (i : ℕ) (handed : Bool) (n : ℕ) (x : Cell) : Type 0 where
   pub life : x.life ≡ n
-  pub closed : x.closed ≡ is_past i handed n
+  pub closed : x.closed ≡ is_closed_in i handed n
   pub past : length x.past ≡ n / 2
 
 -- the cells of the next row have an empty history before the hand, and just its entry after it
@@ -54,7 +54,7 @@ pub record AreLocked {L : Type 0} (s : Joined L) : Type 0 where
   pub many : AreAsMany s
   pub held : AreLawfullyHeld s
   pub counted :
-      (o : ℕ) → o < many_objects s → IsCounted (incarnation s o) (many_hands s o) (object s o).freed
+      (o : ℕ) → o < many_objects s → CountsRows (incarnation s o) (many_hands s o) (object s o).freed
   pub lives :
       (o p : ℕ) → o < many_objects s → p < many_procs s
       → AreOfLives (incarnation s o) (is_handed s o) (cell_in s o (incarnation s o) p)

@@ -3,17 +3,17 @@
 use Rattle.std.specs.Prelude.{◌≡◌, ◌⊎◌, ℕ, ◌+◌, ◌<◌, ◌≤◌, true, List, [], ◌∷◌, ◌++◌, Option, Some, None, slice_get}
 use Rattle.k42_kinds.specs.declared.entry.Answer.TheVariants.{Swapped}
 use Rattle.k42_kinds.specs.declared.entry.Entry.{Entry}
+use Rattle.k42_kinds.specs.Histories.{is_call}
 use Rattle.turn_core.specs.Names.{names}
 use Rattle.turn_core.specs.Sound.{histories_of}
 use Rattle.turn_core.specs.declared.event.TurnEvent.TheVariants.{Draw, Alone}
 use Rattle.k42_stamp.specs.Orders.{In}
-use Rattle.k42_stamp.specs.Lists.{is_step}
 use Rattle.k42_joined.specs.Plain.{Joined}
 use Rattle.k42_joined.specs.Event.{Event, AtCells, HandWith}
 use Rattle.k42_joined.specs.Rows.{history_in}
 use Rattle.k42_joined.specs.State.{many_procs, cell, mine}
 
--- the entry stood in the history of a cell as the caller drew an own one at it
+-- the entry stood in the history of a cell as the caller drew an own call at it
 pub record StoodBefore {L : Type 0} (s : Joined L) (c : ℕ) (entry : Entry) : Type 0 where
   pub number : ℕ
   pub life : ℕ
@@ -21,7 +21,7 @@ pub record StoodBefore {L : Type 0} (s : Joined L) (c : ℕ) (entry : Entry) : T
   pub there : slice_get (histories_of (cell s number)) life ≡ Some history
   pub own : Entry
   pub drawn : In own (mine s c)
-  pub step : is_step own.act own.answer ≡ true
+  pub call : is_call own.act ≡ true
   pub before : List Entry
   pub after : List Entry
   pub split : history ≡ before ++ own ∷ after

@@ -1,4 +1,4 @@
--- What an event of tables and swaps needs beside, and what is kept of its caller.
+-- What an event of tables and swaps needs of cells and hands, and what is kept of its caller after it.
 use Rattle.std.specs.Prelude.{ℕ, Bool, true, false, not, ◌&&◌, ◌||◌, ◌==◌, List, [], ◌∷◌, Some}
 use Rattle.gen_core.specs.declared.event.GenEvent.TheVariants.{GiveRole}
 use Rattle.phase_core.specs.Event.{Event as PhaseEvent, Turn, Install, StepOut, EndCall, Begin, TurnOver, Unblock, Clear}
@@ -30,20 +30,20 @@ module _ {L : Type 0} (s : Joined L) where
   may_turn_over tag_of o tag = is_handed s o && is_newest_tag tag_of (layouts_of s o) tag
 
   -- what the event needs of cells and hands
-  abbrev pub may_swap : (L → ℕ) → PhaseEvent → Bool
-  may_swap tag_of (Install c o) = holds_none (held s c)
-  may_swap tag_of (EndCall c) = holds_none (held s c)
-  may_swap tag_of (StepOut c) = holds_none (held s c)
-  may_swap tag_of (Turn (GiveRole c)) = holds_none (held s c)
-  may_swap tag_of (TurnOver c tag) =
+  abbrev pub may_at_phases : (L → ℕ) → PhaseEvent → Bool
+  may_at_phases tag_of (Install c o) = holds_none (held s c)
+  may_at_phases tag_of (EndCall c) = holds_none (held s c)
+  may_at_phases tag_of (StepOut c) = holds_none (held s c)
+  may_at_phases tag_of (Turn (GiveRole c)) = holds_none (held s c)
+  may_at_phases tag_of (TurnOver c tag) =
       holds_none (held s c) && may_turn_over tag_of (object_named (swap_of s c)) tag
-  may_swap tag_of (Unblock c) = holds_none (held s c) && not (is_handed s (object_named (swap_of s c)))
-  may_swap tag_of (Clear c) =
+  may_at_phases tag_of (Unblock c) = holds_none (held s c) && not (is_handed s (object_named (swap_of s c)))
+  may_at_phases tag_of (Clear c) =
       may_clear (swap_of s c) (object s (object_named (swap_of s c))) (kept_of s c).abandoned
-  may_swap tag_of event = true
+  may_at_phases tag_of event = true
 
   -- what is kept after it
-  abbrev pub kept_after : PhaseEvent → List Kept
-  kept_after (Begin c o) = keep s c (record (kept_of s c) { begun = Some o; found = answer_found (object s o) })
-  kept_after (Unblock c) = keep s c (record (kept_of s c) { abandoned = false })
-  kept_after event = s.kept
+  abbrev pub kept_after_phases : PhaseEvent → List Kept
+  kept_after_phases (Begin c o) = keep s c (record (kept_of s c) { begun = Some o; found = answer_found (object s o) })
+  kept_after_phases (Unblock c) = keep s c (record (kept_of s c) { abandoned = false })
+  kept_after_phases event = s.kept
