@@ -43,3 +43,4 @@ pub mod Following
 pub mod Frame
 pub mod Toy
 pub mod Examples
+pub mod OneAtATime

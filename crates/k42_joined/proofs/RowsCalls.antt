@@ -42,7 +42,7 @@ use Rattle.k42_joined.specs.Rows.{cells_reached, AreRowsOf}
 use Rattle.k42_joined.specs.State.{many_procs, many_callers, many_objects, object, incarnation, layouts_of, many_hands, is_handed}
 use Rattle.k42_joined.specs.Touching.{is_inside}
 use Rattle.k42_joined.proofs.LocksCells.{AreOfRow}
-use Rattle.k42_joined.proofs.RowsDraw.{IsCoreDraw, of_row, not_handed, hands_now, past_now, drew, y, here_rows, draw_keeps_rows}
+use Rattle.k42_joined.proofs.RowsDraw.{IsCoreDraw, of_row, not_handed, hands_now, past_now, drew, y, here_rows, rows_else, draw_keeps_rows}
 
 pub inside_is : (place : Place) (o i : ℕ) → is_inside place o i ≡ true → IsInside place o i
 inside_is (Missed q j) o i is = let parts = and_parts (eqb q o) (eqb j i) is in (eqb-true q o parts.0, eqb-true j i parts.1)
@@ -76,6 +76,9 @@ pub record IsDrawn {S L P : Type 0} (F : Layouts S L P) (declared : List L) (s :
   pub after : Chain L P
   pub is : AreRowsOf F declaration (record s { turns = turn_events.effect s.turns (Draw c cells e); kept = kept_drawn s c false }) e.object after
   pub follows : FollowsDraw F e chain after
+  pub others :
+    (q : ℕ) (other : L) (z : Chain L P) → q ≢ e.object → AreRowsOf F other s q z
+    → AreRowsOf F other (record s { turns = turn_events.effect s.turns (Draw c cells e); kept = kept_drawn s c false }) q z
 
 -- a mark is true of the row, by its layout's tag
 mark_of : (k : Object) (tag number : ℕ) (answer : Answer) → tells_over answer ≡ true → tag ≤ 2 → tag ≡ k.layout → number ≡ k.incarnation
@@ -129,6 +132,7 @@ module _ {S L P : Type 0} (F : Layouts S L P) (laws : AreLaws F) (declared : Lis
     was = has.rows;
     after = y F laws declared s turns_sound locked rows c cells e there core call.declaration x call.declares at present within reached (served (length x.past)) replied;
     is = (here_rows F laws declared s turns_sound locked rows c cells e there core call.declaration x call.declares at present within reached (served (length x.past)) replied).rows;
+    others = rows_else F laws declared s turns_sound locked rows c cells e there core call.declaration x call.declares at present within reached (served (length x.past)) replied;
     follows = record {
       past = refl;
       layout = refl;
@@ -186,6 +190,7 @@ module _ {S L P : Type 0} (F : Layouts S L P) (laws : AreLaws F) (declared : Lis
     was = has.rows;
     after = y F laws declared s turns_sound locked rows c cells e there core declaration x declares at mark.present within reached served replied;
     is = (here_rows F laws declared s turns_sound locked rows c cells e there core declaration x declares at mark.present within reached served replied).rows;
+    others = rows_else F laws declared s turns_sound locked rows c cells e there core declaration x declares at mark.present within reached served replied;
     follows = record {
       past = refl;
       layout = refl;

@@ -28,7 +28,7 @@ use Rattle.k42_joined.proofs.LocksCells.{IsSameTold, told_at}
 use Rattle.k42_joined.proofs.RowsHistories.{fits_same}
 use Rattle.k42_joined.proofs.RowsLists.{map-set_same, map-set, Grows, grown_those}
 
-told_histories : (x y : Cell) → IsSameTold x y → histories_of y ≡ histories_of x
+pub told_histories : (x y : Cell) → IsSameTold x y → histories_of y ≡ histories_of x
 told_histories x y same = ap (λ past. past ++ y.history ∷ []) same.past ∙ ap (λ history. x.past ++ history ∷ []) same.history
 
 -- the histories are those from before

@@ -40,7 +40,7 @@ use Rattle.k42_joined.specs.Effects.{kept_drawn}
 use Rattle.k42_joined.specs.Fitting.{lists_of, HasRows, Fitting}
 use Rattle.k42_joined.specs.Locks.{is_closed_in, AreLocked}
 use Rattle.k42_joined.specs.Numbers.{cell_of}
-use Rattle.k42_joined.specs.Rows.{history_in, cells_reached}
+use Rattle.k42_joined.specs.Rows.{history_in, cells_reached, AreRowsOf}
 use Rattle.k42_joined.specs.State.{many_procs, many_callers, many_objects, incarnation, cell, cell_in, mine, layouts_of, many_hands, is_handed}
 use Rattle.k42_joined.proofs.CellChanges.{cell_at-else, cell_at-named}
 use Rattle.k42_joined.proofs.CellNumbers.{same_cell, cell_there, cell_of-parity}
@@ -260,6 +260,13 @@ module _ {S L P : Type 0} (F : Layouts S L P) (laws : AreLaws F) (declared : Lis
         layouts = has.rows.layouts;
       };
       tagged = has.tagged;
+    }
+
+    -- the rows of another object stay
+    pub rows_else : (q : ℕ) (other : L) (z : Chain L P) → q ≢ o → AreRowsOf F other s q z → AreRowsOf F other t q z
+    rows_else q other z apart old = record {
+      fits = fits_same F (history_in s q) (history_in t q) other q z (λ row p le lt. history_else q row p (in_procs p lt) (inl apart)) old.fits;
+      layouts = old.layouts;
     }
 
     else_rows : (q : ℕ) (other : L) (z : Chain L P) → q ≢ o → HasRows F s q other z → HasRows F t q other z

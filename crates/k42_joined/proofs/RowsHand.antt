@@ -205,6 +205,12 @@ module _ {S L P : Type 0} (F : Layouts S L P) (laws : AreLaws F) (declared : Lis
       tagged = here_tagged;
     }
 
+    rows_else : (q : ℕ) (other : L) (z : Chain L P) → q ≢ o → AreRowsOf F other s q z → AreRowsOf F other t q z
+    rows_else q other z apart old = record {
+      fits = fits_same F (history_in s q) (history_in t q) other q z (λ row p le lt. history_else q row p apart (in_procs p lt)) old.fits;
+      layouts = old.layouts ∙ sym (ap (λ ls. ls ++ other ∷ []) (hands_else F declared s locked c from onto layout e may named q apart));
+    }
+
     else_rows : (q : ℕ) (other : L) (z : Chain L P) → q ≢ o → HasRows F s q other z → HasRows F t q other z
     else_rows q other z apart old =
         let same = hands_else F declared s locked c from onto layout e may named q apart in
@@ -295,11 +301,12 @@ module _ {S L P : Type 0} (F : Layouts S L P) (laws : AreLaws F) (declared : Lis
     pub chain : Chain L P
     pub was : AreRowsOf F declaration s o chain
     pub is : AreRowsOf F declaration t o (handed F chain layout e)
+    pub others : (q : ℕ) (other : L) (z : Chain L P) → q ≢ o → AreRowsOf F other s q z → AreRowsOf F other t q z
 
   pub handed_rows : IsHanded
   handed_rows =
       let found = some_at rows.chains o (rw rows.many (slice_get_within declared o declaration declares)) in
-      record { chain = found.0; was = (has found.0 found.1).rows; is = (here_rows found.0 found.1).rows }
+      record { chain = found.0; was = (has found.0 found.1).rows; is = (here_rows found.0 found.1).rows; others = rows_else found.0 found.1 }
 
   pub hand_keeps_rows : Fitting F declared t
   hand_keeps_rows =

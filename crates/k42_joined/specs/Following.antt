@@ -1,9 +1,11 @@
 -- What becomes of an object's rows and of their parts by a step.
-use Rattle.std.specs.Prelude.{◌≡◌, ◌∷◌}
+use Rattle.std.specs.Prelude.{◌≡◌, ℕ, List, ◌∷◌, Option, Some, None}
 use Rattle.k42_kinds.specs.declared.entry.Entry.{Entry}
 use Rattle.k42_stamp.specs.Layouts.{Layouts}
 use Rattle.k42_stamp.specs.Chains.{Chain, parts_of, state_of}
 use Rattle.k42_stamp.specs.Parts.{part_steps}
+use Rattle.turn_core.specs.declared.event.TurnEvent.TheVariants.{Draw}
+use Rattle.k42_joined.specs.Event.{Event, AtCells, HandWith}
 
 -- A draw moves the parts of the newest row as the entry says, and leaves all other rows.
 pub record FollowsDraw {S L P : Type 0} (F : Layouts S L P) (entry : Entry) (x y : Chain L P) : Type 0 where
@@ -21,3 +23,9 @@ pub record FollowsHand
   pub parts :
       parts_of F y.row
       ≡ (F.ways_of layout).imported F.procs (F.admitted layout (state_of F x.row))
+
+-- the object at whose cells an event draws
+abbrev pub drawn_at : {L : Type 0} → Event L → Option ℕ
+drawn_at (AtCells (Draw c cells entry)) = Some entry.object
+drawn_at (HandWith c from onto layout entry) = Some entry.object
+drawn_at event = None

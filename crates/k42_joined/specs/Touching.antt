@@ -1,5 +1,5 @@
 -- Who may lock, take and put the cells of a row.
-use Rattle.std.specs.Prelude.{ℕ, Bool, false, ◌&&◌, ◌||◌, ◌==◌, nat_lt, nat_le, List}
+use Rattle.std.specs.Prelude.{◌≡◌, ◌⊎◌, ℕ, Bool, true, false, ◌&&◌, ◌||◌, ◌==◌, nat_lt, nat_le, List}
 use Rattle.phase_core.specs.Effects.{is_over}
 use Rattle.phase_core.specs.Plain.{Object, Visitor, Phases}
 use Rattle.phase_core.specs.State.{object_at, visitor_at, span_at}
@@ -34,3 +34,9 @@ is_over_in k i = is_over k && (k.incarnation == i)
 
 abbrev pub may_touch : Phases → ℕ → ℕ → ℕ → Bool
 may_touch s c o i = has_way (visitor_at s c) o i || is_over_in (object_at s o) i
+
+-- the caller moves the object, or has freed a row of it
+abbrev pub IsAloneAt : Phases → ℕ → ℕ → Type 0
+IsAloneAt s c o =
+    (is_moving (visitor_at s c).swap o ≡ true)
+    ⊎ ((i : ℕ) × (is_freeing (visitor_at s c).freeing o i ≡ true))

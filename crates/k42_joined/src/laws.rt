@@ -11,14 +11,15 @@ ghost use Rattle.k42_joined.specs.Sound.{IsSound};
 ghost use Rattle.k42_joined.specs.Safe.{IsSafe};
 ghost use Rattle.phase_core.specs.Runs.{HasRead};
 ghost use Rattle.k42_stamp.specs.Chains.{Chain};
+ghost use Rattle.k42_joined.specs.Touching.{IsAloneAt};
 ghost use Rattle.k42_joined.specs.Frame.{cells_of, object_of, LeavesOthers};
 ghost use Rattle.k42_joined.specs.Rows.{AreRowsOf};
-ghost use Rattle.k42_joined.specs.Following.{FollowsDraw, FollowsHand};
+ghost use Rattle.k42_joined.specs.Following.{FollowsDraw, FollowsHand, drawn_at};
 ghost use Rattle.turn_core.specs.declared.event.TurnEvent.TheVariants.{Draw};
 ghost use Rattle.k42_joined.specs.Rest.{IsAtRest, IsHistoryOf};
 ghost use Rattle.k42_joined.specs.Seen.{HasSeen, StandsAt, Drawn, drawn_by};
 ghost use Rattle.k42_joined.specs.Runs.{Leads, IsReached, Leaves, IsFreedOnce, TakesRow};
-ghost use Rattle.k42_joined.specs.State.{many_callers};
+ghost use Rattle.k42_joined.specs.State.{many_callers, many_objects};
 
 use k42_kinds::Layout;
 
@@ -139,4 +140,24 @@ pub fn parts_follow_hands<L: Layout>(procs: u32)
         AreRowsOf F declaration s o x → IsPossible F declared s (HandWith c from onto layout entry) →
         entry.object ≡ o → AreRowsOf F declaration (effect s (HandWith c from onto layout entry)) o y →
         FollowsHand F layout entry x y }
+{}
+
+/// An event that draws at no cell of an object leaves its rows with all their parts; so does a Free.
+pub fn rows_stay_else<L: Layout>(procs: u32)
+    requires { 0 < procs }
+    ensures { (proc_of : ℕ → ℕ) → ((caller : ℕ) → proc_of caller < procs) →
+        let F = layouts_with L.object L.tag_of L.ways L.whole L.serves L.admitted L.act_of procs proc_of in
+        (declared : List L) (s : Joined L) (event : Event L) (o : ℕ) (declaration : L)
+        (x : Chain L L.Part) → IsSound F declared s → IsPossible F declared s event →
+        (drawn_at event ≡ Some o → ⊥) → AreRowsOf F declaration s o x →
+        AreRowsOf F declaration (effect s event) o x }
+{}
+
+/// One caller at a time moves an object or frees rows of it.
+pub fn moves_and_frees_alone<L: Layout>(procs: u32)
+    requires { 0 < procs }
+    ensures { (proc_of : ℕ → ℕ) → ((caller : ℕ) → proc_of caller < procs) →
+        let F = layouts_with L.object L.tag_of L.ways L.whole L.serves L.admitted L.act_of procs proc_of in
+        (declared : List L) (s : Joined L) (c d o : ℕ) → IsSound F declared s → c < many_callers s →
+        d < many_callers s → o < many_objects s → IsAloneAt s.phases c o → IsAloneAt s.phases d o → c ≡ d }
 {}
