@@ -77,8 +77,8 @@ pub record IsDrawn {S L P : Type 0} (F : Layouts S L P) (declared : List L) (s :
   pub is : AreRowsOf F declaration (record s { turns = turn_events.effect s.turns (Draw c cells e); kept = kept_drawn s c false }) e.object after
   pub follows : FollowsDraw F e chain after
   pub others :
-    (q : ℕ) (other : L) (z : Chain L P) → q ≢ e.object → AreRowsOf F other s q z
-    → AreRowsOf F other (record s { turns = turn_events.effect s.turns (Draw c cells e); kept = kept_drawn s c false }) q z
+      (q : ℕ) (other : L) (z : Chain L P) → q ≢ e.object → AreRowsOf F other s q z
+      → AreRowsOf F other (record s { turns = turn_events.effect s.turns (Draw c cells e); kept = kept_drawn s c false }) q z
 
 -- a mark is true of the row, by its layout's tag
 mark_of : (k : Object) (tag number : ℕ) (answer : Answer) → tells_over answer ≡ true → tag ≤ 2 → tag ≡ k.layout → number ≡ k.incarnation
