@@ -44,3 +44,4 @@ pub mod Frame
 pub mod Toy
 pub mod Examples
 pub mod OneAtATime
+pub mod AListOfEvents
