@@ -5,11 +5,10 @@ ghost use Rattle.phase_core.specs.Event.{event_seen, caller_of, NamesObjects};
 ghost use Rattle.phase_core.specs.State.{new_phases};
 ghost use Rattle.phase_core.specs.Sound.{IsSound};
 
-use super::*;
-use crate::object::Word;
 use gen_core::GenEvent;
 use k42_limits::LAST_INCARNATION;
 use k42_memory::Memory;
+use phase_core::{LocalEntry, PhaseEvent, PhaseState, Place, SwapAt, apply};
 use std::alloc::Global;
 use std::test::Fail;
 
@@ -59,7 +58,7 @@ fn are_below(notes: &[(u32, u32)], objects: usize) -> bool
     notes.iter().all(|note| (note.0 as usize) < objects)
 }
 
-#[tactic(auto, using(crate::proofs::Notes::named_all))]
+#[tactic(auto, using(phase_core::proofs::Notes::named_all))]
 fn are_named(notes: &[(u32, u32)], objects: usize) -> bool
     ensures { OnTrue result (All (λ note. note.0 < objects) notes.now) }
 {
@@ -189,21 +188,21 @@ fn numbers(state: &PhaseState, o: usize) -> Option<(u32, u32, u32, u32)> {
 }
 
 // A caller installs what it missed.
-const CALLED: [(Step, bool); 3] = [
+const CALLED: &[(Step, bool)] = &[
     (Step::Turn(GenEvent::Enter(0)), true),
     (Step::LookUp(0, 0), true),
     (Step::Install(0, 0), true),
 ];
 
 // A swap begins, and may not block before a grace.
-const INTERPOSED: [(Step, bool); 3] = [
+const INTERPOSED: &[(Step, bool)] = &[
     (Step::Begin(1, 0), true),
     (Step::Interpose(1), true),
     (Step::Block(1), false),
 ];
 
 // The next call finds the mediator.
-const KNOCKED: [(Step, bool); 3] = [
+const KNOCKED: &[(Step, bool)] = &[
     (Step::EndCall(0), true),
     (Step::LookUp(0, 0), true),
     (Step::Knock(0, 0), true),
@@ -214,9 +213,9 @@ fn a_call_is_direct_until_a_swap_interposes_and_then_counted(rt: HostRuntime) ->
     let layouts = vec![in rt.alloc(); 0]?;
     let callers = vec![in rt.alloc(); 0, 0]?;
     let mut state = PhaseState::new(rt.alloc(), 1, layouts, callers)?;
-    assert_eq!(rt; answered(&mut state, rt.alloc(), CALLED.as_slice())?, 3);
+    assert_eq!(rt; answered(&mut state, rt.alloc(), CALLED)?, 3);
     assert_eq!(rt; place(&state, 0), Some(Place::Direct(0, 0)));
-    assert_eq!(rt; answered(&mut state, rt.alloc(), INTERPOSED.as_slice())?, 3);
+    assert_eq!(rt; answered(&mut state, rt.alloc(), INTERPOSED)?, 3);
     let mediator = LocalEntry {
         tag: 2,
         layout: 0,
@@ -224,14 +223,14 @@ fn a_call_is_direct_until_a_swap_interposes_and_then_counted(rt: HostRuntime) ->
         incarnation: 0,
     };
     assert_eq!(rt; entry(&state, 0, 0), Some(mediator));
-    assert_eq!(rt; answered(&mut state, rt.alloc(), KNOCKED.as_slice())?, 3);
+    assert_eq!(rt; answered(&mut state, rt.alloc(), KNOCKED)?, 3);
     assert_eq!(rt; place(&state, 0), Some(Place::Tracked(0, 0)));
     assert_eq!(rt; numbers(&state, 0), Some((1, 0, 0, 0)));
     Ok(())
 }
 
 // Caller 1 is in the row as caller 0 begins a swap, and a grace waits for it.
-const CALL_UNDER_A_SWAP: [(Step, bool); 14] = [
+const CALL_UNDER_A_SWAP: &[(Step, bool)] = &[
     (Step::Turn(GenEvent::Enter(1)), true),
     (Step::LookUp(1, 0), true),
     (Step::Install(1, 0), true),
@@ -249,7 +248,7 @@ const CALL_UNDER_A_SWAP: [(Step, bool); 14] = [
 ];
 
 // It leaves, comes back by the mediator, and the object is blocked and not moved.
-const COUNTED_BEFORE_THE_MOVE: [(Step, bool); 10] = [
+const COUNTED_BEFORE_THE_MOVE: &[(Step, bool)] = &[
     (Step::EndCall(1), true),
     (Step::Turn(GenEvent::Leave(1)), true),
     (Step::Turn(GenEvent::Look(0)), true),
@@ -263,7 +262,7 @@ const COUNTED_BEFORE_THE_MOVE: [(Step, bool); 10] = [
 ];
 
 // Once it is out the state may be moved, and it is not let in.
-const MOVED_AND_KNOCKED: [(Step, bool); 4] = [
+const MOVED_AND_KNOCKED: &[(Step, bool)] = &[
     (Step::StepOut(1), true),
     (Step::Move(0), true),
     (Step::LookUp(1, 0), true),
@@ -271,7 +270,7 @@ const MOVED_AND_KNOCKED: [(Step, bool); 4] = [
 ];
 
 // The object is turned over and opened, and the next call is in its new row.
-const OPENED: [(Step, bool); 8] = [
+const OPENED: &[(Step, bool)] = &[
     (Step::TurnOver(0, 1), true),
     (Step::StepOut(1), true),
     (Step::Clear(0), false),
@@ -283,7 +282,7 @@ const OPENED: [(Step, bool); 8] = [
 ];
 
 // The former row is freed once its reader has left.
-const FREED: [(Step, bool); 13] = [
+const FREED: &[(Step, bool)] = &[
     (Step::TakeRole(0, &[(0, 1)]), true),
     (Step::Turn(GenEvent::LookAhead(0)), true),
     (Step::Turn(GenEvent::Flip(0)), true),
@@ -300,7 +299,7 @@ const FREED: [(Step, bool); 13] = [
 ];
 
 // A second swap takes the object to its end, and a third is refused.
-const SWAPPED_AGAIN: [(Step, bool); 18] = [
+const SWAPPED_AGAIN: &[(Step, bool)] = &[
     (Step::Begin(0, 0), true),
     (Step::Interpose(0), true),
     (Step::Interpose(0), true),
@@ -322,7 +321,7 @@ const SWAPPED_AGAIN: [(Step, bool); 18] = [
 ];
 
 // A swap of one processor is given up after its state was moved.
-const GIVEN_UP: [(Step, bool); 13] = [
+const GIVEN_UP: &[(Step, bool)] = &[
     (Step::Begin(0, 0), true),
     (Step::Interpose(0), true),
     (Step::TakeRole(0, &[(0, 0)]), true),
@@ -344,7 +343,7 @@ fn begins_under_a_call(state: &mut PhaseState, alloc: Global) -> Result<bool, Me
     requires { IsSound state.old }
     ensures { IsSound state.new }
 {
-    let count = answered(state, alloc, CALL_UNDER_A_SWAP.as_slice())?;
+    let count = answered(state, alloc, CALL_UNDER_A_SWAP)?;
     Ok(count == 14 && swap(state, 0) == Some(SwapAt::Draining(0)))
 }
 
@@ -352,7 +351,7 @@ fn blocks_under_a_call(state: &mut PhaseState, alloc: Global) -> Result<bool, Me
     requires { IsSound state.old }
     ensures { IsSound state.new }
 {
-    let count = answered(state, alloc, COUNTED_BEFORE_THE_MOVE.as_slice())?;
+    let count = answered(state, alloc, COUNTED_BEFORE_THE_MOVE)?;
     let waits = swap(state, 0) == Some(SwapAt::Blocking(0));
     Ok(count == 10 && waits && place(state, 1) == Some(Place::Tracked(0, 0)))
 }
@@ -361,7 +360,7 @@ fn moves_and_lets_nobody_in(state: &mut PhaseState, alloc: Global) -> Result<boo
     requires { IsSound state.old }
     ensures { IsSound state.new }
 {
-    let count = answered(state, alloc, MOVED_AND_KNOCKED.as_slice())?;
+    let count = answered(state, alloc, MOVED_AND_KNOCKED)?;
     let moved = swap(state, 0) == Some(SwapAt::Moved(0));
     Ok(count == 4 && moved && place(state, 1) == Some(Place::Blocked(0)))
 }
@@ -370,7 +369,7 @@ fn opens_the_next_row(state: &mut PhaseState, alloc: Global) -> Result<bool, Mem
     requires { IsSound state.old }
     ensures { IsSound state.new }
 {
-    let count = answered(state, alloc, OPENED.as_slice())?;
+    let count = answered(state, alloc, OPENED)?;
     let inside = place(state, 1) == Some(Place::Direct(0, 1));
     Ok(count == 8 && inside && numbers(state, 0) == Some((0, 1, 1, 0)))
 }
@@ -379,7 +378,7 @@ fn frees_the_former_row(state: &mut PhaseState, alloc: Global) -> Result<bool, M
     requires { IsSound state.old }
     ensures { IsSound state.new }
 {
-    let count = answered(state, alloc, FREED.as_slice())?;
+    let count = answered(state, alloc, FREED)?;
     Ok(count == 13 && numbers(state, 0) == Some((0, 1, 1, 1)))
 }
 
@@ -387,7 +386,7 @@ fn swaps_again(state: &mut PhaseState, alloc: Global) -> Result<bool, Memory>
     requires { IsSound state.old }
     ensures { IsSound state.new }
 {
-    let count = answered(state, alloc, SWAPPED_AGAIN.as_slice())?;
+    let count = answered(state, alloc, SWAPPED_AGAIN)?;
     let refused = swap(state, 1) == Some(SwapAt::Refused(0));
     Ok(count == 18 && refused && numbers(state, 0) == Some((0, 2, 2, 1)))
 }
@@ -411,7 +410,7 @@ fn a_swap_that_is_given_up_leaves_the_row_as_it_was(rt: HostRuntime) -> Result<(
     let layouts = vec![in rt.alloc(); 1]?;
     let callers = vec![in rt.alloc(); 0]?;
     let mut state = PhaseState::new(rt.alloc(), 1, layouts, callers)?;
-    assert_eq!(rt; answered(&mut state, rt.alloc(), GIVEN_UP.as_slice())?, 13);
+    assert_eq!(rt; answered(&mut state, rt.alloc(), GIVEN_UP)?, 13);
     assert_eq!(rt; swap(&state, 0), Some(SwapAt::Idle));
     assert_eq!(rt; numbers(&state, 0), Some((0, 0, 1, 0)));
     let empty = LocalEntry {
@@ -429,15 +428,14 @@ fn age(state: &mut PhaseState)
     requires { state.old ≡ new_phases 1 (0 ∷ []) (0 ∷ []) }
     ensures { IsSound state.new }
 {
-    let word = state.word(0);
-    state.set_entry(0, 0, LocalEntry::empty(LAST_INCARNATION));
-    state.set_word(
-        0,
-        &Word {
-            incarnation: LAST_INCARNATION,
-            ..word
-        },
-    );
+    let object = &mut state.objects[0];
+    object.incarnation = LAST_INCARNATION;
+    object.entries[0] = LocalEntry {
+        tag: 0,
+        layout: 0,
+        cell: 0,
+        incarnation: LAST_INCARNATION,
+    };
 }
 
 #[test]
