@@ -20,7 +20,7 @@ IsSound-new :
     → IsSound (aged s o)
 IsSound-new s o none new first =
     subst (λ o. IsSound (aged s o)) (sym first)
-      (subst (λ s. IsSound (aged s (get_or s.objects 0 none))) (sym new) IsSound-aged)
+    (subst (λ s. IsSound (aged s (get_or s.objects 0 none))) (sym new) IsSound-aged)
 
 pub returns : goal.returns
 returns c = IsSound-new _ _ _ (c.state.view_is ∙ c.requires) (c.object.view_is ∙ c.index_mut-object.ensures.value)
