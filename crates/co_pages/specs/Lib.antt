@@ -1,0 +1,4 @@
+pub mod OneMap
+pub mod PutIn
+pub mod Refilled
+pub mod SharedLaws
