@@ -13,7 +13,7 @@ use Rattle.k42_kinds.specs.Objects.{Pages}
 use Rattle.k42_kinds.proofs.FiniteMaps.{insert_changes, count-insert, mark_of}
 use Rattle.co_pages.specs.PutIn.{put_in}
 use Rattle.co_pages.specs.Places.{CellPlaces, in_place, with_place, page_in, with_page, has_dirty, dirty_in, numbered}
-use Rattle.co_pages.specs.SharedOut.{cell_put_in}
+use Rattle.co_pages.specs.SpreadRows.{cell_put_in}
 
 pub get-here : (m : Pages) (number : ℕ) (page : Page) → finite.get (put_in m (number, page)) number ≡ Some page
 get-here m number page = (insert_changes nat_cmp_total nat_cmp-IsAntisymmetric m number page).here

@@ -3,7 +3,7 @@ pub mod PutIn
 pub mod Refilled
 pub mod SharedLaws
 pub mod Places
-pub mod SharedOut
+pub mod SpreadRows
 pub mod CellLaws
 pub mod RowLaws
 pub mod SpreadLaws

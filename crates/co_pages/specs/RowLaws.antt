@@ -17,7 +17,7 @@ use Rattle.k42_kinds.proofs.SeenMaps.{entries-empty}
 use Rattle.k42_kinds.proofs.FiniteMaps.{get-changed}
 use Rattle.co_pages.specs.PutIn.{put_in}
 use Rattle.co_pages.specs.Places.{CellPlaces, no_places, in_place, with_place, page_in, with_page, all_clean, dirty_in}
-use Rattle.co_pages.specs.SharedOut.{AreCells, IsSharedOut, page_of, shared_out, dirty_of, cell_put_in, collected, no_pages}
+use Rattle.co_pages.specs.SpreadRows.{AreCells, IsSpread, page_of, placed, dirty_of, cell_put_in, collected, no_pages}
 use Rattle.co_pages.specs.CellLaws.{get-here, get-elsewhere, get-other_cell, get-own_cell, count-cell, in_place-with_place, in_place-elsewhere, in_place-cleaned}
 
 -- ---- cells keep their numbers
@@ -25,8 +25,8 @@ pub last_cell : (procs cell : ℕ) (row : List CellPlaces) → AreCells procs ce
 last_cell procs cell [] whole = omega (arith, whole)
 last_cell procs cell (here ∷ others) whole = omega (arith, last_cell procs (suc cell) others whole.2)
 
-pub length-shared_out : (procs : ℕ) (row : List CellPlaces) → IsSharedOut procs row → length row ≡ procs
-length-shared_out procs row whole = omega (arith, last_cell procs 0 row whole)
+pub length-spread : (procs : ℕ) (row : List CellPlaces) → IsSpread procs row → length row ≡ procs
+length-spread procs row whole = omega (arith, last_cell procs 0 row whole)
 
 cell_within : (procs cell : ℕ) (here : CellPlaces) (others : List CellPlaces) → AreCells procs cell (here ∷ others) → cell < procs
 cell_within procs cell here others whole = omega (arith, last_cell procs (suc cell) others whole.2)
@@ -36,8 +36,8 @@ still_cells procs cell [] at number page whole = whole
 still_cells procs cell (here ∷ others) zero number page whole = whole
 still_cells procs cell (here ∷ others) (suc at) number page whole = (whole.0, whole.1, still_cells procs (suc cell) others at number page whole.2)
 
-pub still_shared_out : (procs : ℕ) (row : List CellPlaces) (entry : ℕ × Page) → IsSharedOut procs row → IsSharedOut procs (shared_out row entry)
-still_shared_out procs row entry whole = still_cells procs 0 row (entry.0 % length row) entry.0 entry.1 whole
+pub still_spread : (procs : ℕ) (row : List CellPlaces) (entry : ℕ × Page) → IsSpread procs row → IsSpread procs (placed row entry)
+still_spread procs row entry whole = still_cells procs 0 row (entry.0 % length row) entry.0 entry.1 whole
 
 pub clean_cells : (procs cell : ℕ) (row : List CellPlaces) → AreCells procs cell row → AreCells procs cell (map all_clean row)
 clean_cells procs cell [] whole = whole
@@ -70,12 +70,12 @@ or_none : {A : Type 0} (found : Option A) → option_or found None ≡ found
 or_none None = refl
 or_none (Some x) = refl
 
-pub get-collected : (procs : ℕ) (row : List CellPlaces) (number : ℕ) → IsSharedOut procs row → finite.get (collected row) number ≡ page_of row number
+pub get-collected : (procs : ℕ) (row : List CellPlaces) (number : ℕ) → IsSpread procs row → finite.get (collected row) number ≡ page_of row number
 get-collected procs row number whole =
     get-from procs 0 (number % procs) row finite.empty number whole (omega arith)
     ∙ ap (option_or (page_at row (number % procs) number)) (get-empty nat_cmp number)
     ∙ or_none _
-    ∙ ap (λ n. page_at row (number % n) number) (sym (length-shared_out procs row whole))
+    ∙ ap (λ n. page_at row (number % n) number) (sym (length-spread procs row whole))
 
 -- ---- a write
 length-changed : (change : CellPlaces → CellPlaces) (row : List CellPlaces) (at : ℕ) → length (changed_at change row at) ≡ length row
@@ -102,12 +102,12 @@ page_at-elsewhere procs cell (suc at) zero (here ∷ others) number other page w
 page_at-elsewhere procs cell (suc at) (suc own) (here ∷ others) number other page whole is own_is apart =
     page_at-elsewhere procs (suc cell) at own others number other page whole.2 (omega (arith, is)) (omega (arith, own_is)) apart
 
-module _ (procs : ℕ) (row : List CellPlaces) (number : ℕ) (page : Page) (some : 0 < procs) (whole : IsSharedOut procs row) where
+module _ (procs : ℕ) (row : List CellPlaces) (number : ℕ) (page : Page) (some : 0 < procs) (whole : IsSpread procs row) where
   abbrev sized : length row ≡ procs
-  sized = length-shared_out procs row whole
+  sized = length-spread procs row whole
 
   abbrev row' : List CellPlaces
-  row' = shared_out row (number, page)
+  row' = placed row (number, page)
 
   page_of-written : page_of row' number ≡ Some page
   page_of-written =
@@ -122,10 +122,10 @@ module _ (procs : ℕ) (row : List CellPlaces) (number : ℕ) (page : Page) (som
       ap (λ n. page_at row' (other % n) other) (length-changed _ row (number % length row))
       ∙ page_at-elsewhere procs 0 (number % length row) (other % length row) row number other page whole (in_own number) (in_own other) apart
 
-  -- to share out one page more is to put it into the map
+  -- to place one page more is to put it into the map
   pub collected-written : collected row' ≡ put_in (collected row) (number, page)
   collected-written = same_map nat_cmp_total nat_cmp-IsAntisymmetric _ _ (λ other.
-      get-collected procs row' other (still_shared_out procs row (number, page) whole)
+      get-collected procs row' other (still_spread procs row (number, page) whole)
       ∙ ⊎_elim
       (λ same. ap (page_of row') same.1 ∙ page_of-written ∙ sym (get-here (collected row) number page) ∙ ap (finite.get (put_in (collected row) (number, page))) (sym same.1))
       (λ apart. page_of-others other apart.1 ∙ sym (get-collected procs row other whole) ∙ sym (get-elsewhere (collected row) number page other apart.1))
@@ -141,7 +141,7 @@ page_at-clean [] at number = refl
 page_at-clean (here ∷ others) zero number = in_place-cleaned here.places (number / here.procs)
 page_at-clean (here ∷ others) (suc at) number = page_at-clean others at number
 
-pub collected-clean : (procs : ℕ) (row : List CellPlaces) → IsSharedOut procs row → collected (map all_clean row) ≡ all_cleaned (collected row)
+pub collected-clean : (procs : ℕ) (row : List CellPlaces) → IsSpread procs row → collected (map all_clean row) ≡ all_cleaned (collected row)
 collected-clean procs row whole = same_map nat_cmp_total nat_cmp-IsAntisymmetric _ _ (λ number.
     get-collected procs (map all_clean row) number (clean_cells procs 0 row whole)
     ∙ ap (λ n. page_at (map all_clean row) (number % n) number) (length-clean row)
@@ -162,25 +162,25 @@ count-from procs cell (here ∷ others) m whole new =
 no_dirty : dirty_count finite.empty ≡ 0
 no_dirty = ap (λ es. sum_by (λ page. cond page.dirty 1 0) (map (λ entry. entry.1) es)) (entries-empty nat_cmp)
 
-pub count-collected : (procs : ℕ) (row : List CellPlaces) → IsSharedOut procs row → dirty_count (collected row) ≡ dirty_of row
+pub count-collected : (procs : ℕ) (row : List CellPlaces) → IsSpread procs row → dirty_count (collected row) ≡ dirty_of row
 count-collected procs row whole =
     count-from procs 0 row finite.empty whole (λ number _. get-empty nat_cmp number)
     ∙ omega (arith, no_dirty)
 
 -- ---- no pages, and pages put back
-pub no_cells : (procs : ℕ) → IsSharedOut procs (no_pages procs)
+pub no_cells : (procs : ℕ) → IsSpread procs (no_pages procs)
 no_cells procs = made_cells procs 0 procs (omega arith)
 
 pub collected-none : (procs first many : ℕ) (m : Pages) → fold cell_put_in m (made_from (no_places procs) first many) ≡ m
 collected-none procs first zero m = refl
 collected-none procs first (suc many) m = collected-none procs (suc first) many m
 
-pub refilled_row : (procs : ℕ) (entries : List (ℕ × Page)) (row : List CellPlaces) → 0 < procs → IsSharedOut procs row → collected (fold shared_out row entries) ≡ fold put_in (collected row) entries
+pub refilled_row : (procs : ℕ) (entries : List (ℕ × Page)) (row : List CellPlaces) → 0 < procs → IsSpread procs row → collected (fold placed row entries) ≡ fold put_in (collected row) entries
 refilled_row procs [] row some whole = refl
 refilled_row procs (entry ∷ entries) row some whole =
-    refilled_row procs entries (shared_out row entry) some (still_shared_out procs row entry whole)
+    refilled_row procs entries (placed row entry) some (still_spread procs row entry whole)
     ∙ ap (λ m. fold put_in m entries) (collected-written procs row entry.0 entry.1 some whole)
 
-pub refilled_cells : (procs : ℕ) (entries : List (ℕ × Page)) (row : List CellPlaces) → IsSharedOut procs row → IsSharedOut procs (fold shared_out row entries)
+pub refilled_cells : (procs : ℕ) (entries : List (ℕ × Page)) (row : List CellPlaces) → IsSpread procs row → IsSpread procs (fold placed row entries)
 refilled_cells procs [] row whole = whole
-refilled_cells procs (entry ∷ entries) row whole = refilled_cells procs entries (shared_out row entry) (still_shared_out procs row entry whole)
+refilled_cells procs (entry ∷ entries) row whole = refilled_cells procs entries (placed row entry) (still_spread procs row entry whole)

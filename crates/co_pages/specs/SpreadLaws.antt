@@ -1,4 +1,4 @@
--- The pages that are shared out keep the laws of layouts.
+-- The pages that are spread over cells keep the laws of layouts.
 use Rattle.std.specs.Prelude.{◌≡◌, ℕ, zero, suc, ◌+◌, ◌%◌, ◌/◌, ◌<◌, IsTrue, List, [], ◌∷◌, length, map, fold, Option, Some, None, option_map, option_and_then, refl}
 use Rattle.std.proofs.Common.{arith, sym, ap, subst, ◌∙◌, mod-lt}
 use Rattle.std.specs.FinMap as finite
@@ -16,8 +16,8 @@ use Rattle.co_pages.specs.OneMap.{IsAny}
 use Rattle.co_pages.specs.PutIn.{put_in}
 use Rattle.co_pages.specs.Refilled.{refilled}
 use Rattle.co_pages.specs.Places.{CellPlaces, page_in, with_page}
-use Rattle.co_pages.specs.SharedOut.{IsSharedOut, page_of, shared_out, dirty_of, collected, no_pages, spread_reach, cell_reply, spread}
-use Rattle.co_pages.specs.RowLaws.{length-shared_out, still_cells, still_shared_out, clean_cells, no_cells, get-collected, collected-written, collected-clean, count-collected, collected-none, refilled_row, refilled_cells}
+use Rattle.co_pages.specs.SpreadRows.{IsSpread, page_of, placed, dirty_of, collected, no_pages, spread_reach, cell_reply, spread}
+use Rattle.co_pages.specs.RowLaws.{length-spread, still_cells, still_spread, clean_cells, no_cells, get-collected, collected-written, collected-clean, count-collected, collected-none, refilled_row, refilled_cells}
 
 replied_done : (row : List CellPlaces) (cell number : ℕ) (text : List ℕ) → cell < length row → option_map (λ here. cell_reply here (Write number text)) (part_at row cell) ≡ Some Done
 replied_done [] cell number text within = absurd (omega (arith, within))
@@ -34,32 +34,32 @@ unchanged [] cell = refl
 unchanged (here ∷ others) zero = refl
 unchanged (here ∷ others) (suc cell) = ap (λ rest. here ∷ rest) (unchanged others cell)
 
-module _ (procs : ℕ) (row : List CellPlaces) (some : 0 < procs) (whole : IsSharedOut procs row) where
+module _ (procs : ℕ) (row : List CellPlaces) (some : 0 < procs) (whole : IsSpread procs row) where
   in_row : (number : ℕ) → number % procs < length row
-  in_row number = subst (λ (n : ℕ). number % procs < n) (sym (length-shared_out procs row whole)) (mod-lt number some)
+  in_row number = subst (λ (n : ℕ). number % procs < n) (sym (length-spread procs row whole)) (mod-lt number some)
 
   found : (number : ℕ) → page_of row number ≡ finite.get (collected row) number
   found number = sym (get-collected procs row number whole)
 
-  spread_writes : (number : ℕ) (text : List ℕ) → StepsRow pages_object spread (IsSharedOut procs) row (Write number text) (One (number % procs))
+  spread_writes : (number : ℕ) (text : List ℕ) → StepsRow pages_object spread (IsSpread procs) row (Write number text) (One (number % procs))
   spread_writes number text = record {
     whole = still_cells procs 0 row (number % procs) number (written text) whole;
-    moved = ap (λ n. collected (changed_at (λ here. with_page here number (written text)) row (number % n))) (sym (length-shared_out procs row whole)) ∙ collected-written procs row number (written text) some whole;
+    moved = ap (λ n. collected (changed_at (λ here. with_page here number (written text)) row (number % n))) (sym (length-spread procs row whole)) ∙ collected-written procs row number (written text) some whole;
     replied = replied_done row (number % procs) number text (in_row number);
   }
 
-  spread_reads : (number : ℕ) → StepsRow pages_object spread (IsSharedOut procs) row (Read number) (One (number % procs))
+  spread_reads : (number : ℕ) → StepsRow pages_object spread (IsSpread procs) row (Read number) (One (number % procs))
   spread_reads number = record {
-    whole = subst (IsSharedOut procs) (sym (unchanged row (number % procs))) whole;
+    whole = subst (IsSpread procs) (sym (unchanged row (number % procs))) whole;
     moved = ap collected (unchanged row (number % procs));
     replied = replied_found row (number % procs) number (in_row number)
-        ∙ ap (λ n. Some (found_text (option_and_then (λ here. page_in here number) (part_at row (number % n))))) (sym (length-shared_out procs row whole))
+        ∙ ap (λ n. Some (found_text (option_and_then (λ here. page_in here number) (part_at row (number % n))))) (sym (length-spread procs row whole))
         ∙ ap (λ page. Some (found_text page)) (found number);
   }
 
-pub spread_steps_all : (procs : ℕ) (row : List CellPlaces) (op : Op) → 0 < procs → IsTrue (pages_object.takes op) → IsSharedOut procs row → StepsRow pages_object spread (IsSharedOut procs) row op All
+pub spread_steps_all : (procs : ℕ) (row : List CellPlaces) (op : Op) → 0 < procs → IsTrue (pages_object.takes op) → IsSpread procs row → StepsRow pages_object spread (IsSpread procs) row op All
 spread_steps_all procs row (Write number text) some takes whole = record {
-  whole = still_shared_out procs row (number, written text) whole;
+  whole = still_spread procs row (number, written text) whole;
   moved = collected-written procs row number (written text) some whole;
   replied = refl;
 }
@@ -78,7 +78,7 @@ spread_steps_all procs row (Find key) some takes whole = cc takes
 spread_steps_all procs row (Unbind key) some takes whole = cc takes
 spread_steps_all procs row Size some takes whole = cc takes
 
-pub spread_steps : (procs proc : ℕ) (row : List CellPlaces) (op : Op) → proc < procs → IsTrue (pages_object.takes op) → IsSharedOut procs row → StepsRow pages_object spread (IsSharedOut procs) row op (spread_reach procs op proc)
+pub spread_steps : (procs proc : ℕ) (row : List CellPlaces) (op : Op) → proc < procs → IsTrue (pages_object.takes op) → IsSpread procs row → StepsRow pages_object spread (IsSpread procs) row op (spread_reach procs op proc)
 spread_steps procs proc row (Write number text) there takes whole = spread_writes procs row (omega (arith, there)) whole number text
 spread_steps procs proc row (Read number) there takes whole = spread_reads procs row (omega (arith, there)) whole number
 spread_steps procs proc row Dirty there takes whole = spread_steps_all procs row Dirty (omega (arith, there)) takes whole
@@ -104,13 +104,13 @@ spread_reaches procs proc (Find key) there takes = cc takes
 spread_reaches procs proc (Unbind key) there takes = cc takes
 spread_reaches procs proc Size there takes = cc takes
 
-pub spread_stands : (procs : ℕ) (row : List CellPlaces) → IsSharedOut procs row → StandsFor spread IsAny 1 procs row
-spread_stands procs row whole = record { sized = length-shared_out procs row whole; served = tt }
+pub spread_stands : (procs : ℕ) (row : List CellPlaces) → IsSpread procs row → StandsFor spread IsAny 1 procs row
+spread_stands procs row whole = record { sized = length-spread procs row whole; served = tt }
 
-pub spread_begins : (procs : ℕ) → Begins pages_object spread (IsSharedOut procs) 1 procs
+pub spread_begins : (procs : ℕ) → Begins pages_object spread (IsSpread procs) 1 procs
 spread_begins procs = record { whole = no_cells procs; empty = λ live. collected-none procs 0 procs finite.empty }
 
-pub spread_imports : (procs : ℕ) (pages : Pages) → 0 < procs → Imports spread (IsSharedOut procs) procs pages
+pub spread_imports : (procs : ℕ) (pages : Pages) → 0 < procs → Imports spread (IsSpread procs) procs pages
 spread_imports procs pages some =
     record {
       whole = refilled_cells procs (finite.entries pages) (no_pages procs) (no_cells procs);

@@ -1,4 +1,4 @@
-//! Two ways to keep pages: as one map, and shared out to the processors by their numbers.
+//! Two ways to keep pages: as one map, and spread over the processors by their numbers.
 #![tactic(auto)]
 
 mod places;

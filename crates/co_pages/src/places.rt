@@ -1,7 +1,7 @@
 ghost use Rattle.std.specs.Prelude.{◌≡◌, ◌%◌, ◌^◌, ◌<◌, ◌≤◌, OnOk, OnErr, map, option_map};
 ghost use Rattle.k42_kinds.specs.Pages.{cleaned};
 ghost use Rattle.co_pages.specs.Places as kept;
-ghost use Rattle.co_pages.specs.SharedOut.{cell_put_in};
+ghost use Rattle.co_pages.specs.SpreadRows.{cell_put_in};
 
 use k42_kinds::{Page, PagesState};
 use k42_memory::Memory;

@@ -6,8 +6,8 @@ ghost use Rattle.k42_kinds.specs.Objects.{pages_object, found_text};
 ghost use Rattle.k42_kinds.specs.LayoutLaws.{IsWholeRow};
 ghost use Rattle.co_pages.specs.OneMap.{IsAny};
 ghost use Rattle.co_pages.specs.Places.{all_clean};
-ghost use Rattle.co_pages.specs.SharedOut as shares;
-ghost use Rattle.co_pages.specs.SharedOut.{IsSharedOut, spread};
+ghost use Rattle.co_pages.specs.SpreadRows as rows;
+ghost use Rattle.co_pages.specs.SpreadRows.{IsSpread, spread};
 ghost use Rattle.co_pages.specs.SpreadLaws.{spread_steps, spread_steps_all, spread_reaches, spread_stands, spread_begins, spread_imports};
 
 use crate::places::Places;
@@ -17,7 +17,7 @@ use k42_kinds::{
 use k42_memory::Memory;
 use std::alloc::Global;
 
-/// Pages that are shared out to a cell for each processor, by their numbers.
+/// Pages that are spread over a cell for each processor, by their numbers.
 #[derive(Clone, Copy, Debug, PartialEq, Eq)]
 pub struct SpreadPages;
 
@@ -57,7 +57,7 @@ fn reply_with(found: Option<Page>) -> Reply
 /// As many cells, in which no page was written.
 #[tactic(auto, using(k42_kinds::proofs::RowSteps::made_from_push))]
 fn no_pages(alloc: Global, procs: u32) -> Result<Vec<Places>, Memory>
-    ensures { IfOk result (λ parts. parts.items ≡ shares.no_pages procs) }
+    ensures { IfOk result (λ parts. parts.items ≡ rows.no_pages procs) }
 {
     let mut parts = Vec::new(alloc);
     for cell in 0..procs {
@@ -68,9 +68,9 @@ fn no_pages(alloc: Global, procs: u32) -> Result<Vec<Places>, Memory>
 
 /// Puts the page into the cell where it lives.
 fn put(parts: &mut Vec<Places>, number: u16, page: &Page) -> Result<(), Memory>
-    requires { IsWholeRow IsSharedOut parts.old.items }
+    requires { IsWholeRow IsSpread parts.old.items }
     ensures ok { OnOk result
-        (parts.new.items ≡ shares.shared_out parts.old.items (number, page.now)) }
+        (parts.new.items ≡ rows.placed parts.old.items (number, page.now)) }
     ensures memory { OnErr result (parts.new.items ≡ parts.old.items) }
 {
     let cell = usize::from(number) % parts.len();
@@ -79,8 +79,8 @@ fn put(parts: &mut Vec<Places>, number: u16, page: &Page) -> Result<(), Memory>
 
 /// The page in the cell where it lives.
 fn get(parts: &[Places], number: u16) -> Option<Page>
-    requires { IsWholeRow IsSharedOut parts.now }
-    ensures { result ≡ shares.page_of parts.now number }
+    requires { IsWholeRow IsSpread parts.now }
+    ensures { result ≡ rows.page_of parts.now number }
 {
     let cell = usize::from(number) % parts.len();
     parts[cell].get(number)
@@ -88,8 +88,8 @@ fn get(parts: &[Places], number: u16) -> Option<Page>
 
 /// How many pages of all cells are dirty.
 fn dirty(parts: &[Places]) -> u64
-    requires { IsWholeRow IsSharedOut parts.now }
-    ensures { result ≡ shares.dirty_of parts.now }
+    requires { IsWholeRow IsSpread parts.now }
+    ensures { result ≡ rows.dirty_of parts.now }
 {
     let procs = parts[0].procs();
     let mut dirty = 0u64;
@@ -117,7 +117,7 @@ impl Layout for SpreadPages {
 
     ghost ways = { λ _. spread };
 
-    ghost whole = { λ _. IsSharedOut };
+    ghost whole = { λ _. IsSpread };
 
     ghost serves = { λ _. IsAny };
 

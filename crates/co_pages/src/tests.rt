@@ -1,4 +1,4 @@
-ghost use Rattle.std.specs.Prelude.{◌≡◌, ◌<◌, ◌≤◌, IsTrue};
+ghost use Rattle.std.specs.Prelude.{◌≡◌, ◌<◌, ◌≤◌, IsTrue, IfOk};
 ghost use Rattle.k42_limits.specs.declared.TheConstants.{PROCESSORS};
 ghost use Rattle.k42_kinds.specs.declared.operation.Op.{Op};
 ghost use Rattle.k42_kinds.specs.Objects.{pages_object};
@@ -41,8 +41,8 @@ fn follow<L: Layout>(
 #[test]
 fn all_processors_see_the_same_pages(rt: HostRuntime) -> Result<(), Fail> {
     let hello = Text::of(b"hello").ok_or("no text")?;
-    let placed: [(u32, u32); 3] = [(1, 0), (8, 0), (8, 7)];
-    for (procs, proc) in placed {
+    let places: [(u32, u32); 3] = [(1, 0), (8, 0), (8, 7)];
+    for (procs, proc) in places {
         follow(&rt, rt.alloc(), &SharedPages, procs, proc, &hello)?;
         follow(&rt, rt.alloc(), &SpreadPages, procs, proc, &hello)?;
     }
@@ -60,6 +60,21 @@ fn a_page_is_read_and_written_in_the_cell_of_its_number(rt: HostRuntime) -> Resu
     Ok(())
 }
 
+/// Imports a state, and exports it again.
+fn brought_back<L: Layout>(
+    layout: &L,
+    alloc: Global,
+    state: &L::State,
+    procs: u32,
+) -> Result<L::State, Memory>
+    requires known { (L.tag_of layout.now ≤ 2) × (0 < procs) × (procs ≤ PROCESSORS) }
+    requires served { L.serves layout.now state.now }
+    ensures { IfOk result (λ same. same ≡ state.now) }
+{
+    let row = layout.import(alloc, state, procs)?;
+    layout.export(alloc, &row)
+}
+
 #[test]
 fn three_dirty_pages_come_back_from_eight_cells(rt: HostRuntime) -> Result<(), Fail> {
     let text = Text::of(b"hi").ok_or("no text")?;
@@ -69,8 +84,7 @@ fn three_dirty_pages_come_back_from_eight_cells(rt: HostRuntime) -> Result<(), F
     for number in [5, 13, 1023] {
         pages.insert(number, &page)?;
     }
-    let row = SpreadPages.import(rt.alloc(), &pages, 8)?;
-    let exported = SpreadPages.export(rt.alloc(), &row)?;
+    let exported = brought_back(&SpreadPages, rt.alloc(), &pages, 8)?;
     assert!(rt; exported.iter().eq(pages.iter()));
     assert_eq!(rt; exported.dirty(), 3);
     Ok(())

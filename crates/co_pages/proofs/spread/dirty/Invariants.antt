@@ -1,5 +1,5 @@
 use Rattle.std.proofs.Common.{◌≡◌, ◌*◌, ◌^◌, ◌≤◌, length, take}
-use Rattle.co_pages.specs.SharedOut.{dirty_of}
+use Rattle.co_pages.specs.SpreadRows.{dirty_of}
 use Rattle.co_pages.proofs.spread.dirty.Given as goal
 
 abbrev pub invariant-loop-cell : goal.invariant-loop-cell

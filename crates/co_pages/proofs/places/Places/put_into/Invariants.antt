@@ -1,7 +1,7 @@
 use Rattle.std.proofs.Common.{◌≡◌, ◌+◌, ◌*◌, ◌^◌, ◌<◌, fold, drop, length}
 use Rattle.co_pages.specs.PutIn.{put_in}
 use Rattle.co_pages.specs.Places.{numbered}
-use Rattle.co_pages.specs.SharedOut.{cell_put_in}
+use Rattle.co_pages.specs.SpreadRows.{cell_put_in}
 use Rattle.co_pages.proofs.places.Places.put_into.Given as goal
 
 abbrev pub invariant-loop-place : goal.invariant-loop-place

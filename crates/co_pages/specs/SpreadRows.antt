@@ -1,4 +1,4 @@
--- Pages shared out to the cells of a row, one cell for each processor: page i lives in cell i
+-- Pages spread over the cells of a row, one cell for each processor: page i lives in cell i
 -- modulo the number of cells.
 use Rattle.std.specs.Prelude.{◌≡◌, ℕ, zero, suc, ◌+◌, ◌%◌, List, [], ◌∷◌, length, map, fold, sum_by, Option, option_and_then}
 use Rattle.std.specs.FinMap as finite
@@ -21,16 +21,16 @@ AreCells procs cell [] = cell ≡ procs
 AreCells procs cell (here ∷ others) = (here.procs ≡ procs) × (here.cell ≡ cell) × AreCells procs (suc cell) others
 
 -- a cell for each processor
-abbrev pub IsSharedOut : ℕ → List CellPlaces → Type 0
-IsSharedOut procs row = AreCells procs 0 row
+abbrev pub IsSpread : ℕ → List CellPlaces → Type 0
+IsSpread procs row = AreCells procs 0 row
 
 -- the page of this number, in the cell where it lives
 abbrev pub page_of : List CellPlaces → ℕ → Option Page
 page_of row number = option_and_then (λ here. page_in here number) (part_at row (number % length row))
 
 -- the page is put into its cell
-abbrev pub shared_out : List CellPlaces → ℕ × Page → List CellPlaces
-shared_out row entry = changed_at (λ here. with_page here entry.0 entry.1) row (entry.0 % length row)
+abbrev pub placed : List CellPlaces → ℕ × Page → List CellPlaces
+placed row entry = changed_at (λ here. with_page here entry.0 entry.1) row (entry.0 % length row)
 
 abbrev pub dirty_of : List CellPlaces → ℕ
 dirty_of row = sum_by dirty_in row
@@ -63,7 +63,7 @@ cell_reply here (Read number) = found_text (page_in here number)
 cell_reply here _ = Gone
 
 abbrev pub row_after : List CellPlaces → Op → List CellPlaces
-row_after row (Write number text) = shared_out row (number, written text)
+row_after row (Write number text) = placed row (number, written text)
 row_after row Clean = map all_clean row
 row_after row _ = row
 
@@ -83,5 +83,5 @@ spread = record {
   row_after = row_after;
   row_reply = row_reply;
   combine = collected;
-  imported = λ procs pages. fold shared_out (no_pages procs) (finite.entries pages);
+  imported = λ procs pages. fold placed (no_pages procs) (finite.entries pages);
 }
