@@ -1,12 +1,12 @@
 -- Pages spread over two cells: rows as they are due, and rows that are refused.
-use Rattle.std.proofs.Common.{◌≡◌, ℕ, true, false, List, [], ◌∷◌, Option, Some, None, refl}
+use Rattle.std.proofs.Common.{◌≡◌, ℕ, List, [], ◌∷◌, Option, Some, None, refl}
 use Rattle.k42_kinds.specs.declared.page.Page.{Page}
-use Rattle.k42_kinds.specs.Pages.{written, cleaned}
+use Rattle.k42_kinds.specs.Pages.{written}
 use Rattle.k42_kinds.specs.declared.operation.Op.TheVariants.{Write, Read, Dirty, Clean}
 use Rattle.k42_kinds.specs.declared.operation.Reply.TheVariants.{Text, Zero, Number}
 use Rattle.k42_kinds.specs.declared.entry.Reach.TheVariants.{One, All}
 use Rattle.co_pages.specs.Places.{CellPlaces, pages_of}
-use Rattle.co_pages.specs.SpreadRows.{IsSpread, placed, no_pages, page_of, row_after, row_reply, spread_reach}
+use Rattle.co_pages.specs.SpreadRows.{IsSpread, placed, no_pages, row_after, row_reply, spread_reach}
 
 abbrev hi : Page
 hi = written (104 ∷ 105 ∷ [])

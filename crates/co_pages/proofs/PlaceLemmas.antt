@@ -1,5 +1,5 @@
 -- What the code does at the places of a cell.
-use Rattle.std.proofs.Common.{◌≡◌, ℕ, zero, suc, ◌+◌, ◌-◌, ◌*◌, ◌/◌, ◌%◌, ◌^◌, ◌<◌, ◌≤◌, max, ◌⊎◌, inl, inr, ⊎_elim, List, [], ◌∷◌, ◌++◌, length, take, drop, set, replicate, get_or, fold, Option, Some, None, OnOk, OnErr, refl, sym, ap, subst, ◌∙◌, arith, append-nil, suc-mul, take_all}
+use Rattle.std.proofs.Common.{◌≡◌, ℕ, zero, suc, ◌+◌, ◌-◌, ◌*◌, ◌/◌, ◌%◌, ◌^◌, ◌<◌, ◌≤◌, max, ◌⊎◌, inl, inr, ⊎_elim, List, [], ◌∷◌, ◌++◌, length, take, set, replicate, get_or, Option, Some, None, OnOk, OnErr, refl, sym, ap, subst, ◌∙◌, arith, append-nil, suc-mul, take_all}
 use Rattle.std.proofs.Math.Nat.{mod-add-div'}
 use Rattle.std.specs.declared.result.Result.{Result}
 use Rattle.std.specs.declared.result.Result.TheVariants.{Ok, Err}

@@ -1,7 +1,7 @@
 -- What the pages of one cell bring into a map.
-use Rattle.std.specs.Prelude.{◌≡◌, ◌≢◌, ℕ, zero, suc, ◌+◌, ◌*◌, ◌/◌, ◌%◌, ◌<◌, ◌≤◌, Bool, true, false, cond, List, [], ◌∷◌, length, map, fold, sum_by, count_by, Option, Some, None, option_map, refl}
-use Rattle.std.specs.Option.{option_or, unwrap_or}
-use Rattle.std.proofs.Common.{arith, sym, ap, subst, ◌∙◌, suc-mul, mod-lt, mod-eq_of_lt}
+use Rattle.std.specs.Prelude.{◌≡◌, ◌≢◌, ℕ, zero, suc, ◌+◌, ◌*◌, ◌/◌, ◌%◌, ◌<◌, cond, List, [], ◌∷◌, map, fold, count_by, Option, Some, None, option_map, refl}
+use Rattle.std.specs.Option.{option_or}
+use Rattle.std.proofs.Common.{arith, sym, ap, ◌∙◌, suc-mul, mod-eq_of_lt}
 use Rattle.std.proofs.Math.Nat.{add-mul-mod_self_right, mod-add-div'}
 use Rattle.std.proofs.lemmas.List.Sums.{sum_by-cons}
 use Rattle.std.specs.Cmp.{nat_cmp_total}
@@ -12,7 +12,7 @@ use Rattle.k42_kinds.specs.Pages.{cleaned, dirty_count}
 use Rattle.k42_kinds.specs.Objects.{Pages}
 use Rattle.k42_kinds.proofs.FiniteMaps.{insert_changes, count-insert, mark_of}
 use Rattle.co_pages.specs.PutIn.{put_in}
-use Rattle.co_pages.specs.Places.{CellPlaces, in_place, with_place, page_in, with_page, has_dirty, dirty_in, numbered}
+use Rattle.co_pages.specs.Places.{CellPlaces, in_place, with_place, page_in, has_dirty, dirty_in, numbered}
 use Rattle.co_pages.specs.SpreadRows.{cell_put_in}
 
 pub get-here : (m : Pages) (number : ℕ) (page : Page) → finite.get (put_in m (number, page)) number ≡ Some page

@@ -1,5 +1,5 @@
 -- What a row of cells stands for, and what its steps make of that.
-use Rattle.std.specs.Prelude.{◌≡◌, ◌≢◌, ℕ, zero, suc, ◌+◌, ◌*◌, ◌/◌, ◌%◌, ◌<◌, ◌≤◌, Bool, true, false, cond, List, [], ◌∷◌, length, map, fold, sum_by, Option, Some, None, option_map, option_and_then, refl}
+use Rattle.std.specs.Prelude.{◌≡◌, ◌≢◌, ℕ, zero, suc, ◌+◌, ◌*◌, ◌/◌, ◌%◌, ◌<◌, ◌≤◌, cond, List, [], ◌∷◌, length, map, fold, sum_by, Option, Some, None, option_map, option_and_then, refl}
 use Rattle.std.specs.Option.{option_or}
 use Rattle.std.proofs.Common.{arith, sym, ap, subst, ◌∙◌, ⊎_elim, mod-lt}
 use Rattle.std.proofs.Math.Nat.{mod-add-div'}
@@ -16,7 +16,7 @@ use Rattle.k42_kinds.specs.Rows.{part_at, changed_at, made_from}
 use Rattle.k42_kinds.proofs.SeenMaps.{entries-empty}
 use Rattle.k42_kinds.proofs.FiniteMaps.{get-changed}
 use Rattle.co_pages.specs.PutIn.{put_in}
-use Rattle.co_pages.specs.Places.{CellPlaces, no_places, in_place, with_place, page_in, with_page, all_clean, dirty_in}
+use Rattle.co_pages.specs.Places.{CellPlaces, no_places, page_in, with_page, all_clean, dirty_in}
 use Rattle.co_pages.specs.SpreadRows.{AreCells, IsSpread, page_of, placed, dirty_of, cell_put_in, collected, no_pages}
 use Rattle.co_pages.specs.CellLaws.{get-here, get-elsewhere, get-other_cell, get-own_cell, count-cell, in_place-with_place, in_place-elsewhere, in_place-cleaned}
 

@@ -1,5 +1,5 @@
 -- The pages that are kept as one map keep the laws of layouts.
-use Rattle.std.specs.Prelude.{◌≡◌, ℕ, List, [], ◌∷◌, refl}
+use Rattle.std.specs.Prelude.{ℕ, List, [], ◌∷◌, refl}
 use Rattle.k42_kinds.specs.declared.operation.Op.{Op}
 use Rattle.k42_kinds.specs.declared.entry.Reach.TheVariants.{One, All}
 use Rattle.k42_kinds.specs.Objects.{Pages, pages_object}

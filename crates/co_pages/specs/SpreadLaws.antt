@@ -1,11 +1,9 @@
 -- The pages that are spread over cells keep the laws of layouts.
-use Rattle.std.specs.Prelude.{◌≡◌, ℕ, zero, suc, ◌+◌, ◌%◌, ◌/◌, ◌<◌, IsTrue, List, [], ◌∷◌, length, map, fold, Option, Some, None, option_map, option_and_then, refl}
+use Rattle.std.specs.Prelude.{◌≡◌, ℕ, zero, suc, ◌%◌, ◌<◌, IsTrue, List, [], ◌∷◌, length, fold, Some, option_map, option_and_then, refl}
 use Rattle.std.proofs.Common.{arith, sym, ap, subst, ◌∙◌, mod-lt}
 use Rattle.std.specs.FinMap as finite
-use Rattle.k42_kinds.specs.declared.page.Page.{Page}
 use Rattle.k42_kinds.specs.declared.operation.Op.{Op}
 use Rattle.k42_kinds.specs.declared.operation.Op.TheVariants.{Add, Get, Drain, Bind, Find, Unbind, Size, Write, Read, Dirty, Clean}
-use Rattle.k42_kinds.specs.declared.operation.Reply.{Reply}
 use Rattle.k42_kinds.specs.declared.operation.Reply.TheVariants.{Done, Number}
 use Rattle.k42_kinds.specs.declared.entry.Reach.TheVariants.{One, All}
 use Rattle.k42_kinds.specs.Pages.{written}
@@ -16,7 +14,7 @@ use Rattle.co_pages.specs.OneMap.{IsAny}
 use Rattle.co_pages.specs.PutIn.{put_in}
 use Rattle.co_pages.specs.Refilled.{refilled}
 use Rattle.co_pages.specs.Places.{CellPlaces, page_in, with_page}
-use Rattle.co_pages.specs.SpreadRows.{IsSpread, page_of, placed, dirty_of, collected, no_pages, spread_reach, cell_reply, spread}
+use Rattle.co_pages.specs.SpreadRows.{IsSpread, page_of, collected, no_pages, spread_reach, cell_reply, spread}
 use Rattle.co_pages.specs.RowLaws.{length-spread, still_cells, still_spread, clean_cells, no_cells, get-collected, collected-written, collected-clean, count-collected, collected-none, refilled_row, refilled_cells}
 
 replied_done : (row : List CellPlaces) (cell number : ℕ) (text : List ℕ) → cell < length row → option_map (λ here. cell_reply here (Write number text)) (part_at row cell) ≡ Some Done

@@ -1,6 +1,6 @@
 -- Pages spread over the cells of a row, one cell for each processor: page i lives in cell i
 -- modulo the number of cells.
-use Rattle.std.specs.Prelude.{◌≡◌, ℕ, zero, suc, ◌+◌, ◌%◌, List, [], ◌∷◌, length, map, fold, sum_by, Option, option_and_then}
+use Rattle.std.specs.Prelude.{◌≡◌, ℕ, suc, ◌%◌, List, [], ◌∷◌, length, map, fold, sum_by, Option, option_and_then}
 use Rattle.std.specs.FinMap as finite
 use Rattle.k42_kinds.specs.declared.page.Page.{Page}
 use Rattle.k42_kinds.specs.declared.operation.Op.{Op}

@@ -1,4 +1,4 @@
-use Rattle.std.proofs.Common.{rules, ◌∙◌, sym}
+use Rattle.std.proofs.Common.{rules, ◌∙◌}
 use Rattle.co_pages.proofs.RowLemmas.{known_size}
 use Rattle.co_pages.proofs.spread.dirty.Goals as goal
 
