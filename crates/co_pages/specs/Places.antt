@@ -70,7 +70,7 @@ numbered step number (None ∷ places) = numbered step (number + step) places
 abbrev pub pages_of : CellPlaces → List (ℕ × Page)
 pages_of here = numbered here.procs here.cell here.places
 
--- The number of each place has 16 bits: that of the place behind the last one is at most one
+-- The number of each place has 16 bits, so that of the place behind the last one is less than a
 -- step beyond.
 abbrev pub HasShortNumbers : ℕ → ℕ → List (Option Page) → Type 0
 HasShortNumbers procs cell places = cell + length places * procs < 2 ^ 16 + procs

@@ -4,7 +4,7 @@ ghost use Rattle.k42_kinds.specs.declared.operation.Op.{Op};
 ghost use Rattle.k42_kinds.specs.Objects.{pages_object};
 
 use crate::{SharedPages, SpreadPages};
-use k42_kinds::{Layout, Op, Page, PagesState, Reach, Reply, Text, empty_row, step_row};
+use k42_kinds::{Kind, Layout, Op, Reach, Reply, Text, empty_row, step_row};
 use k42_memory::Memory;
 use std::alloc::Global;
 use std::process::Abort;
@@ -78,11 +78,9 @@ fn brought_back<L: Layout>(
 #[test]
 fn three_dirty_pages_come_back_from_eight_cells(rt: HostRuntime) -> Result<(), Fail> {
     let text = Text::of(b"hi").ok_or("no text")?;
-    let dirty = true;
-    let page = Page { text, dirty };
-    let mut pages = PagesState::new(rt.alloc());
+    let mut pages = SpreadPages.empty(rt.alloc());
     for number in [5, 13, 1023] {
-        pages.insert(number, &page)?;
+        SpreadPages.step(rt.alloc(), &mut pages, &Op::Write(number, text))?;
     }
     let exported = brought_back(&SpreadPages, rt.alloc(), &pages, 8)?;
     assert!(rt; exported.iter().eq(pages.iter()));
