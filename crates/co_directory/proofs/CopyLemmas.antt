@@ -8,7 +8,8 @@ use Rattle.std.specs.Cmp.Lexicographic.{nat_list_cmp_total}
 use Rattle.std.specs.FinMap as finite
 use Rattle.std.specs.FinMap.{same_map, get-insert, get-remove}
 use Rattle.std.proofs.lemmas.Map.Lookups.{exact_bytes}
-use Rattle.k42_kinds.specs.declared.operation.Op.TheVariants.{Bind}
+use Rattle.k42_kinds.specs.declared.operation.Op.{Op}
+use Rattle.k42_kinds.specs.declared.operation.Op.TheVariants.{Bind, Find, Size}
 use Rattle.k42_kinds.specs.Objects.{Directory, directory_after}
 use Rattle.co_directory.specs.Directories.{first_map, AreCopies}
 use Rattle.co_directory.specs.SpreadLaws.{map-replicate, length-copies}
@@ -50,16 +51,36 @@ bound_copies name number (names ∷ copies) unbound =
     let binds : finite.insert names name number ≡ directory_after names (Bind name number) = sym (ap (λ found. cond (is_some found) names (finite.insert names name number)) unbound.0) in
     λ i. binds i ∷ bound_copies name number copies unbound.1 i
 
-pub some_copies : (procs : ℕ) (copies : List Directory) → 0 < procs → AreCopies procs copies → 0 < length copies
+some_copies : (procs : ℕ) (copies : List Directory) → 0 < procs → AreCopies procs copies → 0 < length copies
 some_copies procs copies some whole = let sized = ap length whole ∙ length-copies procs (first_map copies) in omega (arith, sized, some)
 
-pub first_there : (copies : List Directory) (other : Directory) → 0 < length copies → slice_index_or copies 0 other ≡ first_map copies
-first_there [] other some = absurd (omega arith)
-first_there (names ∷ copies) other some = refl
+first_of_some : (copies : List Directory) (other : Directory) → 0 < length copies → slice_index_or copies 0 other ≡ first_map copies
+first_of_some [] other some = absurd (omega arith)
+first_of_some (names ∷ copies) other some = refl
 
-pub map-same : (copies : List Directory) → copies ≡ map (λ names. names) copies
+module _ (procs : ℕ) (copies : List Directory) (some : 0 < procs) (whole : AreCopies procs copies) (first : Directory) (there : first ≡ slice_index_or copies 0 first) where
+  first_there : first ≡ first_map copies
+  first_there = there ∙ first_of_some copies first (some_copies procs copies some whole)
+
+  -- what the first copy binds, all do
+  pub taken_row : (op : Op) (name : List ℕ) (number : ℕ) → op ≡ Bind name number → is_some (finite.get first name) ≡ true → copies ≡ map (λ names. directory_after names op) copies
+  taken_row op name number is taken =
+      taken_copies name number procs copies whole (ap (λ names. is_some (finite.get names name)) (sym first_there) ∙ taken)
+      ∙ ap (λ asked. map (λ names. directory_after names asked) copies) (sym is)
+
+  -- and what it does not bind, none does
+  pub unbound_row : (name : List ℕ) → finite.get first name ≡ None → AreUnbound name copies
+  unbound_row name none = unbound_copies name procs copies whole (ap (λ names. finite.get names name) (sym first_there) ∙ none)
+
+map-same : (copies : List Directory) → copies ≡ map (λ names. names) copies
 map-same [] = refl
 map-same (names ∷ copies) = ap (λ rest. names ∷ rest) (map-same copies)
+
+pub found_row : (copies : List Directory) (op : Op) (name : List ℕ) → op ≡ Find name → copies ≡ map (λ names. directory_after names op) copies
+found_row copies op name is = map-same copies ∙ ap (λ asked. map (λ names. directory_after names asked) copies) (sym is)
+
+pub sized_row : (copies : List Directory) (op : Op) → op ≡ Size → copies ≡ map (λ names. directory_after names op) copies
+sized_row copies op is = map-same copies ∙ ap (λ asked. map (λ names. directory_after names asked) copies) (sym is)
 
 replicate_suc : (many : ℕ) (names : Directory) → replicate (suc many) names ≡ replicate many names ++ names ∷ []
 replicate_suc zero names = refl

@@ -1,2 +1,3 @@
 pub mod SeenNames
 pub mod CopyLemmas
+mod ExampleRows

@@ -7,7 +7,7 @@ use Rattle.std.specs.Cmp.Lexicographic.{slice_cmp, pointwise, nat_list_cmp_total
 use Rattle.std.specs.List.{AllByRecursion, IsDistinct}
 use Rattle.std.specs.Map.{lookup, keys_of}
 use Rattle.std.specs.BTreeMap.{is_at}
-use Rattle.std.specs.FinMap.{FinMap, same_map, empty, entries, entries_sorted, from_entries, is_sorted, get, insert, remove, len, get-empty, get-entries, get-from_entries, get-insert, len-empty, len-insert}
+use Rattle.std.specs.FinMap.{same_map, empty, entries, entries_sorted, from_entries, is_sorted, get, insert, remove, len, get-empty, get-entries, get-from_entries, get-insert, len-empty, len-insert}
 use Rattle.std.specs.FinMap.Entries.{below_all}
 use Rattle.std.proofs.lemmas.Map.{lookup-none}
 use Rattle.std.proofs.lemmas.Map.Entries.{none_past_head}

@@ -1,11 +1,11 @@
 -- The spread directory keeps the laws of layouts.
-use Rattle.std.specs.Prelude.{◌≡◌, ℕ, zero, suc, ◌<◌, IsTrue, List, [], ◌∷◌, length, map, replicate, Some, refl}
+use Rattle.std.specs.Prelude.{◌≡◌, ℕ, zero, suc, ◌<◌, List, [], ◌∷◌, length, map, replicate, Some, refl}
 use Rattle.std.proofs.Common.{arith, ap, sym, ◌∙◌}
 use Rattle.std.specs.FinMap as finite
 use Rattle.k42_kinds.specs.declared.operation.Op.{Op}
 use Rattle.k42_kinds.specs.declared.operation.Op.TheVariants.{Add, Get, Drain, Bind, Find, Unbind, Size, Write, Read, Dirty, Clean}
 use Rattle.k42_kinds.specs.declared.entry.Reach.TheVariants.{One, All}
-use Rattle.k42_kinds.specs.Objects.{Directory, directory_object, directory_after, directory_reply}
+use Rattle.k42_kinds.specs.Objects.{Directory, directory_object, directory_after}
 use Rattle.k42_kinds.specs.Rows.{changed_at, part_at, made_from, IsWithin}
 use Rattle.k42_kinds.specs.LayoutLaws.{StepsRow, StandsFor, Begins, Imports}
 use Rattle.co_directory.specs.Directories.{first_map, AreCopies, spread_reach, spread}
