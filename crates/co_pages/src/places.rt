@@ -64,6 +64,17 @@ fn clean(places: &mut [Option<Page>])
     }
 }
 
+/// What is in the place, if it is there at all.
+fn get(places: &[Option<Page>], place: usize) -> Option<Page>
+    ensures { result ≡ kept.in_place places.now place }
+{
+    if place < places.len() {
+        places[place]
+    } else {
+        None
+    }
+}
+
 /// Puts the page into the place, and makes it where it is not there.
 fn put(places: &mut Vec<Option<Page>>, place: usize, page: &Page) -> Result<(), Memory>
     requires { place < 2 ^ 16 }
@@ -101,10 +112,7 @@ impl Places {
         ensures { result ≡ kept.page_in self.now number }
     {
         let place = u32::from(number) / self.procs;
-        match self.places.get(place as usize) {
-            Some(page) => *page,
-            None => None,
-        }
+        get(&self.places, place as usize)
     }
 
     /// Puts the page in place of what was written there.

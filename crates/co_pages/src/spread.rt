@@ -1,14 +1,19 @@
-ghost use Rattle.std.specs.Prelude.{◌≡◌, ◌==◌, ◌^◌, ◌<◌, ◌≤◌, IfOk, OnOk, OnErr, refl, Option, length, map};
+ghost use Rattle.std.specs.Prelude.{◌≡◌, ◌==◌, IfOk, OnOk, OnErr, refl, map};
 ghost use Rattle.k42_kinds.specs.declared.entry.Act.TheVariants.{Swap};
 ghost use Rattle.k42_kinds.specs.declared.operation.LayoutName.TheVariants as layouts;
+ghost use Rattle.k42_kinds.specs.Pages as kinds;
 ghost use Rattle.k42_kinds.specs.Objects.{pages_object, found_text};
+ghost use Rattle.k42_kinds.specs.LayoutLaws.{IsWholeRow};
 ghost use Rattle.co_pages.specs.OneMap.{IsAny};
 ghost use Rattle.co_pages.specs.Places.{all_clean};
-ghost use Rattle.co_pages.specs.SharedOut.{IsSharedOut, dirty_of, spread};
+ghost use Rattle.co_pages.specs.SharedOut as shares;
+ghost use Rattle.co_pages.specs.SharedOut.{IsSharedOut, spread};
 ghost use Rattle.co_pages.specs.SpreadLaws.{spread_steps, spread_steps_all, spread_reaches, spread_stands, spread_begins, spread_imports};
 
 use crate::places::Places;
-use k42_kinds::{Act, Kind, Layout, LayoutName, Op, Page, PagesState, Reach, Reply, step_pages};
+use k42_kinds::{
+    Act, Kind, Layout, LayoutName, Op, Page, PagesState, Reach, Reply, Text, step_pages,
+};
 use k42_memory::Memory;
 use std::alloc::Global;
 
@@ -30,6 +35,16 @@ impl Kind for SpreadPages {
     }
 }
 
+/// A page as it is after a write.
+fn written(text: &Text) -> Page
+    ensures { result ≡ kinds.written text.now }
+{
+    Page {
+        text: *text,
+        dirty: true,
+    }
+}
+
 fn reply_with(found: Option<Page>) -> Reply
     ensures { result ≡ found_text found }
 {
@@ -39,14 +54,47 @@ fn reply_with(found: Option<Page>) -> Reply
     }
 }
 
+/// As many cells, in which no page was written.
+#[tactic(auto, using(k42_kinds::proofs::RowSteps::made_from_push))]
+fn no_pages(alloc: Global, procs: u32) -> Result<Vec<Places>, Memory>
+    ensures { IfOk result (λ parts. parts.items ≡ shares.no_pages procs) }
+{
+    let mut parts = Vec::new(alloc);
+    for cell in 0..procs {
+        parts.push(Places::new(alloc, cell, procs))?;
+    }
+    Ok(parts)
+}
+
+/// Puts the page into the cell where it lives.
+fn put(parts: &mut Vec<Places>, number: u16, page: &Page) -> Result<(), Memory>
+    requires { IsWholeRow IsSharedOut parts.old.items }
+    ensures ok { OnOk result
+        (parts.new.items ≡ shares.shared_out parts.old.items (number, page.now)) }
+    ensures memory { OnErr result (parts.new.items ≡ parts.old.items) }
+{
+    let cell = usize::from(number) % parts.len();
+    parts[cell].insert(number, page)
+}
+
+/// The page in the cell where it lives.
+fn get(parts: &[Places], number: u16) -> Option<Page>
+    requires { IsWholeRow IsSharedOut parts.now }
+    ensures { result ≡ shares.page_of parts.now number }
+{
+    let cell = usize::from(number) % parts.len();
+    parts[cell].get(number)
+}
+
 /// How many pages of all cells are dirty.
 fn dirty(parts: &[Places]) -> u64
-    requires { length parts.now < 2 ^ 32 }
-    ensures { result ≡ dirty_of parts.now }
+    requires { IsWholeRow IsSharedOut parts.now }
+    ensures { result ≡ shares.dirty_of parts.now }
 {
+    let procs = parts[0].procs();
     let mut dirty = 0u64;
-    for part in parts {
-        dirty += part.dirty() as u64;
+    for cell in 0..procs {
+        dirty += parts[cell as usize].dirty() as u64;
     }
     dirty
 }
@@ -100,11 +148,7 @@ impl Layout for SpreadPages {
     fn step_one(&self, _alloc: Global, part: &mut Places, op: &Op) -> Result<Reply, Memory> {
         match op {
             Op::Write(number, text) => {
-                let page = Page {
-                    text: *text,
-                    dirty: true,
-                };
-                part.insert(*number, &page)?;
+                part.insert(*number, &written(text))?;
                 Ok(Reply::Done)
             }
             Op::Read(number) => Ok(reply_with(part.get(*number))),
@@ -112,16 +156,13 @@ impl Layout for SpreadPages {
         }
     }
 
-    fn step_all(&self, alloc: Global, parts: &mut Vec<Places>, op: &Op) -> Result<Reply, Memory> {
+    fn step_all(&self, _alloc: Global, parts: &mut Vec<Places>, op: &Op) -> Result<Reply, Memory> {
         match op {
-            Op::Write(number, _) => {
-                let cell = usize::from(*number) % parts.len();
-                self.step_one(alloc, &mut parts[cell], op)
+            Op::Write(number, text) => {
+                put(parts, *number, &written(text))?;
+                Ok(Reply::Done)
             }
-            Op::Read(number) => {
-                let cell = usize::from(*number) % parts.len();
-                Ok(reply_with(parts[cell].get(*number)))
-            }
+            Op::Read(number) => Ok(reply_with(get(parts, *number))),
             Op::Dirty => Ok(Reply::Number(dirty(parts))),
             Op::Clean => {
                 let dirty = dirty(parts);
@@ -141,13 +182,9 @@ impl Layout for SpreadPages {
     }
 
     fn import(&self, alloc: Global, state: &PagesState, procs: u32) -> Result<Vec<Places>, Memory> {
-        let mut parts = Vec::new(alloc);
-        for cell in 0..procs {
-            parts.push(Places::new(alloc, cell, procs))?;
-        }
+        let mut parts = no_pages(alloc, procs)?;
         for (number, page) in state.iter() {
-            let cell = u32::from(*number) % procs;
-            parts[cell as usize].insert(*number, page)?;
+            put(&mut parts, *number, page)?;
         }
         Ok(parts)
     }
