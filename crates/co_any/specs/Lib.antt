@@ -1,4 +1,4 @@
 pub mod Lifting
 pub mod LiftedLaws
 pub mod Layouts
-pub mod LayoutLaws
+pub mod AnyLaws

@@ -1,6 +1,7 @@
 ghost use Rattle.std.specs.Prelude.{◌≡◌, ◌≤◌, nat_le, IsTrue, IfOk};
 ghost use Rattle.k42_kinds.specs.Objects.{plain_object};
 ghost use Rattle.co_any.specs.Layouts.{ways_of, whole_of, serves_of, admitted_of, act_of, tag_named};
+ghost use Rattle.co_any.specs.AnyLaws.{any_steps, any_steps_all, any_reaches, any_stands, any_begins, any_imports, any_ends, any_admits, any_swaps, any_asks, any_agrees};
 
 use crate::exports::{collected, copied, copied_pages, total};
 use crate::part::AnyPart;
@@ -182,25 +183,25 @@ impl Layout for AnyLayout {
         }
     }
 
-    ghost steps = { ? };
+    ghost steps = { λ layout procs proc row op known there takes whole. any_steps layout.kind layout.tag procs proc row op known there takes whole };
 
-    ghost steps_all = { ? };
+    ghost steps_all = { λ layout procs row op known some takes whole. any_steps_all layout.kind layout.tag procs row op known some takes whole };
 
-    ghost reaches = { ? };
+    ghost reaches = { λ layout procs proc op known there takes. any_reaches layout.kind layout.tag procs proc op known there takes };
 
-    ghost stands = { ? };
+    ghost stands = { λ layout procs row known some whole. any_stands layout.kind layout.tag procs row known some whole };
 
-    ghost begins = { ? };
+    ghost begins = { λ layout procs known some. any_begins layout.kind layout.tag procs known some };
 
-    ghost imports = { ? };
+    ghost imports = { λ layout procs state known some served. any_imports layout.kind layout.tag procs state known some served };
 
-    ghost ends = { ? };
+    ghost ends = { λ layout state known served. any_ends layout.kind layout.tag state known served };
 
-    ghost admits = { ? };
+    ghost admits = { λ layout before state known live same served. any_admits layout.kind before.kind layout.tag before.tag state live same served };
 
-    ghost swaps = { ? };
+    ghost swaps = { λ layout state known. any_swaps layout.kind layout.tag state };
 
-    ghost asks = { ? };
+    ghost asks = { λ layout. any_asks layout.tag };
 
-    ghost agrees = { ? };
+    ghost agrees = { λ layout other same tags. any_agrees layout.kind other.kind layout.tag other.tag same tags };
 }
