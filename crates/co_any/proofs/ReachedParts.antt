@@ -26,21 +26,21 @@ part_at-map f (part ∷ row) zero = refl
 part_at-map f (part ∷ row) (suc cell) = part_at-map f row cell
 
 -- the part at a cell is one of the layout's own
-own_there : {S P : Type 0} (standing : Standing S P) (Whole : ℕ → List P → Type 0) (procs : ℕ) (row : List AnyPart) (cell : ℕ) (part : AnyPart) → LiftedWhole standing Whole procs row → part_at row cell ≡ Some part → part ≡ standing.part_of (standing.own_part part)
+pub own_there : {S P : Type 0} (standing : Standing S P) (Whole : ℕ → List P → Type 0) (procs : ℕ) (row : List AnyPart) (cell : ℕ) (part : AnyPart) → LiftedWhole standing Whole procs row → part_at row cell ≡ Some part → part ≡ standing.part_of (standing.own_part part)
 own_there standing Whole procs row cell part whole there =
     let stands : part_at row cell ≡ option_map standing.part_of (option_map standing.own_part (part_at row cell)) =
         ap (λ own. part_at own cell) whole.own ∙ part_at-map standing.part_of (map standing.own_part row) cell ∙ ap (option_map standing.part_of) (part_at-map standing.own_part row cell) in
     same_Some _ _ (sym there ∙ stands ∙ ap (λ (found : Option AnyPart). option_map standing.part_of (option_map standing.own_part found)) there)
 
-dead_there : (procs : ℕ) (row : List AnyPart) (cell : ℕ) (part : AnyPart) → IsDeadRow procs row → part_at row cell ≡ Some part → part ≡ parts.Dead
+pub dead_there : (procs : ℕ) (row : List AnyPart) (cell : ℕ) (part : AnyPart) → IsDeadRow procs row → part_at row cell ≡ Some part → part ≡ parts.Dead
 dead_there procs row zero part whole there = same_Some _ _ (sym there ∙ ap (λ own. part_at own 0) whole)
 dead_there procs row (suc cell) part whole there = absurd (cc (sym there ∙ ap (λ own. part_at own (suc cell)) whole))
 
-abbrev holds_nothing : AnyPart → Bool
+abbrev pub holds_nothing : AnyPart → Bool
 holds_nothing parts.Dead = true
 holds_nothing _ = false
 
-not_dead : (part : AnyPart) → holds_nothing part ≡ false → part ≡ parts.Dead → ⊥
+pub not_dead : (part : AnyPart) → holds_nothing part ≡ false → part ≡ parts.Dead → ⊥
 not_dead part holds is = true≢false (sym (ap holds_nothing is) ∙ holds)
 
 -- at a cell of this kind and tag the operation does so to the part, and is replied so
@@ -56,7 +56,7 @@ module _ (op : Op) where
   amount_steps kinds.Directory (suc zero) amount reached = absurd (cc (own_there copies _ _ _ _ _ reached.whole reached.there))
   amount_steps kinds.Pages zero amount reached = absurd (cc (own_there pages _ _ _ _ _ reached.whole reached.there))
   amount_steps kinds.Pages (suc zero) amount reached = absurd (cc (own_there places _ _ _ _ _ reached.whole reached.there))
-  amount_steps kind (suc (suc more)) amount reached = absurd (not_dead (parts.Amount amount) refl (dead_there _ _ _ _ reached.whole reached.there))
+  amount_steps kind (suc (suc more)) amount reached = absurd (not_dead (parts.Amount amount) refl (dead_there reached.procs _ _ _ reached.whole reached.there))
 
   pub indexed_steps : (kind : KindName) (tag : ℕ) (names : Directory) → IsReached (ways_of kind tag) (whole_of kind tag) (parts.Indexed names) op → StepsPart kind tag (parts.Indexed names) op (parts.Indexed (directory_after names op)) (directory_reply names op)
   indexed_steps kinds.Directory zero names reached = record { moved = refl; replied = refl }
@@ -65,7 +65,7 @@ module _ (op : Op) where
   indexed_steps kinds.Counter (suc zero) names reached = absurd (cc (own_there amounts _ _ _ _ _ reached.whole reached.there))
   indexed_steps kinds.Pages zero names reached = absurd (cc (own_there pages _ _ _ _ _ reached.whole reached.there))
   indexed_steps kinds.Pages (suc zero) names reached = absurd (cc (own_there places _ _ _ _ _ reached.whole reached.there))
-  indexed_steps kind (suc (suc more)) names reached = absurd (not_dead (parts.Indexed names) refl (dead_there _ _ _ _ reached.whole reached.there))
+  indexed_steps kind (suc (suc more)) names reached = absurd (not_dead (parts.Indexed names) refl (dead_there reached.procs _ _ _ reached.whole reached.there))
 
   pub copy_steps : (kind : KindName) (tag : ℕ) (names : Directory) → IsReached (ways_of kind tag) (whole_of kind tag) (parts.Copy names) op → StepsPart kind tag (parts.Copy names) op (parts.Copy (directory_after names op)) (directory_reply names op)
   copy_steps kinds.Directory (suc zero) names reached = record { moved = refl; replied = refl }
@@ -74,7 +74,7 @@ module _ (op : Op) where
   copy_steps kinds.Counter (suc zero) names reached = absurd (cc (own_there amounts _ _ _ _ _ reached.whole reached.there))
   copy_steps kinds.Pages zero names reached = absurd (cc (own_there pages _ _ _ _ _ reached.whole reached.there))
   copy_steps kinds.Pages (suc zero) names reached = absurd (cc (own_there places _ _ _ _ _ reached.whole reached.there))
-  copy_steps kind (suc (suc more)) names reached = absurd (not_dead (parts.Copy names) refl (dead_there _ _ _ _ reached.whole reached.there))
+  copy_steps kind (suc (suc more)) names reached = absurd (not_dead (parts.Copy names) refl (dead_there reached.procs _ _ _ reached.whole reached.there))
 
   pub pages_steps : (kind : KindName) (tag : ℕ) (kept : Pages) → IsReached (ways_of kind tag) (whole_of kind tag) (parts.Pages kept) op → StepsPart kind tag (parts.Pages kept) op (parts.Pages (pages_after kept op)) (pages_reply kept op)
   pages_steps kinds.Pages zero kept reached = record { moved = refl; replied = refl }
@@ -83,7 +83,7 @@ module _ (op : Op) where
   pages_steps kinds.Directory (suc zero) kept reached = absurd (cc (own_there copies _ _ _ _ _ reached.whole reached.there))
   pages_steps kinds.Counter zero kept reached = absurd (cc (own_there amounts _ _ _ _ _ reached.whole reached.there))
   pages_steps kinds.Counter (suc zero) kept reached = absurd (cc (own_there amounts _ _ _ _ _ reached.whole reached.there))
-  pages_steps kind (suc (suc more)) kept reached = absurd (not_dead (parts.Pages kept) refl (dead_there _ _ _ _ reached.whole reached.there))
+  pages_steps kind (suc (suc more)) kept reached = absurd (not_dead (parts.Pages kept) refl (dead_there reached.procs _ _ _ reached.whole reached.there))
 
   pub places_steps : (kind : KindName) (tag : ℕ) (kept : CellPlaces) → IsReached (ways_of kind tag) (whole_of kind tag) (parts.Places kept) op → StepsPart kind tag (parts.Places kept) op (parts.Places (shared_out.cell_after kept op)) (shared_out.cell_reply kept op)
   places_steps kinds.Pages (suc zero) kept reached = record { moved = refl; replied = refl }
@@ -92,7 +92,7 @@ module _ (op : Op) where
   places_steps kinds.Directory (suc zero) kept reached = absurd (cc (own_there copies _ _ _ _ _ reached.whole reached.there))
   places_steps kinds.Counter zero kept reached = absurd (cc (own_there amounts _ _ _ _ _ reached.whole reached.there))
   places_steps kinds.Counter (suc zero) kept reached = absurd (cc (own_there amounts _ _ _ _ _ reached.whole reached.there))
-  places_steps kind (suc (suc more)) kept reached = absurd (not_dead (parts.Places kept) refl (dead_there _ _ _ _ reached.whole reached.there))
+  places_steps kind (suc (suc more)) kept reached = absurd (not_dead (parts.Places kept) refl (dead_there reached.procs _ _ _ reached.whole reached.there))
 
   pub dead_steps : (kind : KindName) (tag : ℕ) → IsReached (ways_of kind tag) (whole_of kind tag) parts.Dead op → StepsPart kind tag parts.Dead op parts.Dead Gone
   dead_steps kind (suc (suc more)) reached = record { moved = refl; replied = refl }
@@ -111,7 +111,7 @@ module _ (op : Op) where
   indexed_kind kinds.Counter (suc zero) names reached = absurd (cc (own_there amounts _ _ _ _ _ reached.whole reached.there))
   indexed_kind kinds.Pages zero names reached = absurd (cc (own_there pages _ _ _ _ _ reached.whole reached.there))
   indexed_kind kinds.Pages (suc zero) names reached = absurd (cc (own_there places _ _ _ _ _ reached.whole reached.there))
-  indexed_kind kind (suc (suc more)) names reached = absurd (not_dead (parts.Indexed names) refl (dead_there _ _ _ _ reached.whole reached.there))
+  indexed_kind kind (suc (suc more)) names reached = absurd (not_dead (parts.Indexed names) refl (dead_there reached.procs _ _ _ reached.whole reached.there))
 
   places_kind : (kind : KindName) (tag : ℕ) (kept : CellPlaces) → IsReached (ways_of kind tag) (whole_of kind tag) (parts.Places kept) op → kind ≡ kinds.Pages
   places_kind kinds.Pages zero kept reached = refl
@@ -120,7 +120,7 @@ module _ (op : Op) where
   places_kind kinds.Counter (suc zero) kept reached = absurd (cc (own_there amounts _ _ _ _ _ reached.whole reached.there))
   places_kind kinds.Directory zero kept reached = absurd (cc (own_there indexed _ _ _ _ _ reached.whole reached.there))
   places_kind kinds.Directory (suc zero) kept reached = absurd (cc (own_there copies _ _ _ _ _ reached.whole reached.there))
-  places_kind kind (suc (suc more)) kept reached = absurd (not_dead (parts.Places kept) refl (dead_there _ _ _ _ reached.whole reached.there))
+  places_kind kind (suc (suc more)) kept reached = absurd (not_dead (parts.Places kept) refl (dead_there reached.procs _ _ _ reached.whole reached.there))
 
   -- the places of a cell are those of a whole row of their own
   own_places : (kind : KindName) (tag : ℕ) (kept : CellPlaces) → IsReached (ways_of kind tag) (whole_of kind tag) (parts.Places kept) op → IsReached shared_out.spread shared_out.IsSharedOut kept op
@@ -139,7 +139,7 @@ module _ (op : Op) where
   own_places kinds.Counter (suc zero) kept reached = absurd (cc (own_there amounts _ _ _ _ _ reached.whole reached.there))
   own_places kinds.Directory zero kept reached = absurd (cc (own_there indexed _ _ _ _ _ reached.whole reached.there))
   own_places kinds.Directory (suc zero) kept reached = absurd (cc (own_there copies _ _ _ _ _ reached.whole reached.there))
-  own_places kind (suc (suc more)) kept reached = absurd (not_dead (parts.Places kept) refl (dead_there _ _ _ _ reached.whole reached.there))
+  own_places kind (suc (suc more)) kept reached = absurd (not_dead (parts.Places kept) refl (dead_there reached.procs _ _ _ reached.whole reached.there))
 
 -- the same, of a part that is known to be such a one
 module _ (kind : KindName) (tag : ℕ) (op : Op) (part : AnyPart) (reached : IsReached (ways_of kind tag) (whole_of kind tag) part op) where

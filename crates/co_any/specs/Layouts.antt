@@ -111,7 +111,7 @@ whole_of kind (suc (suc more)) = IsDeadRow
 abbrev pub IsAlive : KindName → AnyState → Type 0
 IsAlive kinds.Counter (states.Counter value) = counters.IsValue value
 IsAlive kinds.Directory (states.Directory names) = Unit {0}
-IsAlive kinds.Pages (states.Pages pages) = Unit {0}
+IsAlive kinds.Pages (states.Pages written) = Unit {0}
 IsAlive kind state = ⊥
 
 -- the dead layout serves the dead state alone, and the others all but that
