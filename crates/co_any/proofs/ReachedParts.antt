@@ -29,7 +29,7 @@ part_at-map f (part ∷ row) (suc cell) = part_at-map f row cell
 pub own_there : {S P : Type 0} (standing : Standing S P) (Whole : ℕ → List P → Type 0) (procs : ℕ) (row : List AnyPart) (cell : ℕ) (part : AnyPart) → LiftedWhole standing Whole procs row → part_at row cell ≡ Some part → part ≡ standing.part_of (standing.own_part part)
 own_there standing Whole procs row cell part whole there =
     let stands : part_at row cell ≡ option_map standing.part_of (option_map standing.own_part (part_at row cell)) =
-        ap (λ own. part_at own cell) whole.own ∙ part_at-map standing.part_of (map standing.own_part row) cell ∙ ap (option_map standing.part_of) (part_at-map standing.own_part row cell) in
+    ap (λ own. part_at own cell) whole.own ∙ part_at-map standing.part_of (map standing.own_part row) cell ∙ ap (option_map standing.part_of) (part_at-map standing.own_part row cell) in
     same_Some _ _ (sym there ∙ stands ∙ ap (λ (found : Option AnyPart). option_map standing.part_of (option_map standing.own_part found)) there)
 
 pub dead_there : (procs : ℕ) (row : List AnyPart) (cell : ℕ) (part : AnyPart) → IsDeadRow procs row → part_at row cell ≡ Some part → part ≡ parts.Dead
