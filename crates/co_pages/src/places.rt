@@ -89,7 +89,7 @@ fn put(places: &mut Vec<Option<Page>>, place: usize, page: &Page) -> Result<(), 
 
 impl Places {
     /// No page was written. It asks for no memory yet.
-    pub(crate) fn new(alloc: Global, cell: u32, procs: u32) -> Self
+    pub fn new(alloc: Global, cell: u32, procs: u32) -> Self
         requires { cell < procs }
         ensures { result ≡ kept.no_places procs cell }
     {
@@ -141,7 +141,7 @@ impl Places {
     }
 
     /// Puts the pages into a map.
-    pub(crate) fn put_into(&self, pages: &mut PagesState) -> Result<(), Memory>
+    pub fn put_into(&self, pages: &mut PagesState) -> Result<(), Memory>
         ensures { OnOk result (pages.new ≡ cell_put_in pages.old self.now) }
     {
         let mut number = u64::from(self.cell);

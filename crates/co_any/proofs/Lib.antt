@@ -1,0 +1,3 @@
+pub mod ReachedParts
+pub mod RowLengths
+pub mod WholeRows
