@@ -1,0 +1,17 @@
+pub mod Elements
+pub mod Ordering
+pub mod Late
+pub mod PartSteps
+pub mod Needed
+pub mod Drawing
+pub mod Handing
+pub mod Standing
+pub mod Lawful
+pub mod Rowed
+pub mod MergeLaw
+pub mod Numbering
+pub mod Sorted
+pub mod PartsAfter
+pub mod Unique
+pub mod Examples
+pub mod Listed

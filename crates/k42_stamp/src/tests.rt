@@ -1,0 +1,79 @@
+ghost use Rattle.std.specs.Prelude.{◌≡◌, map, vec_items, IfOk};
+ghost use Rattle.k42_stamp.specs.Lists.{IsListOf, AreLists};
+
+use crate::*;
+use k42_kinds::{Act, Answer, Entry, Op, Reply};
+use k42_memory::Memory;
+use std::alloc::Global;
+use std::test::Fail;
+
+/// A caller's entries: of each its stamp, its object and its cell. They rise, or none are made.
+fn list_of(alloc: Global, caller: u32, entries: &[(u64, u32, u32)]) -> Result<Vec<Entry>, Memory>
+    ensures { IfOk result (λ list. IsListOf caller list.items) }
+{
+    let mut list = Vec::new(alloc);
+    let mut last = 0;
+    for (stamp, object, cell) in entries {
+        if *stamp <= last {
+            return Err(Memory);
+        }
+        let entry = Entry {
+            stamp: *stamp,
+            caller,
+            index: 0,
+            object: *object,
+            incarnation: 0,
+            cell: *cell,
+            act: Act::Call(Op::Get),
+            answer: Answer::Replied(Reply::Number(0)),
+            proc: 0,
+            generation: None,
+        };
+        entry.push_onto(&mut list)?;
+        last = *stamp;
+    }
+    Ok(list)
+}
+
+/// The lists of four callers.
+fn lists_of(alloc: Global, callers: &[&[(u64, u32, u32)]; 4]) -> Result<Vec<Vec<Entry>>, Memory>
+    ensures { IfOk result (λ lists. AreLists (map vec_items lists.items)) }
+{
+    let mut lists = Vec::new(alloc);
+    for caller in 0..4 {
+        lists.push(list_of(alloc, caller, callers[caller as usize])?)?;
+    }
+    Ok(lists)
+}
+
+#[test]
+fn entries_of_one_stamp_are_ordered_by_object_cell_and_caller(rt: HostRuntime) -> Result<(), Fail> {
+    let callers: [&[(u64, u32, u32)]; 4] = [
+        &[(1, 1, 0), (2, 0, 3), (4, 0, 0), (6, 2, 0)],
+        &[(1, 0, 3), (2, 0, 1), (4, 0, 0)],
+        &[],
+        &[(1, 0, 1), (2, 1, 0), (4, 0, 0), (5, 0, 0)],
+    ];
+    // the object, the cell and the caller of each entry, in the order due
+    let due = [
+        (0, 1, 3),
+        (0, 3, 1),
+        (1, 0, 0),
+        (0, 1, 1),
+        (0, 3, 0),
+        (1, 0, 3),
+        (0, 0, 0),
+        (0, 0, 1),
+        (0, 0, 3),
+        (0, 0, 3),
+        (2, 0, 0),
+    ];
+    let lists = lists_of(rt.alloc(), &callers)?;
+    let merged = merge(rt.alloc(), lists)?;
+    let told = merged
+        .iter()
+        .map(|entry| (entry.object, entry.cell, entry.caller));
+    assert!(rt; told.eq(due));
+    assert!(rt; merged.iter().map(|entry| entry.stamp).eq(1..=11));
+    Ok(())
+}
