@@ -14,7 +14,7 @@ use Rattle.k42_kinds.specs.Operations.{takes_operation}
 use Rattle.k42_kinds.specs.Rows.{part_at}
 use Rattle.k42_kinds.specs.LayoutLaws.{IsReached}
 use Rattle.co_pages.specs.Places.{CellPlaces}
-use Rattle.co_pages.specs.SharedOut as shared_out
+use Rattle.co_pages.specs.SpreadRows as spread_rows
 use Rattle.co_any.specs.declared.part.AnyPart.{AnyPart}
 use Rattle.co_any.specs.declared.part.AnyPart.TheVariants as parts
 use Rattle.co_any.specs.Lifting.{Standing, LiftedWhole}
@@ -85,7 +85,7 @@ module _ (op : Op) where
   pages_steps kinds.Counter (suc zero) kept reached = absurd (cc (own_there amounts _ _ _ _ _ reached.whole reached.there))
   pages_steps kind (suc (suc more)) kept reached = absurd (not_dead (parts.Pages kept) refl (dead_there reached.procs _ _ _ reached.whole reached.there))
 
-  pub places_steps : (kind : KindName) (tag : ℕ) (kept : CellPlaces) → IsReached (ways_of kind tag) (whole_of kind tag) (parts.Places kept) op → StepsPart kind tag (parts.Places kept) op (parts.Places (shared_out.cell_after kept op)) (shared_out.cell_reply kept op)
+  pub places_steps : (kind : KindName) (tag : ℕ) (kept : CellPlaces) → IsReached (ways_of kind tag) (whole_of kind tag) (parts.Places kept) op → StepsPart kind tag (parts.Places kept) op (parts.Places (spread_rows.cell_after kept op)) (spread_rows.cell_reply kept op)
   places_steps kinds.Pages (suc zero) kept reached = record { moved = refl; replied = refl }
   places_steps kinds.Pages zero kept reached = absurd (cc (own_there pages _ _ _ _ _ reached.whole reached.there))
   places_steps kinds.Directory zero kept reached = absurd (cc (own_there indexed _ _ _ _ _ reached.whole reached.there))
@@ -123,7 +123,7 @@ module _ (op : Op) where
   places_kind kind (suc (suc more)) kept reached = absurd (not_dead (parts.Places kept) refl (dead_there reached.procs _ _ _ reached.whole reached.there))
 
   -- the places of a cell are those of a whole row of their own
-  own_places : (kind : KindName) (tag : ℕ) (kept : CellPlaces) → IsReached (ways_of kind tag) (whole_of kind tag) (parts.Places kept) op → IsReached shared_out.spread shared_out.IsSharedOut kept op
+  own_places : (kind : KindName) (tag : ℕ) (kept : CellPlaces) → IsReached (ways_of kind tag) (whole_of kind tag) (parts.Places kept) op → IsReached spread_rows.spread spread_rows.IsSpread kept op
   own_places kinds.Pages (suc zero) kept reached = record {
     procs = reached.procs;
     proc = reached.proc;
@@ -161,7 +161,7 @@ module _ (kind : KindName) (tag : ℕ) (op : Op) (part : AnyPart) (reached : IsR
   pub at_pages : (kept : Pages) → part ≡ parts.Pages kept → StepsPart kind tag part op (parts.Pages (pages_after kept op)) (pages_reply kept op)
   at_pages kept is = steps_as _ _ _ is (pages_steps op kind tag kept (reached_as _ is))
 
-  pub at_places : (kept : CellPlaces) → part ≡ parts.Places kept → StepsPart kind tag part op (parts.Places (shared_out.cell_after kept op)) (shared_out.cell_reply kept op)
+  pub at_places : (kept : CellPlaces) → part ≡ parts.Places kept → StepsPart kind tag part op (parts.Places (spread_rows.cell_after kept op)) (spread_rows.cell_reply kept op)
   at_places kept is = steps_as _ _ _ is (places_steps op kind tag kept (reached_as _ is))
 
   pub at_dead : part ≡ parts.Dead → StepsPart kind tag part op parts.Dead Gone
@@ -173,7 +173,7 @@ module _ (kind : KindName) (tag : ℕ) (op : Op) (part : AnyPart) (reached : IsR
   pub pages_take : (kept : CellPlaces) → part ≡ parts.Places kept → IsTrue (takes_operation kind op) → IsTrue (takes_operation kinds.Pages op)
   pages_take kept is takes = subst (λ (k : KindName). IsTrue (takes_operation k op)) (places_kind op kind tag kept (reached_as _ is)) takes
 
-  pub reached_places : (kept : CellPlaces) → part ≡ parts.Places kept → IsReached shared_out.spread shared_out.IsSharedOut kept op
+  pub reached_places : (kept : CellPlaces) → part ≡ parts.Places kept → IsReached spread_rows.spread spread_rows.IsSpread kept op
   reached_places kept is = own_places op kind tag kept (reached_as _ is)
 
 pub on_ok : (A B : Type 0) (result : Result Reply Memory) → (A → B) → OnOk result A → OnOk result B

@@ -12,7 +12,7 @@ use Rattle.k42_kinds.specs.LayoutLaws.{IsWholeRow}
 use Rattle.k42_kinds.proofs.RowSteps.{part_there}
 use Rattle.co_counter.specs.Counters.{IsOneValue, value_of, total_of}
 use Rattle.co_pages.specs.Places.{CellPlaces}
-use Rattle.co_pages.specs.SharedOut as shared_out
+use Rattle.co_pages.specs.SpreadRows as spread_rows
 use Rattle.co_any.specs.declared.part.AnyPart.{AnyPart}
 use Rattle.co_any.specs.declared.part.AnyPart.TheVariants as parts
 use Rattle.co_any.specs.Layouts.{amounts, indexed, copies, pages, places, amount_of, places_of, ways_of, whole_of}
@@ -79,7 +79,7 @@ pages_row kinds.Directory zero procs row kept whole there = absurd (cc (own_ther
 pages_row kinds.Directory (suc zero) procs row kept whole there = absurd (cc (own_there copies _ _ _ _ _ whole there))
 pages_row kind (suc (suc more)) procs row kept whole there = absurd (not_dead (parts.Pages kept) refl (dead_there procs _ _ _ whole there))
 
-places_row : (kind : KindName) (tag procs : ℕ) (row : List AnyPart) (kept : CellPlaces) → whole_of kind tag procs row → part_at row 0 ≡ Some (parts.Places kept) → states.Pages (shared_out.collected (map places_of row)) ≡ (ways_of kind tag).combine row
+places_row : (kind : KindName) (tag procs : ℕ) (row : List AnyPart) (kept : CellPlaces) → whole_of kind tag procs row → part_at row 0 ≡ Some (parts.Places kept) → states.Pages (spread_rows.collected (map places_of row)) ≡ (ways_of kind tag).combine row
 places_row kinds.Pages (suc zero) procs row kept whole there = refl
 places_row kinds.Pages zero procs row kept whole there = absurd (cc (own_there pages _ _ _ _ _ whole there))
 places_row kinds.Counter zero procs row kept whole there = absurd (cc (own_there amounts _ _ _ _ _ whole there))
@@ -114,7 +114,7 @@ module _ (kind : KindName) (tag : ℕ) (row : List AnyPart) (known : tag ≤ 2) 
   pub stands_pages : (kept : Pages) → part ≡ parts.Pages kept → states.Pages kept ≡ (ways_of kind tag).combine row
   stands_pages kept is = pages_row kind tag whole.procs row kept whole.whole (first_part _ is)
 
-  pub stands_places : (kept : CellPlaces) → part ≡ parts.Places kept → states.Pages (shared_out.collected (map places_of row)) ≡ (ways_of kind tag).combine row
+  pub stands_places : (kept : CellPlaces) → part ≡ parts.Places kept → states.Pages (spread_rows.collected (map places_of row)) ≡ (ways_of kind tag).combine row
   stands_places kept is = places_row kind tag whole.procs row kept whole.whole (first_part _ is)
 
   pub stands_dead : part ≡ parts.Dead → states.Dead ≡ (ways_of kind tag).combine row

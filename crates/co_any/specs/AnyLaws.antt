@@ -19,7 +19,7 @@ use Rattle.co_directory.specs.Directories as directories
 use Rattle.co_directory.specs.SharedLaws as one_directory
 use Rattle.co_directory.specs.SpreadLaws as copy_laws
 use Rattle.co_pages.specs.OneMap as one_map
-use Rattle.co_pages.specs.SharedOut as shared_out
+use Rattle.co_pages.specs.SpreadRows as spread_rows
 use Rattle.co_pages.specs.SharedLaws as one_map_laws
 use Rattle.co_pages.specs.SpreadLaws as place_laws
 use Rattle.co_any.specs.declared.part.AnyPart.{AnyPart}
@@ -57,7 +57,7 @@ any_steps kinds.Directory zero procs proc row op known there takes whole = lifte
 any_steps kinds.Pages zero procs proc row op known there takes whole = lifted_steps pages (λ part. refl) (plain_object kinds.Pages) pages_object pages_follow one_map.shared one_map.IsOneMap procs row op (One 0) whole (one_map_laws.shared_steps procs _ op whole.whole)
 any_steps kinds.Counter (suc zero) procs proc row op known there takes whole = lifted_steps amounts (λ part. refl) (plain_object kinds.Counter) counter_object amounts_follow counters.spread counters.HasAmounts procs row op (counters.spread_reach procs op proc) whole (amount_laws.spread_steps procs proc _ op there takes whole.whole)
 any_steps kinds.Directory (suc zero) procs proc row op known there takes whole = lifted_steps copies (λ part. refl) (plain_object kinds.Directory) directory_object copies_follow directories.spread directories.AreCopies procs row op (directories.spread_reach procs op proc) whole (copy_laws.spread_steps procs proc _ op there whole.whole)
-any_steps kinds.Pages (suc zero) procs proc row op known there takes whole = lifted_steps places (λ part. refl) (plain_object kinds.Pages) pages_object places_follow shared_out.spread shared_out.IsSharedOut procs row op (shared_out.spread_reach procs op proc) whole (place_laws.spread_steps procs proc _ op there takes whole.whole)
+any_steps kinds.Pages (suc zero) procs proc row op known there takes whole = lifted_steps places (λ part. refl) (plain_object kinds.Pages) pages_object places_follow spread_rows.spread spread_rows.IsSpread procs row op (spread_rows.spread_reach procs op proc) whole (place_laws.spread_steps procs proc _ op there takes whole.whole)
 any_steps kind (suc (suc more)) procs proc row op known there takes whole = dead_steps kind procs row op whole
 
 pub any_steps_all : (kind : KindName) (tag procs : ℕ) (row : List AnyPart) (op : Op) → tag ≤ 2 → 0 < procs → IsTrue (takes_operation kind op) → whole_of kind tag procs row → StepsRow (plain_object kind) (ways_of kind tag) (whole_of kind tag procs) row op All
@@ -66,7 +66,7 @@ any_steps_all kinds.Directory zero procs row op known some takes whole = lifted_
 any_steps_all kinds.Pages zero procs row op known some takes whole = lifted_steps pages (λ part. refl) (plain_object kinds.Pages) pages_object pages_follow one_map.shared one_map.IsOneMap procs row op All whole (one_map_laws.shared_steps_all procs _ op whole.whole)
 any_steps_all kinds.Counter (suc zero) procs row op known some takes whole = lifted_steps amounts (λ part. refl) (plain_object kinds.Counter) counter_object amounts_follow counters.spread counters.HasAmounts procs row op All whole (amount_laws.spread_steps_all procs _ op some takes whole.whole)
 any_steps_all kinds.Directory (suc zero) procs row op known some takes whole = lifted_steps copies (λ part. refl) (plain_object kinds.Directory) directory_object copies_follow directories.spread directories.AreCopies procs row op All whole (copy_laws.spread_steps_all procs _ op some whole.whole)
-any_steps_all kinds.Pages (suc zero) procs row op known some takes whole = lifted_steps places (λ part. refl) (plain_object kinds.Pages) pages_object places_follow shared_out.spread shared_out.IsSharedOut procs row op All whole (place_laws.spread_steps_all procs _ op some takes whole.whole)
+any_steps_all kinds.Pages (suc zero) procs row op known some takes whole = lifted_steps places (λ part. refl) (plain_object kinds.Pages) pages_object places_follow spread_rows.spread spread_rows.IsSpread procs row op All whole (place_laws.spread_steps_all procs _ op some takes whole.whole)
 any_steps_all kind (suc (suc more)) procs row op known some takes whole = dead_steps_all kind procs row op whole
 
 pub any_reaches : (kind : KindName) (tag procs proc : ℕ) (op : Op) → tag ≤ 2 → proc < procs → IsTrue (takes_operation kind op) → IsWithin (cells_of tag procs) ((ways_of kind tag).reach procs op proc)
@@ -85,7 +85,7 @@ any_stands kinds.Directory zero procs row known some whole = lifted_stands index
 any_stands kinds.Pages zero procs row known some whole = lifted_stands pages (λ part. refl) (plain_object kinds.Pages) pages_object pages_follow one_map.shared one_map.IsOneMap procs one_map.IsAny (IsAlive kinds.Pages) 0 row (λ state served. served) (one_map_laws.shared_stands procs _ whole.whole)
 any_stands kinds.Counter (suc zero) procs row known some whole = lifted_stands amounts (λ part. refl) (plain_object kinds.Counter) counter_object amounts_follow counters.spread counters.HasAmounts procs counters.IsValue (IsAlive kinds.Counter) 1 row (λ state served. served) (amount_laws.spread_stands procs _ whole.whole)
 any_stands kinds.Directory (suc zero) procs row known some whole = lifted_stands copies (λ part. refl) (plain_object kinds.Directory) directory_object copies_follow directories.spread directories.AreCopies procs (λ names. Unit {0}) (IsAlive kinds.Directory) 1 row (λ state served. served) (copy_laws.spread_stands procs _ whole.whole)
-any_stands kinds.Pages (suc zero) procs row known some whole = lifted_stands places (λ part. refl) (plain_object kinds.Pages) pages_object places_follow shared_out.spread shared_out.IsSharedOut procs one_map.IsAny (IsAlive kinds.Pages) 1 row (λ state served. served) (place_laws.spread_stands procs _ whole.whole)
+any_stands kinds.Pages (suc zero) procs row known some whole = lifted_stands places (λ part. refl) (plain_object kinds.Pages) pages_object places_follow spread_rows.spread spread_rows.IsSpread procs one_map.IsAny (IsAlive kinds.Pages) 1 row (λ state served. served) (place_laws.spread_stands procs _ whole.whole)
 any_stands kind (suc (suc zero)) procs row known some whole = record { sized = rw whole refl; served = refl }
 any_stands kind (suc (suc (suc more))) procs row known some whole = absurd (omega arith)
 
@@ -95,7 +95,7 @@ any_begins kinds.Directory zero procs known some = lifted_begins indexed (λ par
 any_begins kinds.Pages zero procs known some = lifted_begins pages (λ part. refl) (plain_object kinds.Pages) pages_object pages_follow one_map.shared one_map.IsOneMap procs 0 (record { whole = tt; empty = λ live. refl })
 any_begins kinds.Counter (suc zero) procs known some = lifted_begins amounts (λ part. refl) (plain_object kinds.Counter) counter_object amounts_follow counters.spread counters.HasAmounts procs 1 (amount_laws.spread_begins procs)
 any_begins kinds.Directory (suc zero) procs known some = lifted_begins copies (λ part. refl) (plain_object kinds.Directory) directory_object copies_follow directories.spread directories.AreCopies procs 1 (copy_laws.spread_begins procs some)
-any_begins kinds.Pages (suc zero) procs known some = lifted_begins places (λ part. refl) (plain_object kinds.Pages) pages_object places_follow shared_out.spread shared_out.IsSharedOut procs 1 (place_laws.spread_begins procs)
+any_begins kinds.Pages (suc zero) procs known some = lifted_begins places (λ part. refl) (plain_object kinds.Pages) pages_object places_follow spread_rows.spread spread_rows.IsSpread procs 1 (place_laws.spread_begins procs)
 any_begins kind (suc (suc zero)) procs known some = record { whole = refl; empty = λ live. absurd (omega arith) }
 any_begins kind (suc (suc (suc more))) procs known some = absurd (omega arith)
 
@@ -105,7 +105,7 @@ any_imports kinds.Directory zero procs (states.Directory names) known some serve
 any_imports kinds.Pages zero procs (states.Pages kept) known some served = lifted_imports pages (λ part. refl) (plain_object kinds.Pages) pages_object pages_follow one_map.shared one_map.IsOneMap procs kept refl (record { whole = tt; back = refl })
 any_imports kinds.Counter (suc zero) procs (states.Counter value) known some served = lifted_imports amounts (λ part. refl) (plain_object kinds.Counter) counter_object amounts_follow counters.spread counters.HasAmounts procs value refl (amount_laws.spread_imports procs value some served)
 any_imports kinds.Directory (suc zero) procs (states.Directory names) known some served = lifted_imports copies (λ part. refl) (plain_object kinds.Directory) directory_object copies_follow directories.spread directories.AreCopies procs names refl (copy_laws.spread_imports procs names some)
-any_imports kinds.Pages (suc zero) procs (states.Pages kept) known some served = lifted_imports places (λ part. refl) (plain_object kinds.Pages) pages_object places_follow shared_out.spread shared_out.IsSharedOut procs kept refl (place_laws.spread_imports procs kept some)
+any_imports kinds.Pages (suc zero) procs (states.Pages kept) known some served = lifted_imports places (λ part. refl) (plain_object kinds.Pages) pages_object places_follow spread_rows.spread spread_rows.IsSpread procs kept refl (place_laws.spread_imports procs kept some)
 any_imports kinds.Counter zero procs (states.Directory names) known some served = absurd served
 any_imports kinds.Counter zero procs (states.Pages kept) known some served = absurd served
 any_imports kinds.Counter zero procs states.Dead known some served = absurd served

@@ -17,7 +17,7 @@ use Rattle.k42_kinds.specs.Rows.{Ways}
 use Rattle.co_counter.specs.Counters as counters
 use Rattle.co_directory.specs.Directories as directories
 use Rattle.co_pages.specs.OneMap as one_map
-use Rattle.co_pages.specs.SharedOut as shared_out
+use Rattle.co_pages.specs.SpreadRows as spread_rows
 use Rattle.co_pages.specs.Places.{CellPlaces, no_places}
 use Rattle.co_any.specs.declared.part.AnyPart.{AnyPart}
 use Rattle.co_any.specs.declared.part.AnyPart.TheVariants as parts
@@ -95,7 +95,7 @@ ways_of kinds.Directory zero = lifted indexed directories.shared
 ways_of kinds.Pages zero = lifted pages one_map.shared
 ways_of kinds.Counter (suc zero) = lifted amounts counters.spread
 ways_of kinds.Directory (suc zero) = lifted copies directories.spread
-ways_of kinds.Pages (suc zero) = lifted places shared_out.spread
+ways_of kinds.Pages (suc zero) = lifted places spread_rows.spread
 ways_of kind (suc (suc more)) = dead
 
 abbrev pub whole_of : KindName → ℕ → ℕ → List AnyPart → Type 0
@@ -104,7 +104,7 @@ whole_of kinds.Directory zero = LiftedWhole indexed directories.IsOneMap
 whole_of kinds.Pages zero = LiftedWhole pages one_map.IsOneMap
 whole_of kinds.Counter (suc zero) = LiftedWhole amounts counters.HasAmounts
 whole_of kinds.Directory (suc zero) = LiftedWhole copies directories.AreCopies
-whole_of kinds.Pages (suc zero) = LiftedWhole places shared_out.IsSharedOut
+whole_of kinds.Pages (suc zero) = LiftedWhole places spread_rows.IsSpread
 whole_of kind (suc (suc more)) = IsDeadRow
 
 -- a live object of the kind is in this state

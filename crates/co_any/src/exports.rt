@@ -1,6 +1,6 @@
 ghost use Rattle.std.specs.Prelude.{◌≡◌, map, IfOk};
 ghost use Rattle.co_counter.specs.Counters.{total_of};
-ghost use Rattle.co_pages.specs.SharedOut as shared_out;
+ghost use Rattle.co_pages.specs.SpreadRows as spread_rows;
 ghost use Rattle.co_any.specs.Layouts.{amount_of, places_of};
 
 use crate::part::AnyPart;
@@ -48,7 +48,7 @@ pub(crate) fn copied_pages(alloc: Global, pages: &PagesState) -> Result<PagesSta
 
 /// The pages of all cells together.
 pub(crate) fn collected(alloc: Global, parts: &[AnyPart]) -> Result<PagesState, Memory>
-    ensures { IfOk result (λ pages. pages ≡ shared_out.collected (map places_of parts.now)) }
+    ensures { IfOk result (λ pages. pages ≡ spread_rows.collected (map places_of parts.now)) }
 {
     let mut pages = PagesState::new(alloc);
     for part in parts {

@@ -1,6 +1,6 @@
 use Rattle.std.proofs.Common.{arith, map, sym, ap, ◌∙◌}
 use Rattle.co_counter.specs.Counters.{total_of}
-use Rattle.co_pages.specs.SharedOut as shared_out
+use Rattle.co_pages.specs.SpreadRows as spread_rows
 use Rattle.k42_kinds.specs.declared.states.AnyState.TheVariants as states
 use Rattle.co_any.specs.Layouts.{amount_of, places_of}
 use Rattle.co_any.proofs.WholeRows.{some_parts, stands_amounts, stands_indexed, stands_copies, stands_pages, stands_places, stands_dead}
@@ -22,7 +22,7 @@ pub returns-in_ok-copied_pages-in-Pages : goal.returns-in_ok-copied_pages-in-Pag
 returns-in_ok-copied_pages-in-Pages c = ap states.Pages c.in_ok-copied_pages-in-Pages.ensures ∙ stands_pages c.args.self.now.kind c.args.self.now.tag c.args.parts.now.items c.requires.known c.requires.whole c.index.result.now c.index.ensures c.in-Pages.pages c.in-Pages.is
 
 pub returns-in_ok-collected-in-Places : goal.returns-in_ok-collected-in-Places
-returns-in_ok-collected-in-Places c = ap states.Pages (c.in_ok-collected-in-Places.ensures ∙ ap (λ row. shared_out.collected (map places_of row)) c.deref-in-Places.ensures.value) ∙ stands_places c.args.self.now.kind c.args.self.now.tag c.args.parts.now.items c.requires.known c.requires.whole c.index.result.now c.index.ensures c.in-Places.field-0 c.in-Places.is
+returns-in_ok-collected-in-Places c = ap states.Pages (c.in_ok-collected-in-Places.ensures ∙ ap (λ row. spread_rows.collected (map places_of row)) c.deref-in-Places.ensures.value) ∙ stands_places c.args.self.now.kind c.args.self.now.tag c.args.parts.now.items c.requires.known c.requires.whole c.index.result.now c.index.ensures c.in-Places.field-0 c.in-Places.is
 
 pub returns-in-Dead : goal.returns-in-Dead
 returns-in-Dead c = stands_dead c.args.self.now.kind c.args.self.now.tag c.args.parts.now.items c.requires.known c.requires.whole c.index.result.now c.index.ensures c.in-Dead.is
