@@ -9,7 +9,7 @@ use Rattle.k42_kinds.specs.declared.operation.KindName.TheVariants as kinds
 use Rattle.k42_kinds.specs.declared.operation.Op.{Op}
 use Rattle.k42_kinds.specs.declared.operation.Reply.{Reply}
 use Rattle.k42_kinds.specs.declared.operation.Reply.TheVariants.{Gone}
-use Rattle.k42_kinds.specs.Objects.{Directory, Pages, counter_after, counter_reply, directory_after, directory_reply, pages_after, pages_reply, directory_object, pages_object}
+use Rattle.k42_kinds.specs.Objects.{Directory, Pages, counter_after, counter_reply, directory_after, directory_reply, pages_after, pages_reply}
 use Rattle.k42_kinds.specs.Operations.{takes_operation}
 use Rattle.k42_kinds.specs.Rows.{part_at}
 use Rattle.k42_kinds.specs.LayoutLaws.{IsReached}

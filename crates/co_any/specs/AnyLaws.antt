@@ -1,6 +1,6 @@
 -- The layouts of all kinds keep the laws of layouts.
 use Rattle.std.specs.Prelude.{◌≡◌, ◌==◌, ℕ, zero, suc, ◌<◌, ◌≤◌, false, IsTrue, List, [], ◌∷◌, refl}
-use Rattle.std.proofs.Common.{arith, ap, sym, subst, ◌∙◌}
+use Rattle.std.proofs.Common.{arith, ap, sym, subst}
 use Rattle.k42_kinds.specs.declared.operation.KindName.{KindName}
 use Rattle.k42_kinds.specs.declared.operation.KindName.TheVariants as kinds
 use Rattle.k42_kinds.specs.declared.operation.Op.{Op}
@@ -23,9 +23,8 @@ use Rattle.co_pages.specs.SpreadRows as spread_rows
 use Rattle.co_pages.specs.SharedLaws as one_map_laws
 use Rattle.co_pages.specs.SpreadLaws as place_laws
 use Rattle.co_any.specs.declared.part.AnyPart.{AnyPart}
-use Rattle.co_any.specs.declared.part.AnyPart.TheVariants as parts
 use Rattle.co_any.specs.LiftedLaws.{Follows, lifted_steps, lifted_stands, lifted_begins, lifted_imports}
-use Rattle.co_any.specs.Layouts.{amounts, indexed, copies, pages, places, amount_of, indexed_of, copy_of, pages_of, places_of, IsDeadRow, dead, IsAlive, ways_of, whole_of, serves_of, admitted_of, act_of}
+use Rattle.co_any.specs.Layouts.{amounts, indexed, copies, pages, places, IsDeadRow, dead, IsAlive, ways_of, whole_of, serves_of, admitted_of, act_of}
 
 amounts_follow : Follows amounts (plain_object kinds.Counter) counter_object
 amounts_follow = record { start = refl; after = λ state op. refl; reply = λ state op. refl }

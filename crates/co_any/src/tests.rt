@@ -104,7 +104,7 @@ fn a_dead_object_is_gone_for_all_processors(rt: HostRuntime) -> Result<(), Fail>
 fn the_pages_move_from_layout_to_layout(rt: HostRuntime) -> Result<(), Fail> {
     let hi = Text::of(b"hi").ok_or("no text")?;
     let shared = AnyLayout::of(KindName::Pages, LayoutName::Shared);
-    let spread = shared.with_tag(1);
+    let spread = AnyLayout::of(KindName::Pages, LayoutName::Spread);
     let mut row = empty_row(&shared, rt.alloc(), 8)?;
     step_row(&shared, rt.alloc(), &mut row, &Op::Write(5, hi), 7, 8)?;
     let state = shared.export(rt.alloc(), &row)?;

@@ -1,4 +1,4 @@
-use Rattle.std.proofs.Common.{arith, map, sym, ap, ◌∙◌}
+use Rattle.std.proofs.Common.{arith, map, ap, ◌∙◌}
 use Rattle.co_counter.specs.Counters.{total_of}
 use Rattle.co_pages.specs.SpreadRows as spread_rows
 use Rattle.k42_kinds.specs.declared.states.AnyState.TheVariants as states
