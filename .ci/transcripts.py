@@ -30,7 +30,7 @@ class Command:
     def words_and_input(self):
         """The words and the input of a bare call of the program, or None for any other command."""
         line, _, rest = self.text.partition("\n")
-        found = re.fullmatch(r"k42((?: \S+)*) <<'\.'", line)
+        found = re.fullmatch(r"k42((?: [a-z0-9]+)*)(?: <<'\.')?", line)
         return found and (found[1].split(), rest.removesuffix("."))
 
 

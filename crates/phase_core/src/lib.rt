@@ -23,6 +23,3 @@ pub use laws::{
 pub use machine::apply;
 pub use object::{LocalEntry, PhaseObject};
 pub use state::PhaseState;
-
-#[cfg(test)]
-mod tests;

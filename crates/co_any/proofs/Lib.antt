@@ -1,0 +1,4 @@
+pub mod ReachedParts
+pub mod RowLengths
+pub mod WholeRows
+pub mod ImportedRows

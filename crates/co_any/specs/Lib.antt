@@ -1,0 +1,4 @@
+pub mod Lifting
+pub mod LiftedLaws
+pub mod Layouts
+pub mod AnyLaws

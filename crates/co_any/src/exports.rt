@@ -1,0 +1,60 @@
+ghost use Rattle.std.specs.Prelude.{◌≡◌, map, IfOk};
+ghost use Rattle.co_counter.specs.Counters.{total_of};
+ghost use Rattle.co_pages.specs.SpreadRows as spread_rows;
+ghost use Rattle.co_any.specs.Layouts.{amount_of, places_of};
+
+use crate::part::AnyPart;
+use co_directory::SpreadDirectory;
+use co_pages::SharedPages;
+use k42_kinds::{DirectoryState, Layout, PagesState};
+use k42_memory::Memory;
+use std::alloc::Global;
+
+fn amount(part: &AnyPart) -> u64
+    ensures { result ≡ amount_of part.now }
+{
+    match part {
+        AnyPart::Amount(amount) => *amount,
+        _ => 0,
+    }
+}
+
+/// The sum of a counter's amounts, modulo 2^64.
+pub(crate) fn total(parts: &[AnyPart]) -> u64
+    ensures { result ≡ total_of (map amount_of parts.now) }
+{
+    let mut total = 0u64;
+    for part in parts {
+        total = total.wrapping_add(amount(part));
+    }
+    total
+}
+
+/// The same names and numbers, in a map of their own.
+pub(crate) fn copied(alloc: Global, names: &DirectoryState) -> Result<DirectoryState, Memory>
+    ensures { IfOk result (λ copy. copy ≡ names.now) }
+{
+    let mut copies = SpreadDirectory.import(alloc, names, 1)?;
+    Ok(copies.pop().unwrap_or(DirectoryState::new(alloc)))
+}
+
+/// The same pages, in a map of their own.
+pub(crate) fn copied_pages(alloc: Global, pages: &PagesState) -> Result<PagesState, Memory>
+    ensures { IfOk result (λ copy. copy ≡ pages.now) }
+{
+    let mut copies = SharedPages.import(alloc, pages, 1)?;
+    Ok(copies.pop().unwrap_or(PagesState::new(alloc)))
+}
+
+/// The pages of all cells together.
+pub(crate) fn collected(alloc: Global, parts: &[AnyPart]) -> Result<PagesState, Memory>
+    ensures { IfOk result (λ pages. pages ≡ spread_rows.collected (map places_of parts.now)) }
+{
+    let mut pages = PagesState::new(alloc);
+    for part in parts {
+        if let AnyPart::Places(places) = part {
+            places.put_into(&mut pages)?;
+        }
+    }
+    Ok(pages)
+}

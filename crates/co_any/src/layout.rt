@@ -1,0 +1,207 @@
+ghost use Rattle.std.specs.Prelude.{◌≡◌, ◌≤◌, nat_le, IsTrue, IfOk};
+ghost use Rattle.k42_kinds.specs.Objects.{plain_object};
+ghost use Rattle.co_any.specs.Layouts.{ways_of, whole_of, serves_of, admitted_of, act_of, tag_named};
+ghost use Rattle.co_any.specs.AnyLaws.{any_steps, any_steps_all, any_reaches, any_stands, any_begins, any_imports, any_ends, any_admits, any_swaps, any_asks, any_agrees};
+
+use crate::exports::{collected, copied, copied_pages, total};
+use crate::part::AnyPart;
+use crate::rows::{in_parts, step_own};
+use co_counter::{SharedCounter, SpreadCounter};
+use co_directory::{SharedDirectory, SpreadDirectory};
+use co_pages::{SharedPages, SpreadPages};
+use k42_kinds::{
+    Act, AnyState, Kind, KindName, Layout, LayoutName, Op, Plain, Reach, Reply, step_counter,
+    step_directory, step_pages,
+};
+use k42_memory::Memory;
+use std::alloc::Global;
+
+/// A layout of any kind: the shared one with the tag 0, the spread one with 1, the dead one with 2.
+#[derive(Clone, Copy, Debug, PartialEq, Eq)]
+pub struct AnyLayout {
+    pub kind: KindName,
+    pub tag: u32,
+}
+
+impl AnyLayout {
+    /// The live layout of that name.
+    pub fn of(kind: KindName, layout: LayoutName) -> AnyLayout
+        ensures kind { result.kind ≡ kind }
+        ensures tag { result.tag ≡ tag_named layout }
+    {
+        let tag = match layout {
+            LayoutName::Shared => 0,
+            LayoutName::Spread => 1,
+        };
+        AnyLayout { kind, tag }
+    }
+}
+
+impl Kind for AnyLayout {
+    type State = AnyState;
+
+    ghost object = { λ layout. plain_object layout.kind };
+
+    fn empty(&self, alloc: Global) -> AnyState {
+        Plain { kind: self.kind }.empty(alloc)
+    }
+
+    fn step(&self, alloc: Global, state: &mut AnyState, op: &Op) -> Result<Reply, Memory> {
+        Plain { kind: self.kind }.step(alloc, state, op)
+    }
+}
+
+impl Layout for AnyLayout {
+    type Part = AnyPart;
+
+    ghost tag_of = { λ layout. layout.tag };
+
+    ghost has_tag = { λ _ tag. nat_le tag 2 };
+
+    ghost ways = { λ layout. ways_of layout.kind layout.tag };
+
+    ghost whole = { λ layout. whole_of layout.kind layout.tag };
+
+    ghost serves = { λ layout. serves_of layout.kind layout.tag };
+
+    ghost admitted = { λ layout. admitted_of layout.tag };
+
+    ghost act_of = { λ layout. act_of layout.tag };
+
+    fn tag(&self) -> u32 {
+        self.tag
+    }
+
+    fn with_tag(&self, tag: u32) -> Self {
+        AnyLayout {
+            kind: self.kind,
+            tag,
+        }
+    }
+
+    fn reach(&self, op: &Op, proc: u32, procs: u32) -> Reach {
+        match (self.tag, self.kind) {
+            (1, KindName::Counter) => SpreadCounter.reach(op, proc, procs),
+            (1, KindName::Directory) => SpreadDirectory.reach(op, proc, procs),
+            (1, KindName::Pages) => SpreadPages.reach(op, proc, procs),
+            _ => Reach::One(0),
+        }
+    }
+
+    fn empty_part(&self, alloc: Global, cell: u32, procs: u32) -> Result<AnyPart, Memory> {
+        let part = match (self.tag, self.kind) {
+            (0, KindName::Counter) => {
+                AnyPart::Amount(SharedCounter.empty_part(alloc, cell, procs)?)
+            }
+            (0, KindName::Directory) => {
+                AnyPart::Indexed(SharedDirectory.empty_part(alloc, cell, procs)?)
+            }
+            (0, KindName::Pages) => AnyPart::Pages(SharedPages.empty_part(alloc, cell, procs)?),
+            (1, KindName::Counter) => {
+                AnyPart::Amount(SpreadCounter.empty_part(alloc, cell, procs)?)
+            }
+            (1, KindName::Directory) => {
+                AnyPart::Copy(SpreadDirectory.empty_part(alloc, cell, procs)?)
+            }
+            (1, KindName::Pages) => AnyPart::Places(SpreadPages.empty_part(alloc, cell, procs)?),
+            _ => AnyPart::Dead,
+        };
+        Ok(part)
+    }
+
+    fn step_one(&self, alloc: Global, part: &mut AnyPart, op: &Op) -> Result<Reply, Memory> {
+        match part {
+            AnyPart::Amount(amount) => Ok(step_counter(amount, op)),
+            AnyPart::Indexed(names) => SharedDirectory.step_one(alloc, names, op),
+            AnyPart::Copy(names) => step_directory(names, op),
+            AnyPart::Pages(pages) => step_pages(pages, op),
+            AnyPart::Places(places) => SpreadPages.step_one(alloc, places, op),
+            AnyPart::Dead => Ok(Reply::Gone),
+        }
+    }
+
+    fn step_all(&self, alloc: Global, parts: &mut Vec<AnyPart>, op: &Op) -> Result<Reply, Memory> {
+        match (self.tag, self.kind) {
+            (0, KindName::Counter) => step_own(&SharedCounter, alloc, parts, op),
+            (0, KindName::Directory) => step_own(&SharedDirectory, alloc, parts, op),
+            (0, KindName::Pages) => step_own(&SharedPages, alloc, parts, op),
+            (1, KindName::Counter) => step_own(&SpreadCounter, alloc, parts, op),
+            (1, KindName::Directory) => step_own(&SpreadDirectory, alloc, parts, op),
+            (1, KindName::Pages) => step_own(&SpreadPages, alloc, parts, op),
+            _ => Ok(Reply::Gone),
+        }
+    }
+
+    fn export(&self, alloc: Global, parts: &Vec<AnyPart>) -> Result<AnyState, Memory> {
+        match &parts[0] {
+            AnyPart::Amount(_) => Ok(AnyState::Counter(total(parts))),
+            AnyPart::Indexed(names) => Ok(AnyState::Directory(names.state(alloc)?)),
+            AnyPart::Copy(names) => Ok(AnyState::Directory(copied(alloc, names)?)),
+            AnyPart::Pages(pages) => Ok(AnyState::Pages(copied_pages(alloc, pages)?)),
+            AnyPart::Places(_) => Ok(AnyState::Pages(collected(alloc, parts)?)),
+            AnyPart::Dead => Ok(AnyState::Dead),
+        }
+    }
+
+    fn import(&self, alloc: Global, state: &AnyState, procs: u32) -> Result<Vec<AnyPart>, Memory> {
+        match (self.tag, state) {
+            (0, AnyState::Counter(value)) => {
+                in_parts(alloc, SharedCounter.import(alloc, value, procs)?)
+            }
+            (0, AnyState::Directory(names)) => {
+                in_parts(alloc, SharedDirectory.import(alloc, names, procs)?)
+            }
+            (0, AnyState::Pages(pages)) => {
+                in_parts(alloc, SharedPages.import(alloc, pages, procs)?)
+            }
+            (1, AnyState::Counter(value)) => {
+                in_parts(alloc, SpreadCounter.import(alloc, value, procs)?)
+            }
+            (1, AnyState::Directory(names)) => {
+                in_parts(alloc, SpreadDirectory.import(alloc, names, procs)?)
+            }
+            (1, AnyState::Pages(pages)) => {
+                in_parts(alloc, SpreadPages.import(alloc, pages, procs)?)
+            }
+            _ => {
+                let mut parts = Vec::new(alloc);
+                parts.push(AnyPart::Dead)?;
+                Ok(parts)
+            }
+        }
+    }
+
+    fn admit(&self, state: AnyState) -> AnyState {
+        if self.tag == 2 { AnyState::Dead } else { state }
+    }
+
+    fn act(&self) -> Act {
+        match self.tag {
+            0 => Act::Swap(LayoutName::Shared),
+            1 => Act::Swap(LayoutName::Spread),
+            _ => Act::Destroy,
+        }
+    }
+
+    ghost steps = { λ layout procs proc row op known there takes whole. any_steps layout.kind layout.tag procs proc row op known there takes whole };
+
+    ghost steps_all = { λ layout procs row op known some takes whole. any_steps_all layout.kind layout.tag procs row op known some takes whole };
+
+    ghost reaches = { λ layout procs proc op known there takes. any_reaches layout.kind layout.tag procs proc op known there takes };
+
+    ghost stands = { λ layout procs row known some whole. any_stands layout.kind layout.tag procs row known some whole };
+
+    ghost begins = { λ layout procs known some. any_begins layout.kind layout.tag procs known some };
+
+    ghost imports = { λ layout procs state known some served. any_imports layout.kind layout.tag procs state known some served };
+
+    ghost ends = { λ layout state known served. any_ends layout.kind layout.tag state known served };
+
+    ghost admits = { λ layout before state known live same served. any_admits layout.kind before.kind layout.tag before.tag state live same served };
+
+    ghost swaps = { λ layout state known. any_swaps layout.kind layout.tag state };
+
+    ghost asks = { λ layout. any_asks layout.tag };
+
+    ghost agrees = { λ layout other same tags. any_agrees layout.kind other.kind layout.tag other.tag same tags };
+}

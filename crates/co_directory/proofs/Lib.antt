@@ -1,0 +1,3 @@
+pub mod SeenNames
+pub mod CopyLemmas
+mod ExampleRows

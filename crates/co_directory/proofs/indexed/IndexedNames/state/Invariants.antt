@@ -1,0 +1,6 @@
+use Rattle.std.proofs.Common.{◌≡◌}
+use Rattle.co_directory.proofs.SeenNames.{all_bound}
+use Rattle.co_directory.proofs.indexed.IndexedNames.state.Given as goal
+
+abbrev pub invariant-loop-name : goal.invariant-loop-name
+invariant-loop-name l = all_bound l.state l.name-iterator ≡ l.self

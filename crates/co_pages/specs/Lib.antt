@@ -1,0 +1,9 @@
+pub mod OneMap
+pub mod PutIn
+pub mod Refilled
+pub mod SharedLaws
+pub mod Places
+pub mod SpreadRows
+pub mod CellLaws
+pub mod RowLaws
+pub mod SpreadLaws

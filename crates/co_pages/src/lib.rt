@@ -1,0 +1,13 @@
+//! Two ways to keep pages: as one map, and spread over the processors by their numbers.
+#![tactic(auto)]
+
+mod places;
+mod shared;
+mod spread;
+
+pub use places::Places;
+pub use shared::SharedPages;
+pub use spread::SpreadPages;
+
+#[cfg(test)]
+mod tests;

@@ -1,6 +1,0 @@
-use Rattle.std.proofs.Common.{◌≡◌}
-use Rattle.phase_core.specs.Sound.{IsSound}
-use Rattle.phase_core.proofs.tests.answered.Given as goal
-
-abbrev pub invariant-loop-step : goal.invariant-loop-step
-invariant-loop-step l = IsSound l.state × (l.count ≡ l.step-index)
