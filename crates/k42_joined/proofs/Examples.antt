@@ -13,7 +13,8 @@ use Rattle.k42_kinds.specs.declared.entry.Answer.TheVariants.{Replied, Swapped, 
 use Rattle.k42_kinds.specs.declared.entry.Entry.{Entry}
 use Rattle.phase_core.specs.Event.{Turn, TakeRoleWith, LookUp, Install, Knock, Begin, Interpose, Block, Move, Unblock}
 use Rattle.phase_core.specs.State.{visitor_at}
-use Rattle.phase_core.specs.declared.caller.Place.TheVariants.{Blocked}
+use Rattle.phase_core.specs.declared.caller.Place.TheVariants.{Tracked, Blocked}
+use Rattle.phase_core.specs.declared.caller.SwapAt.TheVariants.{Blocking, Moved}
 use Rattle.turn_core.specs.declared.event.TurnEvent.TheVariants.{Lock, Take, Draw, Alone}
 use Rattle.k42_stamp.specs.Chains.{Chain, parts_of}
 use Rattle.k42_stamp.specs.Fits.{left_at}
@@ -147,6 +148,10 @@ one_of_all possible =
     let cells : 1 ∷ [] ≡ due = subst (λ d. 1 ∷ [] ≡ cells_reached 2 0 0 (reach d 2 Get 1)) (sym own) is.reached in
     cc
 
+-- not with a stamp that does not pass what the cell and the caller had
+low_stamp : IsPossible F declared inside (AtCells (Draw 1 (1 ∷ []) (call 0 1 0 (Add 3) Done))) → ⊥
+low_stamp possible = let core : false ≡ true = possible.may.core in cc
+
 -- a swap up to its hand, while caller 1 waits at the mediator
 abbrev waiting : Joined Toy
 waiting = run (
@@ -212,6 +217,25 @@ no_unblock possible = let may : false ≡ true = possible.may.beside in cc
 
 no_second : IsPossible F declared (effect waiting hand) hand → ⊥
 no_second possible = let first : true ≡ false = possible.may.beside.once in cc
+
+-- a hand begins a life of other cells than those that it closes
+no_same_cells : IsPossible F declared waiting (HandWith 0 (0 ∷ 1 ∷ []) (0 ∷ 1 ∷ []) one_part swap) → ⊥
+no_same_cells possible = let core : false ≡ true = possible.may.core in cc
+
+-- a caller that knocked before the block is inside, so the object is not moved, and there is no hand
+abbrev tracked : Joined Toy
+tracked = run (
+    AtPhases (Begin 0 0) ∷ AtPhases (Interpose 0) ∷ AtPhases (Interpose 0) ∷ AtPhases (TakeRoleWith 0 ((0, 0) ∷ []))
+    ∷ AtPhases (Turn (LookAhead 0)) ∷ AtPhases (Turn (Flip 0)) ∷ AtPhases (Turn (LookAhead 0)) ∷ AtPhases (Turn (Flip 0))
+    ∷ AtPhases (Turn (Look 0)) ∷ AtPhases (Turn (Look 0)) ∷ AtPhases (Turn (GiveRole 0))
+    ∷ AtPhases (Turn (Enter 1)) ∷ AtPhases (LookUp 1 0) ∷ AtPhases (Knock 1 0) ∷ AtPhases (Block 0) ∷ AtPhases (Move 0) ∷ []
+    ) begin
+
+is_tracked : (visitor_at tracked.phases 1).place ≡ Tracked 0 0
+is_tracked = refl
+
+no_hand_inside : IsPossible F declared tracked hand → ⊥
+no_hand_inside possible = let moved : Blocking 0 ≡ Moved 0 = possible.may.beside.moved in cc
 
 -- a refusal that rests on an entry which its rival has not drawn yet
 abbrev refused : Joined Toy

@@ -61,7 +61,10 @@ module _ {L : Type 0} (s : Joined L) where
   pub record IsKept (c : ℕ) : Type 0 where
     pub begun : (o : ℕ) → named_by (swap_of s c) ≡ Some o → (kept_of s c).begun ≡ Some o
     pub there : (o : ℕ) → (kept_of s c).begun ≡ Some o → o < many_objects s
-    pub found : (answer : Answer) → (kept_of s c).found ≡ Some answer → is_idle (swap_of s c) || is_refused (swap_of s c) ≡ true
+    pub found
+        : (answer : Answer)
+        → (kept_of s c).found ≡ Some answer
+        → is_idle (swap_of s c) || is_refused (swap_of s c) ≡ true
 
   -- another caller has settled the swap of this number, or it is under way
   pub record IsUnderWay (c o n : ℕ) : Type 0 where
