@@ -1,0 +1,43 @@
+-- What stays true of entries and histories: the rows of each object fit, and the entries that were drawn at
+-- cells are those of the histories.
+use Rattle.std.specs.Prelude.{◌≡◌, ℕ, ◌-◌, ◌<◌, List, ◌∷◌, [], ◌++◌, map, length, Some, slice_get}
+use Rattle.k42_kinds.specs.declared.entry.Entry.{Entry}
+use Rattle.k42_places.specs.Places.{EachPair}
+use Rattle.phase_core.specs.State.{proc_of}
+use Rattle.k42_stamp.specs.Layouts.{Layouts}
+use Rattle.k42_stamp.specs.Chains.{Chain}
+use Rattle.k42_stamp.specs.Lists.{AreThose, is_drawn}
+use Rattle.k42_joined.specs.Plain.{Joined}
+use Rattle.k42_joined.specs.State.{many_procs, many_callers, many_objects, object, incarnation, layouts_of, many_hands}
+use Rattle.k42_joined.specs.Rows.{history_in, AreRowsOf}
+
+-- the lists of all callers
+abbrev pub lists_of : {L : Type 0} → Joined L → List (List Entry)
+lists_of s = map (λ x. x.mine) s.turns.callers
+
+-- the layouts are told for the processors and callers of this state
+pub record AreFor {S L P : Type 0} (F : Layouts S L P) (s : Joined L) : Type 0 where
+  pub procs : F.procs ≡ many_procs s
+  pub proc_of : (c : ℕ) → c < many_callers s → F.proc_of c ≡ proc_of s.phases c
+
+-- the object has the tag of the layout of its incarnation's row
+abbrev pub IsTagged : {S L P : Type 0} → Layouts S L P → L → Joined L → ℕ → Type 0
+IsTagged {S} {L} F declaration s o =
+    (layout : L)
+    → slice_get (layouts_of s o ++ declaration ∷ []) (many_hands s o - incarnation s o) ≡ Some layout
+    → F.tag_of layout ≡ (object s o).layout
+
+-- what is true of the rows of one object
+pub record HasRows
+    {S L P : Type 0} (F : Layouts S L P) (s : Joined L) (o : ℕ) (declaration : L) (chain : Chain L P)
+    : Type 0 where
+  pub rows : AreRowsOf F declaration s o chain
+  pub tagged : IsTagged F declaration s o
+
+pub record Fitting {S L P : Type 0} (F : Layouts S L P) (declared : List L) (s : Joined L) : Type 0 where
+  pub told : AreFor F s
+  pub objects : length declared ≡ many_objects s
+  pub chains : List (Chain L P)
+  pub many : length chains ≡ length declared
+  pub each : EachPair (HasRows F s) declared chains
+  pub those : AreThose F.procs is_drawn (lists_of s) (history_in s) chains

@@ -1,0 +1,2 @@
+/// Nothing yet.
+pub fn nothing() {}

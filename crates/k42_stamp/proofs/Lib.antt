@@ -1,0 +1,13 @@
+pub mod Elements
+pub mod Ordering
+pub mod Late
+pub mod PartSteps
+pub mod Needed
+pub mod Drawing
+pub mod Handing
+pub mod Standing
+pub mod Lawful
+pub mod Rowed
+pub mod MergeLaw
+pub mod Numbering
+pub mod Sorted

@@ -1,0 +1,40 @@
+-- The layouts of one type, on the processors of one system.
+use Rattle.std.specs.Prelude.{ℕ, ◌<◌, List}
+use Rattle.k42_kinds.specs.declared.entry.Act.{Act}
+use Rattle.k42_kinds.specs.OneThread.{OneThread}
+use Rattle.k42_kinds.specs.Rows.{Ways}
+
+-- what the layouts tell of themselves, how many processors there are, and on which of them each caller is
+pub record Layouts (S L P : Type 0) : Type 1 where
+  pub object_of : L → OneThread S
+  pub tag_of : L → ℕ
+  pub ways_of : L → Ways S P
+  pub Whole : L → ℕ → List P → Type 0
+  pub Serves : L → S → Type 0
+  pub admitted : L → S → S
+  pub act_of : L → Act
+  pub procs : ℕ
+  pub proc_of : ℕ → ℕ
+
+-- the same from the ghost members of the trait, each by itself
+abbrev pub layouts_with :
+    {S L P : Type 0}
+    → (L → OneThread S) → (L → ℕ) → (L → Ways S P) → (L → ℕ → List P → Type 0)
+    → (L → S → Type 0) → (L → S → S) → (L → Act) → ℕ → (ℕ → ℕ)
+    → Layouts S L P
+layouts_with object_of tag_of ways_of Whole Serves admitted act_of procs proc_of = record {
+  object_of = object_of;
+  tag_of = tag_of;
+  ways_of = ways_of;
+  Whole = Whole;
+  Serves = Serves;
+  admitted = admitted;
+  act_of = act_of;
+  procs = procs;
+  proc_of = proc_of;
+}
+
+-- there are processors, and each caller is on one of them
+pub record AreProcessors {S L P : Type 0} (F : Layouts S L P) : Type 0 where
+  pub some : 0 < F.procs
+  pub on_one : (caller : ℕ) → F.proc_of caller < F.procs

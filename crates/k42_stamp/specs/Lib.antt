@@ -1,0 +1,10 @@
+pub mod Orders
+pub mod Replays
+pub mod Layouts
+pub mod Parts
+pub mod Chains
+pub mod Fits
+pub mod Draws
+pub mod Hands
+pub mod Laws
+pub mod Lists

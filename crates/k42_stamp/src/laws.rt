@@ -1,0 +1,50 @@
+ghost use Rattle.std.specs.Prelude.{◌≡◌, ◌<◌, ℕ, suc, Bool, List, length};
+ghost use Rattle.k42_kinds.specs.declared.entry.Act.{Act};
+ghost use Rattle.k42_kinds.specs.declared.entry.Answer.{Answer};
+ghost use Rattle.k42_kinds.specs.declared.entry.Entry.{Entry};
+ghost use Rattle.k42_stamp.specs.Layouts.{layouts_with};
+ghost use Rattle.k42_stamp.specs.Chains.{Chain};
+ghost use Rattle.k42_stamp.specs.Fits.{Fits};
+ghost use Rattle.k42_stamp.specs.Draws.{IsNext, Draws};
+ghost use Rattle.k42_stamp.specs.Hands.{IsHand, handed, begun_at};
+ghost use Rattle.k42_stamp.specs.Lists.{LetsSteps, AllFit, AreThose, IsMerged, AreLegal};
+
+use k42_kinds::Layout;
+
+/// A row that fits and an entry later than its cells and than its caller's entries of the row give a
+/// row that fits, with the entry somewhere in its order, and with the parts that the entry makes.
+pub fn draw_keeps<L: Layout>(procs: u32)
+    requires { 0 < procs }
+    ensures { (proc_of : ℕ → ℕ) → ((caller : ℕ) → proc_of caller < procs) →
+        let F = layouts_with L.object L.tag_of L.ways L.whole L.serves L.admitted L.act_of procs proc_of in
+        (declared : L) (o : ℕ) (histories : ℕ → ℕ → List Entry) (chain : Chain L L.Part)
+        (entry : Entry) → Fits F declared o histories chain → IsNext F o histories chain entry →
+        Draws F declared o histories chain entry }
+{}
+
+/// The parts that a row has at last give the start of the next one, which begins with the entry by
+/// which the row was handed on, and fits.
+pub fn hand_begins<L: Layout>(procs: u32)
+    requires { 0 < procs }
+    ensures { (proc_of : ℕ → ℕ) → ((caller : ℕ) → proc_of caller < procs) →
+        let F = layouts_with L.object L.tag_of L.ways L.whole L.serves L.admitted L.act_of procs proc_of in
+        (declared : L) (o : ℕ) (histories : ℕ → ℕ → List Entry) (chain : Chain L L.Part) (layout : L)
+        (entry : Entry) → Fits F declared o histories chain →
+        IsHand F declared o histories chain layout entry →
+        Fits F declared o (begun_at entry (suc (length chain.past)) histories)
+        (handed F chain layout entry) }
+{}
+
+/// Lists whose calls and carried-out swaps are just those of rows that fit merge to a history in which
+/// each of these is legal. So are the entries that were answered `Spent` or `Gone`, where the test
+/// lets them pass and the lists and the rows have them both.
+pub fn merged_is_legal<L: Layout>(procs: u32)
+    requires { 0 < procs }
+    ensures { (proc_of : ℕ → ℕ) → ((caller : ℕ) → proc_of caller < procs) →
+        let F = layouts_with L.object L.tag_of L.ways L.whole L.serves L.admitted L.act_of procs proc_of in
+        (declarations : List L) (histories : ℕ → ℕ → ℕ → List Entry) (chains : List (Chain L L.Part))
+        (lists : List (List Entry)) (merged : List Entry) (passes : Act → Answer → Bool) →
+        LetsSteps passes → AllFit F declarations histories chains →
+        AreThose procs passes lists histories chains → IsMerged lists merged →
+        AreLegal F declarations passes merged }
+{}

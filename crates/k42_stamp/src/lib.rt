@@ -1,0 +1,9 @@
+//! Rows of cells that fit a layout, and the one order of what their callers kept.
+#![tactic(auto)]
+
+mod laws;
+mod merging;
+
+pub use laws::{draw_keeps, hand_begins, merged_is_legal};
+pub use merging::merge;
+
