@@ -1,0 +1,10 @@
+pub mod Words
+pub mod Values
+pub mod Views
+pub mod Seats
+pub mod Generations
+pub mod Phases
+pub mod Cells
+pub mod Parts
+pub mod Trace
+pub mod Rule
