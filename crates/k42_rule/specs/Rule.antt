@@ -1,14 +1,15 @@
 -- The rule of the table: words, slots and views show a state of the joined machine that meets its invariant.
-use Rattle.std.specs.Prelude.{◌≡◌, ℕ, ◌<◌, ◌*◌, List, [], ◌∷◌, length, map, ⊤}
+use Rattle.std.specs.Prelude.{◌≡◌, ℕ, ◌<◌, ◌≤◌, ◌*◌, List, [], ◌∷◌, length, map, ⊤}
 use mathlib.Core.Option.{some}
 use lib.ListN.{get_elem?}
 use Rattle.atomic_table.specs.Table.{State}
+use Rattle.k42_limits.specs.declared.TheConstants.{OBJECTS}
 use Rattle.k42_places.specs.Places.{EachPlace}
 use Rattle.k42_stamp.specs.Layouts.{Layouts}
 use Rattle.k42_joined.specs.Numbers.{place_of}
 use Rattle.k42_joined.specs.Plain.{Joined}
 use Rattle.k42_joined.specs.Sound.{IsSound}
-use Rattle.k42_joined.specs.State.{many_procs, many_callers}
+use Rattle.k42_joined.specs.State.{many_procs, many_callers, many_objects}
 use Rattle.k42_rule.specs.Cells.{Slot, Contents, IsCellShown, KnowsCells}
 use Rattle.k42_rule.specs.Generations.{Counts, AreGenerations, KnowsGenerations}
 use Rattle.k42_rule.specs.Parts.{IsPart}
@@ -49,6 +50,7 @@ pub record Shows
     {L P : Type 0} (s : Joined L) (beside : Beside P) (table : State (Slot L P) (View L P)) : Type 0 where
   pub many_words : length table.words ≡ many_words
   pub many_slots : length table.homes ≡ many_slots
+  pub few_objects : many_objects s ≤ OBJECTS
   pub generations : AreGenerations table.words s.phases.turns beside.counts
   pub objects : AreObjects table.words s.phases.objects
   pub cells :

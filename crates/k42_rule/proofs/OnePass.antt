@@ -1,0 +1,78 @@
+-- One pass moved: what a step of one seat owes to the rule.
+use Rattle.std.proofs.Common.{◌≡◌, ◌≢◌, ℕ, zero, suc, ◌<◌, List, [], ◌∷◌, Some, length, set, sym, refl, ap, ◌∙◌, subst, ⊎_elim}
+use Rattle.std.specs.List.{slice_get}
+use Rattle.std.proofs.lemmas.Option.{same_Some}
+use mathlib.Core.Option.{some}
+use mathlib.Core.Option as maybe
+use lib.ListN.{get_elem?}
+use Rattle.atomic_table.specs.Table.{State}
+use Rattle.atomic_table.proofs.Lists.{at_set}
+use Rattle.k42_stamp.specs.Layouts.{Layouts}
+use Rattle.k42_joined.specs.Plain.{Joined}
+use Rattle.k42_joined.specs.Sound.{IsSound}
+use Rattle.k42_rule.specs.Cells.{Slot}
+use Rattle.k42_rule.specs.Parts.{IsPart}
+use Rattle.k42_rule.specs.Phases.{IsOld}
+use Rattle.k42_rule.specs.Rule.{Beside, KnowsPass, Knows, Shows, Rule}
+use Rattle.k42_rule.specs.declared.view.PassView.{PassView}
+use Rattle.k42_rule.specs.declared.view.Row.{Row}
+use Rattle.k42_rule.specs.declared.view.View.{View}
+use Rattle.k42_rule.specs.declared.view.View.TheVariants.{Crew, Kept, Named, Spent}
+
+-- a table whose words and slots are others, and where the seat has another pass
+abbrev pub with_pass :
+    {L P : Type 0} → State (Slot L P) (View L P) → List ℕ → List (maybe.Option (Slot L P)) → ℕ → PassView L P
+    → State (Slot L P) (View L P)
+with_pass table words homes id w =
+    record { words = words; homes = homes; views = set table.views id (Crew (w ∷ [])) }
+
+module _ {S L P : Type 0} (F : Layouts S L P) (declared : List L)
+    (table : State (Slot L P) (View L P)) (r : Rule F declared table) (id : ℕ) (v : PassView L P)
+    (at : get_elem? table.views id ≡ some (Crew (v ∷ []))) where
+  pub known : KnowsPass r.state r.beside id v
+  known = r.seats id (Crew (v ∷ [])) at 0 v refl
+
+  -- what the seats other than this one know stays
+  pub record LeavesOthers (t : Joined L) (beside : Beside P) : Type 0 where
+    pub passes :
+      (j : ℕ) (x : PassView L P) → x.number ≢ v.number → KnowsPass r.state r.beside j x
+      → KnowsPass t beside j x
+    pub rows : (row : Row) → IsOld r.state.phases row → IsOld t.phases row
+    pub row_seats : (row : Row) → beside.row_seat row ≡ r.beside.row_seat row
+
+  module _ (t : Joined L) (beside : Beside P) (words : List ℕ) (homes : List (maybe.Option (Slot L P)))
+      (w : PassView L P) (leaves : LeavesOthers t beside) where
+    other : (j : ℕ) (view : View L P) → j ≢ id → Knows r.state r.beside j view → Knows t beside j view
+    other j (Crew passes) not knows =
+        λ place x here.
+        let k = knows place x here in
+        leaves.passes j x (λ e. not (sym k.seat ∙ ap r.beside.seat e ∙ known.seat)) k
+    other j (Kept told) not knows = tt
+    other j (Named row) not knows = (leaves.rows row knows.0, leaves.row_seats row ∙ knows.1)
+    other j Spent not knows = tt
+
+    own : KnowsPass t beside id w → (place : ℕ) (x : PassView L P) → slice_get (w ∷ []) place ≡ Some x
+        → KnowsPass t beside id x
+    own mine zero x e = subst (KnowsPass t beside id) (same_Some w x e) mine
+    own mine (suc place) x e = absurd (cc)
+
+    pub moved : IsSound F declared t → Shows t beside (with_pass table words homes id w)
+        → ((n : ℕ) → n < length t.turns.cells → IsPart F declared t n (beside.contents.part n))
+        → KnowsPass t beside id w
+        → (after : Rule F declared (with_pass table words homes id w)) × (after.state ≡ t)
+    moved sound shows parts mine = (
+      record {
+        state = t;
+        sound = sound;
+        beside = beside;
+        shows = shows;
+        parts = parts;
+        seats = λ j view e.
+            ⊎_elim
+            (λ here.
+            subst (λ (z : ℕ × View L P). Knows t beside z.0 z.1) (λ i. (sym here.0 i, here.1 i)) (own mine))
+            (λ old. other j view old.0 (r.seats j view old.1))
+            (at_set table.views id j (Crew (w ∷ [])) view e);
+      },
+      refl,
+    )
