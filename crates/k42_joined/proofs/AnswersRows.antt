@@ -92,7 +92,7 @@ module _ {S L P : Type 0} (F : Layouts S L P) (declared : L) (o : ℕ) (e : Entr
 
 module _ {S L P : Type 0} (F : Layouts S L P) (laws : AreLaws F) (declared : List L) (s : Joined L)
     (turns_sound : turns.IsSound s.turns) (locked : AreLocked s) (rows : Fitting F declared s) (answered : AreAnswered s) where
-  many_past : (o : ℕ) (declaration : L) (x : Chain L P) → HasRows F s o declaration x → length x.past ≡ many_hands s o
+  pub many_past : (o : ℕ) (declaration : L) (x : Chain L P) → HasRows F s o declaration x → length x.past ≡ many_hands s o
   many_past o declaration x has =
       let long = ap length has.rows.layouts in
       let mapped = length-map x.past (λ (turn : Turn L P). turn.row.layout) in
@@ -141,6 +141,11 @@ module _ {S L P : Type 0} (F : Layouts S L P) (laws : AreLaws F) (declared : Lis
 
       In-rows : Chain L P → Type 0
       In-rows x = InRows F.procs (length x.past) (history_in s e.object) e
+
+  pub done_at : (d n : ℕ) (e : Entry) → d < many_callers s → In e (mine s d) → e.answer ≡ Swapped n → (o : ℕ) → e.object ≡ o → (at : RowsAt o)
+      → IsDoneIn at.chain.past e n
+  done_at d n e there is answer o same at =
+      subst (λ r. (at : RowsAt r) → IsDoneIn at.chain.past e n) same (λ at. done_in d n e there is answer at) at
 
   pub done_handed : (d n : ℕ) (e : Entry) → d < many_callers s → In e (mine s d) → e.answer ≡ Swapped n → n ≤ many_hands s e.object
   done_handed d n e there is answer =

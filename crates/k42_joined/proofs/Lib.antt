@@ -24,3 +24,16 @@ pub mod AnswersMoves
 pub mod AnswersOpens
 pub mod Timely
 pub mod AnswersBegin
+pub mod AnswersPhases
+pub mod AnswersDrawn
+pub mod AnswersDraws
+pub mod AnswersCells
+pub mod AnswersTouch
+pub mod Kept
+pub mod Fresh
+pub mod Reached
+pub mod SafeStates
+pub mod Trace
+pub mod Readers
+pub mod AnswersTrace
+pub mod TraceAtRest

@@ -46,7 +46,7 @@ mover_way x o i e =
     or_right (is_inside x.place o i) (is_moving x.swap o || is_freeing x.freeing o i)
     (or_left (is_moving x.swap o) (is_freeing x.freeing o i) (rw e (eq-eqb o o refl)))
 
-from_is_caller : (lock : Option ℕ) (c : ℕ) → is_caller lock c ≡ true → lock ≡ Some c
+pub from_is_caller : (lock : Option ℕ) (c : ℕ) → is_caller lock c ≡ true → lock ≡ Some c
 from_is_caller None c e = absurd (cc)
 from_is_caller (Some d) c e = let same : d ≡ c = grind (arith, nat_tests, e) in ap Some same
 

@@ -36,7 +36,7 @@ use Rattle.k42_joined.proofs.PhaseSteps.{only_its_caller, row_else, turned_here,
 
 -- no event moves a caller to another processor
 
-same_read : {A : Type 0} (xs ys : List A) (i : ℕ) (d : A) → slice_get ys i ≡ slice_get xs i → get_or ys i d ≡ get_or xs i d
+pub same_read : {A : Type 0} (xs ys : List A) (i : ℕ) (d : A) → slice_get ys i ≡ slice_get xs i → get_or ys i d ≡ get_or xs i d
 same_read xs ys i d same = sym (unwrap_or-slice_get ys i d) ∙ ap (λ x. unwrap_or x d) same ∙ unwrap_or-slice_get xs i d
 
 module _ (s : Phases) (c : ℕ) where

@@ -17,5 +17,6 @@ pub mod Answers
 pub mod Sound
 pub mod Safe
 pub mod Seen
+pub mod Rest
 pub mod Fresh
 pub mod Runs

@@ -1,8 +1,14 @@
 -- Lists of joined events from a state.
-use Rattle.std.specs.Prelude.{◌≡◌, ℕ, List, [], ◌∷◌}
+use Rattle.std.specs.Prelude.{◌≡◌, ◌⊎◌, ℕ, ◌+◌, ◌<◌, ◌≤◌, List, [], ◌∷◌}
+use Rattle.gen_core.specs.declared.event.GenEvent.TheVariants.{Leave}
+use Rattle.k42_kinds.specs.declared.entry.Entry.{Entry}
+use Rattle.phase_core.specs.Consequences as phases
+use Rattle.phase_core.specs.Event.{Turn}
 use Rattle.k42_stamp.specs.Layouts.{Layouts}
+use Rattle.k42_stamp.specs.Orders.{In}
 use Rattle.k42_joined.specs.Plain.{Joined}
-use Rattle.k42_joined.specs.Event.{Event}
+use Rattle.k42_joined.specs.Event.{Event, AtPhases, HandWith}
+use Rattle.k42_joined.specs.State.{object, incarnation, many_hands}
 use Rattle.k42_joined.specs.Possible.{IsPossible}
 use Rattle.k42_joined.specs.Effects.{effect}
 use Rattle.k42_joined.specs.Fresh.{fresh, IsPlan}
@@ -19,3 +25,34 @@ pub record IsReached {S L P : Type 0} (F : Layouts S L P) (declared : List L) (s
   pub plan : IsPlan F declared callers
   pub events : List (Event L)
   pub leads : Leads F declared events (fresh F declared callers) s
+
+-- by the event row i of the object is freed
+abbrev pub FreesRow : {L : Type 0} → Joined L → Event L → ℕ → ℕ → Type 0
+FreesRow s event o i = phases.FreesRow s.phases (effect s event).phases o i
+
+-- by the event cells of the object begin this life
+pub record GivesLife {L : Type 0} (s : Joined L) (event : Event L) (o j : ℕ) : Type 0 where
+  pub caller : ℕ
+  pub from : List ℕ
+  pub onto : List ℕ
+  pub layout : L
+  pub entry : Entry
+  pub hand : event ≡ HandWith caller from onto layout entry
+  pub object : entry.object ≡ o
+  pub life : incarnation s o + 1 ≡ j
+
+-- by the event the row is freed, or its cells are given to the row after the next
+abbrev pub TakesRow : {L : Type 0} → Joined L → Event L → ℕ → ℕ → Type 0
+TakesRow s event o i = FreesRow s event o i ⊎ GivesLife s event o (i + 2)
+
+-- In the later state nothing is undone: rows that were freed stay so, no event frees one of them again, and
+-- none that is possible begins a life again for which a row was handed on.
+pub record IsFreedOnce {S L P : Type 0} (F : Layouts S L P) (declared : List L) (s t : Joined L) : Type 0 where
+  pub kept : (o : ℕ) → (object s o).freed ≤ (object t o).freed
+  pub once : (event : Event L) (o i : ℕ) → i < (object s o).freed → ¬ FreesRow t event o i
+  pub given :
+    (event : Event L) (o j : ℕ) → IsPossible F declared t event → j ≤ many_hands s o → ¬ GivesLife t event o j
+
+-- the caller's Leave stands among the events
+abbrev pub Leaves : {L : Type 0} → ℕ → List (Event L) → Type 0
+Leaves c events = In (AtPhases (Turn (Leave c))) events

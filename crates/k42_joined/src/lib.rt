@@ -3,4 +3,7 @@
 
 mod laws;
 
-pub use laws::nothing;
+pub use laws::{
+    each_event_keeps, readers_leave_before, rows_are_freed_once, sound_states_are_safe, stays_sound,
+    trace_is_legal,
+};
