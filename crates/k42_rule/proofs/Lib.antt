@@ -1,3 +1,4 @@
 pub mod OnePass
 pub mod Apart
 pub mod Turning
+pub mod Entering

@@ -8,3 +8,5 @@ pub mod Cells
 pub mod Parts
 pub mod Trace
 pub mod Rule
+pub mod Steps
+pub mod Generating
