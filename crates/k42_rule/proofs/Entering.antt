@@ -38,6 +38,7 @@ use Rattle.k42_rule.specs.declared.view.PassView.{PassView}
 use Rattle.k42_rule.specs.declared.view.View.{View}
 use Rattle.k42_rule.specs.declared.view.View.TheVariants.{Crew}
 use Rattle.k42_rule.proofs.Apart.{IsOfGenerations, of_processor}
+use Rattle.k42_rule.proofs.Moves.{Moves}
 use Rattle.k42_rule.proofs.OnePass.{with_pass, known}
 use Rattle.k42_rule.proofs.Turning.{IsTurn, turned, gens_after, visitors_after, state_after, with_counts, turn_there'}
 
@@ -242,3 +243,11 @@ module _ {S L P : Type 0} (F : Layouts S L P) (laws : AreLaws F) (declared : Lis
   enters =
       turned F laws declared table r id v at (Enter c) refl counts turn_is i new (entered_view found v)
       (subst (λ z. IsOfGenerations z) (omega arith) (of_processor x.proc 0 p_few (omega arith))) generations_after pass_after
+
+pub enter_moves : {S L P : Type 0} (F : Layouts S L P) → AreLaws F → (declared : List L) (id home : ℕ) (v : PassView L P) → MayEnter v → v.turn.proc ≡ home
+    → Moves F declared (AtPhases (Turn (Enter v.number))) (generation_word home) (λ word. (word + 1) % 2 ^ 64) entered_view id v
+enter_moves {S} {L} {P} F laws declared id home v may same = record { from = λ table r at.
+    subst (λ i. (after : Rule F declared (with_pass table (set table.words i ((get_or table.words i 0 + 1) % 2 ^ 64)) table.homes id (entered_view (get_or table.words i 0) v)))
+      × (after.state ≡ effect r.state (AtPhases (Turn (Enter v.number)))))
+    (ap (λ (z : Caller). generation_word z.proc) (known F declared table r id v at).generations.turn ∙ ap generation_word same)
+    (enters F laws declared table r id v at may); }

@@ -10,3 +10,5 @@ pub mod Trace
 pub mod Rule
 pub mod Steps
 pub mod Generating
+pub mod Seen
+pub mod Plan

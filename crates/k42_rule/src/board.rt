@@ -19,16 +19,23 @@ pub struct Ruling<L> {
 }
 
 impl<L: Layout> TableRule<Option<Cell<L>>, View<L, L::Part>, Setup<L>> for Ruling<L> {
-    ghost use Rattle.std.specs.Prelude.{slice_index_or};
-    ghost use Rattle.k42_stamp.specs.Layouts.{layouts_with};
+    ghost use Rattle.k42_rule.specs.Plan.{layouts_on};
     ghost use Rattle.k42_rule.specs.Rule.{Rule};
     ghost use Rattle.k42_rule.specs.Views.{first_view};
 
-    ghost holds = { λ key s. Rule (layouts_with L.object L.tag_of L.ways L.whole L.serves L.admitted L.act_of key.procs (λ c. slice_index_or key.callers.items c 0)) key.layouts.items s };
+    ghost holds = { λ key s. Rule
+      (layouts_on L.object L.tag_of L.ways L.whole L.serves L.admitted L.act_of key.procs key.callers.items)
+      key.layouts.items s };
 
     ghost first = { λ key. first_view key.procs key.layouts.items key.callers.items };
 }
 
-pub type Board<L> = Table<Option<Cell<L>>, View<L, <L as Layout>::Part>, Setup<L>, Ruling<L>, Global>;
+pub type Board<L> = Table<
+    Option<Cell<L>>,
+    View<L, <L as Layout>::Part>,
+    Setup<L>,
+    Ruling<L>,
+    Global,
+>;
 
 pub type Place<L> = Seat<Option<Cell<L>>, View<L, <L as Layout>::Part>>;

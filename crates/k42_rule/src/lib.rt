@@ -3,6 +3,13 @@
 
 mod board;
 mod cell;
+mod pass;
+mod plays;
+mod sys;
 mod view;
+mod words;
 
-pub use cell::Cell;
+pub use cell::{Cell, Content};
+pub use pass::{Pass, Walker};
+pub use sys::Sys;
+pub use view::{LastBegin, Row};

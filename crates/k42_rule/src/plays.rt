@@ -1,0 +1,13 @@
+//! What each step on the table tells its pass.
+use crate::cell::Content;
+use crate::view::View;
+use atomic_table::Play;
+
+pub(crate) struct Enter;
+
+impl<L, P: Drop> Play<Option<Content<L, P>>, View<L, P>> for Enter {
+    ghost use Rattle.k42_rule.specs.Steps.{Tells};
+    ghost use Rattle.k42_rule.specs.Generating.{entered_view};
+
+    ghost then = { Tells entered_view };
+}
