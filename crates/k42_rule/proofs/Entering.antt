@@ -66,7 +66,7 @@ grace_stays s t same None = refl
 grace_stays s t same (Some holder) = same holder
 
 module _ {S L P : Type 0} (F : Layouts S L P) (laws : AreLaws F) (declared : List L)
-    (table : State (Slot L P) (View L P)) (r : Rule F declared table) (id : ℕ) (v : PassView L P)
+    (table : State (Slot P) (View P)) (r : Rule F declared table) (id : ℕ) (v : PassView P)
     (at : get_elem? table.views id ≡ some (Crew (v ∷ []))) (may : MayEnter v) where
   abbrev s : Generations
   s = r.state.phases.turns
@@ -74,7 +74,7 @@ module _ {S L P : Type 0} (F : Layouts S L P) (laws : AreLaws F) (declared : Lis
   abbrev c : ℕ
   c = v.number
 
-  abbrev knows : KnowsPass r.state r.beside id v
+  abbrev knows : KnowsPass F.tag_of r.state r.beside id v
   knows = known F declared table r id v at
 
   abbrev x : Caller
@@ -203,7 +203,7 @@ module _ {S L P : Type 0} (F : Layouts S L P) (laws : AreLaws F) (declared : Lis
       flipped = rw (same, grace_stays s g graces s.role) is.flipped;
     }
 
-  pass_after : KnowsPass (state_after F laws declared table r id v at (Enter c) refl) (with_counts r.beside counts) id (entered_view found v)
+  pass_after : KnowsPass F.tag_of (state_after F laws declared table r id v at (Enter c) refl) (with_counts r.beside counts) id (entered_view found v)
   pass_after = record {
     there = rw (length-set r.state.phases.callers c _) knows.there;
     seat = knows.seat;
@@ -244,7 +244,7 @@ module _ {S L P : Type 0} (F : Layouts S L P) (laws : AreLaws F) (declared : Lis
       turned F laws declared table r id v at (Enter c) refl counts turn_is i new (entered_view found v)
       (subst (λ z. IsOfGenerations z) (omega arith) (of_processor x.proc 0 p_few (omega arith))) generations_after pass_after
 
-pub enter_moves : {S L P : Type 0} (F : Layouts S L P) → AreLaws F → (declared : List L) (id home : ℕ) (v : PassView L P) → MayEnter v → v.turn.proc ≡ home
+pub enter_moves : {S L P : Type 0} (F : Layouts S L P) → AreLaws F → (declared : List L) (id home : ℕ) (v : PassView P) → MayEnter v → v.turn.proc ≡ home
     → Moves F declared (AtPhases (Turn (Enter v.number))) (generation_word home) (λ word. (word + 1) % 2 ^ 64) entered_view id v
 enter_moves {S} {L} {P} F laws declared id home v may same = record { from = λ table r at.
     subst (λ i. (after : Rule F declared (with_pass table (set table.words i ((get_or table.words i 0 + 1) % 2 ^ 64)) table.homes id (entered_view (get_or table.words i 0) v)))

@@ -21,28 +21,28 @@ use Rattle.k42_rule.specs.declared.view.View.TheVariants.{Crew, Kept, Named, Spe
 
 -- a table whose words and slots are others, and where the seat has another pass
 abbrev pub with_pass :
-    {L P : Type 0} → State (Slot L P) (View L P) → List ℕ → List (maybe.Option (Slot L P)) → ℕ → PassView L P
-    → State (Slot L P) (View L P)
+    {P : Type 0} → State (Slot P) (View P) → List ℕ → List (maybe.Option (Slot P)) → ℕ → PassView P
+    → State (Slot P) (View P)
 with_pass table words homes id w =
     record { words = words; homes = homes; views = set table.views id (Crew (w ∷ [])) }
 
 module _ {S L P : Type 0} (F : Layouts S L P) (declared : List L)
-    (table : State (Slot L P) (View L P)) (r : Rule F declared table) (id : ℕ) (v : PassView L P)
+    (table : State (Slot P) (View P)) (r : Rule F declared table) (id : ℕ) (v : PassView P)
     (at : get_elem? table.views id ≡ some (Crew (v ∷ []))) where
-  pub known : KnowsPass r.state r.beside id v
+  pub known : KnowsPass F.tag_of r.state r.beside id v
   known = r.seats id (Crew (v ∷ [])) at 0 v refl
 
   -- what the seats other than this one know stays
   pub record LeavesOthers (t : Joined L) (beside : Beside P) : Type 0 where
     pub passes :
-      (j : ℕ) (x : PassView L P) → x.number ≢ v.number → KnowsPass r.state r.beside j x
-      → KnowsPass t beside j x
+      (j : ℕ) (x : PassView P) → x.number ≢ v.number → KnowsPass F.tag_of r.state r.beside j x
+      → KnowsPass F.tag_of t beside j x
     pub rows : (row : Row) → IsOld r.state.phases row → IsOld t.phases row
     pub row_seats : (row : Row) → beside.row_seat row ≡ r.beside.row_seat row
 
-  module _ (t : Joined L) (beside : Beside P) (words : List ℕ) (homes : List (maybe.Option (Slot L P)))
-      (w : PassView L P) (leaves : LeavesOthers t beside) where
-    other : (j : ℕ) (view : View L P) → j ≢ id → Knows r.state r.beside j view → Knows t beside j view
+  module _ (t : Joined L) (beside : Beside P) (words : List ℕ) (homes : List (maybe.Option (Slot P)))
+      (w : PassView P) (leaves : LeavesOthers t beside) where
+    other : (j : ℕ) (view : View P) → j ≢ id → Knows F.tag_of r.state r.beside j view → Knows F.tag_of t beside j view
     other j (Crew passes) not knows =
         λ place x here.
         let k = knows place x here in
@@ -51,14 +51,14 @@ module _ {S L P : Type 0} (F : Layouts S L P) (declared : List L)
     other j (Named row) not knows = (leaves.rows row knows.0, leaves.row_seats row ∙ knows.1)
     other j Spent not knows = tt
 
-    own : KnowsPass t beside id w → (place : ℕ) (x : PassView L P) → slice_get (w ∷ []) place ≡ Some x
-        → KnowsPass t beside id x
-    own mine zero x e = subst (KnowsPass t beside id) (same_Some w x e) mine
+    own : KnowsPass F.tag_of t beside id w → (place : ℕ) (x : PassView P) → slice_get (w ∷ []) place ≡ Some x
+        → KnowsPass F.tag_of t beside id x
+    own mine zero x e = subst (KnowsPass F.tag_of t beside id) (same_Some w x e) mine
     own mine (suc place) x e = absurd (cc)
 
     pub moved : IsSound F declared t → Shows t beside (with_pass table words homes id w)
         → ((n : ℕ) → n < length t.turns.cells → IsPart F declared t n (beside.contents.part n))
-        → KnowsPass t beside id w
+        → KnowsPass F.tag_of t beside id w
         → (after : Rule F declared (with_pass table words homes id w)) × (after.state ≡ t)
     moved sound shows parts mine = (
       record {
@@ -70,7 +70,7 @@ module _ {S L P : Type 0} (F : Layouts S L P) (declared : List L)
         seats = λ j view e.
             ⊎_elim
             (λ here.
-            subst (λ (z : ℕ × View L P). Knows t beside z.0 z.1) (λ i. (sym here.0 i, here.1 i)) (own mine))
+            subst (λ (z : ℕ × View P). Knows F.tag_of t beside z.0 z.1) (λ i. (sym here.0 i, here.1 i)) (own mine))
             (λ old. other j view old.0 (r.seats j view old.1))
             (at_set table.views id j (Crew (w ∷ [])) view e);
       },

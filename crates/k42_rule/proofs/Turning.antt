@@ -67,7 +67,7 @@ module _ {L : Type 0} (s : Joined L) (g : Generations) (visitors : List Visitor)
   abbrev pub Rises : Type 0
   Rises = (p : ℕ) → (proc_at s.phases.turns p).generation ≤ (proc_at g p).generation
 
-  pub generations_stay : {P : Type 0} (counts counts' : Counts) (x : PassView L P) → IsOther counts counts' x.number
+  pub generations_stay : {P : Type 0} (counts counts' : Counts) (x : PassView P) → IsOther counts counts' x.number
       → KnowsGenerations s.phases.turns counts x → KnowsGenerations g counts' x
   generations_stay counts counts' x other knows = record {
     turn = other.turn ∙ knows.turn;
@@ -78,7 +78,7 @@ module _ {L : Type 0} (s : Joined L) (g : Generations) (visitors : List Visitor)
         old.2 ∙ knows.base b e busy p old.0 old.1;
   }
 
-  pub phases_stay : {P : Type 0} (counts counts' : Counts) (x : PassView L P) → IsOther counts counts' x.number
+  pub phases_stay : {P : Type 0} (counts counts' : Counts) (x : PassView P) → IsOther counts counts' x.number
       → KnowsPhases s.phases x → KnowsPhases t.phases x
   phases_stay counts counts' x other knows = record {
     visitor = other.visitor ∙ knows.visitor;
@@ -89,8 +89,8 @@ module _ {L : Type 0} (s : Joined L) (g : Generations) (visitors : List Visitor)
     granted = knows.granted;
   }
 
-  pub trace_stays : {P : Type 0} (x : PassView L P) → Rises → KnowsTrace s x → KnowsTrace t x
-  trace_stays x rises knows = record {
+  pub trace_stays : {P : Type 0} (tag_of : L → ℕ) (x : PassView P) → Rises → KnowsTrace tag_of s x → KnowsTrace tag_of t x
+  trace_stays tag_of x rises knows = record {
     kept = knows.kept;
     found = knows.found;
     handed = knows.handed;
@@ -100,16 +100,16 @@ module _ {L : Type 0} (s : Joined L) (g : Generations) (visitors : List Visitor)
         let old = knows.times place entry e generation is in let more = rises x.turn.proc in omega (arith, old, more);
   }
 
-  pub pass_stays : {P : Type 0} (beside : Beside P) (counts' : Counts) (j : ℕ) (x : PassView L P) → length visitors ≡ length s.phases.callers
-      → Rises → IsOther beside.counts counts' x.number → KnowsPass s beside j x
-      → KnowsPass t (with_counts beside counts') j x
-  pass_stays beside counts' j x many rises other knows = record {
+  pub pass_stays : {P : Type 0} (tag_of : L → ℕ) (beside : Beside P) (counts' : Counts) (j : ℕ) (x : PassView P) → length visitors ≡ length s.phases.callers
+      → Rises → IsOther beside.counts counts' x.number → KnowsPass tag_of s beside j x
+      → KnowsPass tag_of t (with_counts beside counts') j x
+  pass_stays tag_of beside counts' j x many rises other knows = record {
     there = rw many knows.there;
     seat = knows.seat;
     generations = generations_stay beside.counts counts' x other knows.generations;
     phases = phases_stay beside.counts counts' x other knows.phases;
     cells = knows.cells;
-    trace = trace_stays x rises knows.trace;
+    trace = trace_stays tag_of x rises knows.trace;
   }
 
   -- the parts that are due are as before
@@ -126,7 +126,7 @@ pub same_at : {A : Type 0} (xs ys : List A) (i : ℕ) (d : A) → slice_get ys i
 same_at xs ys i d same = sym (unwrap_or-slice_get ys i d) ∙ ap (λ x. unwrap_or x d) same ∙ unwrap_or-slice_get xs i d
 
 module _ {S L P : Type 0} (F : Layouts S L P) (laws : AreLaws F) (declared : List L)
-    (table : State (Slot L P) (View L P)) (r : Rule F declared table) (id : ℕ) (v : PassView L P)
+    (table : State (Slot P) (View P)) (r : Rule F declared table) (id : ℕ) (v : PassView P)
     (at : get_elem? table.views id ≡ some (Crew (v ∷ []))) (e : GenEvent) (own : caller_of e ≡ v.number) where
   abbrev c : ℕ
   c = caller_of e
@@ -170,7 +170,7 @@ module _ {S L P : Type 0} (F : Layouts S L P) (laws : AreLaws F) (declared : Lis
     pub leaves : LeavesOthers F declared table r id v at state_after (with_counts r.beside counts)
     leaves = record {
       passes = λ j x not knows.
-          pass_stays r.state gens_after visitors_after r.beside counts j x (length-set r.state.phases.callers c _) turn.rises
+          pass_stays r.state gens_after visitors_after F.tag_of r.beside counts j x (length-set r.state.phases.callers c _) turn.rises
           (others x.number not) knows;
       rows = λ row old. old;
       row_seats = λ row. refl;
@@ -184,7 +184,7 @@ module _ {S L P : Type 0} (F : Layouts S L P) (laws : AreLaws F) (declared : Lis
         let long = (r.sound.phases.in_scene.objects o k here).many_entries in
         let few = r.sound.phases.in_scene.in_course.limits.few_procs in omega (arith, long, few)
 
-    pub turned_shows : (i new : ℕ) (w : PassView L P) → IsOfGenerations i
+    pub turned_shows : (i new : ℕ) (w : PassView P) → IsOfGenerations i
         → AreGenerations (set table.words i new) gens_after counts
         → Shows state_after (with_counts r.beside counts) (with_pass table (set table.words i new) table.homes id w)
     turned_shows i new w apart shown = record {
@@ -199,9 +199,9 @@ module _ {S L P : Type 0} (F : Layouts S L P) (laws : AreLaws F) (declared : Lis
     }
 
     -- the pass moved by the event
-    pub turned : (i new : ℕ) (w : PassView L P) → IsOfGenerations i
+    pub turned : (i new : ℕ) (w : PassView P) → IsOfGenerations i
         → AreGenerations (set table.words i new) gens_after counts
-        → KnowsPass state_after (with_counts r.beside counts) id w
+        → KnowsPass F.tag_of state_after (with_counts r.beside counts) id w
         → (after : Rule F declared (with_pass table (set table.words i new) table.homes id w))
         × (after.state ≡ effect r.state (AtPhases (Turn e)))
     turned i new w apart shown mine =

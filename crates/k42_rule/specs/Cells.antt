@@ -17,21 +17,21 @@ use Rattle.k42_rule.specs.declared.view.PassView.{PassView}
 
 -- the cell of this number, whose seat tells this history
 pub record IsCell
-    {L P : Type 0} (n : ℕ) (history : List Entry) (closed : Bool) (own : Option P)
-    (c : code.Content L P)
+    {P : Type 0} (n : ℕ) (history : List Entry) (closed : Bool) (own : Option P)
+    (c : code.Content P)
     : Type 0 where
   pub number : c.number ≡ n
   pub told : told_by c.badge.views ≡ record { history = history; closed = closed }
   pub part : c.part ≡ own
 
-abbrev pub Slot : Type 0 → Type 0 → Type 0
-Slot L P = Option (code.Content L P)
+abbrev pub Slot : Type 0 → Type 0
+Slot P = Option (code.Content P)
 
 -- the slot has the cell while it is at home, and nothing while it is not; a slot that is out is with the holder
 abbrev pub IsSlot :
-    {L P : Type 0} → ℕ → Cell → Option P → maybe.Option (Slot L P) → Bool → Bool → Type 0
+    {P : Type 0} → ℕ → Cell → Option P → maybe.Option (Slot P) → Bool → Bool → Type 0
 IsSlot n x part slot out true =
-    (out ≡ false) × ((c : code.Content _ _) × (slot ≡ some (Some c)) × IsCell n x.history x.closed part c)
+    (out ≡ false) × ((c : code.Content _) × (slot ≡ some (Some c)) × IsCell n x.history x.closed part c)
 IsSlot n x part slot true false = slot ≡ none
 IsSlot n x part slot false false = slot ≡ some None
 
@@ -41,13 +41,13 @@ pub record Contents (P : Type 0) : Type 0 where
   pub out : ℕ → Bool
 
 pub record IsCellShown
-    {L P : Type 0} (procs : ℕ) (words : List ℕ) (homes : List (maybe.Option (Slot L P)))
+    {P : Type 0} (procs : ℕ) (words : List ℕ) (homes : List (maybe.Option (Slot P)))
     (contents : Contents P) (n : ℕ) (x : Cell)
     : Type 0 where
   pub lock : slice_index words (lock_word n) ≡ holder_value x.lock
   pub slot :
     place_of n < procs
-    → (slot : maybe.Option (Slot L P)) × (get_elem? homes (slot_of n) ≡ some slot)
+    → (slot : maybe.Option (Slot P)) × (get_elem? homes (slot_of n) ≡ some slot)
     × IsSlot n x (contents.part n) slot (contents.out n) x.home
 
 -- a cell that a pass has taken
@@ -64,7 +64,7 @@ pub record IsOut {P : Type 0} (t : Turns) (contents : Contents P) (c n : ℕ) : 
   pub away : (cell_at t n).home ≡ false
   pub out : contents.out n ≡ true
 
-pub record KnowsCells {L P : Type 0} (t : Turns) (contents : Contents P) (v : PassView L P) : Type 0 where
+pub record KnowsCells {P : Type 0} (t : Turns) (contents : Contents P) (v : PassView P) : Type 0 where
   pub taker : caller_at t v.number ≡ v.taker
   pub notes : EachPlace (λ place note. IsNoted t contents v.number note) v.notes
   pub out : (n : ℕ) → v.out ≡ Some n → IsOut t contents v.number n

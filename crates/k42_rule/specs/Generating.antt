@@ -7,20 +7,20 @@ use Rattle.k42_rule.specs.Values.{generation_in}
 use Rattle.k42_rule.specs.declared.view.PassView.{PassView}
 
 -- it has no activity, no grace and no swap under way, and has begun few activities
-pub record MayEnter {L P : Type 0} (v : PassView L P) : Type 0 where
+pub record MayEnter {P : Type 0} (v : PassView P) : Type 0 where
   pub free : is_free v.turn ≡ true
   pub no_swap : is_idle v.visitor.swap ≡ true
   pub few : v.activities < MOST
 
-abbrev pub entered_view : {L P : Type 0} → ℕ → PassView L P → PassView L P
+abbrev pub entered_view : {P : Type 0} → ℕ → PassView P → PassView P
 entered_view found v =
     record v { turn = record v.turn { active = Some (generation_in found) }; activities = v.activities + 1 }
 
 -- it has an activity, of this generation, and is inside no call
-pub record MayLeave {L P : Type 0} (generation : ℕ) (v : PassView L P) : Type 0 where
+pub record MayLeave {P : Type 0} (generation : ℕ) (v : PassView P) : Type 0 where
   pub active : v.turn.active ≡ Some generation
   pub out : is_out v.visitor.place ≡ true
 
-abbrev pub left_view : {L P : Type 0} → ℕ → PassView L P → PassView L P
+abbrev pub left_view : {P : Type 0} → ℕ → PassView P → PassView P
 left_view found v =
     record v { turn = record v.turn { active = None }; visitor = record v.visitor { read = [] } }

@@ -53,7 +53,7 @@ pub record AreGenerations (words : List ℕ) (g : Generations) (counts : Counts)
   pub begun : EachPlace (IsProcessorBegun g counts) g.procs
 
 -- what a pass knows of its activity and its grace
-pub record KnowsGenerations {L P : Type 0} (g : Generations) (counts : Counts) (v : PassView L P) : Type 0 where
+pub record KnowsGenerations {P : Type 0} (g : Generations) (counts : Counts) (v : PassView P) : Type 0 where
   pub turn : caller_at g v.number ≡ v.turn
   pub activities : slice_index counts.activities v.number ≡ v.activities
   pub graces : slice_index counts.graces v.number ≡ v.graces

@@ -36,7 +36,7 @@ is_served (Direct o i) = true
 is_served (Tracked o i) = true
 is_served _ = false
 
-pub record KnowsPhases {L P : Type 0} (s : Phases) (v : PassView L P) : Type 0 where
+pub record KnowsPhases {P : Type 0} (s : Phases) (v : PassView P) : Type 0 where
   pub visitor : visitor_at s v.number ≡ v.visitor
   -- the layout that it has learned is that of the row which it is inside
   pub layout :

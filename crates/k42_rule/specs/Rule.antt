@@ -29,17 +29,17 @@ pub record Beside (P : Type 0) : Type 0 where
   pub counts : Counts
   pub contents : Contents P
 
-module _ {L P : Type 0} (s : Joined L) (beside : Beside P) where
+module _ {L P : Type 0} (tag_of : L → ℕ) (s : Joined L) (beside : Beside P) where
   -- a pass knows its caller, which no other seat has
-  pub record KnowsPass (id : ℕ) (v : PassView L P) : Type 0 where
+  pub record KnowsPass (id : ℕ) (v : PassView P) : Type 0 where
     pub there : v.number < many_callers s
     pub seat : beside.seat v.number ≡ id
     pub generations : KnowsGenerations s.phases.turns beside.counts v
     pub phases : KnowsPhases s.phases v
     pub cells : KnowsCells s.turns beside.contents v
-    pub trace : KnowsTrace s v
+    pub trace : KnowsTrace tag_of s v
 
-  abbrev pub Knows : ℕ → View L P → Type 0
+  abbrev pub Knows : ℕ → View P → Type 0
   Knows id (Crew passes) = EachPlace (λ place v. KnowsPass id v) passes
   Knows id (Named row) = IsOld s.phases row × (beside.row_seat row ≡ id)
   Knows id (Kept told) = ⊤
@@ -47,7 +47,7 @@ module _ {L P : Type 0} (s : Joined L) (beside : Beside P) where
 
 -- the words and the slots are those of a state
 pub record Shows
-    {L P : Type 0} (s : Joined L) (beside : Beside P) (table : State (Slot L P) (View L P)) : Type 0 where
+    {L P : Type 0} (s : Joined L) (beside : Beside P) (table : State (Slot P) (View P)) : Type 0 where
   pub many_words : length table.words ≡ many_words
   pub many_slots : length table.homes ≡ many_slots
   pub few_objects : many_objects s ≤ OBJECTS
@@ -57,7 +57,7 @@ pub record Shows
     EachPlace (IsCellShown (many_procs s) table.words table.homes beside.contents) s.turns.cells
 
 pub record Rule
-    {S L P : Type 0} (F : Layouts S L P) (declared : List L) (table : State (Slot L P) (View L P))
+    {S L P : Type 0} (F : Layouts S L P) (declared : List L) (table : State (Slot P) (View P))
     : Type 0 where
   pub state : Joined L
   pub sound : IsSound F declared state
@@ -65,4 +65,4 @@ pub record Rule
   pub shows : Shows state beside table
   pub parts : (n : ℕ) → n < length state.turns.cells → IsPart F declared state n (beside.contents.part n)
   pub seats :
-    (id : ℕ) (view : View L P) → get_elem? table.views id ≡ some view → Knows state beside id view
+    (id : ℕ) (view : View P) → get_elem? table.views id ≡ some view → Knows F.tag_of state beside id view

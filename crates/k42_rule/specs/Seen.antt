@@ -22,20 +22,20 @@ pub record SysSeen (L : Type 0) : Type 0 where
   pub callers : List ℕ
 
 -- a pass: whose table's seat it has, what it knows, and for how many more entries and rows it has room
-pub record PassSeen (L P : Type 0) : Type 0 where
+pub record PassSeen (P : Type 0) : Type 0 where
   pub table : TableId
   pub seat : ℕ
-  pub view : PassView L P
+  pub view : PassView P
   pub room : ℕ
   pub row_room : ℕ
 
 -- the pass that alone has the view of a seat
-abbrev pub pass_in : {L P : Type 0} → View L P → PassView L P
+abbrev pub pass_in : {P : Type 0} → View P → PassView P
 pass_in (Crew (v ∷ [])) = v
 pass_in view = new_pass 0 0 0 0
 
 -- what the pass keeps by itself of what it knows
-pub record Own (L : Type 0) : Type 0 where
+pub record Own : Type 0 where
   pub number : ℕ
   pub turn : gens.Caller
   pub place : Place
@@ -48,11 +48,11 @@ pub record Own (L : Type 0) : Type 0 where
   pub base : Option ℕ
   pub last : Option LastBegin
   pub layout : Option ℕ
-  pub handed : Option L
+  pub handed : Option ℕ
   pub rows : List Row
   pub granted : ℕ
 
-abbrev pub own_in : {L P : Type 0} → PassView L P → Own L
+abbrev pub own_in : {P : Type 0} → PassView P → Own
 own_in v = record {
   number = v.number;
   turn = v.turn;
@@ -72,18 +72,18 @@ own_in v = record {
 }
 
 -- the seat has just this pass, and no slot is out with it
-abbrev pub IsSeatOf : {L P : Type 0} → Seated L P → PassView L P → Type 0
+abbrev pub IsSeatOf : {P : Type 0} → Seated P → PassView P → Type 0
 IsSeatOf me v = me ≡ (Crew (v ∷ []), [])
 
-abbrev pub Mirrors : {L P : Type 0} → Seated L P → Own L → Type 0
+abbrev pub Mirrors : {P : Type 0} → Seated P → Own → Type 0
 Mirrors me own = IsSeatOf me (pass_in me.0) × (own ≡ own_in (pass_in me.0))
 
 -- the pass has a seat of the system's table
-abbrev pub IsOf : {L P : Type 0} → SysSeen L → PassSeen L P → Type 0
+abbrev pub IsOf : {L P : Type 0} → SysSeen L → PassSeen P → Type 0
 IsOf sys pass = pass.table ≡ sys.table
 
 -- it has the same seat, and the same room
-pub record IsSamePass {L P : Type 0} (old new : PassSeen L P) : Type 0 where
+pub record IsSamePass {P : Type 0} (old new : PassSeen P) : Type 0 where
   pub table : new.table ≡ old.table
   pub seat : new.seat ≡ old.seat
   pub room : new.room ≡ old.room

@@ -6,7 +6,8 @@ use Rattle.k42_kinds.specs.declared.entry.Entry.{Entry}
 use Rattle.gen_core.specs.Plain.{Generations}
 use Rattle.gen_core.specs.State.{caller_at, proc_at}
 use Rattle.k42_joined.specs.Plain.{Joined}
-use Rattle.k42_joined.specs.State.{kept_of, layouts_of, is_handed}
+use Rattle.k42_joined.specs.State.{kept_of, is_handed}
+use Rattle.k42_joined.specs.Swapping.{may_turn_over}
 use Rattle.phase_core.specs.Stages.{is_moved, object_named}
 use Rattle.k42_rule.specs.Generations.{MOST}
 use Rattle.k42_rule.specs.Values.{answer_in}
@@ -18,21 +19,16 @@ use Rattle.k42_rule.specs.declared.view.PassView.{PassView}
 abbrev pub IsOfTime : Generations → ℕ → Entry → Type 0
 IsOfTime g p entry = (generation : ℕ) → entry.generation ≡ Some generation → generation ≤ (proc_at g p).generation
 
--- the newest row of the object was handed on with this layout
-abbrev pub IsHandedWith : {L : Type 0} → List L → L → Type 0
-IsHandedWith {L} layouts layout = (older : List L) × (layouts ≡ layout ∷ older)
-
-pub record KnowsTrace {L P : Type 0} (s : Joined L) (v : PassView L P) : Type 0 where
+pub record KnowsTrace {L P : Type 0} (tag_of : L → ℕ) (s : Joined L) (v : PassView P) : Type 0 where
   pub kept : kept_of s v.number ≡ kept_in v
   -- what is kept of its last Begin is what the word that it found answers
   pub found :
     (answer : Answer) (begin : LastBegin) → v.found ≡ Some answer → v.last ≡ Some begin
     → answer_in begin.word ≡ Some answer
-  -- it keeps the layout just from its hand until it turns over
+  -- it keeps the tag of a layout just from its hand until it turns over
   pub handed :
-    (layout : L) → v.handed ≡ Some layout
-    → (is_moved v.visitor.swap ≡ true)
-    × IsHandedWith (layouts_of s (object_named v.visitor.swap)) layout
+    (tag : ℕ) → v.handed ≡ Some tag
+    → (is_moved v.visitor.swap ≡ true) × (may_turn_over s tag_of (object_named v.visitor.swap) tag ≡ true)
   pub unhanded :
     v.handed ≡ None → is_moved v.visitor.swap ≡ true
     → is_handed s (object_named v.visitor.swap) ≡ false

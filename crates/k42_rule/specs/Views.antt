@@ -14,11 +14,11 @@ begun_of None = None
 begun_of (Some begin) = Some begin.object
 
 -- what the joined machine keeps of the pass
-abbrev pub kept_in : {L P : Type 0} → PassView L P → Kept
+abbrev pub kept_in : {P : Type 0} → PassView P → Kept
 kept_in v = record { begun = begun_of v.last; found = v.found; abandoned = v.abandoned }
 
 -- of a caller that has done nothing
-abbrev pub new_pass : {L P : Type 0} → ℕ → ℕ → ℕ → ℕ → PassView L P
+abbrev pub new_pass : {P : Type 0} → ℕ → ℕ → ℕ → ℕ → PassView P
 new_pass procs objects number home = record {
   number = number;
   turn = fresh_caller procs home;
@@ -40,11 +40,11 @@ new_pass procs objects number home = record {
 }
 
 -- the callers on these processors, counted from a first one
-abbrev pub new_passes : {L P : Type 0} → ℕ → ℕ → ℕ → List ℕ → List (PassView L P)
+abbrev pub new_passes : {P : Type 0} → ℕ → ℕ → ℕ → List ℕ → List (PassView P)
 new_passes procs objects first [] = []
 new_passes procs objects first (home ∷ homes) =
     new_pass procs objects first home ∷ new_passes procs objects (first + 1) homes
 
 -- the seat of a new table has all callers
-abbrev pub first_view : {L P : Type 0} → ℕ → List L → List ℕ → View L P
+abbrev pub first_view : {L P : Type 0} → ℕ → List L → List ℕ → View P
 first_view procs layouts callers = Crew (new_passes procs (length layouts) 0 callers)

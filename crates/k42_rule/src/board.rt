@@ -18,7 +18,7 @@ pub struct Ruling<L> {
     layout: PhantomData<L>,
 }
 
-impl<L: Layout> TableRule<Option<Cell<L>>, View<L, L::Part>, Setup<L>> for Ruling<L> {
+impl<L: Layout> TableRule<Option<Cell<L>>, View<L::Part>, Setup<L>> for Ruling<L> {
     ghost use Rattle.k42_rule.specs.Plan.{layouts_on};
     ghost use Rattle.k42_rule.specs.Rule.{Rule};
     ghost use Rattle.k42_rule.specs.Views.{first_view};
@@ -32,10 +32,10 @@ impl<L: Layout> TableRule<Option<Cell<L>>, View<L, L::Part>, Setup<L>> for Rulin
 
 pub type Board<L> = Table<
     Option<Cell<L>>,
-    View<L, <L as Layout>::Part>,
+    View<<L as Layout>::Part>,
     Setup<L>,
     Ruling<L>,
     Global,
 >;
 
-pub type Place<L> = Seat<Option<Cell<L>>, View<L, <L as Layout>::Part>>;
+pub type Place<L> = Seat<Option<Cell<L>>, View<<L as Layout>::Part>>;

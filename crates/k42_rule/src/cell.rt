@@ -8,9 +8,9 @@ use k42_kinds::Layout;
 
 /// A place for a part. The caller that holds it moves it through its slot.
 #[derive(Drop)]
-pub struct Content<L, P: Drop> {
+pub struct Content<P: Drop> {
     /// Blank until the first entry is drawn at it.
-    pub(crate) badge: Badge<View<L, P>>,
+    pub(crate) badge: Badge<View<P>>,
     pub(crate) number: u32,
     pub(crate) closed: bool,
     /// The stamp of the last entry of its history.
@@ -19,9 +19,9 @@ pub struct Content<L, P: Drop> {
     ghost told: { IsTold closed last badge.views },
 }
 
-pub type Cell<L> = Content<L, <L as Layout>::Part>;
+pub type Cell<L> = Content<<L as Layout>::Part>;
 
-impl<L, P: Drop> Content<L, P> {
+impl<P: Drop> Content<P> {
     /// `(object * 2 + incarnation % 2) * 8 + place`.
     pub fn number(&self) -> u32
         ensures { result ≡ self.now.number }

@@ -3,6 +3,7 @@
 
 mod board;
 mod cell;
+mod generating;
 mod pass;
 mod plays;
 mod sys;
@@ -10,6 +11,7 @@ mod view;
 mod words;
 
 pub use cell::{Cell, Content};
+pub use generating::enter_step;
 pub use pass::{Pass, Walker};
 pub use sys::Sys;
 pub use view::{LastBegin, Row};

@@ -10,36 +10,36 @@ use phase_core::{Place, SwapAt};
 use std::marker::Model;
 
 #[derive(Drop)]
-pub struct Walker<L, P: Drop> {
-    pub(crate) seat: Seat<Option<Content<L, P>>, View<L, P>>,
-    number: u32,
-    home: u32,
+pub struct Walker<P: Drop> {
+    pub(crate) seat: Seat<Option<Content<P>>, View<P>>,
+    pub(crate) number: u32,
+    pub(crate) home: u32,
     pub(crate) active: Option<u32>,
-    grace: GraceAt,
-    coming: Option<u64>,
-    waits: Vec<u32>,
-    place: Place,
-    noted: Vec<Option<u32>>,
-    freeing: Vec<(u32, u32)>,
-    swap: SwapAt,
-    entries: Vec<Entry>,
-    activities: u32,
-    graces: u32,
-    base: Option<u32>,
-    last: Option<LastBegin>,
-    layout: Option<u32>,
-    handed: Option<L>,
-    rows: Vec<Row>,
-    granted: u32,
+    pub(crate) grace: GraceAt,
+    pub(crate) coming: Option<u64>,
+    pub(crate) waits: Vec<u32>,
+    pub(crate) place: Place,
+    pub(crate) noted: Vec<Option<u32>>,
+    pub(crate) freeing: Vec<(u32, u32)>,
+    pub(crate) swap: SwapAt,
+    pub(crate) entries: Vec<Entry>,
+    pub(crate) activities: u32,
+    pub(crate) graces: u32,
+    pub(crate) base: Option<u32>,
+    pub(crate) last: Option<LastBegin>,
+    pub(crate) layout: Option<u32>,
+    pub(crate) handed: Option<u32>,
+    pub(crate) rows: Vec<Row>,
+    pub(crate) granted: u32,
 }
 
-pub type Pass<L> = Walker<L, <L as Layout>::Part>;
+pub type Pass<L> = Walker<<L as Layout>::Part>;
 
-impl<L, P: Drop> Model for Walker<L, P> {
-    ghost use Rattle.std.specs.Prelude.{ℕ, ◌-◌, ◌≡◌, length, vec_capacity};
+impl<P: Drop> Model for Walker<P> {
+    ghost use Rattle.std.specs.Prelude.{ℕ, ◌-◌, ◌≡◌, ◌<◌, length, vec_capacity};
     ghost use Rattle.k42_rule.specs.Seen.{PassSeen, Mirrors, pass_in};
 
-    ghost Value = { PassSeen L P };
+    ghost Value = { PassSeen P };
 
     ghost view = { λ p. record {
       table = p.seat.table_id;
@@ -65,10 +65,10 @@ impl<L, P: Drop> Model for Walker<L, P> {
       handed = p.handed;
       rows = p.rows.items;
       granted = p.granted;
-    }) };
+    }) × (p.home < 8) };
 }
 
-impl<L, P: Drop> Walker<L, P> {
+impl<P: Drop> Walker<P> {
     pub fn caller(&self) -> u32
         ensures { result ≡ self.now.view.number }
     {

@@ -5,7 +5,7 @@ use atomic_table::Play;
 
 pub(crate) struct Enter;
 
-impl<L, P: Drop> Play<Option<Content<L, P>>, View<L, P>> for Enter {
+impl<P: Drop> Play<Option<Content<P>>, View<P>> for Enter {
     ghost use Rattle.k42_rule.specs.Steps.{Tells};
     ghost use Rattle.k42_rule.specs.Generating.{entered_view};
 

@@ -15,6 +15,8 @@ pub struct Sys<L: Layout> {
 
 impl<L: Layout> Model for Sys<L> {
     ghost use Rattle.std.specs.Prelude.{◌≡◌};
+    ghost use Rattle.k42_stamp.specs.Laws.{AreLaws};
+    ghost use Rattle.k42_rule.specs.Plan.{layouts_on};
     ghost use Rattle.k42_rule.specs.Seen.{SysSeen};
     ghost use Rattle.k42_rule.specs.Words.{many_words, many_slots};
 
@@ -27,7 +29,8 @@ impl<L: Layout> Model for Sys<L> {
       callers = s.board.shared.key.callers.items;
     } };
 
-    ghost invariant = { λ s. (s.board.shared.table_id.words ≡ many_words) × (s.board.shared.table_id.slots ≡ many_slots) × (s.layouts.items ≡ s.board.shared.key.layouts.items) × (s.procs ≡ s.board.shared.key.procs) };
+    ghost invariant = { λ s. (s.board.shared.table_id.words ≡ many_words) × (s.board.shared.table_id.slots ≡ many_slots) × (s.layouts.items ≡ s.board.shared.key.layouts.items) × (s.procs ≡ s.board.shared.key.procs)
+      × AreLaws (layouts_on L.object L.tag_of L.ways L.whole L.serves L.admitted L.act_of s.board.shared.key.procs s.board.shared.key.callers.items) };
 }
 
 impl<L: Layout> Sys<L> {

@@ -1,7 +1,9 @@
-//! What a seat knows. No value of these types is made; an array stands for a list of any length.
+//! What a seat knows. No value of these types is made; an array stands for a list of any length, and so
+//! does a linked list, where the size of its elements is not known.
 use gen_core::GenCaller;
 use k42_kinds::{Answer, Entry};
 use phase_core::PhaseCaller;
+use std::collections::LinkedList;
 use turn_core::TurnCaller;
 
 /// The object of a Begin, and the word that it found there.
@@ -27,7 +29,7 @@ pub struct Note<P> {
 }
 
 /// What a pass knows.
-pub struct PassView<L, P> {
+pub struct PassView<P> {
     pub number: u32,
     pub turn: GenCaller,
     pub visitor: PhaseCaller,
@@ -43,12 +45,12 @@ pub struct PassView<L, P> {
     pub abandoned: bool,
     /// The layout of the row that it is inside, once it has learned it.
     pub layout: Option<u32>,
-    /// The layout with which it has handed on a row that it has not turned over.
-    pub handed: Option<L>,
+    /// The tag of the layout with which it has handed on a row that it has not turned over.
+    pub handed: Option<u32>,
     /// The rows that it holds, and how many of them it held as it took the role.
     pub rows: [Row; 0],
     pub granted: u32,
-    pub notes: [Note<P>; 0],
+    pub notes: LinkedList<Note<P>>,
     /// The cell whose slot is out with it.
     pub out: Option<u32>,
     /// The cells at which its last entry was drawn, and whose seats do not tell it yet.
@@ -61,9 +63,9 @@ pub struct CellView {
     pub closed: bool,
 }
 
-pub enum View<L, P> {
+pub enum View<P> {
     /// One pass, or several whose seats are not parted yet, or were joined.
-    Crew([PassView<L, P>; 0]),
+    Crew(LinkedList<PassView<P>>),
     Kept(CellView),
     /// The row that a `Retired` names.
     Named(Row),

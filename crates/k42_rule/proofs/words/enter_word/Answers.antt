@@ -1,8 +1,9 @@
-use Rattle.std.proofs.Common.{ℕ, ◌+◌, ◌*◌, arith}
+use Rattle.std.proofs.Common.{ℕ, ◌+◌, ◌*◌, refl, arith}
 use mathlib.Core.Option.{none}
 use Rattle.atomic_table.specs.Table.{step}
 use Rattle.k42_rule.proofs.Entering.{enter_moves}
-use Rattle.k42_rule.proofs.Moves.{seat_allowed, moves_is}
+use Rattle.k42_rule.proofs.Moves.{seat_allowed, seat_is}
+use Rattle.k42_rule.specs.Seen.{pass_in}
 use Rattle.k42_rule.proofs.words.enter_word.Goals as goal
 
 pub fetch_add-requires : goal.fetch_add-requires
@@ -14,4 +15,7 @@ fetch_add-requires g c =
     )
 
 pub returns-clause-event : goal.returns-clause-event
-returns-clause-event g c = moves_is (enter_moves _ c.requires.laws _ _ c.args.home _ c.requires.may.1 c.requires.home.1) c.fetch_add.result
+returns-clause-event g c =
+    let slots : ℕ = c.args.board.now.shared.table_id.slots in let before = c.args.seat.now.me in
+    seat_is (enter_moves _ c.requires.laws _ _ (pass_in before.0).turn.proc _ c.requires.may.1 refl) before c.fetch_add.new.seat.me c.requires.may.0
+    (step slots (16 + 64 * c.args.home) 1 0 none) c.fetch_add.result c.fetch_add.ensures.2
