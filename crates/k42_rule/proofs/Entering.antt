@@ -38,32 +38,10 @@ use Rattle.k42_rule.specs.declared.view.PassView.{PassView}
 use Rattle.k42_rule.specs.declared.view.View.{View}
 use Rattle.k42_rule.specs.declared.view.View.TheVariants.{Crew}
 use Rattle.k42_rule.proofs.Apart.{IsOfGenerations, of_processor}
+use Rattle.k42_rule.proofs.Begun.{few_begun, one_more, processor_stays, grace_stays}
 use Rattle.k42_rule.proofs.Moves.{Moves}
 use Rattle.k42_rule.proofs.OnePass.{with_pass, known}
 use Rattle.k42_rule.proofs.Turning.{IsTurn, turned, gens_after, visitors_after, state_after, with_counts, turn_there'}
-
-pub few_begun : (callers : ℕ) (begun : List ℕ) → callers ≤ 16 → AreFew callers begun → sum begun ≤ 16 * 2 ^ 20
-few_begun callers begun few are =
-    let most = sum_by-le (λ (n : ℕ). n) (2 ^ 20) begun (λ i d lt. are.few i (get_or begun i d) (slice_get-get_or begun i d lt)) in
-    let many = are.many in omega (arith, most, many, few)
-
-pub one_more : (begun : List ℕ) (c n : ℕ) → c < length begun → slice_index begun c ≡ n → sum (set begun c (n + 1)) ≡ sum begun + 1
-one_more begun c n lt is = let more = sum_by-set (λ (m : ℕ). m) begun c (n + 1) 0 lt in omega (arith, more, is)
-
--- the other words of a processor, and the words of the others, stay as one word of generations is written
-pub processor_stays : (words : List ℕ) (i new q : ℕ) (k : GenProc) → generation_word q ≢ i → exits_word q 0 ≢ i → exits_word q 1 ≢ i
-    → IsProcessorShown words q k → IsProcessorShown (set words i new) q k
-processor_stays words i new q k one two three is = record {
-  generation = get_or-set_other words i (generation_word q) new 0 one ∙ is.generation;
-  even = get_or-set_other words i (exits_word q 0) new 0 two ∙ is.even;
-  odd = get_or-set_other words i (exits_word q 1) new 0 three ∙ is.odd;
-}
-
--- the grace of the holder stays, where that of each caller does
-pub grace_stays : (s t : Generations) → ((d : ℕ) → (caller_at t d).grace ≡ (caller_at s d).grace) → (role : Option ℕ)
-    → grace_of t role ≡ grace_of s role
-grace_stays s t same None = refl
-grace_stays s t same (Some holder) = same holder
 
 module _ {S L P : Type 0} (F : Layouts S L P) (laws : AreLaws F) (declared : List L)
     (table : State (Slot P) (View P)) (r : Rule F declared table) (id : ℕ) (v : PassView P)

@@ -1,5 +1,7 @@
 pub mod OnePass
 pub mod Apart
 pub mod Turning
+pub mod Begun
 pub mod Entering
+pub mod Leaving
 pub mod Moves
