@@ -11,7 +11,7 @@ mod view;
 mod words;
 
 pub use cell::{Cell, Content};
-pub use generating::enter_step;
+pub use generating::{enter_step, leave_step};
 pub use pass::{Pass, Walker};
 pub use sys::Sys;
 pub use view::{LastBegin, Row};

@@ -11,3 +11,12 @@ impl<P: Drop> Play<Option<Content<P>>, View<P>> for Enter {
 
     ghost then = { Tells entered_view };
 }
+
+pub(crate) struct Leave;
+
+impl<P: Drop> Play<Option<Content<P>>, View<P>> for Leave {
+    ghost use Rattle.k42_rule.specs.Steps.{Tells};
+    ghost use Rattle.k42_rule.specs.Generating.{left_view};
+
+    ghost then = { Tells left_view };
+}
