@@ -12,3 +12,4 @@ pub mod Steps
 pub mod Generating
 pub mod Seen
 pub mod Plan
+pub mod Starting
