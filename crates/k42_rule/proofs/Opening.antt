@@ -3,9 +3,9 @@ use Rattle.std.proofs.Common.{◌≡◌, ◌≢◌, ℕ, zero, suc, ◌+◌, ◌
 use Rattle.std.specs.List.{slice_get, slice_index}
 use Rattle.std.specs.Prelude.{option_map}
 use Rattle.std.proofs.lemmas.List.{length-map, length-replicate, get_or-replicate}
-use Rattle.std.proofs.lemmas.Option.{same_Some, slice_get_within}
+use Rattle.std.proofs.lemmas.Option.{same_Some, slice_get-map, slice_get_within, get_or_from_slice_get}
 use Rattle.std.proofs.Math.ListN.{get_or-map}
-use mathlib.Core.Option.{some}
+use mathlib.Core.Option.{some, some-injective, some-ne-none}
 use mathlib.Core.Option as maybe
 use lib.ListN.{get_elem?}
 use Rattle.atomic_table.specs.Table.{opening}
@@ -30,7 +30,7 @@ use Rattle.k42_joined.proofs.Fresh.{fresh_sound}
 use Rattle.k42_rule.specs.Cells.{Slot, Contents, IsCell, IsCellShown}
 use Rattle.k42_rule.specs.Generations.{Counts, MOST, AreFew, AreGenerations, IsProcessorShown}
 use Rattle.k42_rule.specs.Phases.{AreObjects, IsObjectShown}
-use Rattle.k42_rule.specs.Rule.{Beside, KnowsPass, Shows, Rule}
+use Rattle.k42_rule.specs.Rule.{Beside, KnowsPass, Knows, Shows, Rule}
 use Rattle.k42_rule.specs.Starting.{AreFirstWords, AreFirstSlots, number_in}
 use Rattle.k42_rule.specs.Values.{local_value}
 use Rattle.k42_rule.specs.Views.{new_pass, new_passes, first_view}
@@ -132,3 +132,91 @@ module _ {S L P : Type 0} (F : Layouts S L P) (laws : AreLaws F) (declared : Lis
             subst (λ (z : LocalEntry). slice_index words (local_word p o) ≡ local_value z) is.1
             (blank (local_word p o) (λ q less h. omega (arith, small, low, lt)));
       }))
+
+  few_lives : length (first_lives (length declared)) ≤ 256
+  few_lives = let sixteen = length-first_lives' (length declared) in let few = few_objects in omega (arith, sixteen, few)
+    where
+      length-first_lives' : (n : ℕ) → length (first_lives n) ≡ n * 16
+      length-first_lives' zero = refl
+      length-first_lives' (suc n) = let more = length-first_lives' n in omega (arith, more)
+
+  cells : EachPlace (IsCellShown (many_procs s) words (map some slots) beside.contents) s.turns.cells
+  cells =
+      EachPlace-map (IsCellShown (many_procs s) words (map some slots) beside.contents) fresh_cell (first_lives (length declared))
+      (λ n life e.
+      let there = slice_get_within (first_lives (length declared)) n life e in let few = few_lives in
+      let small : n < 256 = omega (arith, there, few) in
+      let inside : slot_of n < length slots = omega (arith, small, many) in
+      let found = there_is slots (slot_of n) inside in
+      let is = filled (slot_of n) found.0 found.1 in
+      record {
+        lock = blank (lock_word n) (λ o less h. omega (arith, small));
+        slot = λ within.
+            (some found.0,
+            at_map some slots (slot_of n) found.0 (to_get slots (slot_of n) found.0 found.1),
+            (refl, (is.0, ap some is.1, subst (λ m. IsCell m [] false None is.0) (omega (arith, small)) is.2)));
+      })
+
+  shows : Shows s beside (opening words slots (first_view F.procs declared callers))
+  shows = record {
+    many_words = first.many;
+    many_slots = length-map slots some ∙ many;
+    few_objects = let few = few_objects in rw (length-map (map F.tag_of declared) (new_object F.procs), length-map declared F.tag_of) few;
+    generations = generations;
+    objects = objects;
+    cells = cells;
+  }
+
+  knows_new : (c home : ℕ) → slice_get callers c ≡ Some home → KnowsPass F.tag_of s beside 0 (new_pass F.procs (length declared) c home)
+  knows_new c home e = record {
+    there = rw (length-replicate (length callers) (new_visitor (length (map F.tag_of declared)))) there;
+    seat = refl;
+    generations = record {
+      turn = get_or_from_slice_get s.phases.turns.callers c (fresh_caller F.procs home) _ (slice_get-map (fresh_caller F.procs) callers c ∙ ap (option_map (fresh_caller F.procs)) e);
+      activities = same_everywhere (length callers) c 0;
+      graces = same_everywhere (length callers) c 0;
+      base = λ b is. absurd (cc);
+    };
+    phases = record {
+      visitor = get_or-replicate (length callers) c (new_visitor (length (map F.tag_of declared))) _ there ∙ ap new_visitor (length-map declared F.tag_of);
+      layout = λ l o i is. absurd (cc);
+      learned = λ is. absurd (cc);
+      begun = λ o begin is. absurd (cc);
+      rows = λ place row is. absurd (cc);
+      granted = λ place row is. absurd (cc);
+    };
+    cells = record {
+      taker = same_everywhere (length callers) c turns.fresh_caller;
+      notes = λ place note is. absurd (cc);
+      out = λ n is. absurd (cc);
+      only = λ n lock is. absurd (cc);
+    };
+    trace = record {
+      kept = same_everywhere (length callers) c nothing_kept;
+      found = λ answer begin is. absurd (cc);
+      handed = λ tag is. absurd (cc);
+      unhanded = λ is moved. absurd (cc);
+      few = omega arith;
+      times = λ place entry is. absurd (cc);
+    };
+  } where
+    there : c < length callers
+    there = slice_get_within callers c home e
+
+  seats : (id : ℕ) (view : View P) → get_elem? (first_view {L = L} {P = P} F.procs declared callers ∷ []) id ≡ some view → Knows F.tag_of s beside id view
+  seats zero view e =
+      subst (Knows F.tag_of s beside 0) (some-injective _ view e)
+      (λ place v is.
+      let at = passes_at F.procs (length declared) 0 callers place v is in
+      subst (KnowsPass F.tag_of s beside 0) (ap (λ n. new_pass {P = P} F.procs (length declared) n at.0) (omega arith) ∙ at.2) (knows_new place at.0 at.1))
+  seats (suc id) view e = absurd (some-ne-none view (sym e))
+
+  pub opens : Rule F declared (opening words slots (first_view F.procs declared callers))
+  opens = record {
+    state = s;
+    sound = fresh_sound F declared callers plan;
+    beside = beside;
+    shows = shows;
+    parts = λ n lt. first_part F laws declared callers n;
+    seats = seats;
+  }
