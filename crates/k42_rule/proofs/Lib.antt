@@ -7,3 +7,5 @@ pub mod Leaving
 pub mod Moves
 pub mod FirstParts
 pub mod Opening
+pub mod Put
+pub mod Dealing

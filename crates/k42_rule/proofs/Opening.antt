@@ -206,7 +206,11 @@ module _ {S L P : Type 0} (F : Layouts S L P) (laws : AreLaws F) (declared : Lis
   seats : (id : ℕ) (view : View P) → get_elem? (first_view {L = L} {P = P} F.procs declared callers ∷ []) id ≡ some view → Knows F.tag_of s beside id view
   seats zero view e =
       subst (Knows F.tag_of s beside 0) (some-injective _ view e)
-      (λ place v is.
+      ((λ i j v w e f same.
+      let one = (passes_at F.procs (length declared) 0 callers i v e).2 in
+      let other = (passes_at F.procs (length declared) 0 callers j w f).2 in
+      let a = ap (λ (z : PassView P). z.number) one in let b = ap (λ (z : PassView P). z.number) other in omega (arith, a, b, same)),
+      λ place v is.
       let at = passes_at F.procs (length declared) 0 callers place v is in
       subst (KnowsPass F.tag_of s beside 0) (ap (λ n. new_pass {P = P} F.procs (length declared) n at.0) (omega arith) ∙ at.2) (knows_new place at.0 at.1))
   seats (suc id) view e = absurd (some-ne-none view (sym e))

@@ -13,3 +13,4 @@ pub mod Generating
 pub mod Seen
 pub mod Plan
 pub mod Starting
+pub mod Dealing
