@@ -9,3 +9,4 @@ pub mod FirstParts
 pub mod Opening
 pub mod Put
 pub mod Dealing
+pub mod Starting

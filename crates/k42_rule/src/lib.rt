@@ -6,6 +6,7 @@ mod cell;
 mod generating;
 mod pass;
 mod plays;
+mod start;
 mod sys;
 mod view;
 mod words;
