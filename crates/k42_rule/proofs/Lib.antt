@@ -10,3 +10,4 @@ pub mod Opening
 pub mod Put
 pub mod Dealing
 pub mod Starting
+pub mod Plans

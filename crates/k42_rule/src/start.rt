@@ -19,7 +19,7 @@ use k42_memory::Memory;
 use phase_core::SwapAt;
 use std::alloc::Global;
 
-fn first_words<L: Layout>(alloc: Global, layouts: &[L]) -> Result<Vec<u64>, Memory>
+pub(crate) fn first_words<L: Layout>(alloc: Global, layouts: &[L]) -> Result<Vec<u64>, Memory>
     requires few { length layouts.now ≤ 16 }
     requires live { EachPlace (λ o layout. L.tag_of layout ≤ 1) layouts.now }
     ensures { IfOk result (λ words. AreFirstWords L.tag_of layouts.now (length layouts.now) words.items) }
@@ -31,7 +31,7 @@ fn first_words<L: Layout>(alloc: Global, layouts: &[L]) -> Result<Vec<u64>, Memo
     Ok(words)
 }
 
-fn first_slots<P: Drop>(alloc: Global) -> Result<Vec<Option<Content<P>>>, Memory>
+pub(crate) fn first_slots<P: Drop>(alloc: Global) -> Result<Vec<Option<Content<P>>>, Memory>
     ensures { IfOk result (λ slots. (length slots.items ≡ many_slots) × AreFirstSlots slots.items) }
 {
     let mut slots = Vec::new(alloc);
@@ -90,7 +90,7 @@ fn deal<L: Layout>(
     })
 }
 
-fn deal_all<L: Layout>(
+pub(crate) fn deal_all<L: Layout>(
     alloc: Global,
     board: &Board<L>,
     seat: &mut Place<L>,

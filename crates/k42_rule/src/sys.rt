@@ -1,8 +1,14 @@
 //! A system.
-ghost use Rattle.std.specs.Prelude.{◌≡◌};
+ghost use Rattle.std.specs.Prelude.{◌≡◌, IfOk};
+ghost use Rattle.k42_rule.specs.Starting.{IsStart, IsStarted};
 
-use crate::board::Board;
+use crate::board::{Board, Setup};
+use crate::pass::Pass;
+use crate::start::{deal_all, first_slots, first_words};
+use atomic_table::Table;
 use k42_kinds::Layout;
+use k42_memory::Memory;
+use std::alloc::Global;
 use std::marker::Model;
 
 #[derive(Drop)]
@@ -34,6 +40,44 @@ impl<L: Layout> Model for Sys<L> {
 }
 
 impl<L: Layout> Sys<L> {
+    /// A system with the declared layouts, and a pass for each caller on its processor.
+    pub fn start(
+        alloc: Global,
+        layouts: Vec<L>,
+        procs: u32,
+        callers: Vec<u32>,
+    ) -> Result<(Sys<L>, Vec<Pass<L>>), Memory>
+        requires { IsStart L.tag_of layouts.items procs callers.items }
+        ensures { IfOk result (λ made. IsStarted layouts.items procs callers.items made.0 made.1.items) }
+    {
+        let words = first_words(alloc, layouts.as_slice())?;
+        let slots = first_slots(alloc)?;
+        let setup = Setup {
+            procs,
+            layouts,
+            callers,
+        };
+        let Ok((board, mut seat)) = Table::new(alloc, words.as_slice(), slots, &setup) else {
+            return Err(Memory);
+        };
+        let objects = setup.layouts.len();
+        let passes = deal_all(
+            alloc,
+            &board,
+            &mut seat,
+            procs,
+            objects,
+            setup.callers.as_slice(),
+        )?;
+        let Setup { layouts, .. } = setup;
+        let sys = Sys {
+            board,
+            layouts,
+            procs,
+        };
+        Ok((sys, passes))
+    }
+
     pub fn procs(&self) -> u32
         ensures { result ≡ self.now.procs }
     {
