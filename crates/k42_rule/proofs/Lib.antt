@@ -11,3 +11,4 @@ pub mod Put
 pub mod Dealing
 pub mod Starting
 pub mod Plans
+pub mod Visiting

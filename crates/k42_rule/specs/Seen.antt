@@ -1,7 +1,9 @@
 -- Systems and passes, as contracts see them.
-use Rattle.std.specs.Prelude.{◌≡◌, ℕ, List, [], ◌∷◌, Option}
+use Rattle.std.specs.Prelude.{◌≡◌, ℕ, ◌&&◌, Bool, List, [], ◌∷◌, Option, is_none}
 use Rattle.atomic_table.specs.Seated.{TableId}
+use Rattle.gen_core.specs.Events as graces
 use Rattle.gen_core.specs.Plain as gens
+use Rattle.phase_core.specs.Stages as swaps
 use Rattle.gen_core.specs.declared.state.GraceAt.{GraceAt}
 use Rattle.k42_kinds.specs.declared.entry.Entry.{Entry}
 use Rattle.phase_core.specs.declared.caller.Place.{Place}
@@ -88,3 +90,7 @@ pub record IsSamePass {P : Type 0} (old new : PassSeen P) : Type 0 where
   pub seat : new.seat ≡ old.seat
   pub room : new.room ≡ old.room
   pub row_room : new.row_room ≡ old.row_room
+
+-- no activity, no grace and no swap is under way
+abbrev pub is_at_rest : {P : Type 0} → PassView P → Bool
+is_at_rest v = is_none v.turn.active && graces.is_idle v.turn.grace && swaps.is_idle v.visitor.swap

@@ -1,5 +1,5 @@
 //! A system.
-ghost use Rattle.std.specs.Prelude.{◌≡◌, IfOk};
+ghost use Rattle.std.specs.Prelude.{◌≡◌, ◌<◌, Some, length, slice_get, IfOk};
 ghost use Rattle.k42_rule.specs.Starting.{IsStart, IsStarted};
 
 use crate::board::{Board, Setup};
@@ -20,7 +20,7 @@ pub struct Sys<L: Layout> {
 }
 
 impl<L: Layout> Model for Sys<L> {
-    ghost use Rattle.std.specs.Prelude.{◌≡◌};
+    ghost use Rattle.std.specs.Prelude.{◌≡◌, ◌≤◌, length};
     ghost use Rattle.k42_stamp.specs.Laws.{AreLaws};
     ghost use Rattle.k42_rule.specs.Plan.{layouts_on};
     ghost use Rattle.k42_rule.specs.Seen.{SysSeen};
@@ -35,7 +35,7 @@ impl<L: Layout> Model for Sys<L> {
       callers = s.board.shared.key.callers.items;
     } };
 
-    ghost invariant = { λ s. (s.board.shared.table_id.words ≡ many_words) × (s.board.shared.table_id.slots ≡ many_slots) × (s.layouts.items ≡ s.board.shared.key.layouts.items) × (s.procs ≡ s.board.shared.key.procs)
+    ghost invariant = { λ s. (s.board.shared.table_id.words ≡ many_words) × (s.board.shared.table_id.slots ≡ many_slots) × (s.layouts.items ≡ s.board.shared.key.layouts.items) × (s.procs ≡ s.board.shared.key.procs) × (length s.layouts.items ≤ 16)
       × AreLaws (layouts_on L.object L.tag_of L.ways L.whole L.serves L.admitted L.act_of s.board.shared.key.procs s.board.shared.key.callers.items) };
 }
 
@@ -82,5 +82,19 @@ impl<L: Layout> Sys<L> {
         ensures { result ≡ self.now.procs }
     {
         self.procs
+    }
+
+    pub fn objects(&self) -> u32
+        ensures { result ≡ length self.now.layouts }
+    {
+        self.layouts.len() as u32
+    }
+
+    /// The layout with which the object was started.
+    pub fn declared(&self, object: u32) -> L
+        requires { object < length self.now.layouts }
+        ensures { slice_get self.now.layouts object ≡ Some result }
+    {
+        self.layouts[object as usize]
     }
 }

@@ -51,6 +51,7 @@ invariant_of-sys g c =
       made.1 ∙ c.in_ok-slots.ensures.0,
       ap (λ k. k.layouts.items) (sym made.5),
       ap (λ k. k.procs) (sym made.5),
+      c.requires.few_objects,
       subst
           (λ k. AreLaws (layouts_on g.L.Kind.object g.L.Layout.tag_of g.L.Layout.ways g.L.Layout.whole g.L.Layout.serves g.L.Layout.admitted g.L.Layout.act_of k.procs k.callers.items))
           (sym made.5) (laws_at g procs callers c.requires.turns.limits.some_procs c.requires.turns.placed),
