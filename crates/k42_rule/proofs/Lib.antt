@@ -1,0 +1,14 @@
+pub mod OnePass
+pub mod Apart
+pub mod Turning
+pub mod Begun
+pub mod Entering
+pub mod Leaving
+pub mod Moves
+pub mod FirstParts
+pub mod Opening
+pub mod Put
+pub mod Dealing
+pub mod Starting
+pub mod Plans
+pub mod Visiting

@@ -1,0 +1,16 @@
+pub mod Words
+pub mod Values
+pub mod Views
+pub mod Seats
+pub mod Generations
+pub mod Phases
+pub mod Cells
+pub mod Parts
+pub mod Trace
+pub mod Rule
+pub mod Steps
+pub mod Generating
+pub mod Seen
+pub mod Plan
+pub mod Starting
+pub mod Dealing

@@ -1,0 +1,96 @@
+-- Systems and passes, as contracts see them.
+use Rattle.std.specs.Prelude.{◌≡◌, ℕ, ◌&&◌, Bool, List, [], ◌∷◌, Option, is_none}
+use Rattle.atomic_table.specs.Seated.{TableId}
+use Rattle.gen_core.specs.Events as graces
+use Rattle.gen_core.specs.Plain as gens
+use Rattle.phase_core.specs.Stages as swaps
+use Rattle.gen_core.specs.declared.state.GraceAt.{GraceAt}
+use Rattle.k42_kinds.specs.declared.entry.Entry.{Entry}
+use Rattle.phase_core.specs.declared.caller.Place.{Place}
+use Rattle.phase_core.specs.declared.caller.SwapAt.{SwapAt}
+use Rattle.k42_rule.specs.Steps.{Seated}
+use Rattle.k42_rule.specs.Views.{new_pass}
+use Rattle.k42_rule.specs.declared.view.LastBegin.{LastBegin}
+use Rattle.k42_rule.specs.declared.view.PassView.{PassView}
+use Rattle.k42_rule.specs.declared.view.Row.{Row}
+use Rattle.k42_rule.specs.declared.view.View.{View}
+use Rattle.k42_rule.specs.declared.view.View.TheVariants.{Crew}
+
+-- a system: its table, and what it was told at the start
+pub record SysSeen (L : Type 0) : Type 0 where
+  pub table : TableId
+  pub procs : ℕ
+  pub layouts : List L
+  pub callers : List ℕ
+
+-- a pass: whose table's seat it has, what it knows, and for how many more entries and rows it has room
+pub record PassSeen (P : Type 0) : Type 0 where
+  pub table : TableId
+  pub seat : ℕ
+  pub view : PassView P
+  pub room : ℕ
+  pub row_room : ℕ
+
+-- the pass that alone has the view of a seat
+abbrev pub pass_in : {P : Type 0} → View P → PassView P
+pass_in (Crew (v ∷ [])) = v
+pass_in view = new_pass 0 0 0 0
+
+-- what the pass keeps by itself of what it knows
+pub record Own : Type 0 where
+  pub number : ℕ
+  pub turn : gens.Caller
+  pub place : Place
+  pub noted : List (Option ℕ)
+  pub freeing : List (ℕ × ℕ)
+  pub swap : SwapAt
+  pub mine : List Entry
+  pub activities : ℕ
+  pub graces : ℕ
+  pub base : Option ℕ
+  pub last : Option LastBegin
+  pub layout : Option ℕ
+  pub handed : Option ℕ
+  pub rows : List Row
+  pub granted : ℕ
+
+abbrev pub own_in : {P : Type 0} → PassView P → Own
+own_in v = record {
+  number = v.number;
+  turn = v.turn;
+  place = v.visitor.place;
+  noted = v.visitor.noted;
+  freeing = v.visitor.freeing;
+  swap = v.visitor.swap;
+  mine = v.taker.mine;
+  activities = v.activities;
+  graces = v.graces;
+  base = v.base;
+  last = v.last;
+  layout = v.layout;
+  handed = v.handed;
+  rows = v.rows;
+  granted = v.granted;
+}
+
+-- the seat has just this pass, and no slot is out with it
+abbrev pub IsSeatOf : {P : Type 0} → Seated P → PassView P → Type 0
+IsSeatOf me v = me ≡ (Crew (v ∷ []), [])
+
+abbrev pub Mirrors : {P : Type 0} → Seated P → Own → Type 0
+Mirrors me own = IsSeatOf me (pass_in me.0) × (own ≡ own_in (pass_in me.0))
+
+-- the pass has a seat of the system's table
+abbrev pub IsOf : {L P : Type 0} → SysSeen L → PassSeen P → Type 0
+IsOf sys pass = pass.table ≡ sys.table
+
+-- it has the same seat, and the same room
+pub record IsSamePass {P : Type 0} (old new : PassSeen P) : Type 0 where
+  pub table : new.table ≡ old.table
+  pub seat : new.seat ≡ old.seat
+  pub room : new.room ≡ old.room
+  pub row_room : new.row_room ≡ old.row_room
+
+-- no activity, no grace and no swap is under way
+abbrev pub is_at_rest : {P : Type 0} → PassView P → Bool
+is_at_rest v = is_none v.turn.active && graces.is_idle v.turn.grace && swaps.is_idle v.visitor.swap

@@ -1,0 +1,18 @@
+//! The running table under one rule: between any two steps it shows a state of the joined machine.
+#![tactic(auto)]
+
+mod board;
+mod cell;
+mod generating;
+mod pass;
+mod plays;
+mod start;
+mod sys;
+mod view;
+mod words;
+
+pub use cell::{Cell, Content};
+pub use generating::{enter_step, leave_step};
+pub use pass::{Pass, Walker};
+pub use sys::Sys;
+pub use view::{LastBegin, Row};

@@ -1,0 +1,73 @@
+//! What a seat knows. No value of these types is made; an array stands for a list of any length, and so
+//! does a linked list, where the size of its elements is not known.
+use gen_core::GenCaller;
+use k42_kinds::{Answer, Entry};
+use phase_core::PhaseCaller;
+use std::collections::LinkedList;
+use turn_core::TurnCaller;
+
+/// The object of a Begin, and the word that it found there.
+#[derive(Clone, Copy, Debug, PartialEq, Eq)]
+pub struct LastBegin {
+    pub object: u32,
+    pub word: u64,
+}
+
+/// One incarnation of one object.
+#[derive(Clone, Copy, Debug, PartialEq, Eq)]
+pub struct Row {
+    pub object: u32,
+    pub incarnation: u32,
+}
+
+/// What a pass knows of a cell that it has taken.
+pub struct Note<P> {
+    pub cell: u32,
+    pub closed: bool,
+    pub history: [Entry; 0],
+    pub part: Option<P>,
+}
+
+/// What a pass knows.
+pub struct PassView<P> {
+    pub number: u32,
+    pub turn: GenCaller,
+    pub visitor: PhaseCaller,
+    pub taker: TurnCaller,
+    /// How many it has begun.
+    pub activities: u32,
+    pub graces: u32,
+    /// The generation of the processors that its grace has not flipped, once it has asked.
+    pub base: Option<u32>,
+    /// Of its last Begin, and what is kept of it.
+    pub last: Option<LastBegin>,
+    pub found: Option<Answer>,
+    pub abandoned: bool,
+    /// The layout of the row that it is inside, once it has learned it.
+    pub layout: Option<u32>,
+    /// The tag of the layout with which it has handed on a row that it has not turned over.
+    pub handed: Option<u32>,
+    /// The rows that it holds, and how many of them it held as it took the role.
+    pub rows: [Row; 0],
+    pub granted: u32,
+    pub notes: LinkedList<Note<P>>,
+    /// The cell whose slot is out with it.
+    pub out: Option<u32>,
+    /// The cells at which its last entry was drawn, and whose seats do not tell it yet.
+    pub untold: [u32; 0],
+}
+
+/// What the seat of a cell knows: a copy of its history.
+pub struct CellView {
+    pub history: [Entry; 0],
+    pub closed: bool,
+}
+
+pub enum View<P> {
+    /// One pass, or several whose seats are not parted yet, or were joined.
+    Crew(LinkedList<PassView<P>>),
+    Kept(CellView),
+    /// The row that a `Retired` names.
+    Named(Row),
+    Spent,
+}
