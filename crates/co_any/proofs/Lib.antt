@@ -2,3 +2,4 @@ pub mod ReachedParts
 pub mod RowLengths
 pub mod WholeRows
 pub mod ImportedRows
+mod ExampleRows

@@ -4,9 +4,7 @@ ghost use Rattle.co_pages.specs.SpreadRows as spread_rows;
 ghost use Rattle.co_any.specs.Layouts.{amount_of, places_of};
 
 use crate::part::AnyPart;
-use co_directory::SpreadDirectory;
-use co_pages::SharedPages;
-use k42_kinds::{DirectoryState, Layout, PagesState};
+use k42_kinds::PagesState;
 use k42_memory::Memory;
 use std::alloc::Global;
 
@@ -30,22 +28,6 @@ pub(crate) fn total(parts: &[AnyPart]) -> u64
     total
 }
 
-/// The same names and numbers, in a map of their own.
-pub(crate) fn copied(alloc: Global, names: &DirectoryState) -> Result<DirectoryState, Memory>
-    ensures { IfOk result (λ copy. copy ≡ names.now) }
-{
-    let mut copies = SpreadDirectory.import(alloc, names, 1)?;
-    Ok(copies.pop().unwrap_or(DirectoryState::new(alloc)))
-}
-
-/// The same pages, in a map of their own.
-pub(crate) fn copied_pages(alloc: Global, pages: &PagesState) -> Result<PagesState, Memory>
-    ensures { IfOk result (λ copy. copy ≡ pages.now) }
-{
-    let mut copies = SharedPages.import(alloc, pages, 1)?;
-    Ok(copies.pop().unwrap_or(PagesState::new(alloc)))
-}
-
 /// The pages of all cells together.
 pub(crate) fn collected(alloc: Global, parts: &[AnyPart]) -> Result<PagesState, Memory>
     ensures { IfOk result (λ pages. pages ≡ spread_rows.collected (map places_of parts.now)) }
@@ -53,7 +35,7 @@ pub(crate) fn collected(alloc: Global, parts: &[AnyPart]) -> Result<PagesState, 
     let mut pages = PagesState::new(alloc);
     for part in parts {
         if let AnyPart::Places(places) = part {
-            places.put_into(&mut pages)?;
+            pages = places.put_into(pages)?;
         }
     }
     Ok(pages)

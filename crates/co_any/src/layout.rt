@@ -3,7 +3,7 @@ ghost use Rattle.k42_kinds.specs.Objects.{plain_object};
 ghost use Rattle.co_any.specs.Layouts.{ways_of, whole_of, serves_of, admitted_of, act_of, tag_named};
 ghost use Rattle.co_any.specs.AnyLaws.{any_steps, any_steps_all, any_reaches, any_stands, any_begins, any_imports, any_ends, any_admits, any_swaps, any_asks, any_agrees};
 
-use crate::exports::{collected, copied, copied_pages, total};
+use crate::exports::{collected, total};
 use crate::part::AnyPart;
 use crate::rows::{in_parts, step_own};
 use co_counter::{SharedCounter, SpreadCounter};
@@ -136,8 +136,8 @@ impl Layout for AnyLayout {
         match &parts[0] {
             AnyPart::Amount(_) => Ok(AnyState::Counter(total(parts))),
             AnyPart::Indexed(names) => Ok(AnyState::Directory(names.state(alloc)?)),
-            AnyPart::Copy(names) => Ok(AnyState::Directory(copied(alloc, names)?)),
-            AnyPart::Pages(pages) => Ok(AnyState::Pages(copied_pages(alloc, pages)?)),
+            AnyPart::Copy(names) => Ok(AnyState::Directory(co_directory::copied(alloc, names)?)),
+            AnyPart::Pages(pages) => Ok(AnyState::Pages(co_pages::copied(alloc, pages)?)),
             AnyPart::Places(_) => Ok(AnyState::Pages(collected(alloc, parts)?)),
             AnyPart::Dead => Ok(AnyState::Dead),
         }

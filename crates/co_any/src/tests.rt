@@ -1,11 +1,14 @@
-ghost use Rattle.std.specs.Prelude.{◌≡◌, ◌<◌, ◌≤◌, IsTrue};
+ghost use Rattle.std.specs.Prelude.{◌≡◌, ◌<◌, ◌≤◌, IsTrue, IfOk};
 ghost use Rattle.k42_limits.specs.declared.TheConstants.{PROCESSORS};
+ghost use Rattle.k42_kinds.specs.Operations.{takes_operation};
+ghost use Rattle.co_any.specs.Layouts.{whole_of};
 
-use crate::{AnyLayout, AnyState};
+use crate::{AnyLayout, AnyPart, AnyState};
 use k42_kinds::{
     Act, KindName, Layout, LayoutName, Name, Op, Reply, Text, empty_row, kind_of, step_row,
 };
 use k42_memory::Memory;
+use k42_stamp::{draw_keeps, hand_begins, merged_is_legal};
 use std::alloc::Global;
 use std::process::Abort;
 use std::test::Fail;
@@ -100,18 +103,103 @@ fn a_dead_object_is_gone_for_all_processors(rt: HostRuntime) -> Result<(), Fail>
     Ok(())
 }
 
-#[test]
-fn the_pages_move_from_layout_to_layout(rt: HostRuntime) -> Result<(), Fail> {
-    let hi = Text::of(b"hi").ok_or("no text")?;
-    let shared = AnyLayout::of(KindName::Pages, LayoutName::Shared);
-    let spread = AnyLayout::of(KindName::Pages, LayoutName::Spread);
-    let mut row = empty_row(&shared, rt.alloc(), 8)?;
-    step_row(&shared, rt.alloc(), &mut row, &Op::Write(5, hi), 7, 8)?;
-    let state = shared.export(rt.alloc(), &row)?;
-    let mut row = spread.import(rt.alloc(), &spread.admit(state), 8)?;
-    let read = step_row(&spread, rt.alloc(), &mut row, &Op::Read(5), 0, 8)?;
-    assert_eq!(rt; read, Reply::Text(hi));
-    let dirty = step_row(&spread, rt.alloc(), &mut row, &Op::Dirty, 7, 8)?;
-    assert_eq!(rt; dirty, Reply::Number(1));
+/// The row of the next layout, made of what the parts of a row stand for.
+fn moved(
+    alloc: Global,
+    from: &AnyLayout,
+    to: &AnyLayout,
+    parts: &Vec<AnyPart>,
+) -> Result<Vec<AnyPart>, Memory>
+    requires known { (from.now.tag ≤ 1) × (to.now.tag ≤ 2) }
+    requires same { from.now.kind ≡ to.now.kind }
+    requires row { whole_of from.now.kind from.now.tag 8 parts.now.items }
+    ensures { IfOk result (λ next. whole_of to.now.kind to.now.tag 8 next.items) }
+{
+    let state = from.export(alloc, parts)?;
+    let next = to.import(alloc, &to.admit(state), 8)?;
+    Ok(next)
+}
+
+/// Changes an object, reads it in each layout to which it moves, and destroys it.
+fn follow_moves(
+    rt: &impl Abort,
+    alloc: Global,
+    kind: KindName,
+    change: &Op,
+    read: &Op,
+    due: &Reply,
+) -> Result<(), Memory>
+    requires change { IsTrue (takes_operation kind change.now) }
+    requires read { IsTrue (takes_operation kind read.now) }
+{
+    let shared = AnyLayout { kind, tag: 0 };
+    let spread = AnyLayout { kind, tag: 1 };
+    let dead = AnyLayout { kind, tag: 2 };
+    let mut row = empty_row(&shared, alloc, 8)?;
+    step_row(&shared, alloc, &mut row, change, 7, 8)?;
+    let mut row = moved(alloc, &shared, &spread, &row)?;
+    assert_eq!(rt; step_row(&spread, alloc, &mut row, read, 0, 8)?, *due);
+    let mut row = moved(alloc, &spread, &shared, &row)?;
+    assert_eq!(rt; step_row(&shared, alloc, &mut row, read, 7, 8)?, *due);
+    let mut row = moved(alloc, &shared, &dead, &row)?;
+    assert_eq!(rt; step_row(&dead, alloc, &mut row, read, 7, 8)?, Reply::Gone);
     Ok(())
+}
+
+#[test]
+fn an_object_moves_from_layout_to_layout_until_it_is_dead(rt: HostRuntime) -> Result<(), Fail> {
+    let x = Name::of(b"x").ok_or("no name")?;
+    let hi = Text::of(b"hi").ok_or("no text")?;
+    let cases = [
+        (Op::Add(5), Op::Get, Reply::Number(5)),
+        (Op::Bind(x, 1), Op::Find(x), Reply::Number(1)),
+        (Op::Write(5, hi), Op::Read(5), Reply::Text(hi)),
+        (Op::Write(5, hi), Op::Dirty, Reply::Number(1)),
+    ];
+    for (change, read, due) in cases {
+        let kind = kind_of(&change);
+        if kind_of(&read) == kind {
+            follow_moves(&rt, rt.alloc(), kind, &change, &read, &due)?;
+        }
+    }
+    Ok(())
+}
+
+/// One operation of a new row at all its cells.
+fn stepped_at_all(alloc: Global, layout: &AnyLayout, op: &Op) -> Result<Reply, Memory>
+    requires tag { layout.now.tag ≤ 2 }
+    requires takes { IsTrue (takes_operation layout.now.kind op.now) }
+{
+    let mut row = empty_row(layout, alloc, 8)?;
+    layout.step_all(alloc, &mut row, op)
+}
+
+#[test]
+fn every_layout_can_be_read_at_all_its_cells(rt: HostRuntime) -> Result<(), Fail> {
+    let reads = [
+        (KindName::Counter, Op::Get),
+        (KindName::Directory, Op::Size),
+        (KindName::Pages, Op::Dirty),
+    ];
+    for (kind, op) in reads {
+        if kind_of(&op) == kind {
+            for tag in 0..3 {
+                let read = stepped_at_all(rt.alloc(), &AnyLayout { kind, tag }, &op)?;
+                let due = if tag == 2 {
+                    Reply::Gone
+                } else {
+                    Reply::Number(0)
+                };
+                assert_eq!(rt; read, due);
+            }
+        }
+    }
+    Ok(())
+}
+
+#[test]
+fn the_laws_of_rows_hold_for_the_layouts_of_all_kinds(_rt: HostRuntime) {
+    draw_keeps::<AnyLayout>(8);
+    hand_begins::<AnyLayout>(8);
+    merged_is_legal::<AnyLayout>(8);
 }

@@ -61,3 +61,11 @@ fn the_value_moves_from_layout_to_layout(rt: HostRuntime) -> Result<(), Fail> {
     assert_eq!(rt; read, Reply::Number(12));
     Ok(())
 }
+
+#[test]
+fn a_shared_counter_is_read_at_all_its_cells_too(rt: HostRuntime) -> Result<(), Fail> {
+    let mut row = empty_row(&SharedCounter, rt.alloc(), 8)?;
+    let read = SharedCounter.step_all(rt.alloc(), &mut row, &Op::Get)?;
+    assert_eq!(rt; read, Reply::Number(0));
+    Ok(())
+}

@@ -7,8 +7,8 @@ use k42_kinds::{DirectoryState, Name};
 use k42_memory::Memory;
 use std::alloc::Global;
 
-/// A copy of the directory.
-pub(crate) fn copied(alloc: Global, names: &DirectoryState) -> Result<DirectoryState, Memory>
+/// The same names and numbers, in a map of their own.
+pub fn copied(alloc: Global, names: &DirectoryState) -> Result<DirectoryState, Memory>
     ensures { IfOk result (λ copy. copy ≡ names.now) }
 {
     let mut copy = DirectoryState::new(alloc);

@@ -6,6 +6,7 @@ mod indexed;
 mod shared;
 mod spread;
 
+pub use copies::copied;
 pub use indexed::IndexedNames;
 pub use shared::SharedDirectory;
 pub use spread::SpreadDirectory;

@@ -88,3 +88,11 @@ fn the_names_move_from_layout_to_layout(rt: HostRuntime) -> Result<(), Fail> {
     assert!(rt; names.get(&y) == Some(2) && names.size() == 2);
     Ok(())
 }
+
+#[test]
+fn a_shared_directory_is_counted_at_all_its_cells_too(rt: HostRuntime) -> Result<(), Fail> {
+    let mut row = empty_row(&SharedDirectory, rt.alloc(), 8)?;
+    let size = SharedDirectory.step_all(rt.alloc(), &mut row, &Op::Size)?;
+    assert_eq!(rt; size, Reply::Number(0));
+    Ok(())
+}

@@ -6,7 +6,7 @@ mod shared;
 mod spread;
 
 pub use places::Places;
-pub use shared::SharedPages;
+pub use shared::{SharedPages, copied};
 pub use spread::SpreadPages;
 
 #[cfg(test)]

@@ -1,4 +1,4 @@
-ghost use Rattle.std.specs.Prelude.{◌≡◌, ◌%◌, ◌^◌, ◌<◌, ◌≤◌, OnOk, OnErr, map, option_map};
+ghost use Rattle.std.specs.Prelude.{◌≡◌, ◌%◌, ◌^◌, ◌<◌, ◌≤◌, IfOk, OnOk, OnErr, map, option_map};
 ghost use Rattle.k42_kinds.specs.Pages.{cleaned};
 ghost use Rattle.co_pages.specs.Places as kept;
 ghost use Rattle.co_pages.specs.SpreadRows.{cell_put_in};
@@ -141,16 +141,17 @@ impl Places {
     }
 
     /// Puts the pages into a map.
-    pub fn put_into(&self, pages: &mut PagesState) -> Result<(), Memory>
-        ensures { OnOk result (pages.new ≡ cell_put_in pages.old self.now) }
+    pub fn put_into(&self, pages: PagesState) -> Result<PagesState, Memory>
+        ensures { IfOk result (λ all. all ≡ cell_put_in pages self.now) }
     {
+        let mut all = pages;
         let mut number = u64::from(self.cell);
         for place in &self.places {
             if let Some(page) = place {
-                pages.insert(number as u16, page)?;
+                all.insert(number as u16, page)?;
             }
             number += u64::from(self.procs);
         }
-        Ok(())
+        Ok(all)
     }
 }

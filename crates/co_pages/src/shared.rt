@@ -28,9 +28,9 @@ impl Kind for SharedPages {
     }
 }
 
-/// The same pages again.
+/// The same pages, in a map of their own.
 #[tactic(auto, using(crate::specs::Refilled::refilled))]
-fn copy_of(alloc: Global, pages: &PagesState) -> Result<PagesState, Memory>
+pub fn copied(alloc: Global, pages: &PagesState) -> Result<PagesState, Memory>
     ensures { IfOk result (λ copy. copy ≡ pages.now) }
 {
     let mut copy = PagesState::new(alloc);
@@ -87,7 +87,7 @@ impl Layout for SharedPages {
     }
 
     fn export(&self, alloc: Global, parts: &Vec<PagesState>) -> Result<PagesState, Memory> {
-        copy_of(alloc, &parts[0])
+        copied(alloc, &parts[0])
     }
 
     fn import(
@@ -97,7 +97,7 @@ impl Layout for SharedPages {
         _procs: u32,
     ) -> Result<Vec<PagesState>, Memory> {
         let mut parts = Vec::new(alloc);
-        parts.push(copy_of(alloc, state)?)?;
+        parts.push(copied(alloc, state)?)?;
         Ok(parts)
     }
 

@@ -176,7 +176,7 @@ impl Layout for SpreadPages {
     fn export(&self, alloc: Global, parts: &Vec<Places>) -> Result<PagesState, Memory> {
         let mut pages = PagesState::new(alloc);
         for part in parts {
-            part.put_into(&mut pages)?;
+            pages = part.put_into(pages)?;
         }
         Ok(pages)
     }

@@ -87,3 +87,11 @@ fn three_dirty_pages_come_back_from_eight_cells(rt: HostRuntime) -> Result<(), F
     assert_eq!(rt; exported.dirty(), 3);
     Ok(())
 }
+
+#[test]
+fn shared_pages_are_counted_at_all_their_cells_too(rt: HostRuntime) -> Result<(), Fail> {
+    let mut row = empty_row(&SharedPages, rt.alloc(), 8)?;
+    let dirty = SharedPages.step_all(rt.alloc(), &mut row, &Op::Dirty)?;
+    assert_eq!(rt; dirty, Reply::Number(0));
+    Ok(())
+}

@@ -18,8 +18,8 @@ returns-in_ok-state-in-Indexed c = ap states.Directory c.in_ok-state-in-Indexed.
 pub returns-in_ok-copied-in-Copy : goal.returns-in_ok-copied-in-Copy
 returns-in_ok-copied-in-Copy c = ap states.Directory c.in_ok-copied-in-Copy.ensures ∙ stands_copies c.args.self.now.kind c.args.self.now.tag c.args.parts.now.items c.requires.known c.requires.whole c.index.result.now c.index.ensures c.in-Copy.names c.in-Copy.is
 
-pub returns-in_ok-copied_pages-in-Pages : goal.returns-in_ok-copied_pages-in-Pages
-returns-in_ok-copied_pages-in-Pages c = ap states.Pages c.in_ok-copied_pages-in-Pages.ensures ∙ stands_pages c.args.self.now.kind c.args.self.now.tag c.args.parts.now.items c.requires.known c.requires.whole c.index.result.now c.index.ensures c.in-Pages.pages c.in-Pages.is
+pub returns-in_ok-copied-in-Pages : goal.returns-in_ok-copied-in-Pages
+returns-in_ok-copied-in-Pages c = ap states.Pages c.in_ok-copied-in-Pages.ensures ∙ stands_pages c.args.self.now.kind c.args.self.now.tag c.args.parts.now.items c.requires.known c.requires.whole c.index.result.now c.index.ensures c.in-Pages.pages c.in-Pages.is
 
 pub returns-in_ok-collected-in-Places : goal.returns-in_ok-collected-in-Places
 returns-in_ok-collected-in-Places c = ap states.Pages (c.in_ok-collected-in-Places.ensures ∙ ap (λ row. spread_rows.collected (map places_of row)) c.deref-in-Places.ensures.value) ∙ stands_places c.args.self.now.kind c.args.self.now.tag c.args.parts.now.items c.requires.known c.requires.whole c.index.result.now c.index.ensures c.in-Places.field-0 c.in-Places.is
