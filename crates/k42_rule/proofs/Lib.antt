@@ -5,6 +5,9 @@ pub mod Begun
 pub mod Entering
 pub mod Leaving
 pub mod Moves
+pub mod AtTables
+pub mod Fields
+pub mod Looking
 pub mod FirstParts
 pub mod Opening
 pub mod Put

@@ -1,0 +1,56 @@
+-- The steps on tables, for one pass: where each may be taken, and what the pass knows after it.
+use Rattle.std.specs.Prelude.{◌≡◌, ℕ, ◌-◌, ◌*◌, ◌/◌, ◌%◌, ◌<◌, ◌^◌, ◌==◌, true, if◌then◌else◌, List, Option, Some, None, is_some}
+use Rattle.phase_core.specs.Effects.{at_place, looked_up}
+use Rattle.phase_core.specs.Plain.{Visitor}
+use Rattle.phase_core.specs.Stages.{is_out, is_missed, is_uncounted}
+use Rattle.phase_core.specs.declared.caller.Place.TheVariants.{Out}
+use Rattle.phase_core.specs.declared.object.LocalEntry.{LocalEntry}
+use Rattle.k42_joined.specs.Swapping.{holds_none}
+use Rattle.k42_rule.specs.Values.{layout_in}
+use Rattle.k42_rule.specs.declared.view.PassView.{PassView}
+
+-- a pass that has gone on in its call, and what it has learned of the row's layout
+abbrev pub went : {P : Type 0} → PassView P → Visitor → Option ℕ → PassView P
+went v visitor layout = record v { visitor = visitor; layout = layout }
+
+-- the entry of a processor, as its word says it
+abbrev pub entry_in : ℕ → LocalEntry
+entry_in word = record {
+  tag = word % 4;
+  layout = word / 2 ^ 4 % 4;
+  cell = word / 2 ^ 8 % 2 ^ 8;
+  incarnation = word / 2 ^ 32;
+}
+
+-- the object of the word of an entry
+abbrev pub entry_object : ℕ → ℕ
+entry_object word = word % 64 - 32
+
+-- a direct entry tells its row's layout
+abbrev pub layout_told : LocalEntry → Option ℕ
+layout_told e = if e.tag == 1 then Some e.layout else None
+
+-- it has an activity, is inside no call, and the object is one of so many
+pub record MayLookUp {P : Type 0} (objects o : ℕ) (v : PassView P) : Type 0 where
+  pub active : is_some v.turn.active ≡ true
+  pub out : is_out v.visitor.place ≡ true
+  pub there : o < objects
+
+abbrev pub looked_up_view : {P : Type 0} → ℕ → ℕ → PassView P → PassView P
+looked_up_view o found v = went v (looked_up v.visitor o (entry_in found)) (layout_told (entry_in found))
+
+-- it has found its processor's entry of the object empty
+pub record MayLoadRoot {P : Type 0} (objects o : ℕ) (v : PassView P) : Type 0 where
+  pub missed : is_missed v.visitor.place o ≡ true
+  pub there : o < objects
+
+abbrev pub rooted_view : {P : Type 0} → ℕ → PassView P → PassView P
+rooted_view found v = went v v.visitor (Some (layout_in found))
+
+-- it is in a direct call, or has found its entry empty, and holds no cell
+pub record MayEndCall {P : Type 0} (v : PassView P) : Type 0 where
+  pub uncounted : is_uncounted v.visitor.place ≡ true
+  pub free : holds_none v.taker.held ≡ true
+
+abbrev pub ended_view : {P : Type 0} → ℕ → PassView P → PassView P
+ended_view found v = went v (at_place v.visitor Out) None
