@@ -1,5 +1,5 @@
 -- An event of one caller at the tables, as a step of one pass.
-use Rattle.std.proofs.Common.{◌≡◌, ◌≢◌, ℕ, ◌+◌, ◌<◌, ◌≤◌, Bool, true, false, List, [], ◌∷◌, Option, Some, None, length, get_or, set, sym, refl, ap, ◌∙◌, subst, arith, length-set, get_or-set_same, get_or-set_other}
+use Rattle.std.proofs.Common.{◌≡◌, ◌≢◌, ℕ, ◌+◌, ◌*◌, ◌/◌, ◌%◌, ◌<◌, ◌≤◌, Bool, true, false, List, [], ◌∷◌, Option, Some, None, length, get_or, set, sym, refl, ap, ◌∙◌, subst, arith, length-set, get_or-set_same, get_or-set_other}
 use Rattle.std.specs.List.{slice_get, slice_index}
 use mathlib.Core.Option.{some}
 use lib.ListN.{get_elem?}
@@ -8,7 +8,7 @@ use Rattle.k42_places.specs.Places.{EachPlace}
 use Rattle.phase_core.specs.Event.{Event, caller_of}
 use Rattle.phase_core.specs.Plain.{Object, Visitor}
 use Rattle.phase_core.specs.Stages.{IsInside, named_by, is_moved, object_named}
-use Rattle.phase_core.specs.State.{object_at, visitor_at, fresh_visitor}
+use Rattle.phase_core.specs.State.{object_at, visitor_at, fresh_object, fresh_visitor, put_entry}
 use Rattle.phase_core.specs.declared.caller.SwapAt.{SwapAt}
 use Rattle.phase_core.specs.declared.caller.SwapAt.TheVariants.{Opened}
 use Rattle.k42_stamp.specs.Laws.{AreLaws}
@@ -23,13 +23,23 @@ use Rattle.k42_joined.specs.Sound.{IsSound}
 use Rattle.k42_joined.specs.State.{kept_of, is_handed, many_procs}
 use Rattle.k42_joined.specs.Swapping.{may_turn_over}
 use Rattle.k42_joined.proofs.Kept.{joined_keeps}
-use Rattle.k42_rule.specs.Cells.{Slot}
+use Rattle.k42_rule.specs.Cells.{Slot, Contents, IsCellShown}
+use Rattle.k42_rule.specs.Generations.{Counts, AreGenerations}
+use Rattle.k42_rule.specs.Words.{generation_word, exits_word, role_word, lock_word, local_word, object_word, freed_word, many_words}
+use Rattle.k42_rule.proofs.Begun.{processor_stays}
+use Rattle.k42_places.proofs.EachPlaces.{EachPlace-set_else}
+use Rattle.gen_core.specs.Plain.{Generations}
+use Rattle.turn_core.specs.Plain.{Cell}
+use Rattle.phase_core.specs.declared.object.LocalEntry.{LocalEntry}
+use native.Mathlib.Decide.{ℕ_discrete}
+use Rattle.std.proofs.lemmas.Option.{slice_get_within}
+use mathlib.Core.Option as maybe
 use Rattle.k42_rule.specs.Parts.{IsPart}
-use Rattle.k42_rule.specs.Phases.{IsOld, KnowsPhases, is_served}
+use Rattle.k42_rule.specs.Phases.{IsObjectShown, AreObjects, IsOld, KnowsPhases, is_served}
 use Rattle.k42_rule.specs.Rule.{Beside, KnowsPass, Shows, Rule}
 use Rattle.k42_rule.specs.Tabling.{went}
 use Rattle.k42_rule.specs.Trace.{KnowsTrace}
-use Rattle.k42_rule.specs.Values.{layout_in, incarnation_in}
+use Rattle.k42_rule.specs.Values.{layout_in, incarnation_in, local_value, object_value}
 use Rattle.k42_rule.specs.declared.view.LastBegin.{LastBegin}
 use Rattle.phase_core.specs.declared.caller.Place.{Place}
 use Rattle.k42_rule.specs.declared.view.PassView.{PassView}
@@ -237,3 +247,141 @@ module _ {S L P : Type 0} (F : Layouts S L P) (laws : AreLaws F) (declared : Lis
           times = trace.times;
         };
       }
+
+-- words of objects and entries are none of generations or locks
+pub record IsOfTables (i : ℕ) : Type 0 where
+  pub generations : (q : ℕ) → q < 8 → generation_word q ≢ i
+  pub even : (q : ℕ) → q < 8 → exits_word q 0 ≢ i
+  pub odd : (q : ℕ) → q < 8 → exits_word q 1 ≢ i
+  pub role : role_word ≢ i
+  pub locks : (n : ℕ) → n < 256 → lock_word n ≢ i
+
+pub of_entry : (p o : ℕ) → p < 8 → o < 16 → IsOfTables (local_word p o)
+of_entry p o few small = record {
+  generations = λ q lt e. omega arith;
+  even = λ q lt e. omega arith;
+  odd = λ q lt e. omega arith;
+  role = λ e. omega arith;
+  locks = λ n lt e. omega arith;
+}
+
+pub of_object : (o : ℕ) → o < 16 → IsOfTables (object_word o)
+of_object o small = record {
+  generations = λ q lt e. omega arith;
+  even = λ q lt e. omega arith;
+  odd = λ q lt e. omega arith;
+  role = λ e. omega arith;
+  locks = λ n lt e. omega arith;
+}
+
+pub generations_as_before : (words : List ℕ) (i new : ℕ) (g : Generations) (counts : Counts) → IsOfTables i → length g.procs ≤ 8
+    → AreGenerations words g counts → AreGenerations (set words i new) g counts
+generations_as_before words i new g counts apart few shown = record {
+  procs = λ q k e.
+      let lt : q < 8 = let there = slice_get_within g.procs q k e in omega (arith, there, few) in
+      processor_stays words i new q k (apart.generations q lt) (apart.even q lt) (apart.odd q lt) (shown.procs q k e);
+  role = get_or-set_other words i role_word new 0 apart.role ∙ shown.role;
+  activities = shown.activities;
+  graces = shown.graces;
+  begun = shown.begun;
+}
+
+pub locks_as_before : {P : Type 0} (procs : ℕ) (words : List ℕ) (homes : List (maybe.Option (Slot P))) (contents : Contents P) (i new : ℕ) (cells : List Cell)
+    → IsOfTables i → length cells ≤ 256 → EachPlace (IsCellShown procs words homes contents) cells
+    → EachPlace (IsCellShown procs (set words i new) homes contents) cells
+locks_as_before procs words homes contents i new cells apart few shown n x e =
+    let there = slice_get_within cells n x e in let is = shown n x e in
+    record {
+      lock = get_or-set_other words i (lock_word n) new 0 (apart.locks n (omega (arith, there, few))) ∙ is.lock;
+      slot = is.slot;
+    }
+
+-- an entry is written with its word
+pub entry_written : (words : List ℕ) (objects : List Object) (o p : ℕ) (k : Object) (d : LocalEntry) (new : ℕ) → length words ≡ many_words → length objects ≤ 16
+    → EachPlace (λ q (l : Object). length l.entries ≤ 8) objects → p < 8 → o < 16 → slice_get objects o ≡ Some k → new ≡ local_value d
+    → AreObjects words objects → AreObjects (set words (local_word p o) new) (set objects o (put_entry k p d))
+entry_written words objects o p k d new wide many long few small here is shown =
+    EachPlace-set_else (IsObjectShown words) (IsObjectShown (set words (local_word p o) new)) objects o (put_entry k p d) shown
+    (let old = shown o k here in
+    record {
+      word = get_or-set_other words (local_word p o) (object_word o) new 0 (λ e. omega (arith, small, few, e)) ∙ old.word;
+      freed = get_or-set_other words (local_word p o) (freed_word o) new 0 (λ e. omega (arith, small, few, e)) ∙ old.freed;
+      entries =
+          EachPlace-set_else (λ q (x : LocalEntry). slice_index words (local_word q o) ≡ local_value x)
+          (λ q (x : LocalEntry). slice_index (set words (local_word p o) new) (local_word q o) ≡ local_value x) k.entries p d old.entries
+          (get_or-set_same words (local_word p o) new 0 (omega (arith, wide, few, small)) ∙ is)
+          (λ q x not e was. get_or-set_other words (local_word p o) (local_word q o) new 0 (λ h. not (omega (arith, h))) ∙ was);
+    })
+    (λ q l not e old.
+    let lt : q < 16 = let there = slice_get_within objects q l e in omega (arith, there, many) in
+    record {
+      word = get_or-set_other words (local_word p o) (object_word q) new 0 (λ h. omega (arith, small, few, lt, h)) ∙ old.word;
+      freed = get_or-set_other words (local_word p o) (freed_word q) new 0 (λ h. omega (arith, small, few, lt, h)) ∙ old.freed;
+      entries = λ m x f.
+          let near : m < 8 = let there = slice_get_within l.entries m x f in let most = long q l e in omega (arith, there, most) in
+          get_or-set_other words (local_word p o) (local_word m q) new 0 (λ h. not (omega (arith, small, few, lt, near, h))) ∙ old.entries m x f;
+    })
+
+-- the object's own word is written
+pub object_written : (words : List ℕ) (objects : List Object) (o : ℕ) (k l : Object) (new : ℕ) → length words ≡ many_words → length objects ≤ 16
+    → EachPlace (λ q (m : Object). length m.entries ≤ 8) objects → o < 16 → slice_get objects o ≡ Some k → l.entries ≡ k.entries → l.freed ≡ k.freed
+    → new ≡ object_value l
+    → AreObjects words objects → AreObjects (set words (object_word o) new) (set objects o l)
+object_written words objects o k l new wide many long small here entries freed is shown =
+    EachPlace-set_else (IsObjectShown words) (IsObjectShown (set words (object_word o) new)) objects o l shown
+    (let old = shown o k here in
+    record {
+      word = get_or-set_same words (object_word o) new 0 (omega (arith, wide, small)) ∙ is;
+      freed = get_or-set_other words (object_word o) (freed_word o) new 0 (λ e. omega (arith, small, e)) ∙ old.freed ∙ sym freed;
+      entries = rw entries (λ m x f.
+          let near : m < 8 = let there = slice_get_within k.entries m x f in let most = long o k here in omega (arith, there, most) in
+          get_or-set_other words (object_word o) (local_word m o) new 0 (λ h. omega (arith, small, near, h)) ∙ old.entries m x f);
+    })
+    (λ q m not e old.
+    let lt : q < 16 = let there = slice_get_within objects q m e in omega (arith, there, many) in
+    record {
+      word = get_or-set_other words (object_word o) (object_word q) new 0 (λ h. not (omega (arith, h))) ∙ old.word;
+      freed = get_or-set_other words (object_word o) (freed_word q) new 0 (λ h. omega (arith, small, lt, h)) ∙ old.freed;
+      entries = λ n x f.
+          let near : n < 8 = let there = slice_get_within m.entries n x f in let most = long q m e in omega (arith, there, most) in
+          get_or-set_other words (object_word o) (local_word n q) new 0 (λ h. omega (arith, small, near, lt, h)) ∙ old.entries n x f;
+    })
+
+pub rows_same : {L : Type 0} (s : Joined L) (o : ℕ) (k : Object) (visitors : List Visitor) (kept : List Kept) → o < length s.phases.objects
+    → IsSameRow (object_at s.phases o) k → AreSameRows s (set s.phases.objects o k) visitors kept
+rows_same s o k visitors kept there same = record {
+  many = length-set s.phases.objects o k;
+  each = λ q. row_at q (ℕ_discrete q o);
+} where
+  row_at : (q : ℕ) → Dec (q ≡ o) → IsSameRow (object_at s.phases q) (get_or (set s.phases.objects o k) q fresh_object)
+  row_at q (no not) = subst (IsSameRow (object_at s.phases q)) (sym (get_or-set_other s.phases.objects o q k fresh_object not)) (same_row (object_at s.phases q))
+  row_at q (yes e) =
+      subst (λ z. IsSameRow (object_at s.phases z) (get_or (set s.phases.objects o k) z fresh_object)) (sym e)
+      (subst (IsSameRow (object_at s.phases o)) (sym (get_or-set_same s.phases.objects o k fresh_object there)) same)
+
+-- what a pass that writes a word at the tables owes
+module _ {S L P : Type 0} (F : Layouts S L P) (laws : AreLaws F) (declared : List L)
+    (table : State (Slot P) (View P)) (r : Rule F declared table) (id : ℕ) (v : PassView P)
+    (at : get_elem? table.views id ≡ some (Crew (v ∷ []))) where
+  pub few_entries : EachPlace (λ o (k : Object). length k.entries ≤ 8) r.state.phases.objects
+  few_entries o k here =
+      let long = (r.sound.phases.in_scene.objects o k here).many_entries in
+      let few = r.sound.phases.in_scene.in_course.limits.few_procs in omega (arith, long, few)
+
+  pub written_shows : (objects : List Object) (x : Visitor) (kept : List Kept) (i new : ℕ) (w : PassView P) → IsOfTables i → length objects ≡ length r.state.phases.objects
+      → AreObjects (set table.words i new) objects
+      → Shows (visited r.state objects (set r.state.phases.callers v.number x) kept) r.beside (with_pass table (set table.words i new) table.homes id w)
+  written_shows objects x kept i new w apart many shown = record {
+    many_words = length-set table.words i new ∙ r.shows.many_words;
+    many_slots = r.shows.many_slots;
+    few_objects = rw many r.shows.few_objects;
+    generations =
+        generations_as_before table.words i new r.state.phases.turns r.beside.counts apart
+        (let long = r.sound.phases.in_scene.in_course.many_procs in let few = r.sound.phases.in_scene.in_course.limits.few_procs in omega (arith, long, few))
+        r.shows.generations;
+    objects = shown;
+    cells =
+        locks_as_before (many_procs r.state) table.words table.homes r.beside.contents i new r.state.turns.cells apart
+        (let long = r.sound.cells.locks.many.cells in let few = r.shows.few_objects in omega (arith, long, few))
+        r.shows.cells;
+  }

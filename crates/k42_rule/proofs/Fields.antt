@@ -85,6 +85,7 @@ root_small layout p few = by_test (eqb layout 1) where
 pub record IsEntryOf (layout : ℕ) (e : LocalEntry) : Type 0 where
   pub fits : EntryFits e
   pub direct : e.tag ≡ 1 → e.layout ≡ layout
+  pub empty : e.tag ≡ 0 → (e.layout ≡ 0) × (e.cell ≡ 0)
 
 pub entry_of : (stage : SwapAt) (incarnation layout p : ℕ) (e : LocalEntry) → layout ≤ 2 → p < 8 → IsEntry stage incarnation layout p e → IsEntryOf layout e
 entry_of stage incarnation layout p e few small is = by_test (is_mediated stage p) is where
@@ -96,6 +97,7 @@ entry_of stage incarnation layout p e few small is = by_test (is_mediated stage 
       cell = let t = m.blank.1 in omega (arith, t);
     };
     direct = λ one. absurd (let t = m.tag in omega (arith, t, one));
+    empty = λ none. m.blank;
   }
   by_test false o =
       ⊎_elim
@@ -103,6 +105,7 @@ entry_of stage incarnation layout p e few small is = by_test (is_mediated stage 
       record {
         fits = record { tag = let t = none.0 in omega (arith, t); layout = let t = none.1 in omega (arith, t); cell = let t = none.2 in omega (arith, t) };
         direct = λ one. absurd (let t = none.0 in omega (arith, t, one));
+        empty = λ zero. (none.1, none.2);
       })
       (λ (some : (e.tag ≡ 1) × (e.layout ≡ layout) × (e.cell ≡ root_of layout p)).
       record {
@@ -112,6 +115,7 @@ entry_of stage incarnation layout p e few small is = by_test (is_mediated stage 
           cell = let t = some.2 in let lt = root_small layout p small in omega (arith, t, lt);
         };
         direct = λ one. some.1;
+        empty = λ zero. absurd (let t = some.0 in omega (arith, t, zero));
       })
       o.tagged
 

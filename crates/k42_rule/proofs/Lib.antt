@@ -8,6 +8,7 @@ pub mod Moves
 pub mod AtTables
 pub mod Fields
 pub mod Looking
+pub mod Installing
 pub mod FirstParts
 pub mod Opening
 pub mod Put

@@ -40,12 +40,12 @@ use Rattle.k42_rule.specs.Rule.{Beside, KnowsPass, Shows, Rule}
 use Rattle.k42_rule.specs.Seen.{IsSeatOf, pass_in}
 use Rattle.k42_rule.specs.Steps.{Seated, Tells}
 use Rattle.k42_rule.specs.Tabling.{went, entry_in, entry_object, layout_told, MayLookUp, looked_up_view, MayLoadRoot, rooted_view, MayEndCall, ended_view}
-use Rattle.k42_rule.specs.Values.{layout_in}
+use Rattle.k42_rule.specs.Values.{layout_in, local_value}
 use Rattle.k42_rule.specs.Words.{object_word, local_word}
 use Rattle.k42_rule.specs.declared.view.PassView.{PassView}
 use Rattle.k42_rule.specs.declared.view.View.{View}
 use Rattle.k42_rule.specs.declared.view.View.TheVariants.{Crew}
-use Rattle.k42_rule.proofs.Fields.{object_fits, object_read, entry_known, entry_read}
+use Rattle.k42_rule.proofs.Fields.{IsEntryOf, object_fits, object_read, entry_known, entry_read}
 use Rattle.k42_rule.proofs.Moves.{Moves, seat_allowed}
 use Rattle.k42_rule.proofs.OnePass.{with_pass, known}
 use Rattle.k42_rule.proofs.AtTables.{visited, same_row, AreSameRows, IsVisit, visits, HasLearned, goes}
@@ -179,6 +179,26 @@ module _ {S L P : Type 0} (F : Layouts S L P) (laws : AreLaws F) (declared : Lis
         (λ served none. absurd (cc))
         i
 
+  home_is : (caller_at s.turns v.number).proc ≡ v.turn.proc
+  home_is = ap (λ (z : Caller). z.proc) knows.generations.turn
+
+  gen_there : v.number < length s.turns.callers
+  gen_there = turn_there s r.sound.phases v.number knows.there
+
+  pub home_there' : v.turn.proc < length s.turns.procs
+  home_there' = subst (λ p. p < length s.turns.procs) home_is (home_there s.turns v.number (turns_sound s r.sound.phases) gen_there)
+
+  -- the entry of its own processor
+  pub entry_at_home : (o : ℕ) → o < length s.objects
+      → IsEntryOf (object_at s o).layout (entry_at (object_at s o) v.turn.proc)
+      × (get_or table.words (local_word v.turn.proc o) 0 ≡ local_value (entry_at (object_at s o) v.turn.proc))
+  entry_at_home o there = (
+    entry_known s r.sound.phases o there v.turn.proc home_there',
+    (r.shows.objects o (object_at s o) (slice_get-get_or s.objects o fresh_object there)).entries v.turn.proc (entry_at (object_at s o) v.turn.proc)
+        (slice_get-get_or (object_at s o).entries v.turn.proc (empty_entry 0)
+        (subst (λ p. p < length (object_at s o).entries) home_is (entry_there s r.sound.phases v.number o gen_there there))),
+  )
+
   -- a look-up
   module _ (o : ℕ) (may : MayLookUp (length declared) o v) where
     abbrev seen : ℕ
@@ -190,21 +210,8 @@ module _ {S L P : Type 0} (F : Layouts S L P) (laws : AreLaws F) (declared : Lis
     there : o < length s.objects
     there = let many = r.sound.cells.rows.objects in let lt = may.there in omega (arith, many, lt)
 
-    home_is : (caller_at s.turns v.number).proc ≡ v.turn.proc
-    home_is = ap (λ (z : Caller). z.proc) knows.generations.turn
-
-    gen_there : v.number < length s.turns.callers
-    gen_there = turn_there s r.sound.phases v.number knows.there
-
-    home_there' : v.turn.proc < length s.turns.procs
-    home_there' = subst (λ p. p < length s.turns.procs) home_is (home_there s.turns v.number (turns_sound s r.sound.phases) gen_there)
-
     entry_is : e ≡ entry_at (object_at s o) v.turn.proc
-    entry_is =
-        entry_read (entry_at (object_at s o) v.turn.proc) seen (entry_known s r.sound.phases o there v.turn.proc home_there').fits
-        ((r.shows.objects o (object_at s o) (slice_get-get_or s.objects o fresh_object there)).entries v.turn.proc (entry_at (object_at s o) v.turn.proc)
-        (slice_get-get_or (object_at s o).entries v.turn.proc (empty_entry 0)
-        (subst (λ p. p < length (object_at s o).entries) home_is (entry_there s r.sound.phases v.number o gen_there there))))
+    entry_is = let known = entry_at_home o there in entry_read (entry_at (object_at s o) v.turn.proc) seen known.0.fits known.1
 
     pub looks : (after : Rule F declared (with_pass table (set table.words (local_word v.turn.proc o) seen) table.homes id (looked_up_view o seen v)))
         × (after.state ≡ effect r.state (AtPhases (LookUp v.number o)))
@@ -223,7 +230,7 @@ module _ {S L P : Type 0} (F : Layouts S L P) (laws : AreLaws F) (declared : Lis
           told_by : (b : Bool) → eqb e.tag 1 ≡ b → (l q : ℕ) → o ≡ q → cond b (Some e.layout) None ≡ Some l → (object_at s q).layout ≡ l
           told_by true one l q same told =
               ap (λ z. (object_at s z).layout) (sym same)
-              ∙ sym ((entry_known s r.sound.phases o there v.turn.proc home_there').direct (ap (λ (z : LocalEntry). z.tag) (sym entry_is) ∙ eqb-true e.tag 1 one))
+              ∙ sym ((entry_at_home o there).0.direct (ap (λ (z : LocalEntry). z.tag) (sym entry_is) ∙ eqb-true e.tag 1 one))
               ∙ ap (λ (z : LocalEntry). z.layout) (sym entry_is) ∙ same_Some e.layout l told
           told_by false one l q same told = absurd (cc)
 

@@ -1,12 +1,13 @@
 -- The steps on tables, for one pass: where each may be taken, and what the pass knows after it.
-use Rattle.std.specs.Prelude.{◌≡◌, ℕ, ◌-◌, ◌*◌, ◌/◌, ◌%◌, ◌<◌, ◌^◌, ◌==◌, true, if◌then◌else◌, List, Option, Some, None, is_some}
-use Rattle.phase_core.specs.Effects.{at_place, looked_up}
+use Rattle.std.specs.Prelude.{◌≡◌, ℕ, ◌-◌, ◌*◌, ◌/◌, ◌%◌, ◌<◌, ◌^◌, ◌==◌, true, if◌then◌else◌, List, Option, Some, None, is_some, unwrap_or}
+use Rattle.phase_core.specs.Effects.{root_of, at_place, looked_up, direct_entry}
+use Rattle.phase_core.specs.State.{empty_entry}
 use Rattle.phase_core.specs.Plain.{Visitor}
-use Rattle.phase_core.specs.Stages.{is_out, is_missed, is_uncounted}
-use Rattle.phase_core.specs.declared.caller.Place.TheVariants.{Out}
+use Rattle.phase_core.specs.Stages.{is_out, is_missed, is_uncounted, row_of}
+use Rattle.phase_core.specs.declared.caller.Place.TheVariants.{Out, Direct}
 use Rattle.phase_core.specs.declared.object.LocalEntry.{LocalEntry}
 use Rattle.k42_joined.specs.Swapping.{holds_none}
-use Rattle.k42_rule.specs.Values.{layout_in}
+use Rattle.k42_rule.specs.Values.{local_value, layout_in}
 use Rattle.k42_rule.specs.declared.view.PassView.{PassView}
 
 -- a pass that has gone on in its call, and what it has learned of the row's layout
@@ -46,6 +47,34 @@ pub record MayLoadRoot {P : Type 0} (objects o : ℕ) (v : PassView P) : Type 0 
 
 abbrev pub rooted_view : {P : Type 0} → ℕ → PassView P → PassView P
 rooted_view found v = went v v.visitor (Some (layout_in found))
+
+-- the layout that it has learned
+abbrev pub layout_learned : {P : Type 0} → PassView P → ℕ
+layout_learned v = unwrap_or v.layout 0
+
+-- it has missed the object, has learned the layout of the row since, whose root names this cell, and holds no cell
+pub record MayInstall {P : Type 0} (objects o cell : ℕ) (v : PassView P) : Type 0 where
+  pub missed : is_missed v.visitor.place o ≡ true
+  pub there : o < objects
+  pub rooted : is_some v.layout ≡ true
+  pub named : cell ≡ root_of (layout_learned v) v.turn.proc
+  pub free : holds_none v.taker.held ≡ true
+
+-- the empty entry that it read, and the direct one
+abbrev pub empty_before : {P : Type 0} → PassView P → ℕ
+empty_before v = local_value (empty_entry (row_of v.visitor.place))
+
+abbrev pub direct_after : {P : Type 0} → PassView P → ℕ
+direct_after v = local_value (direct_entry (layout_learned v) v.turn.proc (row_of v.visitor.place))
+
+abbrev pub installs : {P : Type 0} → PassView P → ℕ → ℕ
+installs v word = if word == empty_before v then direct_after v else word
+
+abbrev pub installed_view : {P : Type 0} → ℕ → ℕ → PassView P → PassView P
+installed_view o found v =
+    if found == empty_before v
+    then went v (at_place v.visitor (Direct o (row_of v.visitor.place))) v.layout
+    else went v (at_place v.visitor Out) None
 
 -- it is in a direct call, or has found its entry empty, and holds no cell
 pub record MayEndCall {P : Type 0} (v : PassView P) : Type 0 where
