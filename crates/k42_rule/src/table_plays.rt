@@ -29,3 +29,12 @@ impl<P: Drop> Play<Option<Content<P>>, View<P>> for EndCall {
 
     ghost then = { Tells ended_view };
 }
+
+pub(crate) struct Install;
+
+impl<P: Drop> Play<Option<Content<P>>, View<P>> for Install {
+    ghost use Rattle.k42_rule.specs.Steps.{Tells};
+    ghost use Rattle.k42_rule.specs.Tabling.{entry_object, installed_view};
+
+    ghost then = { λ step. Tells (installed_view (entry_object step.word)) step };
+}
