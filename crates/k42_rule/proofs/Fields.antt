@@ -1,11 +1,11 @@
 -- What is read of a word is what it was made of.
-use Rattle.std.proofs.Common.{◌≡◌, ◌≢◌, ℕ, ◌+◌, ◌*◌, ◌/◌, ◌%◌, ◌^◌, ◌<◌, ◌≤◌, ◌⊎◌, Bool, true, false, cond, eqb, List, [], ◌∷◌, Option, Some, None, length, get_or, sym, refl, ap, ◌∙◌, subst, ⊎_elim, arith}
+use Rattle.std.proofs.Common.{◌≡◌, ◌≢◌, ℕ, ◌+◌, ◌-◌, ◌*◌, ◌/◌, ◌%◌, ◌^◌, ◌<◌, ◌≤◌, ◌⊎◌, Bool, true, false, cond, eqb, List, [], ◌∷◌, Option, Some, None, length, get_or, sym, refl, ap, ◌∙◌, subst, ⊎_elim, arith}
 use Rattle.std.specs.Bool.{MatchBool}
 use Rattle.std.specs.List.{slice_get}
 use Rattle.std.proofs.lemmas.Bool.{eqb-true}
 use Rattle.std.proofs.lemmas.List.Sums.{count_by-le-length}
 use Rattle.std.proofs.lemmas.Option.{slice_get-get_or}
-use Rattle.phase_core.specs.Effects.{root_of}
+use Rattle.phase_core.specs.Effects.{root_of, counted_in, counted_out}
 use Rattle.phase_core.specs.Objects.{IsMediator, IsOpen, IsEntry, IsObject, counts_at}
 use Rattle.phase_core.specs.Outlooks.{is_mediated, behind}
 use Rattle.phase_core.specs.Plain.{Object, Phases}
@@ -29,6 +29,7 @@ bit_is false = refl
 pub record Fits (k : Object) : Type 0 where
   pub count : k.count ≤ 16
   pub layout : k.layout ≤ 2
+  pub incarnation : k.incarnation ≤ 2 ^ 20
 
 pub record IsRead (k : Object) (word : ℕ) : Type 0 where
   pub count : count_in word ≡ k.count
@@ -61,6 +62,24 @@ object_read k word fits is =
 
       complete_is : bit k.swap ≤ 1 → bit k.block ≤ 1 → bit k.moving ≤ 1 → bit k.complete ≤ 1 → k.count ≤ 16 → k.layout ≤ 2 → word / 2 ^ 27 % 2 ≡ bit k.complete
       complete_is a b c d n l = omega (arith, is, a, b, c, d, n, l)
+
+-- the word of one that counts one caller more or less
+pub counted_more : (k : Object) (word : ℕ) → Fits k → word ≡ object_value k → (word + 1) % 2 ^ 64 ≡ object_value (counted_in k)
+counted_more k word fits is =
+    let a : bit k.swap ≤ 1 = bit_small k.swap in
+    let b : bit k.block ≤ 1 = bit_small k.block in
+    let c : bit k.moving ≤ 1 = bit_small k.moving in
+    let d : bit k.complete ≤ 1 = bit_small k.complete in
+    let n = fits.count in let l = fits.layout in let i = fits.incarnation in omega (arith, is, a, b, c, d, n, l, i)
+
+pub counted_less : (k : Object) (word : ℕ) → Fits k → 1 ≤ k.count → word ≡ object_value k
+    → (word + (2 ^ 64 - 1)) % 2 ^ 64 ≡ object_value (counted_out k)
+counted_less k word fits some is =
+    let a : bit k.swap ≤ 1 = bit_small k.swap in
+    let b : bit k.block ≤ 1 = bit_small k.block in
+    let c : bit k.moving ≤ 1 = bit_small k.moving in
+    let d : bit k.complete ≤ 1 = bit_small k.complete in
+    let n = fits.count in let l = fits.layout in let i = fits.incarnation in omega (arith, is, some, a, b, c, d, n, l, i)
 
 -- the fields of an entry have room in its word
 pub record EntryFits (e : LocalEntry) : Type 0 where
@@ -128,6 +147,7 @@ module _ (s : Phases) (sound : IsSound s) (o : ℕ) (there : o < length s.object
         let many = sound.in_scene.many_callers in let callers = sound.in_scene.in_course.limits.few_callers in
         omega (arith, counted, few, many, callers);
     layout = (object_known s sound o there).bits_follow.layout;
+    incarnation = let last = (object_known s sound o there).bits_follow.last in omega (arith, last);
   }
 
   pub entry_known : (p : ℕ) → p < length s.turns.procs → IsEntryOf (object_at s o).layout (entry_at (object_at s o) p)

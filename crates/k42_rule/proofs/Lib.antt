@@ -9,6 +9,7 @@ pub mod AtTables
 pub mod Fields
 pub mod Looking
 pub mod Installing
+pub mod Knocking
 pub mod FirstParts
 pub mod Opening
 pub mod Put

@@ -40,12 +40,12 @@ use Rattle.k42_rule.specs.Rule.{Beside, KnowsPass, Shows, Rule}
 use Rattle.k42_rule.specs.Seen.{IsSeatOf, pass_in}
 use Rattle.k42_rule.specs.Steps.{Seated, Tells}
 use Rattle.k42_rule.specs.Tabling.{went, entry_in, entry_object, layout_told, MayLookUp, looked_up_view, MayLoadRoot, rooted_view, MayEndCall, ended_view}
-use Rattle.k42_rule.specs.Values.{layout_in, local_value}
+use Rattle.k42_rule.specs.Values.{layout_in, local_value, object_value}
 use Rattle.k42_rule.specs.Words.{object_word, local_word}
 use Rattle.k42_rule.specs.declared.view.PassView.{PassView}
 use Rattle.k42_rule.specs.declared.view.View.{View}
 use Rattle.k42_rule.specs.declared.view.View.TheVariants.{Crew}
-use Rattle.k42_rule.proofs.Fields.{IsEntryOf, object_fits, object_read, entry_known, entry_read}
+use Rattle.k42_rule.proofs.Fields.{IsEntryOf, IsRead, object_fits, object_read, entry_known, entry_read}
 use Rattle.k42_rule.proofs.Moves.{Moves, seat_allowed}
 use Rattle.k42_rule.proofs.OnePass.{with_pass, known}
 use Rattle.k42_rule.proofs.AtTables.{visited, same_row, AreSameRows, IsVisit, visits, HasLearned, goes}
@@ -131,10 +131,15 @@ module _ {S L P : Type 0} (F : Layouts S L P) (laws : AreLaws F) (declared : Lis
       let lt = here.0 in let many = r.sound.phases.in_scene.many_objects in omega (arith, lt, many)
 
   -- the word of an object that is there
-  pub word_there : (o : ℕ) → o < length s.objects → layout_in (get_or table.words (object_word o) 0) ≡ (object_at s o).layout
-  word_there o there =
-      (object_read (object_at s o) (get_or table.words (object_word o) 0) (object_fits s r.sound.phases o there)
-      (r.shows.objects o (object_at s o) (slice_get-get_or s.objects o fresh_object there)).word).layout
+  pub object_shown : (o : ℕ) → o < length s.objects → get_or table.words (object_word o) 0 ≡ object_value (object_at s o)
+  object_shown o there = (r.shows.objects o (object_at s o) (slice_get-get_or s.objects o fresh_object there)).word
+
+  pub object_is_read : (o : ℕ) → o < length s.objects → IsRead (object_at s o) (get_or table.words (object_word o) 0)
+  object_is_read o there =
+      object_read (object_at s o) (get_or table.words (object_word o) 0) (object_fits s r.sound.phases o there) (object_shown o there)
+
+  word_there : (o : ℕ) → o < length s.objects → layout_in (get_or table.words (object_word o) 0) ≡ (object_at s o).layout
+  word_there o there = (object_is_read o there).layout
 
   -- the root of a row
   module _ (o : ℕ) (may : MayLoadRoot (length declared) o v) where

@@ -1,13 +1,13 @@
 -- The steps on tables, for one pass: where each may be taken, and what the pass knows after it.
 use Rattle.std.specs.Prelude.{◌≡◌, ℕ, ◌-◌, ◌*◌, ◌/◌, ◌%◌, ◌<◌, ◌^◌, ◌==◌, true, if◌then◌else◌, List, Option, Some, None, is_some, unwrap_or}
-use Rattle.phase_core.specs.Effects.{root_of, at_place, looked_up, direct_entry}
+use Rattle.phase_core.specs.Effects.{root_of, at_place, looked_up, direct_entry, knocked}
 use Rattle.phase_core.specs.State.{empty_entry}
 use Rattle.phase_core.specs.Plain.{Visitor}
-use Rattle.phase_core.specs.Stages.{is_out, is_missed, is_uncounted, row_of}
+use Rattle.phase_core.specs.Stages.{is_out, is_missed, is_at_mediator, is_uncounted, is_counted, row_of}
 use Rattle.phase_core.specs.declared.caller.Place.TheVariants.{Out, Direct}
 use Rattle.phase_core.specs.declared.object.LocalEntry.{LocalEntry}
 use Rattle.k42_joined.specs.Swapping.{holds_none}
-use Rattle.k42_rule.specs.Values.{local_value, layout_in}
+use Rattle.k42_rule.specs.Values.{local_value, layout_in, incarnation_in, has_bit}
 use Rattle.k42_rule.specs.declared.view.PassView.{PassView}
 
 -- a pass that has gone on in its call, and what it has learned of the row's layout
@@ -83,3 +83,23 @@ pub record MayEndCall {P : Type 0} (v : PassView P) : Type 0 where
 
 abbrev pub ended_view : {P : Type 0} → ℕ → PassView P → PassView P
 ended_view found v = went v (at_place v.visitor Out) None
+
+-- the object of its word
+abbrev pub word_object : ℕ → ℕ
+word_object word = (word - 528) / 16
+
+-- its processor's entry leads it to the mediator
+pub record MayKnock {P : Type 0} (objects o : ℕ) (v : PassView P) : Type 0 where
+  pub sent : is_at_mediator v.visitor.place o ≡ true
+  pub there : o < objects
+
+-- it is let in, and learns the row and its layout, unless the swap blocks
+abbrev pub knocked_view : {P : Type 0} → ℕ → ℕ → PassView P → PassView P
+knocked_view o found v =
+    went v (knocked v.visitor o (incarnation_in found) (has_bit found 25))
+    (if has_bit found 25 then None else Some (layout_in found))
+
+-- the mediator counts it, and it holds no cell; its call is over then
+pub record MayStepOut {P : Type 0} (v : PassView P) : Type 0 where
+  pub counted : is_counted v.visitor.place ≡ true
+  pub free : holds_none v.taker.held ≡ true
