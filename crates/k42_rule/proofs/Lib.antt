@@ -5,6 +5,11 @@ pub mod Begun
 pub mod Entering
 pub mod Leaving
 pub mod Moves
+pub mod AtTables
+pub mod Fields
+pub mod Looking
+pub mod Installing
+pub mod Knocking
 pub mod FirstParts
 pub mod Opening
 pub mod Put

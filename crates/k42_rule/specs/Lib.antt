@@ -10,6 +10,7 @@ pub mod Trace
 pub mod Rule
 pub mod Steps
 pub mod Generating
+pub mod Tabling
 pub mod Seen
 pub mod Plan
 pub mod Starting

@@ -8,6 +8,9 @@ mod pass;
 mod plays;
 mod start;
 mod sys;
+mod table_plays;
+mod table_words;
+mod tabling;
 mod view;
 mod words;
 
@@ -15,4 +18,5 @@ pub use cell::{Cell, Content};
 pub use generating::{enter_step, leave_step};
 pub use pass::{Pass, Walker};
 pub use sys::Sys;
+pub use tabling::{end_call, install_step, look_up_step, root_step};
 pub use view::{LastBegin, Row};

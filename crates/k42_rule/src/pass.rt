@@ -39,6 +39,8 @@ pub type Pass<L> = Walker<<L as Layout>::Part>;
 
 impl<P: Drop> Model for Walker<P> {
     ghost use Rattle.std.specs.Prelude.{ℕ, ◌-◌, ◌≡◌, ◌<◌, length, vec_capacity};
+    ghost use Rattle.std.specs.Option.{unwrap_or};
+    ghost use Rattle.phase_core.specs.Stages.{object_of};
     ghost use Rattle.k42_rule.specs.Seen.{PassSeen, Mirrors, pass_in};
 
     ghost Value = { PassSeen P };
@@ -67,7 +69,7 @@ impl<P: Drop> Model for Walker<P> {
       handed = p.handed;
       rows = p.rows.items;
       granted = p.granted;
-    }) × (p.home < 8) };
+    }) × (p.home < 8) × (object_of p.place < 16) × (unwrap_or p.layout 0 < 4) };
 }
 
 impl<P: Drop> Walker<P> {

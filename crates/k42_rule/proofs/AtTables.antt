@@ -1,0 +1,387 @@
+-- An event of one caller at the tables, as a step of one pass.
+use Rattle.std.proofs.Common.{◌≡◌, ◌≢◌, ℕ, ◌+◌, ◌*◌, ◌/◌, ◌%◌, ◌<◌, ◌≤◌, Bool, true, false, List, [], ◌∷◌, Option, Some, None, length, get_or, set, sym, refl, ap, ◌∙◌, subst, arith, length-set, get_or-set_same, get_or-set_other}
+use Rattle.std.specs.List.{slice_get, slice_index}
+use mathlib.Core.Option.{some}
+use lib.ListN.{get_elem?}
+use Rattle.atomic_table.specs.Table.{State}
+use Rattle.k42_places.specs.Places.{EachPlace}
+use Rattle.phase_core.specs.Event.{Event, caller_of}
+use Rattle.phase_core.specs.Plain.{Object, Visitor}
+use Rattle.phase_core.specs.Stages.{IsInside, named_by, is_moved, object_named}
+use Rattle.phase_core.specs.State.{object_at, visitor_at, fresh_object, fresh_visitor, put_entry}
+use Rattle.phase_core.specs.declared.caller.SwapAt.{SwapAt}
+use Rattle.phase_core.specs.declared.caller.SwapAt.TheVariants.{Opened}
+use Rattle.k42_stamp.specs.Laws.{AreLaws}
+use Rattle.k42_stamp.specs.Layouts.{Layouts}
+use Rattle.k42_joined.specs.Answers.{is_turned}
+use Rattle.k42_joined.specs.Effects.{effect}
+use Rattle.k42_joined.specs.Event.{AtPhases}
+use Rattle.k42_joined.specs.Numbers.{object_of}
+use Rattle.k42_joined.specs.Plain.{Kept, Joined}
+use Rattle.k42_joined.specs.Possible.{IsPossible}
+use Rattle.k42_joined.specs.Sound.{IsSound}
+use Rattle.k42_joined.specs.State.{kept_of, is_handed, many_procs}
+use Rattle.k42_joined.specs.Swapping.{may_turn_over}
+use Rattle.k42_joined.proofs.Kept.{joined_keeps}
+use Rattle.k42_rule.specs.Cells.{Slot, Contents, IsCellShown}
+use Rattle.k42_rule.specs.Generations.{Counts, AreGenerations}
+use Rattle.k42_rule.specs.Words.{generation_word, exits_word, role_word, lock_word, local_word, object_word, freed_word, many_words}
+use Rattle.k42_rule.proofs.Begun.{processor_stays}
+use Rattle.k42_places.proofs.EachPlaces.{EachPlace-set_else}
+use Rattle.gen_core.specs.Plain.{Generations}
+use Rattle.turn_core.specs.Plain.{Cell}
+use Rattle.phase_core.specs.declared.object.LocalEntry.{LocalEntry}
+use native.Mathlib.Decide.{ℕ_discrete}
+use Rattle.std.proofs.lemmas.Option.{slice_get_within}
+use mathlib.Core.Option as maybe
+use Rattle.k42_rule.specs.Parts.{IsPart}
+use Rattle.k42_rule.specs.Phases.{IsObjectShown, AreObjects, IsOld, KnowsPhases, is_served}
+use Rattle.k42_rule.specs.Rule.{Beside, KnowsPass, Shows, Rule}
+use Rattle.k42_rule.specs.Tabling.{went}
+use Rattle.k42_rule.specs.Trace.{KnowsTrace}
+use Rattle.k42_rule.specs.Values.{layout_in, incarnation_in, local_value, object_value}
+use Rattle.k42_rule.specs.declared.view.LastBegin.{LastBegin}
+use Rattle.phase_core.specs.declared.caller.Place.{Place}
+use Rattle.k42_rule.specs.declared.view.PassView.{PassView}
+use Rattle.k42_rule.specs.declared.view.Row.{Row}
+use Rattle.k42_rule.specs.declared.view.View.{View}
+use Rattle.k42_rule.specs.declared.view.View.TheVariants.{Crew}
+use Rattle.k42_rule.proofs.OnePass.{with_pass, known, LeavesOthers, moved}
+
+-- the state with these objects and visitors, and where this is kept
+abbrev pub visited : {L : Type 0} → Joined L → List Object → List Visitor → List Kept → Joined L
+visited s objects visitors kept =
+    record s { phases = record s.phases { objects = objects; callers = visitors }; kept = kept }
+
+-- the object is in the same row
+pub record IsSameRow (k l : Object) : Type 0 where
+  pub layout : l.layout ≡ k.layout
+  pub incarnation : l.incarnation ≡ k.incarnation
+  pub complete : l.complete ≡ k.complete
+  pub freed : l.freed ≡ k.freed
+
+pub same_row : (k : Object) → IsSameRow k k
+same_row k = record { layout = refl; incarnation = refl; complete = refl; freed = refl }
+
+turned_same : (swap : SwapAt) (k l : Object) → l.complete ≡ k.complete → is_turned swap l ≡ is_turned swap k
+turned_same (Opened o) k l same = same
+turned_same swap k l same = refl
+
+module _ {L : Type 0} (s : Joined L) (objects : List Object) (visitors : List Visitor) (kept : List Kept) where
+  abbrev pub t : Joined L
+  t = visited s objects visitors kept
+
+  pub record AreSameRows : Type 0 where
+    pub many : length objects ≡ length s.phases.objects
+    pub each : (o : ℕ) → IsSameRow (object_at s.phases o) (object_at t.phases o)
+
+  module _ (rows : AreSameRows) where
+    pub old_stays : (row : Row) → IsOld s.phases row → IsOld t.phases row
+    old_stays row old =
+        let same = rows.each row.object in
+        (rw same.incarnation old.0, λ done. rw same.incarnation (old.1 (sym same.complete ∙ done)))
+
+    -- what a pass knows of its swap and its rows
+    pub record Goes {P : Type 0} (x : PassView P) : Type 0 where
+      pub begun :
+          (o : ℕ) (begin : LastBegin) → named_by x.visitor.swap ≡ Some o → x.last ≡ Some begin
+          → is_turned x.visitor.swap (object_at t.phases o) ≡ false
+          → (layout_in begin.word ≡ (object_at t.phases o).layout) × (incarnation_in begin.word ≡ (object_at t.phases o).incarnation)
+      pub held_rows : EachPlace (λ place row. IsOld t.phases row) x.rows
+
+    pub phases_but : {P : Type 0} (x : PassView P) → KnowsPhases s.phases x → Goes x
+    phases_but x knows = record {
+      begun = λ o begin named is not.
+          let same = rows.each o in
+          let old = knows.begun o begin named is (sym (turned_same x.visitor.swap (object_at s.phases o) (object_at t.phases o) same.complete) ∙ not) in
+          (old.0 ∙ sym same.layout, old.1 ∙ sym same.incarnation);
+      held_rows = λ place row e. old_stays row (knows.rows place row e);
+    }
+
+    pub phases_stay : {P : Type 0} (x : PassView P) → visitor_at t.phases x.number ≡ visitor_at s.phases x.number
+        → KnowsPhases s.phases x → KnowsPhases t.phases x
+    phases_stay x other knows =
+        let goes = phases_but x knows in
+        record {
+          visitor = other ∙ knows.visitor;
+          layout = λ l o i e inside. (rows.each o).layout ∙ knows.layout l o i e inside;
+          learned = knows.learned;
+          begun = goes.begun;
+          rows = goes.held_rows;
+          granted = knows.granted;
+        }
+
+    handed_same : (o : ℕ) → is_handed t o ≡ is_handed s o
+    handed_same o = rw (rows.each o).incarnation refl
+
+    pub trace_stays : {P : Type 0} (tag_of : L → ℕ) (x : PassView P) → kept_of t x.number ≡ kept_of s x.number
+        → KnowsTrace tag_of s x → KnowsTrace tag_of t x
+    trace_stays tag_of x same knows = record {
+      kept = same ∙ knows.kept;
+      found = knows.found;
+      handed = λ tag e.
+          let old = knows.handed tag e in
+          (old.0, rw (handed_same (object_named x.visitor.swap)) old.1);
+      unhanded = λ e is. handed_same (object_named x.visitor.swap) ∙ knows.unhanded e is;
+      few = knows.few;
+      times = knows.times;
+    }
+
+    pub pass_stays : {P : Type 0} (tag_of : L → ℕ) (beside : Beside P) (j : ℕ) (x : PassView P) → length visitors ≡ length s.phases.callers
+        → visitor_at t.phases x.number ≡ visitor_at s.phases x.number → kept_of t x.number ≡ kept_of s x.number
+        → KnowsPass tag_of s beside j x → KnowsPass tag_of t beside j x
+    pass_stays tag_of beside j x many visitor same knows = record {
+      there = rw many knows.there;
+      seat = knows.seat;
+      generations = knows.generations;
+      phases = phases_stay x visitor knows.phases;
+      cells = knows.cells;
+      trace = trace_stays tag_of x same knows.trace;
+    }
+
+    -- the parts that are due are as before
+    pub part_stays : {S P : Type 0} (F : Layouts S L P) (declared : List L) (n : ℕ) (part : Option P)
+        → IsPart F declared s n part → IsPart F declared t n part
+    part_stays F declared n part is = record {
+      due = λ declaration chain row declares of here kept.
+          is.due declaration chain row declares (record { fits = of.fits; layouts = of.layouts }) here
+          (let same = (rows.each (object_of n)).freed in omega (arith, kept, same));
+      before = is.before;
+    }
+
+module _ {S L P : Type 0} (F : Layouts S L P) (laws : AreLaws F) (declared : List L)
+    (table : State (Slot P) (View P)) (r : Rule F declared table) (id : ℕ) (v : PassView P)
+    (at : get_elem? table.views id ≡ some (Crew (v ∷ [])))
+    (e : Event) (objects : List Object) (kept : List Kept) (x : Visitor) where
+  abbrev pub visitors_after : List Visitor
+  visitors_after = set r.state.phases.callers v.number x
+
+  abbrev pub state_after : Joined L
+  state_after = visited r.state objects visitors_after kept
+
+  knows : KnowsPass F.tag_of r.state r.beside id v
+  knows = known F declared table r id v at
+
+  -- what the event does, and what it leaves
+  pub record IsVisit : Type 0 where
+    pub possible : IsPossible F declared r.state (AtPhases e)
+    pub effect_is : state_after ≡ effect r.state (AtPhases e)
+    pub rows : AreSameRows r.state objects visitors_after kept
+    pub kept_else : (d : ℕ) → d ≢ v.number → kept_of state_after d ≡ kept_of r.state d
+
+  pub visitor_is : visitor_at state_after.phases v.number ≡ x
+  visitor_is = get_or-set_same r.state.phases.callers v.number x fresh_visitor knows.there
+
+  pub there_after : v.number < length visitors_after
+  there_after = rw (length-set r.state.phases.callers v.number x) knows.there
+
+  module _ (visit : IsVisit) where
+    leaves : LeavesOthers F declared table r id v at state_after r.beside
+    leaves = record {
+      passes = λ j y not is.
+          pass_stays r.state objects visitors_after kept visit.rows F.tag_of r.beside j y (length-set r.state.phases.callers v.number x)
+          (get_or-set_other r.state.phases.callers v.number y.number x fresh_visitor not) (visit.kept_else y.number not) is;
+      rows = λ row old. old_stays r.state objects visitors_after kept visit.rows row old;
+      row_seats = λ row. refl;
+    }
+
+    sound : IsSound F declared state_after
+    sound = subst (λ z. IsSound F declared z) (sym visit.effect_is) (joined_keeps F laws declared r.state r.sound (AtPhases e) visit.possible)
+
+    -- the pass moved by the event
+    pub visits : (words : List ℕ) (w : PassView P)
+        → Shows state_after r.beside (with_pass table words table.homes id w) → KnowsPass F.tag_of state_after r.beside id w
+        → (after : Rule F declared (with_pass table words table.homes id w)) × (after.state ≡ effect r.state (AtPhases e))
+    visits words w shows mine =
+        let after = moved F declared table r id v at state_after r.beside words table.homes w leaves sound shows
+        (λ n lt. part_stays r.state objects visitors_after kept visit.rows F declared n (r.beside.contents.part n) (r.parts n lt))
+        mine
+        in (after.0, after.1 ∙ visit.effect_is)
+
+-- a pass that goes on in its call
+module _ {S L P : Type 0} (F : Layouts S L P) (laws : AreLaws F) (declared : List L)
+    (table : State (Slot P) (View P)) (r : Rule F declared table) (id : ℕ) (v : PassView P)
+    (at : get_elem? table.views id ≡ some (Crew (v ∷ [])))
+    (objects : List Object) (place : Place) (read : List (ℕ × ℕ)) (layout : Option ℕ) where
+  abbrev pub visitor_gone : Visitor
+  visitor_gone = record v.visitor { place = place; read = read }
+
+  abbrev pub state_gone : Joined L
+  state_gone = visited r.state objects (set r.state.phases.callers v.number visitor_gone) r.state.kept
+
+  -- what it learns is so
+  pub record HasLearned : Type 0 where
+    pub layout_is : (l o i : ℕ) → layout ≡ Some l → IsInside place o i → (object_at state_gone.phases o).layout ≡ l
+    pub learned : is_served place ≡ true → layout ≢ None
+
+  pub goes : (rows : AreSameRows r.state objects (set r.state.phases.callers v.number visitor_gone) r.state.kept) → HasLearned
+      → KnowsPass F.tag_of state_gone r.beside id (went v visitor_gone layout)
+  goes rows told =
+      let before = known F declared table r id v at in
+      let phases = phases_but r.state objects (set r.state.phases.callers v.number visitor_gone) r.state.kept rows v before.phases in
+      let trace = trace_stays r.state objects (set r.state.phases.callers v.number visitor_gone) r.state.kept rows F.tag_of v refl before.trace in
+      record {
+        there = rw (length-set r.state.phases.callers v.number visitor_gone) before.there;
+        seat = before.seat;
+        generations = record {
+          turn = before.generations.turn;
+          activities = before.generations.activities;
+          graces = before.generations.graces;
+          base = before.generations.base;
+        };
+        phases = record {
+          visitor = get_or-set_same r.state.phases.callers v.number visitor_gone fresh_visitor before.there;
+          layout = told.layout_is;
+          learned = told.learned;
+          begun = phases.begun;
+          rows = phases.held_rows;
+          granted = before.phases.granted;
+        };
+        cells = record { taker = before.cells.taker; notes = before.cells.notes; out = before.cells.out; only = before.cells.only };
+        trace = record {
+          kept = trace.kept;
+          found = trace.found;
+          handed = trace.handed;
+          unhanded = trace.unhanded;
+          few = trace.few;
+          times = trace.times;
+        };
+      }
+
+-- words of objects and entries are none of generations or locks
+pub record IsOfTables (i : ℕ) : Type 0 where
+  pub generations : (q : ℕ) → q < 8 → generation_word q ≢ i
+  pub even : (q : ℕ) → q < 8 → exits_word q 0 ≢ i
+  pub odd : (q : ℕ) → q < 8 → exits_word q 1 ≢ i
+  pub role : role_word ≢ i
+  pub locks : (n : ℕ) → n < 256 → lock_word n ≢ i
+
+pub of_entry : (p o : ℕ) → p < 8 → o < 16 → IsOfTables (local_word p o)
+of_entry p o few small = record {
+  generations = λ q lt e. omega arith;
+  even = λ q lt e. omega arith;
+  odd = λ q lt e. omega arith;
+  role = λ e. omega arith;
+  locks = λ n lt e. omega arith;
+}
+
+pub of_object : (o : ℕ) → o < 16 → IsOfTables (object_word o)
+of_object o small = record {
+  generations = λ q lt e. omega arith;
+  even = λ q lt e. omega arith;
+  odd = λ q lt e. omega arith;
+  role = λ e. omega arith;
+  locks = λ n lt e. omega arith;
+}
+
+pub generations_as_before : (words : List ℕ) (i new : ℕ) (g : Generations) (counts : Counts) → IsOfTables i → length g.procs ≤ 8
+    → AreGenerations words g counts → AreGenerations (set words i new) g counts
+generations_as_before words i new g counts apart few shown = record {
+  procs = λ q k e.
+      let lt : q < 8 = let there = slice_get_within g.procs q k e in omega (arith, there, few) in
+      processor_stays words i new q k (apart.generations q lt) (apart.even q lt) (apart.odd q lt) (shown.procs q k e);
+  role = get_or-set_other words i role_word new 0 apart.role ∙ shown.role;
+  activities = shown.activities;
+  graces = shown.graces;
+  begun = shown.begun;
+}
+
+pub locks_as_before : {P : Type 0} (procs : ℕ) (words : List ℕ) (homes : List (maybe.Option (Slot P))) (contents : Contents P) (i new : ℕ) (cells : List Cell)
+    → IsOfTables i → length cells ≤ 256 → EachPlace (IsCellShown procs words homes contents) cells
+    → EachPlace (IsCellShown procs (set words i new) homes contents) cells
+locks_as_before procs words homes contents i new cells apart few shown n x e =
+    let there = slice_get_within cells n x e in let is = shown n x e in
+    record {
+      lock = get_or-set_other words i (lock_word n) new 0 (apart.locks n (omega (arith, there, few))) ∙ is.lock;
+      slot = is.slot;
+    }
+
+-- an entry is written with its word
+pub entry_written : (words : List ℕ) (objects : List Object) (o p : ℕ) (k : Object) (d : LocalEntry) (new : ℕ) → length words ≡ many_words → length objects ≤ 16
+    → EachPlace (λ q (l : Object). length l.entries ≤ 8) objects → p < 8 → o < 16 → slice_get objects o ≡ Some k → new ≡ local_value d
+    → AreObjects words objects → AreObjects (set words (local_word p o) new) (set objects o (put_entry k p d))
+entry_written words objects o p k d new wide many long few small here is shown =
+    EachPlace-set_else (IsObjectShown words) (IsObjectShown (set words (local_word p o) new)) objects o (put_entry k p d) shown
+    (let old = shown o k here in
+    record {
+      word = get_or-set_other words (local_word p o) (object_word o) new 0 (λ e. omega (arith, small, few, e)) ∙ old.word;
+      freed = get_or-set_other words (local_word p o) (freed_word o) new 0 (λ e. omega (arith, small, few, e)) ∙ old.freed;
+      entries =
+          EachPlace-set_else (λ q (x : LocalEntry). slice_index words (local_word q o) ≡ local_value x)
+          (λ q (x : LocalEntry). slice_index (set words (local_word p o) new) (local_word q o) ≡ local_value x) k.entries p d old.entries
+          (get_or-set_same words (local_word p o) new 0 (omega (arith, wide, few, small)) ∙ is)
+          (λ q x not e was. get_or-set_other words (local_word p o) (local_word q o) new 0 (λ h. not (omega (arith, h))) ∙ was);
+    })
+    (λ q l not e old.
+    let lt : q < 16 = let there = slice_get_within objects q l e in omega (arith, there, many) in
+    record {
+      word = get_or-set_other words (local_word p o) (object_word q) new 0 (λ h. omega (arith, small, few, lt, h)) ∙ old.word;
+      freed = get_or-set_other words (local_word p o) (freed_word q) new 0 (λ h. omega (arith, small, few, lt, h)) ∙ old.freed;
+      entries = λ m x f.
+          let near : m < 8 = let there = slice_get_within l.entries m x f in let most = long q l e in omega (arith, there, most) in
+          get_or-set_other words (local_word p o) (local_word m q) new 0 (λ h. not (omega (arith, small, few, lt, near, h))) ∙ old.entries m x f;
+    })
+
+-- the object's own word is written
+pub object_written : (words : List ℕ) (objects : List Object) (o : ℕ) (k l : Object) (new : ℕ) → length words ≡ many_words → length objects ≤ 16
+    → EachPlace (λ q (m : Object). length m.entries ≤ 8) objects → o < 16 → slice_get objects o ≡ Some k → l.entries ≡ k.entries → l.freed ≡ k.freed
+    → new ≡ object_value l
+    → AreObjects words objects → AreObjects (set words (object_word o) new) (set objects o l)
+object_written words objects o k l new wide many long small here entries freed is shown =
+    EachPlace-set_else (IsObjectShown words) (IsObjectShown (set words (object_word o) new)) objects o l shown
+    (let old = shown o k here in
+    record {
+      word = get_or-set_same words (object_word o) new 0 (omega (arith, wide, small)) ∙ is;
+      freed = get_or-set_other words (object_word o) (freed_word o) new 0 (λ e. omega (arith, small, e)) ∙ old.freed ∙ sym freed;
+      entries = rw entries (λ m x f.
+          let near : m < 8 = let there = slice_get_within k.entries m x f in let most = long o k here in omega (arith, there, most) in
+          get_or-set_other words (object_word o) (local_word m o) new 0 (λ h. omega (arith, small, near, h)) ∙ old.entries m x f);
+    })
+    (λ q m not e old.
+    let lt : q < 16 = let there = slice_get_within objects q m e in omega (arith, there, many) in
+    record {
+      word = get_or-set_other words (object_word o) (object_word q) new 0 (λ h. not (omega (arith, h))) ∙ old.word;
+      freed = get_or-set_other words (object_word o) (freed_word q) new 0 (λ h. omega (arith, small, lt, h)) ∙ old.freed;
+      entries = λ n x f.
+          let near : n < 8 = let there = slice_get_within m.entries n x f in let most = long q m e in omega (arith, there, most) in
+          get_or-set_other words (object_word o) (local_word n q) new 0 (λ h. omega (arith, small, near, lt, h)) ∙ old.entries n x f;
+    })
+
+pub rows_same : {L : Type 0} (s : Joined L) (o : ℕ) (k : Object) (visitors : List Visitor) (kept : List Kept) → o < length s.phases.objects
+    → IsSameRow (object_at s.phases o) k → AreSameRows s (set s.phases.objects o k) visitors kept
+rows_same s o k visitors kept there same = record {
+  many = length-set s.phases.objects o k;
+  each = λ q. row_at q (ℕ_discrete q o);
+} where
+  row_at : (q : ℕ) → Dec (q ≡ o) → IsSameRow (object_at s.phases q) (get_or (set s.phases.objects o k) q fresh_object)
+  row_at q (no not) = subst (IsSameRow (object_at s.phases q)) (sym (get_or-set_other s.phases.objects o q k fresh_object not)) (same_row (object_at s.phases q))
+  row_at q (yes e) =
+      subst (λ z. IsSameRow (object_at s.phases z) (get_or (set s.phases.objects o k) z fresh_object)) (sym e)
+      (subst (IsSameRow (object_at s.phases o)) (sym (get_or-set_same s.phases.objects o k fresh_object there)) same)
+
+-- what a pass that writes a word at the tables owes
+module _ {S L P : Type 0} (F : Layouts S L P) (laws : AreLaws F) (declared : List L)
+    (table : State (Slot P) (View P)) (r : Rule F declared table) (id : ℕ) (v : PassView P)
+    (at : get_elem? table.views id ≡ some (Crew (v ∷ []))) where
+  pub few_entries : EachPlace (λ o (k : Object). length k.entries ≤ 8) r.state.phases.objects
+  few_entries o k here =
+      let long = (r.sound.phases.in_scene.objects o k here).many_entries in
+      let few = r.sound.phases.in_scene.in_course.limits.few_procs in omega (arith, long, few)
+
+  pub written_shows : (objects : List Object) (x : Visitor) (kept : List Kept) (i new : ℕ) (w : PassView P) → IsOfTables i → length objects ≡ length r.state.phases.objects
+      → AreObjects (set table.words i new) objects
+      → Shows (visited r.state objects (set r.state.phases.callers v.number x) kept) r.beside (with_pass table (set table.words i new) table.homes id w)
+  written_shows objects x kept i new w apart many shown = record {
+    many_words = length-set table.words i new ∙ r.shows.many_words;
+    many_slots = r.shows.many_slots;
+    few_objects = rw many r.shows.few_objects;
+    generations =
+        generations_as_before table.words i new r.state.phases.turns r.beside.counts apart
+        (let long = r.sound.phases.in_scene.in_course.many_procs in let few = r.sound.phases.in_scene.in_course.limits.few_procs in omega (arith, long, few))
+        r.shows.generations;
+    objects = shown;
+    cells =
+        locks_as_before (many_procs r.state) table.words table.homes r.beside.contents i new r.state.turns.cells apart
+        (let long = r.sound.cells.locks.many.cells in let few = r.shows.few_objects in omega (arith, long, few))
+        r.shows.cells;
+  }

@@ -1,0 +1,160 @@
+-- What is read of a word is what it was made of.
+use Rattle.std.proofs.Common.{◌≡◌, ◌≢◌, ℕ, ◌+◌, ◌-◌, ◌*◌, ◌/◌, ◌%◌, ◌^◌, ◌<◌, ◌≤◌, ◌⊎◌, Bool, true, false, cond, eqb, List, [], ◌∷◌, Option, Some, None, length, get_or, sym, refl, ap, ◌∙◌, subst, ⊎_elim, arith}
+use Rattle.std.specs.Bool.{MatchBool}
+use Rattle.std.specs.List.{slice_get}
+use Rattle.std.proofs.lemmas.Bool.{eqb-true}
+use Rattle.std.proofs.lemmas.List.Sums.{count_by-le-length}
+use Rattle.std.proofs.lemmas.Option.{slice_get-get_or}
+use Rattle.phase_core.specs.Effects.{root_of, counted_in, counted_out}
+use Rattle.phase_core.specs.Objects.{IsMediator, IsOpen, IsEntry, IsObject, counts_at}
+use Rattle.phase_core.specs.Outlooks.{is_mediated, behind}
+use Rattle.phase_core.specs.Plain.{Object, Phases}
+use Rattle.phase_core.specs.Sound.{IsSound}
+use Rattle.phase_core.specs.State.{object_at, entry_at, fresh_object, empty_entry}
+use Rattle.phase_core.specs.declared.caller.SwapAt.{SwapAt}
+use Rattle.phase_core.specs.declared.object.LocalEntry.{LocalEntry}
+use Rattle.phase_core.proofs.InSound.{object_known}
+use Rattle.k42_rule.specs.Tabling.{entry_in}
+use Rattle.k42_rule.specs.Values.{bit, bits_value, object_value, local_value, layout_in, incarnation_in, count_in, has_bit}
+
+pub bit_small : (b : Bool) → bit b ≤ 1
+bit_small true = omega arith
+bit_small false = omega arith
+
+bit_is : (b : Bool) → eqb (bit b) 1 ≡ b
+bit_is true = refl
+bit_is false = refl
+
+-- the fields of an object have room in its word
+pub record Fits (k : Object) : Type 0 where
+  pub count : k.count ≤ 16
+  pub layout : k.layout ≤ 2
+  pub incarnation : k.incarnation ≤ 2 ^ 20
+
+pub record IsRead (k : Object) (word : ℕ) : Type 0 where
+  pub count : count_in word ≡ k.count
+  pub swap : has_bit word 24 ≡ k.swap
+  pub block : has_bit word 25 ≡ k.block
+  pub complete : has_bit word 27 ≡ k.complete
+  pub layout : layout_in word ≡ k.layout
+  pub incarnation : incarnation_in word ≡ k.incarnation
+
+pub object_read : (k : Object) (word : ℕ) → Fits k → word ≡ object_value k → IsRead k word
+object_read k word fits is =
+    let a : bit k.swap ≤ 1 = bit_small k.swap in
+    let b : bit k.block ≤ 1 = bit_small k.block in
+    let c : bit k.moving ≤ 1 = bit_small k.moving in
+    let d : bit k.complete ≤ 1 = bit_small k.complete in
+    let n = fits.count in let l = fits.layout in
+    record {
+      count = omega (arith, is, a, b, c, d, n, l);
+      swap = ap (λ z. eqb z 1) (swap_is a b c d n l) ∙ bit_is k.swap;
+      block = ap (λ z. eqb z 1) (block_is a b c d n l) ∙ bit_is k.block;
+      complete = ap (λ z. eqb z 1) (complete_is a b c d n l) ∙ bit_is k.complete;
+      layout = omega (arith, is, a, b, c, d, n, l);
+      incarnation = omega (arith, is, a, b, c, d, n, l);
+    } where
+      swap_is : bit k.swap ≤ 1 → bit k.block ≤ 1 → bit k.moving ≤ 1 → bit k.complete ≤ 1 → k.count ≤ 16 → k.layout ≤ 2 → word / 2 ^ 24 % 2 ≡ bit k.swap
+      swap_is a b c d n l = omega (arith, is, a, b, c, d, n, l)
+
+      block_is : bit k.swap ≤ 1 → bit k.block ≤ 1 → bit k.moving ≤ 1 → bit k.complete ≤ 1 → k.count ≤ 16 → k.layout ≤ 2 → word / 2 ^ 25 % 2 ≡ bit k.block
+      block_is a b c d n l = omega (arith, is, a, b, c, d, n, l)
+
+      complete_is : bit k.swap ≤ 1 → bit k.block ≤ 1 → bit k.moving ≤ 1 → bit k.complete ≤ 1 → k.count ≤ 16 → k.layout ≤ 2 → word / 2 ^ 27 % 2 ≡ bit k.complete
+      complete_is a b c d n l = omega (arith, is, a, b, c, d, n, l)
+
+-- the word of one that counts one caller more or less
+pub counted_more : (k : Object) (word : ℕ) → Fits k → word ≡ object_value k → (word + 1) % 2 ^ 64 ≡ object_value (counted_in k)
+counted_more k word fits is =
+    let a : bit k.swap ≤ 1 = bit_small k.swap in
+    let b : bit k.block ≤ 1 = bit_small k.block in
+    let c : bit k.moving ≤ 1 = bit_small k.moving in
+    let d : bit k.complete ≤ 1 = bit_small k.complete in
+    let n = fits.count in let l = fits.layout in let i = fits.incarnation in omega (arith, is, a, b, c, d, n, l, i)
+
+pub counted_less : (k : Object) (word : ℕ) → Fits k → 1 ≤ k.count → word ≡ object_value k
+    → (word + (2 ^ 64 - 1)) % 2 ^ 64 ≡ object_value (counted_out k)
+counted_less k word fits some is =
+    let a : bit k.swap ≤ 1 = bit_small k.swap in
+    let b : bit k.block ≤ 1 = bit_small k.block in
+    let c : bit k.moving ≤ 1 = bit_small k.moving in
+    let d : bit k.complete ≤ 1 = bit_small k.complete in
+    let n = fits.count in let l = fits.layout in let i = fits.incarnation in omega (arith, is, some, a, b, c, d, n, l, i)
+
+-- the fields of an entry have room in its word
+pub record EntryFits (e : LocalEntry) : Type 0 where
+  pub tag : e.tag ≤ 2
+  pub layout : e.layout ≤ 2
+  pub cell : e.cell < 8
+
+pub entry_read : (e : LocalEntry) (word : ℕ) → EntryFits e → word ≡ local_value e → entry_in word ≡ e
+entry_read e word fits is = let t = fits.tag in let l = fits.layout in let c = fits.cell in
+    same (omega (arith, is, t, l, c)) (omega (arith, is, t, l, c)) (omega (arith, is, t, l, c)) (omega (arith, is, t, l, c)) where
+      same : (entry_in word).tag ≡ e.tag → (entry_in word).layout ≡ e.layout → (entry_in word).cell ≡ e.cell → (entry_in word).incarnation ≡ e.incarnation
+          → entry_in word ≡ e
+      same t l c i = λ j. record { tag = t j; layout = l j; cell = c j; incarnation = i j }
+
+root_small : (layout p : ℕ) → p < 8 → root_of layout p < 8
+root_small layout p few = by_test (eqb layout 1) where
+  by_test : (b : Bool) → cond b p 0 < 8
+  by_test true = few
+  by_test false = omega arith
+
+-- what an entry tells
+pub record IsEntryOf (layout : ℕ) (e : LocalEntry) : Type 0 where
+  pub fits : EntryFits e
+  pub direct : e.tag ≡ 1 → e.layout ≡ layout
+  pub empty : e.tag ≡ 0 → (e.layout ≡ 0) × (e.cell ≡ 0)
+
+pub entry_of : (stage : SwapAt) (incarnation layout p : ℕ) (e : LocalEntry) → layout ≤ 2 → p < 8 → IsEntry stage incarnation layout p e → IsEntryOf layout e
+entry_of stage incarnation layout p e few small is = by_test (is_mediated stage p) is where
+  by_test : (b : Bool) → MatchBool b (IsMediator incarnation (behind stage) e) (IsOpen incarnation layout p e) → IsEntryOf layout e
+  by_test true m = record {
+    fits = record {
+      tag = let t = m.tag in omega (arith, t);
+      layout = let t = m.blank.0 in omega (arith, t);
+      cell = let t = m.blank.1 in omega (arith, t);
+    };
+    direct = λ one. absurd (let t = m.tag in omega (arith, t, one));
+    empty = λ none. m.blank;
+  }
+  by_test false o =
+      ⊎_elim
+      (λ (none : (e.tag ≡ 0) × (e.layout ≡ 0) × (e.cell ≡ 0)).
+      record {
+        fits = record { tag = let t = none.0 in omega (arith, t); layout = let t = none.1 in omega (arith, t); cell = let t = none.2 in omega (arith, t) };
+        direct = λ one. absurd (let t = none.0 in omega (arith, t, one));
+        empty = λ zero. (none.1, none.2);
+      })
+      (λ (some : (e.tag ≡ 1) × (e.layout ≡ layout) × (e.cell ≡ root_of layout p)).
+      record {
+        fits = record {
+          tag = let t = some.0 in omega (arith, t);
+          layout = let t = some.1 in omega (arith, t, few);
+          cell = let t = some.2 in let lt = root_small layout p small in omega (arith, t, lt);
+        };
+        direct = λ one. some.1;
+        empty = λ zero. absurd (let t = some.0 in omega (arith, t, zero));
+      })
+      o.tagged
+
+module _ (s : Phases) (sound : IsSound s) (o : ℕ) (there : o < length s.objects) where
+  pub object_fits : Fits (object_at s o)
+  object_fits = record {
+    count =
+        let counted = sound.in_scene.counted o (object_at s o) (slice_get-get_or s.objects o fresh_object there) in
+        let few = count_by-le-length (λ x. counts_at x.place o) s.callers in
+        let many = sound.in_scene.many_callers in let callers = sound.in_scene.in_course.limits.few_callers in
+        omega (arith, counted, few, many, callers);
+    layout = (object_known s sound o there).bits_follow.layout;
+    incarnation = let last = (object_known s sound o there).bits_follow.last in omega (arith, last);
+  }
+
+  pub entry_known : (p : ℕ) → p < length s.turns.procs → IsEntryOf (object_at s o).layout (entry_at (object_at s o) p)
+  entry_known p at =
+      let look = sound.scene.looks o in let k = object_at s o in
+      let many = sound.in_scene.in_course.many_procs in let few = sound.in_scene.in_course.limits.few_procs in
+      let long = (object_known s sound o there).many_entries in
+      entry_of look.stage look.incarnation k.layout p (entry_at k p) object_fits.layout (omega (arith, many, few, at))
+      ((object_known s sound o there).entries_follow p (entry_at k p)
+      (slice_get-get_or k.entries p (empty_entry 0) (omega (arith, many, long, at))))

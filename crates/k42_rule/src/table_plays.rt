@@ -1,0 +1,40 @@
+//! What each step on the tables tells its pass.
+use crate::cell::Content;
+use crate::view::View;
+use atomic_table::Play;
+
+pub(crate) struct LookUp;
+
+impl<P: Drop> Play<Option<Content<P>>, View<P>> for LookUp {
+    ghost use Rattle.k42_rule.specs.Steps.{Tells};
+    ghost use Rattle.k42_rule.specs.Tabling.{entry_object, looked_up_view};
+
+    ghost then = { λ step. Tells (looked_up_view (entry_object step.word)) step };
+}
+
+pub(crate) struct LoadRoot;
+
+impl<P: Drop> Play<Option<Content<P>>, View<P>> for LoadRoot {
+    ghost use Rattle.k42_rule.specs.Steps.{Tells};
+    ghost use Rattle.k42_rule.specs.Tabling.{rooted_view};
+
+    ghost then = { Tells rooted_view };
+}
+
+pub(crate) struct EndCall;
+
+impl<P: Drop> Play<Option<Content<P>>, View<P>> for EndCall {
+    ghost use Rattle.k42_rule.specs.Steps.{Tells};
+    ghost use Rattle.k42_rule.specs.Tabling.{ended_view};
+
+    ghost then = { Tells ended_view };
+}
+
+pub(crate) struct Install;
+
+impl<P: Drop> Play<Option<Content<P>>, View<P>> for Install {
+    ghost use Rattle.k42_rule.specs.Steps.{Tells};
+    ghost use Rattle.k42_rule.specs.Tabling.{entry_object, installed_view};
+
+    ghost then = { λ step. Tells (installed_view (entry_object step.word)) step };
+}
