@@ -201,7 +201,7 @@ module _ {S L P : Type 0} (F : Layouts S L P) (laws : AreLaws F) (declared : Lis
       rows = knows.phases.rows;
       granted = knows.phases.granted;
     };
-    cells = record { taker = knows.cells.taker; notes = knows.cells.notes; out = knows.cells.out; only = knows.cells.only };
+    cells = record { taker = knows.cells.taker; notes = knows.cells.notes; noted = knows.cells.noted; out = knows.cells.out; only = knows.cells.only };
     trace = record {
       kept = knows.trace.kept;
       found = knows.trace.found;
@@ -224,8 +224,10 @@ module _ {S L P : Type 0} (F : Layouts S L P) (laws : AreLaws F) (declared : Lis
 
 pub enter_moves : {S L P : Type 0} (F : Layouts S L P) → AreLaws F → (declared : List L) (id home : ℕ) (v : PassView P) → MayEnter v → v.turn.proc ≡ home
     → Moves F declared (AtPhases (Turn (Enter v.number))) (generation_word home) (λ word. (word + 1) % 2 ^ 64) entered_view id v
-enter_moves {S} {L} {P} F laws declared id home v may same = record { from = λ table r at.
-    subst (λ i. (after : Rule F declared (with_pass table (set table.words i ((get_or table.words i 0 + 1) % 2 ^ 64)) table.homes id (entered_view (get_or table.words i 0) v)))
+enter_moves {S} {L} {P} F laws declared id home v may same = record {
+  from = λ table r at.
+      subst (λ i. (after : Rule F declared (with_pass table (set table.words i ((get_or table.words i 0 + 1) % 2 ^ 64)) table.homes id (entered_view (get_or table.words i 0) v)))
       × (after.state ≡ effect r.state (AtPhases (Turn (Enter v.number)))))
-    (ap (λ (z : Caller). generation_word z.proc) (known F declared table r id v at).generations.turn ∙ ap generation_word same)
-    (enters F laws declared table r id v at may); }
+      (ap (λ (z : Caller). generation_word z.proc) (known F declared table r id v at).generations.turn ∙ ap generation_word same)
+      (enters F laws declared table r id v at may);
+}

@@ -255,7 +255,7 @@ module _ {S L P : Type 0} (F : Layouts S L P) (laws : AreLaws F) (declared : Lis
       rows = knows.phases.rows;
       granted = knows.phases.granted;
     };
-    cells = record { taker = knows.cells.taker; notes = knows.cells.notes; out = knows.cells.out; only = knows.cells.only };
+    cells = record { taker = knows.cells.taker; notes = knows.cells.notes; noted = knows.cells.noted; out = knows.cells.out; only = knows.cells.only };
     trace = record {
       kept = knows.trace.kept;
       found = knows.trace.found;
@@ -282,9 +282,11 @@ parity_is a = by_parity (eqb (a % 2) 0) refl where
 
 pub leave_moves : {S L P : Type 0} (F : Layouts S L P) → AreLaws F → (declared : List L) (id home generation : ℕ) (v : PassView P) → MayLeave generation v → v.turn.proc ≡ home
     → Moves F declared (AtPhases (Turn (Leave v.number))) (exits_word home (generation % 2)) (λ word. (word + 1) % 2 ^ 64) left_view id v
-leave_moves {S} {L} {P} F laws declared id home generation v may same = record { from = λ table r at.
-    subst (λ i. (after : Rule F declared (with_pass table (set table.words i ((get_or table.words i 0 + 1) % 2 ^ 64)) table.homes id (left_view (get_or table.words i 0) v)))
+leave_moves {S} {L} {P} F laws declared id home generation v may same = record {
+  from = λ table r at.
+      subst (λ i. (after : Rule F declared (with_pass table (set table.words i ((get_or table.words i 0 + 1) % 2 ^ 64)) table.homes id (left_view (get_or table.words i 0) v)))
       × (after.state ≡ effect r.state (AtPhases (Turn (Leave v.number)))))
-    (ap (λ (z : Caller). exits_at z.proc (is_even generation)) (known F declared table r id v at).generations.turn ∙ ap (λ p. exits_at p (is_even generation)) same
-    ∙ ap (λ (b : ℕ). exits_word home b) (sym (parity_is generation)))
-    (leaves F laws declared table r id v at generation may); }
+      (ap (λ (z : Caller). exits_at z.proc (is_even generation)) (known F declared table r id v at).generations.turn ∙ ap (λ p. exits_at p (is_even generation)) same
+      ∙ ap (λ (b : ℕ). exits_word home b) (sym (parity_is generation)))
+      (leaves F laws declared table r id v at generation may);
+}

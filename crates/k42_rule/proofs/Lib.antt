@@ -5,3 +5,5 @@ pub mod Begun
 pub mod Entering
 pub mod Leaving
 pub mod Moves
+pub mod CellsApart
+pub mod CellsMoved

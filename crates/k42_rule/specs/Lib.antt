@@ -11,4 +11,5 @@ pub mod Rule
 pub mod Steps
 pub mod Generating
 pub mod Seen
+pub mod Taking
 pub mod Plan
