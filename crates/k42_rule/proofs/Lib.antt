@@ -7,3 +7,4 @@ pub mod Leaving
 pub mod Moves
 pub mod CellsApart
 pub mod CellsMoved
+pub mod CellsSteps
