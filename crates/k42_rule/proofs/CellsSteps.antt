@@ -42,15 +42,15 @@ use Rattle.k42_rule.proofs.CellsMoved.{moved_to, same_told', OneCell, IsMove, ce
 use Rattle.k42_rule.proofs.OnePass.{with_pass, known, LeavesOthers, moved}
 
 -- a word that is none but the holder's
-free_word : (lock : Option ℕ) → holder_value lock ≡ 0 → lock ≡ None
+pub free_word : (lock : Option ℕ) → holder_value lock ≡ 0 → lock ≡ None
 free_word None e = refl
 free_word (Some c) e = absurd (omega (arith, e))
 
-held_word : (lock : Option ℕ) → holder_value lock ≢ 0 → (c : ℕ) × (lock ≡ Some c)
+pub held_word : (lock : Option ℕ) → holder_value lock ≢ 0 → (c : ℕ) × (lock ≡ Some c)
 held_word None e = absurd (e refl)
 held_word (Some c) e = (c, refl)
 
-some_one : (c d : ℕ) → Some c ≡ Some d → c ≡ d
+pub some_one : (c d : ℕ) → Some c ≡ Some d → c ≡ d
 some_one c d e = cc
 
 module _ {S L P : Type 0} (F : Layouts S L P) (laws : AreLaws F) (declared : List L)
@@ -103,18 +103,18 @@ module _ {S L P : Type 0} (F : Layouts S L P) (laws : AreLaws F) (declared : Lis
     in_slots = let few = few_cells F declared table r id v at in let wide = r.shows.many_slots in let lt = there in omega (arith, few, wide, lt)
 
     -- the slot of a cell at home has its content, and is not out
-    record HasContent (slot : maybe.Option (Slot P)) : Type 0 where
-      inside : contents.out n ≡ false
-      content : code.Content P
-      full : slot ≡ some (Some content)
-      is : IsCell n x.history x.closed (contents.part n) content
+    pub record HasContent (slot : maybe.Option (Slot P)) : Type 0 where
+      pub inside : contents.out n ≡ false
+      pub content : code.Content P
+      pub full : slot ≡ some (Some content)
+      pub is : IsCell n x.history x.closed (contents.part n) content
 
     at_home : (slot : maybe.Option (Slot P)) → (out home : Bool) → home ≡ true → contents.out n ≡ out
         → IsSlot n x (contents.part n) slot out home → HasContent slot
     at_home slot out true e is has = record { inside = is ∙ has.0; content = has.1.0; full = has.1.1; is = has.1.2 }
     at_home slot out false e is has = absurd (cc)
 
-    has_content : x.home ≡ true → (slot : maybe.Option (Slot P)) × (get_elem? table.homes (slot_of n) ≡ some slot) × HasContent slot
+    pub has_content : x.home ≡ true → (slot : maybe.Option (Slot P)) × (get_elem? table.homes (slot_of n) ≡ some slot) × HasContent slot
     has_content home =
         let slot = shown.slot touched.place in
         (slot.0, slot.1, at_home slot.0 (contents.out n) x.home home refl slot.2)
@@ -129,7 +129,7 @@ module _ {S L P : Type 0} (F : Layouts S L P) (laws : AreLaws F) (declared : Lis
       abbrev relocked : Cell
       relocked = record x { lock = lock }
 
-      relock : x.home ≡ true → v.out ≡ None → ((d : ℕ) → d ≢ c → x.lock ≢ Some d) → ((d : ℕ) → d ≢ c → lock ≢ Some d) → new ≡ holder_value lock
+      pub relock : x.home ≡ true → v.out ≡ None → ((d : ℕ) → d ≢ c → x.lock ≢ Some d) → ((d : ℕ) → d ≢ c → lock ≢ Some d) → new ≡ holder_value lock
           → ((d : ℕ) → d ≢ c → get_or callers d fresh_caller ≡ caller_at s.turns d) → get_or callers c fresh_caller ≡ taker → taker.mine ≡ v.taker.mine
           → IsMove F declared table r id v at n new table.homes contents relocked callers taker v.notes v.out
       relock home idle was now word others own mine = record {
@@ -169,7 +169,7 @@ module _ {S L P : Type 0} (F : Layouts S L P) (laws : AreLaws F) (declared : Lis
     abbrev as_before : Turns
     as_before = record { cells = set s.turns.cells n x; callers = s.turns.callers }
 
-    before : as_before ≡ s.turns
+    pub before : as_before ≡ s.turns
     before = λ k. record { cells = set-get_or s.turns.cells n (fresh_cell 0) k; callers = s.turns.callers }
 
     note_before : (after : Contents P) → ((m : ℕ) → after.part m ≡ contents.part m) → (note : Note P) → IsNoted s.turns contents c note
@@ -216,7 +216,7 @@ module _ {S L P : Type 0} (F : Layouts S L P) (laws : AreLaws F) (declared : Lis
           }
 
       -- the cell leaves its place
-      take_move : v.out ≡ None → x.home ≡ true → (content : code.Content P) → get_elem? table.homes (slot_of n) ≡ some (some (Some content))
+      pub take_move : v.out ≡ None → x.home ≡ true → (content : code.Content P) → get_elem? table.homes (slot_of n) ≡ some (some (Some content))
           → IsMove F declared table r id v at n (get_or table.words i 0) (set table.homes (slot_of n) none) (with_out true) (cell_taken x) s.turns.callers v.taker
           (noted content ∷ v.notes) (Some content.number)
       take_move idle home content full =
@@ -257,7 +257,7 @@ module _ {S L P : Type 0} (F : Layouts S L P) (laws : AreLaws F) (declared : Lis
           }
 
       -- the slot goes out, or comes back, while the cell is away
-      slot_move : (out' : Bool) (homes : List (maybe.Option (Slot P))) (slot : maybe.Option (Slot P)) (out : Option ℕ)
+      pub slot_move : (out' : Bool) (homes : List (maybe.Option (Slot P))) (slot : maybe.Option (Slot P)) (out : Option ℕ)
           → x.home ≡ false → homes ≡ set table.homes (slot_of n) slot → IsSlot n x (contents.part n) slot out' false
           → ((m : ℕ) → v.out ≡ Some m → m ≡ n) → ((m : ℕ) → out ≡ Some m → (m ≡ n) × (out' ≡ true)) → (out' ≡ true → out ≡ Some n)
           → IsMove F declared table r id v at n (get_or table.words i 0) homes (with_out out') x s.turns.callers v.taker v.notes out
@@ -295,7 +295,7 @@ module _ {S L P : Type 0} (F : Layouts S L P) (laws : AreLaws F) (declared : Lis
           }
 
       -- the cell comes back to its place
-      put_move : v.out ≡ Some n → x.home ≡ false → (content : code.Content P) → IsCell n x.history x.closed content.part content
+      pub put_move : v.out ≡ Some n → x.home ≡ false → (content : code.Content P) → IsCell n x.history x.closed content.part content
           → IsPart F declared s n content.part
           → IsMove F declared table r id v at n (get_or table.words i 0) (set table.homes (slot_of n) (some (Some content))) (with_own content.part) (cell_put x)
           s.turns.callers v.taker (without n v.notes) None

@@ -8,3 +8,4 @@ pub mod Moves
 pub mod CellsApart
 pub mod CellsMoved
 pub mod CellsSteps
+pub mod CellsEvents
