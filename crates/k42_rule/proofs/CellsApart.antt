@@ -5,7 +5,9 @@ use Rattle.std.specs.Prelude.{map}
 use Rattle.std.proofs.lemmas.Bool.Decides.{eqb_tells}
 use Rattle.std.proofs.lemmas.Bool.{eqb-true, eq-eqb}
 use Rattle.std.proofs.lemmas.Option.{slice_get_within, same_Some}
+use mathlib.Core.Option.{some}
 use mathlib.Core.Option as maybe
+use lib.ListN.{get_elem?}
 use Rattle.k42_places.specs.Places.{EachPlace}
 use Rattle.gen_core.specs.Plain.{Generations}
 use Rattle.phase_core.specs.Plain.{Object}
@@ -131,3 +133,8 @@ still_noted n m (first ∷ notes) apart e = go (eqb first.cell n) (eqb first.cel
   go true false here there e rest = rest e
   go false true here there e rest = first_noted first.cell m (cells_noted (without n notes)) (eqb-true first.cell m there)
   go false false here there e rest = further_noted first.cell m (cells_noted (without n notes)) (rest e)
+
+pub at_within : {A : Type 0} (xs : List A) (i : ℕ) (x : A) → get_elem? xs i ≡ some x → i < length xs
+at_within [] i x e = absurd (cc)
+at_within (y ∷ ys) zero x e = omega arith
+at_within (y ∷ ys) (suc i) x e = let rest = at_within ys i x e in omega (arith, rest)

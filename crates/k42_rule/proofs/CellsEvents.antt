@@ -10,6 +10,7 @@ use mathlib.Core.Option as maybe
 use lib.ListN.{get_elem?}
 use Rattle.atomic_table.specs.Table.{State, keeps, takes, gives}
 use Rattle.atomic_table.proofs.Lists.{set_here, set_else, set_again}
+use Rattle.k42_kinds.specs.declared.entry.Entry.{Entry}
 use Rattle.turn_core.specs.Events as turns
 use Rattle.turn_core.specs.Events.{holds, holds_home, has_taken, is_caller, cell_locked, cell_unlocked, cell_taken, cell_put, caller_locked, caller_unlocked, locked}
 use Rattle.turn_core.specs.Names.{names}
@@ -113,11 +114,11 @@ module _ {S L P : Type 0} (F : Layouts S L P) (laws : AreLaws F) (declared : Lis
 
   -- locking
 
-  abbrev IsLocked : ℕ → Caller → Type 0
+  abbrev pub IsLocked : ℕ → Caller → Type 0
   IsLocked new taker =
       (after : Rule F declared (with_pass table (set table.words i new) table.homes id (record v { taker = taker }))) × (after.state ≡ effect s (AtCells (Lock c n)))
 
-  locks : MayLock F declared id n v → v.out ≡ None
+  pub locks : MayLock F declared id n v → v.out ≡ None
       → IsLocked (cond (eqb found 0) (c + 1) found) (cond (eqb found 0) (caller_locked n v.taker) v.taker)
   locks may idle = go (eqb found 0) refl where
     touched : MayTouch s c n
@@ -163,7 +164,7 @@ module _ {S L P : Type 0} (F : Layouts S L P) (laws : AreLaws F) (declared : Lis
         (after.0, after.1 ∙ (λ k. record s { turns = locked s.turns c n (sym holder.1 k); kept = s.kept }))
 
   -- leaving a lock
-  unlocks : HoldsHome n v → v.out ≡ None
+  pub unlocks : HoldsHome n v → v.out ≡ None
       → (after : Rule F declared (with_pass table (set table.words i 0) table.homes id (unlocked_view n v))) × (after.state ≡ effect s (AtCells (Unlock c n)))
   unlocks may idle =
       let is = listed may.held in
@@ -174,3 +175,98 @@ module _ {S L P : Type 0} (F : Layouts S L P) (laws : AreLaws F) (declared : Lis
       (λ d not e. not (some_one d c (sym e ∙ is.held))) (λ d not e. absurd (cc)) refl (λ d not. get_or-set_other s.turns.callers c d _ fresh_caller not)
       (get_or-set_same s.turns.callers c _ fresh_caller c_there ∙ ap (caller_unlocked n) knows.taker) refl)
       (effect s (AtCells (Unlock c n))) refl (joined_keeps F laws declared s r.sound (AtCells (Unlock c n)) (unlock_possible is home))
+
+  -- taking: the slot of a cell at home has its content
+
+  pub take_found : HoldsHome n v → (content : code.Content P) × (get_elem? table.homes (slot_of n) ≡ some (some (Some content))) × (content.number ≡ n)
+  take_found may =
+      let is = listed may.held in
+      let has = has_content F laws declared table r id v at n is.there is.touched (in_place is.held may.home) in
+      (has.2.content, has.1 ∙ ap some has.2.full, has.2.is.number)
+
+  pub takes_away : HoldsHome n v → v.out ≡ None → (content : code.Content P) → get_elem? table.homes (slot_of n) ≡ some (some (Some content))
+      → (after : Rule F declared (with_pass table (set table.words i found) (set table.homes (slot_of n) none) id (lifted_view content v)))
+      × (after.state ≡ effect s (AtCells (Take c n)))
+  takes_away may idle content full =
+      let is = listed may.held in
+      let home = in_place is.held may.home in
+      cell_moved F declared table r id v at n found (set table.homes (slot_of n) none)
+      (record r.beside.contents { out = written r.beside.contents.out n true }) (cell_taken x) s.turns.callers v.taker (noted content ∷ v.notes) (Some content.number)
+      (take_move F laws declared table r id v at n is.there is.touched is.held idle home content full)
+      (effect s (AtCells (Take c n))) refl (joined_keeps F laws declared s r.sound (AtCells (Take c n)) (take_possible is home))
+
+  -- a slot that is out comes back empty
+  pub gives_back : v.out ≡ Some n
+      → (after : Rule F declared (with_pass table (set table.words i found) (set table.homes (slot_of n) (some None)) id (record v { out = None })))
+      × (after.state ≡ s)
+  gives_back out =
+      let is' = knows.out n out in
+      let is = locked_there is'.held in
+      cell_moved F declared table r id v at n found (set table.homes (slot_of n) (some None))
+      (record r.beside.contents { out = written r.beside.contents.out n false }) x s.turns.callers v.taker v.notes None
+      (slot_move F laws declared table r id v at n is.there is.touched is.held false (set table.homes (slot_of n) (some None)) (some None) None is'.away refl refl
+      (λ m e. some_one m n (sym e ∙ out)) (λ m e. absurd (cc)) (λ e. absurd (cc)))
+      s (λ k. record s { turns = before F laws declared table r id v at n is.there is.touched k }) r.sound
+
+  -- a cell that it has taken, by its note
+  record IsAway (note : Note P) : Type 0 where
+    held : IsHeld
+    away : x.home ≡ false
+    noted : IsNoted s.turns r.beside.contents c note
+    named : note.cell ≡ n
+
+  away_by : (place : ℕ) (note : Note P) → slice_get v.notes place ≡ Some note → note.cell ≡ n → IsAway note
+  away_by place note e named =
+      let is = knows.notes place note e in
+      record {
+        held = locked_there (ap (λ k. (cell_at s.turns k).lock) (sym named) ∙ is.held);
+        away = ap (λ k. (cell_at s.turns k).home) (sym named) ∙ is.away;
+        noted = is;
+        named = named;
+      }
+
+  pub note_there : (place : ℕ) (note : Note P) → slice_get v.notes place ≡ Some note → note.cell ≡ n → n < length s.turns.cells
+  note_there place note e named = (away_by place note e named).held.there
+
+  slot_inside : v.out ≡ None → x.lock ≡ Some c → r.beside.contents.out n ≡ false
+  slot_inside idle held = go (r.beside.contents.out n) refl where
+    go : (b : Bool) → r.beside.contents.out n ≡ b → r.beside.contents.out n ≡ false
+    go false e = e
+    go true e = let out = knows.only n held e in absurd (cc)
+
+  -- the slot of a cell that was taken is empty
+  pub reach_found : v.out ≡ None → (place : ℕ) (note : Note P) → slice_get v.notes place ≡ Some note → note.cell ≡ n
+      → get_elem? table.homes (slot_of n) ≡ some (some None)
+  reach_found idle place note e named =
+      let is = away_by place note e named in
+      let shown = r.shows.cells n x (slice_get-get_or s.turns.cells n (fresh_cell 0) is.held.there) in
+      let slot = shown.slot is.held.touched.place in
+      slot.1
+      ∙ ap some (subst (λ (z : Bool × Bool). IsSlot n x (r.beside.contents.part n) slot.0 z.0 z.1) (λ k. (slot_inside idle is.held.held k, is.away k)) slot.2)
+
+  pub reaches : v.out ≡ None → (place : ℕ) (note : Note P) → slice_get v.notes place ≡ Some note → note.cell ≡ n
+      → (after : Rule F declared (with_pass table (set table.words i found) (set table.homes (slot_of n) none) id (reaching_view n v)))
+      × (after.state ≡ s)
+  reaches idle place note e named =
+      let is = away_by place note e named in
+      cell_moved F declared table r id v at n found (set table.homes (slot_of n) none)
+      (record r.beside.contents { out = written r.beside.contents.out n true }) x s.turns.callers v.taker v.notes (Some n)
+      (slot_move F laws declared table r id v at n is.held.there is.held.touched is.held.held true (set table.homes (slot_of n) none) none (Some n) is.away refl refl
+      (λ m e'. absurd (cc)) (λ m e'. (sym (some_one n m e'), refl)) (λ e'. refl))
+      s (λ k. record s { turns = before F laws declared table r id v at n is.held.there is.held.touched k }) r.sound
+
+  -- and comes back with the content
+  pub puts : v.out ≡ Some n → (place : ℕ) (note : Note P) → slice_get v.notes place ≡ Some note → note.cell ≡ n → (content : code.Content P)
+      → IsCell n note.history note.closed content.part content → IsPart F declared s n content.part
+      → (after : Rule F declared (with_pass table (set table.words i found) (set table.homes (slot_of n) (some (Some content))) id (put_view n v)))
+      × (after.state ≡ effect s (AtCells (Put c n)))
+  puts out place note e named content whole part =
+      let is = away_by place note e named in
+      let history : x.history ≡ note.history = ap (λ k. (cell_at s.turns k).history) (sym named) ∙ is.noted.history in
+      let closed : x.closed ≡ note.closed = ap (λ k. (cell_at s.turns k).closed) (sym named) ∙ is.noted.closed in
+      cell_moved F declared table r id v at n found (set table.homes (slot_of n) (some (Some content)))
+      (record { part = written r.beside.contents.part n content.part; out = written r.beside.contents.out n false }) (cell_put x) s.turns.callers v.taker
+      (without n v.notes) None
+      (put_move F laws declared table r id v at n is.held.there is.held.touched is.held.held out is.away content
+      (subst (λ (z : List Entry × Bool). IsCell n z.0 z.1 content.part content) (λ k. (sym history k, sym closed k)) whole) part)
+      (effect s (AtCells (Put c n))) refl (joined_keeps F laws declared s r.sound (AtCells (Put c n)) (put_possible is.held is.away))

@@ -9,3 +9,4 @@ pub mod CellsApart
 pub mod CellsMoved
 pub mod CellsSteps
 pub mod CellsEvents
+pub mod CellsAllowed

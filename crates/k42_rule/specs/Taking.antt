@@ -3,17 +3,19 @@ use Rattle.std.specs.Prelude.{◌≡◌, ℕ, ◌+◌, ◌*◌, ◌-◌, ◌/◌
 use Rattle.std.specs.List.{filter}
 use mathlib.Core.Option.{some}
 use lib.ListN.{get_elem?}
-use Rattle.atomic_table.specs.Table.{State, Act, takes, gives, Valid, stepped}
+use Rattle.atomic_table.specs.Table.{State, Step, Act, Valid, rest, stepped}
 use Rattle.turn_core.specs.Events.{caller_locked, caller_unlocked}
 use Rattle.turn_core.specs.Names.{names}
 use Rattle.k42_stamp.specs.Layouts.{Layouts}
 use Rattle.k42_joined.specs.Plain.{Joined}
 use Rattle.k42_joined.specs.Possible.{MayTouch}
+use Rattle.k42_joined.specs.State.{cell}
 use Rattle.k42_rule.specs.Cells.{Slot, IsCell, cells_noted}
 use Rattle.k42_rule.specs.Parts.{IsPart}
 use Rattle.k42_rule.specs.Rule.{Rule}
 use Rattle.k42_rule.specs.Seats.{told_by}
-use Rattle.k42_rule.specs.Steps.{Always}
+use Rattle.k42_rule.specs.Steps.{Seated, on_pass, Always}
+use Rattle.k42_rule.specs.Words.{slot_of}
 use Rattle.k42_rule.specs.declared.cell.Content.{Content}
 use Rattle.k42_rule.specs.declared.view.Note.{Note}
 use Rattle.k42_rule.specs.declared.view.PassView.{PassView}
@@ -56,11 +58,33 @@ reaching_view n v = record v { out = Some n }
 abbrev pub lifted_view : {P : Type 0} → Content P → PassView P → PassView P
 lifted_view content v = record v { notes = noted content ∷ v.notes; out = Some content.number }
 
+-- and no longer is
+abbrev pub given_view : {P : Type 0} → PassView P → PassView P
+given_view v = record v { out = None }
+
 abbrev pub taken_view : {P : Type 0} → Content P → PassView P → PassView P
 taken_view content v = record v { notes = noted content ∷ v.notes; out = None }
 
 abbrev pub put_view : {P : Type 0} → ℕ → PassView P → PassView P
 put_view n v = record v { notes = without n v.notes; out = None }
+
+-- what each load of a lock tells of the slot
+
+abbrev pub Lifts : {P : Type 0} → Step (Slot P) → Seated P → ℕ → Seated P → Type 0
+Lifts step me found after =
+    (content : Content _) × (content.number ≡ cell_at_lock step.word)
+    × (after ≡ (on_pass (lifted_view content) me.0, (slot_of (cell_at_lock step.word), Some content) ∷ me.1))
+
+abbrev pub GivesBack : {P : Type 0} → Step (Slot P) → Seated P → ℕ → Seated P → Type 0
+GivesBack step me found after = after ≡ (on_pass given_view me.0, rest me.1)
+
+abbrev pub Reaches : {P : Type 0} → Step (Slot P) → Seated P → ℕ → Seated P → Type 0
+Reaches step me found after =
+    after
+    ≡ (on_pass (reaching_view (cell_at_lock step.word)) me.0, (slot_of (cell_at_lock step.word), None) ∷ me.1)
+
+abbrev pub Puts : {P : Type 0} → Step (Slot P) → Seated P → ℕ → Seated P → Type 0
+Puts step me found after = after ≡ (on_pass (put_view (cell_at_lock step.word)) me.0, rest me.1)
 
 -- it holds the cell, which is in its place
 pub record HoldsHome {P : Type 0} (n : ℕ) (v : PassView P) : Type 0 where
@@ -84,6 +108,12 @@ module _ {S L P : Type 0} (F : Layouts S L P) (declared : List L) where
     pub named : note.cell ≡ n
     pub whole : IsCell n note.history note.closed content.part content
     pub part : Always F declared id v (λ s. IsPart F declared s n content.part)
+
+  -- what the pass knows of a cell that it has taken: its history, and the part that is due
+  pub record IsWhole (n : ℕ) (content : Content P) (s : Joined L) : Type 0 where
+    pub history : (cell s n).history ≡ (told_by content.badge.views).history
+    pub closed : (cell s n).closed ≡ (told_by content.badge.views).closed
+    pub part : IsPart F declared s n content.part
 
   -- Whatever state the table shows, and whatever the word is, the slot moves and the state becomes this.
   abbrev pub ActIs :
