@@ -5,6 +5,8 @@ mod board;
 mod cell;
 mod generating;
 mod pass;
+mod slot_plays;
+mod slots;
 mod plays;
 mod sys;
 mod view;
