@@ -4,12 +4,12 @@ use Rattle.std.specs.List.{slice_get, slice_index}
 use Rattle.std.specs.Prelude.{is_some}
 use Rattle.std.proofs.lemmas.Bool.{eqb-true, eq-eqb}
 use Rattle.std.proofs.lemmas.List.{set-get_or}
-use Rattle.std.proofs.lemmas.Option.{slice_get-get_or}
+use Rattle.std.proofs.lemmas.Option.{slice_get-get_or, same_Some}
 use mathlib.Core.Option.{none, some}
 use mathlib.Core.Option as maybe
 use lib.ListN.{get_elem?}
 use prog.Atomic.{either}
-use Rattle.atomic_table.specs.Table.{State, Step, step, keeps, takes, gives, Allows}
+use Rattle.atomic_table.specs.Table.{State, Step, step, rest, keeps, takes, gives, Allows}
 use Rattle.atomic_table.proofs.Lists.{set_here, set_else, set_again}
 use Rattle.k42_kinds.specs.declared.entry.Entry.{Entry}
 use Rattle.turn_core.specs.Events as turns
@@ -174,13 +174,6 @@ module _ {S L P : Type 0} (F : Layouts S L P) (laws : AreLaws F) (declared : Lis
       subst (λ (m : Seated P). Allows (Rule F declared) slots id m (lock_word n) (λ word. word) (Lifts (step slots (lock_word n) 0 0 none) m)) (sym is)
       (lift_allowed F laws declared id n v may.cell may idle slots)
 
-  -- the seat after the slot went out with it
-  pub lifted_seat : (few : n < 256) → (content : code.Content P) → content.number ≡ cell_at_lock (lock_word n) → (after : Seated P)
-      → after ≡ (on_pass (lifted_view content) me.0, (slot_of (cell_at_lock (lock_word n)), Some content) ∷ me.1)
-      → after ≡ (Crew (lifted_view content v ∷ []), (slot_of n, Some content) ∷ [])
-  lifted_seat few content number after told =
-      told ∙ (λ k. (on_pass (lifted_view content) (is k).0, (slot_of (cell_of_lock n few k), Some content) ∷ (is k).1))
-
   -- the slot comes back from any seat that has it
   pub give_seat : (few : n < 256) (content : code.Content P) → content.number ≡ n → (now : Seated P) → now ≡ (Crew (lifted_view content v ∷ []), (slot_of n, None) ∷ []) → (slots : ℕ)
       → Allows (Rule F declared) slots id now (lock_word n) (λ word. word) (GivesBack (step slots (lock_word n) 0 0 none) now)
@@ -194,14 +187,63 @@ module _ {S L P : Type 0} (F : Layouts S L P) (laws : AreLaws F) (declared : Lis
       subst (λ (m : Seated P). Allows (Rule F declared) slots id m (lock_word n) (λ word. word) (Reaches (step slots (lock_word n) 0 0 none) m)) (sym is)
       (reach_allowed F laws declared id n v may.cell idle may.place may.note may.noted may.named slots)
 
+  pub put_seat : (content : code.Content P) → MayPut F declared id n content v → (now : Seated P) → now ≡ (Crew (reaching_view n v ∷ []), (slot_of n, Some content) ∷ []) → (slots : ℕ)
+      → Allows (Rule F declared) slots id now (lock_word n) (λ word. word) (Puts (step slots (lock_word n) 0 0 none) now)
+  put_seat content may now same slots =
+      subst (λ (m : Seated P). Allows (Rule F declared) slots id m (lock_word n) (λ word. word) (Puts (step slots (lock_word n) 0 0 none) m)) (sym same)
+      (put_allowed F laws declared id n v may.cell content may idle slots)
+
+module _ {P : Type 0} (n : ℕ) (v : PassView P) (me : Seated P) (is : IsSeatOf me v) where
+  -- the seat after the slot went out with it
+  pub lifted_seat : (few : n < 256) → (content : code.Content P) → content.number ≡ cell_at_lock (lock_word n) → (after : Seated P)
+      → after ≡ (on_pass (lifted_view content) me.0, (slot_of (cell_at_lock (lock_word n)), Some content) ∷ me.1)
+      → after ≡ (Crew (lifted_view content v ∷ []), (slot_of n, Some content) ∷ [])
+  lifted_seat few content number after told =
+      told ∙ (λ k. (on_pass (lifted_view content) (is k).0, (slot_of (cell_of_lock n few k), Some content) ∷ (is k).1))
+
   pub reached_seat : (few : n < 256) (after : Seated P)
       → after ≡ (on_pass (reaching_view (cell_at_lock (lock_word n))) me.0, (slot_of (cell_at_lock (lock_word n)), None) ∷ me.1)
       → after ≡ (Crew (reaching_view n v ∷ []), (slot_of n, None) ∷ [])
   reached_seat few after told =
       told ∙ (λ k. (on_pass (reaching_view (cell_of_lock n few k)) (is k).0, (slot_of (cell_of_lock n few k), None) ∷ (is k).1))
 
-  pub put_seat : (content : code.Content P) → MayPut F declared id n content v → (now : Seated P) → now ≡ (Crew (reaching_view n v ∷ []), (slot_of n, Some content) ∷ []) → (slots : ℕ)
-      → Allows (Rule F declared) slots id now (lock_word n) (λ word. word) (Puts (step slots (lock_word n) 0 0 none) now)
-  put_seat content may now same slots =
-      subst (λ (m : Seated P). Allows (Rule F declared) slots id m (lock_word n) (λ word. word) (Puts (step slots (lock_word n) 0 0 none) m)) (sym same)
-      (put_allowed F laws declared id n v may.cell content may idle slots)
+-- the slot that went out, and what an exchange leaves of the seat
+module _ {P : Type 0} (lifted : Seated P) (w : PassView P) (slot : ℕ) (y : Slot P) (is : lifted ≡ (Crew (w ∷ []), (slot, y) ∷ [])) where
+  pub slot_out : (old : Slot P) × (lifted.1 ≡ (slot, old) ∷ rest lifted.1)
+  slot_out = let out = ap (λ (m : Seated P). m.1) is in (y, out ∙ (λ k. (slot, y) ∷ rest (sym out k)))
+
+  pub slot_result : (result : Slot P) → lifted.1 ≡ (slot, result) ∷ rest lifted.1 → y ≡ result
+  slot_result result e = first_of_two (sym (ap (λ (m : Seated P). m.1) is) ∙ e) where
+    first_of : {x z : ℕ × Slot P} {c d : List (ℕ × Slot P)} → x ∷ c ≡ z ∷ d → x ≡ z
+    first_of e = cc
+
+    first_of_two : {c d : List (ℕ × Slot P)} → (slot, y) ∷ c ≡ (slot, result) ∷ d → y ≡ result
+    first_of_two e = ap (λ (x : ℕ × Slot P). x.1) (first_of e)
+
+  pub exchanged : (now : Seated P) (z : Slot P) → now ≡ (lifted.0, (slot, z) ∷ rest lifted.1) → now ≡ (Crew (w ∷ []), (slot, z) ∷ [])
+  exchanged now z e = e ∙ (λ k. ((is k).0, (slot, z) ∷ rest (is k).1))
+
+pub same_content : {P : Type 0} {x y : code.Content P} (z : Slot P) → Some x ≡ z → z ≡ Some y → x ≡ y
+same_content z e f = same_Some _ _ (e ∙ f)
+
+module _ {S L P : Type 0} (F : Layouts S L P) (laws : AreLaws F) (declared : List L) (id n : ℕ) (v : PassView P) (idle : v.out ≡ None) (may : HoldsHome n v) where
+  -- what take tells at its end
+  pub given_is : (content : code.Content P) → content.number ≡ n → (w : PassView P) → given_view (lifted_view content v) ≡ w
+      → ActIs F declared (λ s. s) (lock_word n) id ((slot_of n, None) ∷ []) (lifted_view content v) gives w
+  given_is content number w same =
+      subst (λ z. ActIs F declared (λ s. s) (lock_word n) id ((slot_of n, None) ∷ []) (lifted_view content v) gives z) same
+      (give_is F laws declared id n (lifted_view content v) (ap Some number))
+
+  pub taken_whole : (content : code.Content P) → content.number ≡ n → (w : PassView P) → taken_view content v ≡ w
+      → Always F declared id w (IsWhole F declared n content)
+  taken_whole content number w same =
+      subst (λ z. Always F declared id z (IsWhole F declared n content)) same
+      (whole_always F laws declared id n (taken_view content v) 0 content refl number)
+
+  -- what put tells at its end
+module _ {S L P : Type 0} (F : Layouts S L P) (laws : AreLaws F) (declared : List L) (id n : ℕ) (v : PassView P) (idle : v.out ≡ None) where
+  pub put_was : (content : code.Content P) → MayPut F declared id n content v → (w : PassView P) → put_view n v ≡ w
+      → ActIs F declared (λ s. effect s (AtCells (Put v.number n))) (lock_word n) id ((slot_of n, Some content) ∷ []) (reaching_view n v) gives w
+  put_was content may w same =
+      subst (λ z. ActIs F declared (λ s. effect s (AtCells (Put v.number n))) (lock_word n) id ((slot_of n, Some content) ∷ []) (reaching_view n v) gives z) same
+      (put_is F laws declared id n v content may idle)
