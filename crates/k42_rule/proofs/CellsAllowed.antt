@@ -187,11 +187,12 @@ module _ {S L P : Type 0} (F : Layouts S L P) (laws : AreLaws F) (declared : Lis
       subst (λ (m : Seated P). Allows (Rule F declared) slots id m (lock_word n) (λ word. word) (Reaches (step slots (lock_word n) 0 0 none) m)) (sym is)
       (reach_allowed F laws declared id n v may.cell idle may.place may.note may.noted may.named slots)
 
-  pub put_seat : (content : code.Content P) → MayPut F declared id n content v → (now : Seated P) → now ≡ (Crew (reaching_view n v ∷ []), (slot_of n, Some content) ∷ []) → (slots : ℕ)
-      → Allows (Rule F declared) slots id now (lock_word n) (λ word. word) (Puts (step slots (lock_word n) 0 0 none) now)
-  put_seat content may now same slots =
-      subst (λ (m : Seated P). Allows (Rule F declared) slots id m (lock_word n) (λ word. word) (Puts (step slots (lock_word n) 0 0 none) m)) (sym same)
-      (put_allowed F laws declared id n v may.cell content may idle slots)
+  pub put_seat : (content : code.Content P) → MayPut F declared id n content v → (now : Seated P) → now ≡ (Crew (reaching_view n v ∷ []), (slot_of n, Some content) ∷ [])
+      → (seat : ℕ) → seat ≡ id → (slots : ℕ)
+      → Allows (Rule F declared) slots seat now (lock_word n) (λ word. word) (Puts (step slots (lock_word n) 0 0 none) now)
+  put_seat content may now same seat here slots =
+      subst (λ (z : ℕ × Seated P). Allows (Rule F declared) slots z.0 z.1 (lock_word n) (λ word. word) (Puts (step slots (lock_word n) 0 0 none) z.1))
+      (λ k. (sym here k, sym same k)) (put_allowed F laws declared id n v may.cell content may idle slots)
 
 module _ {P : Type 0} (n : ℕ) (v : PassView P) (me : Seated P) (is : IsSeatOf me v) where
   -- the seat after the slot went out with it

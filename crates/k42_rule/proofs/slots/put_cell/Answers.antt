@@ -37,11 +37,19 @@ load-requires-2 g c =
       (let wide = c.requires.ours.1 in omega (arith, few, wide)),
       put_seat _ c.requires.laws _ _ c.args.cell v c.args.seat.now.me c.requires.idle.0 c.requires.idle.1 c.args.content c.requires.may
           c.exchange.new.seat.me
-          (exchanged c.load.new.seat.me (reaching_view c.args.cell v) (slot_of c.args.cell) None out c.exchange.new.seat.me (Some c.args.content) x.3) slots,
+          (exchanged c.load.new.seat.me (reaching_view c.args.cell v) (slot_of c.args.cell) None out c.exchange.new.seat.me (Some c.args.content) x.3)
+          c.exchange.new.seat.id (x.1 ∙ e.1) slots,
     )
 
+put_again : goal.returns-clause-told
+put_again g c =
+    let e = c.load.ensures in let x = c.exchange.ensures in let v = pass_in c.args.seat.now.me.0 in let few = c.requires.may.cell in
+    let out = reached_seat c.args.cell v c.args.seat.now.me c.requires.idle.0 few c.load.new.seat.me e.2 in
+    let now = exchanged c.load.new.seat.me (reaching_view c.args.cell v) (slot_of c.args.cell) None out c.exchange.new.seat.me (Some c.args.content) x.3 in
+    c.load-2.ensures.2 ∙ (λ k. (on_pass (put_view (cell_of_lock c.args.cell few k)) (now k).0, rest (now k).1))
+
 pub returns-clause-told : goal.returns-clause-told
-returns-clause-told g c = ?
+returns-clause-told g c = put_again g c
 
 pub returns-clause-reach : goal.returns-clause-reach
 returns-clause-reach g c =
@@ -49,4 +57,6 @@ returns-clause-reach g c =
     reach_is _ c.requires.laws _ c.args.seat.now.id c.args.cell (pass_in c.args.seat.now.me.0) c.requires.idle.1 may.place may.note may.noted may.named
 
 pub returns-clause-event : goal.returns-clause-event
-returns-clause-event g c = ?
+returns-clause-event g c =
+    put_was _ c.requires.laws _ c.args.seat.now.id c.args.cell (pass_in c.args.seat.now.me.0) c.requires.idle.1 c.args.content c.requires.may
+    (pass_in c.load-2.new.seat.me.0) (sym (ap (λ (m : Seated _). pass_in m.0) (put_again g c)))
