@@ -10,3 +10,10 @@ pub mod CellsMoved
 pub mod CellsSteps
 pub mod CellsEvents
 pub mod CellsAllowed
+pub mod FirstParts
+pub mod Opening
+pub mod Put
+pub mod Dealing
+pub mod Starting
+pub mod Plans
+pub mod Visiting

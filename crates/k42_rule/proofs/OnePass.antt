@@ -13,7 +13,7 @@ use Rattle.k42_joined.specs.Sound.{IsSound}
 use Rattle.k42_rule.specs.Cells.{Slot}
 use Rattle.k42_rule.specs.Parts.{IsPart}
 use Rattle.k42_rule.specs.Phases.{IsOld}
-use Rattle.k42_rule.specs.Rule.{Beside, KnowsPass, Knows, Shows, Rule}
+use Rattle.k42_rule.specs.Rule.{Beside, AreApart, KnowsPass, Knows, Shows, Rule}
 use Rattle.k42_rule.specs.declared.view.PassView.{PassView}
 use Rattle.k42_rule.specs.declared.view.Row.{Row}
 use Rattle.k42_rule.specs.declared.view.View.{View}
@@ -26,11 +26,16 @@ abbrev pub with_pass :
 with_pass table words homes id w =
     record { words = words; homes = homes; views = set table.views id (Crew (w ∷ [])) }
 
+pub apart_alone : {P : Type 0} (w : PassView P) → AreApart (w ∷ [])
+apart_alone w zero zero v x e f same = refl
+apart_alone w zero (suc j) v x e f same = absurd (cc)
+apart_alone w (suc i) j v x e f same = absurd (cc)
+
 module _ {S L P : Type 0} (F : Layouts S L P) (declared : List L)
     (table : State (Slot P) (View P)) (r : Rule F declared table) (id : ℕ) (v : PassView P)
     (at : get_elem? table.views id ≡ some (Crew (v ∷ []))) where
   pub known : KnowsPass F.tag_of r.state r.beside id v
-  known = r.seats id (Crew (v ∷ [])) at 0 v refl
+  known = (r.seats id (Crew (v ∷ [])) at).1 0 v refl
 
   -- what the seats other than this one know stays
   pub record LeavesOthers (t : Joined L) (beside : Beside P) : Type 0 where
@@ -44,9 +49,10 @@ module _ {S L P : Type 0} (F : Layouts S L P) (declared : List L)
       (w : PassView P) (leaves : LeavesOthers t beside) where
     other : (j : ℕ) (view : View P) → j ≢ id → Knows F.tag_of r.state r.beside j view → Knows F.tag_of t beside j view
     other j (Crew passes) not knows =
+        (knows.0,
         λ place x here.
-        let k = knows place x here in
-        leaves.passes j x (λ e. not (sym k.seat ∙ ap r.beside.seat e ∙ known.seat)) k
+        let k = knows.1 place x here in
+        leaves.passes j x (λ e. not (sym k.seat ∙ ap r.beside.seat e ∙ known.seat)) k)
     other j (Kept told) not knows = tt
     other j (Named row) not knows = (leaves.rows row knows.0, leaves.row_seats row ∙ knows.1)
     other j Spent not knows = tt
@@ -70,7 +76,7 @@ module _ {S L P : Type 0} (F : Layouts S L P) (declared : List L)
         seats = λ j view e.
             ⊎_elim
             (λ here.
-            subst (λ (z : ℕ × View P). Knows F.tag_of t beside z.0 z.1) (λ i. (sym here.0 i, here.1 i)) (own mine))
+            subst (λ (z : ℕ × View P). Knows F.tag_of t beside z.0 z.1) (λ i. (sym here.0 i, here.1 i)) (apart_alone w, own mine))
             (λ old. other j view old.0 (r.seats j view old.1))
             (at_set table.views id j (Crew (w ∷ [])) view e);
       },

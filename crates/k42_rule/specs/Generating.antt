@@ -1,5 +1,6 @@
 -- The steps of generations, for one pass: where each may be taken, and what the pass knows after it.
 use Rattle.std.specs.Prelude.{◌≡◌, ℕ, ◌+◌, ◌<◌, true, [], Some, None}
+use Rattle.std.specs.Option.{unwrap_or}
 use Rattle.gen_core.specs.Events.{is_free}
 use Rattle.phase_core.specs.Stages.{is_idle, is_out}
 use Rattle.k42_rule.specs.Generations.{MOST}
@@ -20,6 +21,13 @@ entered_view found v =
 pub record MayLeave {P : Type 0} (generation : ℕ) (v : PassView P) : Type 0 where
   pub active : v.turn.active ≡ Some generation
   pub out : is_out v.visitor.place ≡ true
+
+abbrev pub CanLeave : {P : Type 0} → PassView P → Type 0
+CanLeave v = (generation : ℕ) × MayLeave generation v
+
+-- the generation of its activity
+abbrev pub active_in : {P : Type 0} → PassView P → ℕ
+active_in v = unwrap_or v.turn.active 0
 
 abbrev pub left_view : {P : Type 0} → ℕ → PassView P → PassView P
 left_view found v =

@@ -13,3 +13,5 @@ pub mod Generating
 pub mod Seen
 pub mod Taking
 pub mod Plan
+pub mod Starting
+pub mod Dealing

@@ -1,5 +1,5 @@
 -- The rule of the table: words, slots and views show a state of the joined machine that meets its invariant.
-use Rattle.std.specs.Prelude.{◌≡◌, ℕ, ◌<◌, ◌≤◌, ◌*◌, List, [], ◌∷◌, length, map, ⊤}
+use Rattle.std.specs.Prelude.{◌≡◌, ℕ, ◌<◌, ◌≤◌, ◌*◌, List, [], ◌∷◌, length, map, ⊤, Some, slice_get}
 use mathlib.Core.Option.{some}
 use lib.ListN.{get_elem?}
 use Rattle.atomic_table.specs.Table.{State}
@@ -29,6 +29,12 @@ pub record Beside (P : Type 0) : Type 0 where
   pub counts : Counts
   pub contents : Contents P
 
+-- no two passes of the list are of one caller
+abbrev pub AreApart : {P : Type 0} → List (PassView P) → Type 0
+AreApart {P} passes =
+    (i j : ℕ) (v w : PassView P) → slice_get passes i ≡ Some v → slice_get passes j ≡ Some w
+    → v.number ≡ w.number → i ≡ j
+
 module _ {L P : Type 0} (tag_of : L → ℕ) (s : Joined L) (beside : Beside P) where
   -- a pass knows its caller, which no other seat has
   pub record KnowsPass (id : ℕ) (v : PassView P) : Type 0 where
@@ -40,7 +46,7 @@ module _ {L P : Type 0} (tag_of : L → ℕ) (s : Joined L) (beside : Beside P) 
     pub trace : KnowsTrace tag_of s v
 
   abbrev pub Knows : ℕ → View P → Type 0
-  Knows id (Crew passes) = EachPlace (λ place v. KnowsPass id v) passes
+  Knows id (Crew passes) = AreApart passes × EachPlace (λ place v. KnowsPass id v) passes
   Knows id (Named row) = IsOld s.phases row × (beside.row_seat row ≡ id)
   Knows id (Kept told) = ⊤
   Knows id Spent = ⊤

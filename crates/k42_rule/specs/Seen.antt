@@ -1,7 +1,9 @@
 -- Systems and passes, as contracts see them.
-use Rattle.std.specs.Prelude.{◌≡◌, ℕ, List, [], ◌∷◌, Option}
+use Rattle.std.specs.Prelude.{◌≡◌, ℕ, ◌&&◌, Bool, List, [], ◌∷◌, Option, None, is_none}
 use Rattle.atomic_table.specs.Seated.{TableId}
+use Rattle.gen_core.specs.Events as graces
 use Rattle.gen_core.specs.Plain as gens
+use Rattle.phase_core.specs.Stages as swaps
 use Rattle.gen_core.specs.declared.state.GraceAt.{GraceAt}
 use Rattle.k42_kinds.specs.declared.entry.Entry.{Entry}
 use Rattle.phase_core.specs.declared.caller.Place.{Place}
@@ -75,8 +77,10 @@ own_in v = record {
 abbrev pub IsSeatOf : {P : Type 0} → Seated P → PassView P → Type 0
 IsSeatOf me v = me ≡ (Crew (v ∷ []), [])
 
+-- between two calls no slot is out with the pass
 abbrev pub Mirrors : {P : Type 0} → Seated P → Own → Type 0
-Mirrors me own = IsSeatOf me (pass_in me.0) × (own ≡ own_in (pass_in me.0))
+Mirrors me own =
+    IsSeatOf me (pass_in me.0) × (own ≡ own_in (pass_in me.0)) × ((pass_in me.0).out ≡ None)
 
 -- the pass has a seat of the system's table
 abbrev pub IsOf : {L P : Type 0} → SysSeen L → PassSeen P → Type 0
@@ -88,3 +92,7 @@ pub record IsSamePass {P : Type 0} (old new : PassSeen P) : Type 0 where
   pub seat : new.seat ≡ old.seat
   pub room : new.room ≡ old.room
   pub row_room : new.row_room ≡ old.row_room
+
+-- no activity, no grace and no swap is under way
+abbrev pub is_at_rest : {P : Type 0} → PassView P → Bool
+is_at_rest v = is_none v.turn.active && graces.is_idle v.turn.grace && swaps.is_idle v.visitor.swap

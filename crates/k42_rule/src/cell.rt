@@ -1,5 +1,5 @@
 //! A cell, with the seat that tells its history.
-ghost use Rattle.std.specs.Prelude.{◌≡◌};
+ghost use Rattle.std.specs.Prelude.{◌≡◌, None, Some};
 ghost use Rattle.k42_rule.specs.Seats.{IsTold};
 
 use crate::view::View;
@@ -34,5 +34,21 @@ impl<P: Drop> Content<P> {
         ensures { result ≡ self.now.closed }
     {
         self.closed
+    }
+
+    /// Takes the part out.
+    pub fn take_part(&mut self) -> Option<P>
+        ensures taken { result ≡ self.old.part }
+        ensures same { self.new ≡ record self.old { part = None } }
+    {
+        self.part.take()
+    }
+
+    /// Puts a part in.
+    pub fn set_part(&mut self, part: P)
+        requires { self.old.part ≡ None }
+        ensures { self.new ≡ record self.old { part = Some part } }
+    {
+        self.part = Some(part);
     }
 }

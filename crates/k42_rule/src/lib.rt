@@ -8,12 +8,13 @@ mod pass;
 mod slot_plays;
 mod slots;
 mod plays;
+mod start;
 mod sys;
 mod view;
 mod words;
 
 pub use cell::{Cell, Content};
-pub use generating::enter_step;
+pub use generating::{enter_step, leave_step};
 pub use pass::{Pass, Walker};
 pub use sys::Sys;
 pub use view::{LastBegin, Row};

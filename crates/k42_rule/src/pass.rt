@@ -1,5 +1,7 @@
 //! A pass: what one caller steps with.
-ghost use Rattle.std.specs.Prelude.{◌≡◌};
+ghost use Rattle.std.specs.Prelude.{◌≡◌, ◌<◌, length, is_some};
+ghost use Rattle.phase_core.specs.State.{note_at};
+ghost use Rattle.k42_rule.specs.Seen.{is_at_rest};
 
 use crate::cell::Content;
 use crate::view::{LastBegin, Row, View};
@@ -73,5 +75,82 @@ impl<P: Drop> Walker<P> {
         ensures { result ≡ self.now.view.number }
     {
         self.number
+    }
+
+    pub fn processor(&self) -> u32
+        ensures { result ≡ self.now.view.turn.proc }
+    {
+        self.home
+    }
+
+    /// Whether it is in an activity.
+    pub fn is_active(&self) -> bool
+        ensures { result ≡ is_some self.now.view.turn.active }
+    {
+        self.active.is_some()
+    }
+
+    /// The generation of its activity.
+    pub fn generation(&self) -> Option<u32>
+        ensures { result ≡ self.now.view.turn.active }
+    {
+        self.active
+    }
+
+    /// Its entries, the oldest first.
+    pub fn entries(&self) -> &[Entry]
+        ensures { result.now ≡ self.now.view.taker.mine }
+    {
+        self.entries.as_slice()
+    }
+
+    /// How many activities it has begun.
+    pub fn activities(&self) -> u32
+        ensures { result ≡ self.now.view.activities }
+    {
+        self.activities
+    }
+
+    /// How many graces it has begun.
+    pub fn graces(&self) -> u32
+        ensures { result ≡ self.now.view.graces }
+    {
+        self.graces
+    }
+
+    /// The object of its last Begin, and the word that this found.
+    pub fn last_begin(&self) -> Option<LastBegin>
+        ensures { result ≡ self.now.view.last }
+    {
+        self.last
+    }
+
+    /// The rows that it holds, the oldest first.
+    pub fn rows(&self) -> &[Row]
+        ensures { result.now ≡ self.now.view.rows }
+    {
+        self.rows.as_slice()
+    }
+
+    /// For how many more rows there is room.
+    pub fn row_room(&self) -> usize
+        ensures { result ≡ self.now.row_room }
+    {
+        self.rows.capacity() - self.rows.len()
+    }
+
+    /// What its grace noted of the object.
+    pub fn noted(&self, object: u32) -> Option<u32>
+        requires { object < length self.now.view.visitor.noted }
+        ensures { result ≡ note_at self.now.view.visitor.noted object }
+    {
+        self.noted[object as usize]
+    }
+
+    /// Whether it has no activity, no grace and no swap under way.
+    pub fn is_idle(&self) -> bool
+        ensures { result ≡ is_at_rest self.now.view }
+    {
+        self.active.is_none() && self.grace == GraceAt::Idle && self.swap == SwapAt::Idle
     }
 }

@@ -1,0 +1,32 @@
+-- A start is a plan of the joined machine.
+use Rattle.std.proofs.Common.{◌≡◌, ℕ, ◌<◌, ◌≤◌, List, Some, length, get_or, map, sym, refl, ap, ◌∙◌, subst, ⊎_elim, arith}
+use Rattle.std.specs.List.{slice_get, slice_index_or}
+use Rattle.std.proofs.lemmas.List.{length-map, get_or_past}
+use Rattle.std.proofs.lemmas.Bool.{cases_lt}
+use Rattle.std.proofs.lemmas.Option.{slice_get-get_or}
+use Rattle.k42_places.specs.Places.{EachPlace}
+use Rattle.k42_places.proofs.EachPlaces.{EachPlace-map}
+use Rattle.k42_stamp.specs.Layouts.{Layouts}
+use Rattle.k42_joined.specs.Fresh.{IsPlan}
+use Rattle.k42_rule.specs.Starting.{IsStart}
+
+pub plan_of : {S L P : Type 0} (F : Layouts S L P) (declared : List L) (callers : List ℕ) → IsStart F.tag_of declared F.procs callers
+    → ((c : ℕ) → F.proc_of c ≡ slice_index_or callers c 0) → IsPlan F declared callers
+plan_of F declared callers start told = record {
+  phases = record {
+    turns = start.turns;
+    some_objects = rw (length-map declared F.tag_of) start.some_objects;
+    few_objects = rw (length-map declared F.tag_of) start.few_objects;
+    known_layouts =
+        EachPlace-map (λ o layout. layout ≤ 2) F.tag_of declared (λ o layout e. let live = start.live o layout e in omega (arith, live));
+  };
+  live = start.live;
+  proc_of = λ c there. told c;
+}
+
+pub on_processors : (procs : ℕ) (callers : List ℕ) → 0 < procs → EachPlace (λ c p. p < procs) callers → (c : ℕ) → slice_index_or callers c 0 < procs
+on_processors procs callers some placed c =
+    ⊎_elim
+    (λ there. placed c (get_or callers c 0) (slice_get-get_or callers c 0 there))
+    (λ past. rw (get_or_past callers c 0 past) some)
+    (cases_lt c (length callers))

@@ -1,0 +1,5 @@
+use Rattle.k42_rule.specs.Starting.{IsDealing}
+use Rattle.k42_rule.proofs.start.deal_all.Given as goal
+
+abbrev pub invariant-loop-number : goal.invariant-loop-number
+invariant-loop-number g l = IsDealing l.board.shared.table_id l.procs l.objects l.homes l.number l.seat.table_id l.seat.me l.passes.items

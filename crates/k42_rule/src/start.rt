@@ -1,0 +1,112 @@
+//! How a system starts.
+ghost use Rattle.std.specs.Prelude.{◌≡◌, ◌<◌, ◌≤◌, ℕ, List, [], ◌∷◌, length, IfOk};
+ghost use Rattle.k42_places.specs.Places.{EachPlace};
+ghost use Rattle.k42_rule.specs.Dealing.{dealer};
+ghost use Rattle.k42_rule.specs.Starting.{AreFirstWords, AreFirstSlots, IsNewPass, AreDealt};
+ghost use Rattle.k42_rule.specs.Views.{new_pass, new_passes};
+ghost use Rattle.k42_rule.specs.Words.{many_words, many_slots};
+ghost use Rattle.k42_rule.specs.declared.view.PassView.{PassView};
+ghost use Rattle.k42_rule.specs.declared.view.View.TheVariants.{Crew};
+
+use crate::board::{Board, Place};
+use crate::cell::Content;
+use crate::pass::{Pass, Walker};
+use crate::plays::Deal;
+use atomic_table::Badge;
+use gen_core::GraceAt;
+use k42_kinds::Layout;
+use k42_memory::Memory;
+use phase_core::SwapAt;
+use std::alloc::Global;
+
+pub(crate) fn first_words<L: Layout>(alloc: Global, layouts: &[L]) -> Result<Vec<u64>, Memory>
+    requires few { length layouts.now ≤ 16 }
+    requires live { EachPlace (λ o layout. L.tag_of layout ≤ 1) layouts.now }
+    ensures { IfOk result (λ words. AreFirstWords L.tag_of layouts.now (length layouts.now) words.items) }
+{
+    let mut words = Vec::from_elem(alloc, 0u64, 1056)?;
+    for (object, layout) in layouts.iter().enumerate() {
+        words[528 + 16 * object] = u64::from(layout.tag()) << 28;
+    }
+    Ok(words)
+}
+
+pub(crate) fn first_slots<P: Drop>(alloc: Global) -> Result<Vec<Option<Content<P>>>, Memory>
+    ensures { IfOk result (λ slots. (length slots.items ≡ many_slots) × AreFirstSlots slots.items) }
+{
+    let mut slots = Vec::new(alloc);
+    for slot in 0..320u32 {
+        slots.push(Some(Content {
+            badge: Badge::blank(),
+            number: slot % 40 * 8 + slot / 40,
+            closed: false,
+            last: 0,
+            part: None,
+        }))?;
+    }
+    Ok(slots)
+}
+
+fn deal<L: Layout>(
+    alloc: Global,
+    board: &Board<L>,
+    seat: &mut Place<L>,
+    procs: u32,
+    objects: usize,
+    number: u32,
+    home: u32,
+) -> Result<Pass<L>, Memory>
+    requires ours { (seat.old.table_id ≡ board.now.shared.table_id) × (board.now.shared.table_id.words ≡ many_words) × (home < 8) }
+    requires crew { (rest : List (PassView L.Part)) × (seat.old.me ≡ (Crew (new_pass procs objects number home ∷ rest), [])) }
+    ensures ours { (seat.new.table_id ≡ seat.old.table_id) × (seat.new.me ≡ (dealer seat.old.me.0, [])) }
+    ensures dealt { IfOk result (λ pass. IsNewPass board.now.shared.table_id procs objects number home pass) }
+{
+    let own = board.shared.split_seat::<Deal>(seat);
+    let waits = Vec::from_elem(alloc, 0u32, procs as usize)?;
+    let noted = Vec::from_elem(alloc, None, objects)?;
+    let freeing = Vec::from_elem(alloc, (0u32, 0u32), objects)?;
+    let rows = Vec::with_capacity(alloc, 64)?;
+    Ok(Walker {
+        seat: own,
+        number,
+        home,
+        active: None,
+        grace: GraceAt::Idle,
+        coming: None,
+        waits,
+        place: phase_core::Place::Out,
+        noted,
+        freeing,
+        swap: SwapAt::Idle,
+        entries: Vec::new(alloc),
+        activities: 0,
+        graces: 0,
+        base: None,
+        last: None,
+        layout: None,
+        handed: None,
+        rows,
+        granted: 0,
+    })
+}
+
+pub(crate) fn deal_all<L: Layout>(
+    alloc: Global,
+    board: &Board<L>,
+    seat: &mut Place<L>,
+    procs: u32,
+    objects: usize,
+    homes: &[u32],
+) -> Result<Vec<Pass<L>>, Memory>
+    requires ours { (seat.old.table_id ≡ board.now.shared.table_id) × (board.now.shared.table_id.words ≡ many_words) }
+    requires crew { seat.old.me ≡ (Crew (new_passes procs objects 0 homes.now), []) }
+    requires homes { (length homes.now ≤ 16) × EachPlace (λ c home. home < 8) homes.now }
+    ensures { IfOk result (λ passes. AreDealt board.now.shared.table_id procs objects homes.now passes.items) }
+{
+    let mut passes = Vec::with_capacity(alloc, homes.len())?;
+    for (number, home) in homes.iter().enumerate() {
+        let pass = deal(alloc, board, seat, procs, objects, number as u32, *home)?;
+        passes.push(pass)?;
+    }
+    Ok(passes)
+}
