@@ -12,7 +12,7 @@ pub mod CellsEvents
 pub mod CellsAllowed
 pub mod FirstParts
 pub mod Opening
-pub mod Put
+pub mod Replaced
 pub mod Dealing
 pub mod Starting
 pub mod Plans

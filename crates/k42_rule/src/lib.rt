@@ -10,6 +10,7 @@ mod slots;
 mod plays;
 mod start;
 mod sys;
+mod taking;
 mod view;
 mod words;
 
@@ -17,4 +18,5 @@ pub use cell::{Cell, Content};
 pub use generating::{enter_step, leave_step};
 pub use pass::{Pass, Walker};
 pub use sys::Sys;
+pub use taking::{lock, put, take, unlock};
 pub use view::{LastBegin, Row};
