@@ -10,6 +10,7 @@ pub mod CellsMoved
 pub mod CellsSteps
 pub mod CellsEvents
 pub mod CellsAllowed
+pub mod CellsDrawn
 pub mod FirstParts
 pub mod Opening
 pub mod Replaced

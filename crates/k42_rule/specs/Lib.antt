@@ -12,6 +12,7 @@ pub mod Steps
 pub mod Generating
 pub mod Seen
 pub mod Taking
+pub mod Drawing
 pub mod Plan
 pub mod Starting
 pub mod Dealing
