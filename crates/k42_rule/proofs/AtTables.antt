@@ -237,7 +237,7 @@ module _ {S L P : Type 0} (F : Layouts S L P) (laws : AreLaws F) (declared : Lis
           rows = phases.held_rows;
           granted = before.phases.granted;
         };
-        cells = record { taker = before.cells.taker; notes = before.cells.notes; out = before.cells.out; only = before.cells.only };
+        cells = record { taker = before.cells.taker; notes = before.cells.notes; noted = before.cells.noted; out = before.cells.out; only = before.cells.only };
         trace = record {
           kept = trace.kept;
           found = trace.found;

@@ -16,7 +16,7 @@ use Rattle.k42_rule.specs.declared.view.PassView.{PassView}
 use Rattle.k42_rule.specs.declared.view.View.{View}
 use Rattle.k42_rule.specs.declared.view.View.TheVariants.{Crew, Kept, Named, Spent}
 use Rattle.k42_rule.proofs.OnePass.{apart_alone}
-use Rattle.k42_rule.proofs.Put.{put, put_here, put_else}
+use Rattle.k42_rule.proofs.Replaced.{put, put_here, put_else}
 
 -- a member of a longer list is the last one, or was there before
 pub at_end : {A : Type 0} (l : List A) (a b : A) (j : ℕ) → get_elem? (l ++ a ∷ []) j ≡ some b → ((j ≡ length l) × (a ≡ b)) ⊎ (get_elem? l j ≡ some b)

@@ -133,14 +133,14 @@ module _ {S L P : Type 0} (F : Layouts S L P) (laws : AreLaws F) (declared : Lis
   test_is =
       empty_shown k.layout i found (entry_at k p) entry_is.0 entry_is.1
       ∙ ap (λ (z : ℕ × Visitor). is_empty_at (entry_at k z.0) (row_of z.1.place)) (λ j. (sym home j, sym knows.phases.visitor j)) where
-    home : proc_of s c ≡ p
-    home = ap (λ z. z.proc) knows.generations.turn
+        home : proc_of s c ≡ p
+        home = ap (λ z. z.proc) knows.generations.turn
 
   effect_is : effect r.state (AtPhases (Install c o)) ≡ inst (eqb found (empty_before v)) v.visitor p l
   effect_is =
       ap (λ (z : Bool × Visitor × ℕ × ℕ). inst z.0 z.1 z.2 z.3) (λ j. (sym test_is j, knows.phases.visitor j, home j, layout_is j)) where
-    home : proc_of s c ≡ p
-    home = ap (λ z. z.proc) knows.generations.turn
+        home : proc_of s c ≡ p
+        home = ap (λ z. z.proc) knows.generations.turn
 
   possible : IsPossible F declared r.state (AtPhases (Install c o))
   possible = record {

@@ -255,7 +255,7 @@ module _ {S L P : Type 0} (F : Layouts S L P) (laws : AreLaws F) (declared : Lis
       rows = knows.phases.rows;
       granted = knows.phases.granted;
     };
-    cells = record { taker = knows.cells.taker; notes = knows.cells.notes; out = knows.cells.out; only = knows.cells.only };
+    cells = record { taker = knows.cells.taker; notes = knows.cells.notes; noted = knows.cells.noted; out = knows.cells.out; only = knows.cells.only };
     trace = record {
       kept = knows.trace.kept;
       found = knows.trace.found;

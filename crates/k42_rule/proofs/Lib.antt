@@ -10,9 +10,15 @@ pub mod Fields
 pub mod Looking
 pub mod Installing
 pub mod Knocking
+pub mod CellsApart
+pub mod CellsMoved
+pub mod CellsSteps
+pub mod CellsEvents
+pub mod CellsAllowed
+pub mod CellsDrawn
 pub mod FirstParts
 pub mod Opening
-pub mod Put
+pub mod Replaced
 pub mod Dealing
 pub mod Starting
 pub mod Plans

@@ -22,6 +22,8 @@ use Rattle.turn_core.specs.State as turns
 use Rattle.turn_core.specs.Plain.{Cell}
 use Rattle.k42_stamp.specs.Laws.{AreLaws}
 use Rattle.k42_stamp.specs.Layouts.{Layouts}
+use Rattle.std.proofs.Math.ListN.{get_or-map}
+use Rattle.turn_core.specs.Plain as turns'
 use Rattle.k42_joined.specs.Fresh.{first_lives, fresh, IsPlan}
 use Rattle.k42_joined.specs.Numbers.{place_of}
 use Rattle.k42_joined.specs.Plain.{Joined}
@@ -189,6 +191,7 @@ module _ {S L P : Type 0} (F : Layouts S L P) (laws : AreLaws F) (declared : Lis
     cells = record {
       taker = same_everywhere (length callers) c turns.fresh_caller;
       notes = λ place note is. absurd (cc);
+      noted = λ n lock away. absurd (let home = ap (λ (x : turns'.Cell). x.home) (get_or-map fresh_cell (first_lives (length declared)) n 0) in cc);
       out = λ n is. absurd (cc);
       only = λ n lock is. absurd (cc);
     };

@@ -86,7 +86,7 @@ module _ {S L P : Type 0} (F : Layouts S L P) (laws : AreLaws F) (declared : Lis
         seat = k.seat;
         generations = record { turn = k.generations.turn; activities = k.generations.activities; graces = k.generations.graces; base = k.generations.base };
         phases = mine;
-        cells = record { taker = k.cells.taker; notes = k.cells.notes; out = k.cells.out; only = k.cells.only };
+        cells = record { taker = k.cells.taker; notes = k.cells.notes; noted = k.cells.noted; out = k.cells.out; only = k.cells.only };
         trace = record {
           kept = k.trace.kept;
           found = k.trace.found;

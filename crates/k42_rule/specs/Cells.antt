@@ -1,10 +1,11 @@
 -- The words of the locks, the slots, and what a pass knows of the cells that it has taken.
-use Rattle.std.specs.Prelude.{◌≡◌, ◌≢◌, ℕ, ◌+◌, ◌<◌, ◌≤◌, Bool, true, false, List, [], ◌∷◌, Option, Some, None, slice_index}
+use Rattle.std.specs.Prelude.{◌≡◌, ◌≢◌, ℕ, ◌+◌, ◌<◌, ◌≤◌, Bool, true, false, List, [], ◌∷◌, map, Option, Some, None, slice_index}
 use mathlib.Core.Option.{none, some}
 use mathlib.Core.Option as maybe
 use lib.ListN.{get_elem?}
 use Rattle.k42_places.specs.Places.{EachPlace}
 use Rattle.k42_kinds.specs.declared.entry.Entry.{Entry}
+use Rattle.turn_core.specs.Names.{names}
 use Rattle.turn_core.specs.Plain.{Cell, Turns}
 use Rattle.turn_core.specs.State.{cell_at, caller_at}
 use Rattle.k42_joined.specs.Numbers.{place_of}
@@ -64,9 +65,15 @@ pub record IsOut {P : Type 0} (t : Turns) (contents : Contents P) (c n : ℕ) : 
   pub away : (cell_at t n).home ≡ false
   pub out : contents.out n ≡ true
 
+abbrev pub cells_noted : {P : Type 0} → List (Note P) → List ℕ
+cells_noted notes = map (λ note. note.cell) notes
+
 pub record KnowsCells {P : Type 0} (t : Turns) (contents : Contents P) (v : PassView P) : Type 0 where
   pub taker : caller_at t v.number ≡ v.taker
   pub notes : EachPlace (λ place note. IsNoted t contents v.number note) v.notes
+  -- of each cell that it has taken there is a note
+  pub noted :
+      (n : ℕ) → (cell_at t n).lock ≡ Some v.number → (cell_at t n).home ≡ false → names (cells_noted v.notes) n ≡ true
   pub out : (n : ℕ) → v.out ≡ Some n → IsOut t contents v.number n
   -- no slot is out but with a pass that knows it
   pub only : (n : ℕ) → (cell_at t n).lock ≡ Some v.number → contents.out n ≡ true → v.out ≡ Some n

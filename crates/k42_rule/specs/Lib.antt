@@ -12,6 +12,8 @@ pub mod Steps
 pub mod Generating
 pub mod Tabling
 pub mod Seen
+pub mod Taking
+pub mod Drawing
 pub mod Plan
 pub mod Starting
 pub mod Dealing

@@ -1,5 +1,5 @@
 -- Systems and passes, as contracts see them.
-use Rattle.std.specs.Prelude.{◌≡◌, ℕ, ◌&&◌, Bool, List, [], ◌∷◌, Option, is_none}
+use Rattle.std.specs.Prelude.{◌≡◌, ℕ, ◌&&◌, Bool, List, [], ◌∷◌, Option, None, is_none}
 use Rattle.atomic_table.specs.Seated.{TableId}
 use Rattle.gen_core.specs.Events as graces
 use Rattle.gen_core.specs.Plain as gens
@@ -77,8 +77,10 @@ own_in v = record {
 abbrev pub IsSeatOf : {P : Type 0} → Seated P → PassView P → Type 0
 IsSeatOf me v = me ≡ (Crew (v ∷ []), [])
 
+-- between two calls no slot is out with the pass
 abbrev pub Mirrors : {P : Type 0} → Seated P → Own → Type 0
-Mirrors me own = IsSeatOf me (pass_in me.0) × (own ≡ own_in (pass_in me.0))
+Mirrors me own =
+    IsSeatOf me (pass_in me.0) × (own ≡ own_in (pass_in me.0)) × ((pass_in me.0).out ≡ None)
 
 -- the pass has a seat of the system's table
 abbrev pub IsOf : {L P : Type 0} → SysSeen L → PassSeen P → Type 0

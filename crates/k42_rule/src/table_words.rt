@@ -81,5 +81,7 @@ pub(crate) fn install_word<L: Layout>(
     ensures told { IsSeatOf seat.new.me (installed_view object result (pass_in seat.old.me.0)) }
     ensures event { StepIs (layouts_on L.object L.tag_of L.ways L.whole L.serves L.admitted L.act_of board.now.shared.key.procs board.now.shared.key.callers.items) board.now.shared.key.layouts.items (AtPhases (phases.Install (pass_in seat.old.me.0).number object)) (local_word (pass_in seat.old.me.0).turn.proc object) (installs (pass_in seat.old.me.0)) seat.old.id (pass_in seat.old.me.0) result (pass_in seat.new.me.0) }
 {
-    board.shared.compare_exchange::<Install>(seat, 32 + 64 * home + object, old, new)
+    board
+        .shared
+        .compare_exchange::<Install>(seat, 32 + 64 * home + object, old, new)
 }

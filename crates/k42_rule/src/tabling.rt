@@ -145,17 +145,25 @@ pub fn install_step<L: Layout>(sys: &Sys<L>, pass: &mut Pass<L>, object: u32, ce
     ensures same { IsSamePass pass.old pass.new }
     ensures knows { pass.new.view ≡ installed_view object result pass.old.view }
     ensures event { StepIs
-      (layouts_on L.object L.tag_of L.ways L.whole L.serves L.admitted L.act_of sys.now.procs sys.now.callers)
-      sys.now.layouts (AtPhases (phases.Install pass.old.view.number object))
-      (local_word pass.old.view.turn.proc object) (installs pass.old.view)
-      pass.old.seat pass.old.view result pass.new.view }
+        (layouts_on L.object L.tag_of L.ways L.whole L.serves L.admitted L.act_of sys.now.procs sys.now.callers)
+        sys.now.layouts (AtPhases (phases.Install pass.old.view.number object))
+        (local_word pass.old.view.turn.proc object) (installs pass.old.view)
+        pass.old.seat pass.old.view result pass.new.view }
 {
     let home = pass.home as usize;
     let incarnation = row_in(&pass.place);
     let layout = pass.layout.unwrap_or(0);
     let old = empty_word(incarnation);
     let new = direct_word(layout, pass.home, incarnation);
-    let found = install_word(&sys.board, &mut pass.seat, home, object as usize, cell, old, new);
+    let found = install_word(
+        &sys.board,
+        &mut pass.seat,
+        home,
+        object as usize,
+        cell,
+        old,
+        new,
+    );
     if found == old {
         pass.place = Place::Direct(object, incarnation);
     } else {

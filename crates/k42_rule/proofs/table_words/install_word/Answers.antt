@@ -12,7 +12,7 @@ compare_exchange-requires g c =
       c.requires.ours.0,
       (let few = c.requires.places.0 in let small = c.requires.places.2 in let wide = c.requires.ours.1 in omega (arith, few, small, wide)),
       install_allowed _ c.requires.laws _ _ home o c.args.cell c.requires.places.2 c.args.seat.now.me t.0 t.1 c.requires.places.1 c.args.old c.args.new c.requires.words
-      slots (step slots (32 + 64 * home + o) c.args.old c.args.new none),
+          slots (step slots (32 + 64 * home + o) c.args.old c.args.new none),
     )
 
 pub returns-clause-event : goal.returns-clause-event

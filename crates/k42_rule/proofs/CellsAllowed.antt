@@ -1,0 +1,249 @@
+-- The steps on cells, as the table asks for them, and as contracts tell them.
+use Rattle.std.proofs.Common.{◌≡◌, ◌≢◌, ◌⊎◌, ℕ, ◌+◌, ◌<◌, ◌≤◌, Bool, true, false, not, cond, eqb, List, [], ◌∷◌, Option, Some, None, length, get_or, set, sym, refl, ap, ◌∙◌, subst, inl, inr, arith, length-set, get_or-set_other, get_or-set_same}
+use Rattle.std.specs.List.{slice_get, slice_index}
+use Rattle.std.specs.Prelude.{is_some}
+use Rattle.std.proofs.lemmas.Bool.{eqb-true, eq-eqb}
+use Rattle.std.proofs.lemmas.List.{set-get_or}
+use Rattle.std.proofs.lemmas.Option.{slice_get-get_or, same_Some}
+use mathlib.Core.Option.{none, some}
+use mathlib.Core.Option as maybe
+use lib.ListN.{get_elem?}
+use prog.Atomic.{either}
+use Rattle.atomic_table.specs.Table.{State, Step, step, rest, keeps, takes, gives, Allows}
+use Rattle.atomic_table.proofs.Lists.{set_here, set_else, set_again}
+use Rattle.k42_kinds.specs.declared.entry.Entry.{Entry}
+use Rattle.turn_core.specs.Events as turns
+use Rattle.turn_core.specs.Events.{holds, holds_home, has_taken, is_caller, cell_locked, cell_unlocked, cell_taken, cell_put, caller_locked, caller_unlocked, locked}
+use Rattle.turn_core.specs.Names.{names}
+use Rattle.turn_core.specs.Plain.{Cell, Caller, Turns}
+use Rattle.turn_core.specs.State.{cell_at, caller_at, fresh_cell, fresh_caller}
+use Rattle.turn_core.specs.declared.event.TurnEvent.{TurnEvent}
+use Rattle.turn_core.specs.declared.event.TurnEvent.TheVariants.{Lock, Take, Put, Unlock}
+use Rattle.k42_stamp.specs.Laws.{AreLaws}
+use Rattle.k42_stamp.specs.Layouts.{Layouts}
+use Rattle.k42_joined.specs.Effects.{effect}
+use Rattle.k42_joined.specs.Event.{AtCells}
+use Rattle.k42_joined.specs.Numbers.{place_of}
+use Rattle.k42_joined.specs.Plain.{Joined}
+use Rattle.k42_joined.specs.Possible.{IsPossible, MayTouch}
+use Rattle.k42_joined.specs.Sound.{IsSound}
+use Rattle.k42_joined.specs.State.{many_procs, cell}
+use Rattle.k42_joined.proofs.Kept.{joined_keeps}
+use Rattle.k42_rule.specs.Cells.{Slot, Contents, IsCell, IsCellShown, IsSlot, IsNoted, IsOut, KnowsCells, cells_noted}
+use Rattle.k42_rule.specs.Parts.{IsPart}
+use Rattle.k42_rule.specs.Rule.{Beside, KnowsPass, Shows, Rule}
+use Rattle.k42_rule.specs.Taking.{cell_at_lock, HoldsHome, MayLock, MayPut, IsWhole, Lifts, GivesBack, Reaches, Puts, given_view, noted, ActIs, locked_view, unlocked_view, reaching_view, lifted_view, taken_view, put_view, without}
+use Rattle.k42_rule.specs.Words.{lock_word, slot_of, many_words, many_slots}
+use Rattle.k42_rule.specs.Values.{holder_value}
+use Rattle.k42_rule.specs.declared.cell.Content as code
+use Rattle.k42_rule.specs.declared.view.Note.{Note}
+use Rattle.k42_rule.specs.declared.view.PassView.{PassView}
+use Rattle.k42_rule.specs.declared.view.View.{View}
+use Rattle.k42_rule.specs.declared.view.View.TheVariants.{Crew}
+use Rattle.k42_rule.proofs.CellsApart.{written, written_here, written_else, each_first, first_noted, further_noted, note_of, is_noted, IsKept, each_without, still_noted, at_within, cell_of_lock}
+use Rattle.k42_rule.specs.Steps.{Seated, on_pass, Always, Tells, StepIs}
+use Rattle.k42_rule.specs.Seen.{IsSeatOf, pass_in}
+use Rattle.k42_rule.proofs.CellsEvents.{locks, unlocks, take_found, takes_away, gives_back, reach_found, reaches, puts, note_there}
+use Rattle.k42_rule.proofs.CellsSteps.{free_word, held_word, some_one, stands, relock, take_move, slot_move, put_move, has_content, before}
+use Rattle.k42_rule.proofs.Moves.{Moves, seat_allowed, seat_is}
+use Rattle.k42_rule.proofs.OnePass.{with_pass, known, LeavesOthers, moved}
+
+abbrev pub lock_value : ℕ → ℕ → ℕ
+lock_value c word = cond (eqb word 0) (c + 1) word
+
+module _ {S L P : Type 0} (F : Layouts S L P) (laws : AreLaws F) (declared : List L) (id n : ℕ) (v : PassView P) where
+  abbrev i : ℕ
+  i = lock_word n
+
+  pub lock_moves : MayLock F declared id n v → v.out ≡ None
+      → Moves F declared (AtCells (Lock v.number n)) (lock_word n) (lock_value v.number) (locked_view n) id v
+  lock_moves may idle = record { from = λ table r at. locks F laws declared table r id v at n may idle }
+
+  pub unlock_moves : HoldsHome n v → v.out ≡ None
+      → Moves F declared (AtCells (Unlock v.number n)) (lock_word n) (λ word. 0) (λ found. unlocked_view n) id v
+  unlock_moves may idle = record { from = λ table r at. unlocks F laws declared table r id v at n may idle }
+
+  pub take_is : HoldsHome n v → v.out ≡ None → (content : code.Content P)
+      → ActIs F declared (λ s. effect s (AtCells (Take v.number n))) (lock_word n) id [] v (takes (slot_of n) (Some content)) (lifted_view content v)
+  take_is may idle content table r at valid = takes_away F laws declared table r id v at n may idle content valid
+
+  pub give_is : v.out ≡ Some n → ActIs F declared (λ s. s) (lock_word n) id ((slot_of n, None) ∷ []) v gives (given_view v)
+  give_is out table r at valid = gives_back F laws declared table r id v at n out
+
+  pub reach_is : v.out ≡ None → (place : ℕ) (note : Note P) → slice_get v.notes place ≡ Some note → note.cell ≡ n
+      → ActIs F declared (λ s. s) (lock_word n) id [] v (takes (slot_of n) None) (reaching_view n v)
+  reach_is idle place note e named table r at valid = reaches F laws declared table r id v at n idle place note e named
+
+  -- what it knew in every state before it reached for a slot it knows still
+  pub always_reached : v.out ≡ None → (Q : Joined L → Type 0) → Always F declared id v Q → Always F declared id (reaching_view n v) Q
+  always_reached idle Q always table r at =
+      let back = gives_back F laws declared table r id (reaching_view n v) at n refl in
+      let same : given_view (reaching_view n v) ≡ v = λ k. record v { out = sym idle k } in
+      let there = set_here table.views id (Crew (given_view (reaching_view n v) ∷ [])) (at_within table.views id (Crew (reaching_view n v ∷ [])) at) in
+      subst Q back.1 (always _ back.0 (there ∙ (λ k. some (Crew (same k ∷ [])))))
+
+  pub put_is : (content : code.Content P) → MayPut F declared id n content v → v.out ≡ None
+      → ActIs F declared (λ s. effect s (AtCells (Put v.number n))) (lock_word n) id ((slot_of n, Some content) ∷ []) (reaching_view n v) gives (put_view n v)
+  put_is content may idle table r at valid =
+      puts F laws declared table r id (reaching_view n v) at n refl may.place may.note may.noted may.named content may.whole
+      (always_reached idle (λ s. IsPart F declared s n content.part) may.part table r at)
+
+  -- what it knows of a cell that it has taken
+  pub whole_always : (place : ℕ) (content : code.Content P) → slice_get v.notes place ≡ Some (noted content) → content.number ≡ n
+      → Always F declared id v (IsWhole F declared n content)
+  whole_always place content e named table r at =
+      let is = (known F declared table r id v at).cells.notes place (noted content) e in
+      let there = note_there F laws declared table r id v at n place (noted content) e named in
+      record {
+        history = ap (λ k. (cell_at r.state.turns k).history) (sym named) ∙ is.history;
+        closed = ap (λ k. (cell_at r.state.turns k).closed) (sym named) ∙ is.closed;
+        part = subst (IsPart F declared r.state n) (ap r.beside.contents.part (sym named) ∙ is.part) (r.parts n there);
+      }
+
+  module _ (few : n < 256) where
+    same_cell : n ≡ cell_at_lock (lock_word n)
+    same_cell = sym (cell_of_lock n few)
+
+    pub lift_allowed : HoldsHome n v → v.out ≡ None → (slots : ℕ)
+        → Allows (Rule F declared) slots id (Crew (v ∷ []), []) (lock_word n) (λ word. word) (Lifts (step slots (lock_word n) 0 0 none) (Crew (v ∷ []), []))
+    lift_allowed may idle slots table r long at fits =
+        let has = take_found F laws declared table r id v at n may in
+        let after = takes_away F laws declared table r id v at n may idle has.0 has.1 in
+        (Crew (lifted_view has.0 v ∷ []), takes (slot_of n) (Some has.0), has.1, after.0, (has.0, has.2 ∙ same_cell, λ k. (Crew (lifted_view has.0 v ∷ []), (slot_of (same_cell k), Some has.0) ∷ [])))
+
+    pub give_allowed : v.out ≡ Some n → (slots : ℕ)
+        → Allows (Rule F declared) slots id (Crew (v ∷ []), (slot_of n, None) ∷ []) (lock_word n) (λ word. word)
+        (GivesBack (step slots (lock_word n) 0 0 none) (Crew (v ∷ []), (slot_of n, None) ∷ []))
+    give_allowed out slots table r long at fits =
+        let after = gives_back F laws declared table r id v at n out in (Crew (given_view v ∷ []), gives, tt, after.0, refl)
+
+    pub reach_allowed : v.out ≡ None → (place : ℕ) (note : Note P) → slice_get v.notes place ≡ Some note → note.cell ≡ n → (slots : ℕ)
+        → Allows (Rule F declared) slots id (Crew (v ∷ []), []) (lock_word n) (λ word. word) (Reaches (step slots (lock_word n) 0 0 none) (Crew (v ∷ []), []))
+    reach_allowed idle place note e named slots table r long at fits =
+        let empty = reach_found F laws declared table r id v at n idle place note e named in
+        let after = reaches F laws declared table r id v at n idle place note e named in
+        (Crew (reaching_view n v ∷ []), takes (slot_of n) None, empty, after.0, λ k. (Crew (reaching_view (same_cell k) v ∷ []), (slot_of (same_cell k), None) ∷ []))
+
+    pub put_allowed : (content : code.Content P) → MayPut F declared id n content v → v.out ≡ None → (slots : ℕ)
+        → Allows (Rule F declared) slots id (Crew (reaching_view n v ∷ []), (slot_of n, Some content) ∷ []) (lock_word n) (λ word. word)
+        (Puts (step slots (lock_word n) 0 0 none) (Crew (reaching_view n v ∷ []), (slot_of n, Some content) ∷ []))
+    put_allowed content may idle slots table r long at fits =
+        let after = put_is content may idle table r at tt in
+        (Crew (put_view n v ∷ []), gives, tt, after.0, λ k. (Crew (put_view (same_cell k) v ∷ []), []))
+
+pub lock_either : (b : Bool) (new word : ℕ) → either b new word ≡ cond b new word
+lock_either true new word = refl
+lock_either false new word = refl
+
+module _ {S L P : Type 0} (F : Layouts S L P) (laws : AreLaws F) (declared : List L) (id n : ℕ) (v : PassView P) (me : Seated P) (is : IsSeatOf me v)
+    (idle : v.out ≡ None) where
+  pub lock_allowed : MayLock F declared id n v → (new : ℕ) → new ≡ v.number + 1 → (slots : ℕ)
+      → Allows (Rule F declared) slots id me (lock_word n) (λ word. either (eqb word 0) new word)
+      (Tells (locked_view (cell_at_lock (lock_word n))) (step slots (lock_word n) 0 new none) me)
+  lock_allowed may new same slots =
+      subst (λ (z : (ℕ → ℕ) × ℕ). Allows (Rule F declared) slots id me (lock_word n) z.0 (Tells (locked_view z.1) (step slots (lock_word n) 0 new none) me))
+      (λ k. ((λ word. (ap (λ c. cond (eqb word 0) c word) (sym same) ∙ sym (lock_either (eqb word 0) new word)) k), sym (cell_of_lock n may.cell) k))
+      (seat_allowed (lock_moves F laws declared id n v may idle) me is slots (step slots (lock_word n) 0 new none))
+
+  pub lock_is : (may : MayLock F declared id n v) → (after : Seated P) (step : Step (Slot P)) (found : ℕ)
+      → Tells (locked_view (cell_at_lock (lock_word n))) step me found after
+      → StepIs F declared (AtCells (Lock v.number n)) (lock_word n) (lock_value v.number) id v found (pass_in after.0)
+  lock_is may after step found told =
+      seat_is (lock_moves F laws declared id n v may idle) me after is step found
+      (told ∙ (λ k. (on_pass (locked_view (cell_of_lock n may.cell k) found) me.0, me.1)))
+
+  pub unlock_allowed : HoldsHome n v → (slots : ℕ)
+      → Allows (Rule F declared) slots id me (lock_word n) (λ word. 0)
+      (λ word. Tells (λ found. unlocked_view (cell_at_lock (lock_word n))) (step slots (lock_word n) 0 0 none) me 0)
+  unlock_allowed may slots =
+      subst (λ z. Allows (Rule F declared) slots id me (lock_word n) (λ word. 0) (λ word. Tells (λ found. unlocked_view z) (step slots (lock_word n) 0 0 none) me 0))
+      (sym (cell_of_lock n may.cell))
+      (seat_allowed (unlock_moves F laws declared id n v may idle) me is slots (step slots (lock_word n) 0 0 none))
+
+  pub unlock_is : (may : HoldsHome n v) → (after : Seated P) (step : Step (Slot P)) (found : ℕ)
+      → Tells (λ found. unlocked_view (cell_at_lock (lock_word n))) step me 0 after
+      → StepIs F declared (AtCells (Unlock v.number n)) (lock_word n) (λ word. 0) id v found (pass_in after.0)
+  unlock_is may after step found told =
+      seat_is (unlock_moves F laws declared id n v may idle) me after is step found
+      (told ∙ (λ k. (on_pass (unlocked_view (cell_of_lock n may.cell k)) me.0, me.1)))
+
+  pub lift_seat : HoldsHome n v → (slots : ℕ)
+      → Allows (Rule F declared) slots id me (lock_word n) (λ word. word) (Lifts (step slots (lock_word n) 0 0 none) me)
+  lift_seat may slots =
+      subst (λ (m : Seated P). Allows (Rule F declared) slots id m (lock_word n) (λ word. word) (Lifts (step slots (lock_word n) 0 0 none) m)) (sym is)
+      (lift_allowed F laws declared id n v may.cell may idle slots)
+
+  -- the slot comes back from any seat that has it
+  pub give_seat : (few : n < 256) (content : code.Content P) → content.number ≡ n → (now : Seated P) → now ≡ (Crew (lifted_view content v ∷ []), (slot_of n, None) ∷ []) → (slots : ℕ)
+      → Allows (Rule F declared) slots id now (lock_word n) (λ word. word) (GivesBack (step slots (lock_word n) 0 0 none) now)
+  give_seat few content number now same slots =
+      subst (λ (m : Seated P). Allows (Rule F declared) slots id m (lock_word n) (λ word. word) (GivesBack (step slots (lock_word n) 0 0 none) m)) (sym same)
+      (give_allowed F laws declared id n (lifted_view content v) few (ap Some number) slots)
+
+  pub reach_seat : (content : code.Content P) → MayPut F declared id n content v → (slots : ℕ)
+      → Allows (Rule F declared) slots id me (lock_word n) (λ word. word) (Reaches (step slots (lock_word n) 0 0 none) me)
+  reach_seat content may slots =
+      subst (λ (m : Seated P). Allows (Rule F declared) slots id m (lock_word n) (λ word. word) (Reaches (step slots (lock_word n) 0 0 none) m)) (sym is)
+      (reach_allowed F laws declared id n v may.cell idle may.place may.note may.noted may.named slots)
+
+  pub put_seat : (content : code.Content P) → MayPut F declared id n content v → (now : Seated P) → now ≡ (Crew (reaching_view n v ∷ []), (slot_of n, Some content) ∷ [])
+      → (seat : ℕ) → seat ≡ id → (slots : ℕ)
+      → Allows (Rule F declared) slots seat now (lock_word n) (λ word. word) (Puts (step slots (lock_word n) 0 0 none) now)
+  put_seat content may now same seat here slots =
+      subst (λ (z : ℕ × Seated P). Allows (Rule F declared) slots z.0 z.1 (lock_word n) (λ word. word) (Puts (step slots (lock_word n) 0 0 none) z.1))
+      (λ k. (sym here k, sym same k)) (put_allowed F laws declared id n v may.cell content may idle slots)
+
+module _ {P : Type 0} (n : ℕ) (v : PassView P) (me : Seated P) (is : IsSeatOf me v) where
+  -- the seat after the slot went out with it
+  pub lifted_seat : (few : n < 256) → (content : code.Content P) → content.number ≡ cell_at_lock (lock_word n) → (after : Seated P)
+      → after ≡ (on_pass (lifted_view content) me.0, (slot_of (cell_at_lock (lock_word n)), Some content) ∷ me.1)
+      → after ≡ (Crew (lifted_view content v ∷ []), (slot_of n, Some content) ∷ [])
+  lifted_seat few content number after told =
+      told ∙ (λ k. (on_pass (lifted_view content) (is k).0, (slot_of (cell_of_lock n few k), Some content) ∷ (is k).1))
+
+  pub reached_seat : (few : n < 256) (after : Seated P)
+      → after ≡ (on_pass (reaching_view (cell_at_lock (lock_word n))) me.0, (slot_of (cell_at_lock (lock_word n)), None) ∷ me.1)
+      → after ≡ (Crew (reaching_view n v ∷ []), (slot_of n, None) ∷ [])
+  reached_seat few after told =
+      told ∙ (λ k. (on_pass (reaching_view (cell_of_lock n few k)) (is k).0, (slot_of (cell_of_lock n few k), None) ∷ (is k).1))
+
+-- the slot that went out, and what an exchange leaves of the seat
+module _ {P : Type 0} (lifted : Seated P) (w : PassView P) (slot : ℕ) (y : Slot P) (is : lifted ≡ (Crew (w ∷ []), (slot, y) ∷ [])) where
+  pub slot_out : (old : Slot P) × (lifted.1 ≡ (slot, old) ∷ rest lifted.1)
+  slot_out = let out = ap (λ (m : Seated P). m.1) is in (y, out ∙ (λ k. (slot, y) ∷ rest (sym out k)))
+
+  pub slot_result : (result : Slot P) → lifted.1 ≡ (slot, result) ∷ rest lifted.1 → y ≡ result
+  slot_result result e = first_of_two (sym (ap (λ (m : Seated P). m.1) is) ∙ e) where
+    first_of : {x z : ℕ × Slot P} {c d : List (ℕ × Slot P)} → x ∷ c ≡ z ∷ d → x ≡ z
+    first_of e = cc
+
+    first_of_two : {c d : List (ℕ × Slot P)} → (slot, y) ∷ c ≡ (slot, result) ∷ d → y ≡ result
+    first_of_two e = ap (λ (x : ℕ × Slot P). x.1) (first_of e)
+
+  pub exchanged : (now : Seated P) (z : Slot P) → now ≡ (lifted.0, (slot, z) ∷ rest lifted.1) → now ≡ (Crew (w ∷ []), (slot, z) ∷ [])
+  exchanged now z e = e ∙ (λ k. ((is k).0, (slot, z) ∷ rest (is k).1))
+
+pub same_content : {P : Type 0} {x y : code.Content P} (z : Slot P) → Some x ≡ z → z ≡ Some y → x ≡ y
+same_content z e f = same_Some _ _ (e ∙ f)
+
+module _ {S L P : Type 0} (F : Layouts S L P) (laws : AreLaws F) (declared : List L) (id n : ℕ) (v : PassView P) (idle : v.out ≡ None) (may : HoldsHome n v) where
+  -- what take tells at its end
+  pub given_is : (content : code.Content P) → content.number ≡ n → (w : PassView P) → given_view (lifted_view content v) ≡ w
+      → ActIs F declared (λ s. s) (lock_word n) id ((slot_of n, None) ∷ []) (lifted_view content v) gives w
+  given_is content number w same =
+      subst (λ z. ActIs F declared (λ s. s) (lock_word n) id ((slot_of n, None) ∷ []) (lifted_view content v) gives z) same
+      (give_is F laws declared id n (lifted_view content v) (ap Some number))
+
+  pub taken_whole : (content : code.Content P) → content.number ≡ n → (w : PassView P) → taken_view content v ≡ w
+      → Always F declared id w (IsWhole F declared n content)
+  taken_whole content number w same =
+      subst (λ z. Always F declared id z (IsWhole F declared n content)) same
+      (whole_always F laws declared id n (taken_view content v) 0 content refl number)
+  -- what put tells at its end
+
+module _ {S L P : Type 0} (F : Layouts S L P) (laws : AreLaws F) (declared : List L) (id n : ℕ) (v : PassView P) (idle : v.out ≡ None) where
+  pub put_was : (content : code.Content P) → MayPut F declared id n content v → (w : PassView P) → put_view n v ≡ w
+      → ActIs F declared (λ s. effect s (AtCells (Put v.number n))) (lock_word n) id ((slot_of n, Some content) ∷ []) (reaching_view n v) gives w
+  put_was content may w same =
+      subst (λ z. ActIs F declared (λ s. effect s (AtCells (Put v.number n))) (lock_word n) id ((slot_of n, Some content) ∷ []) (reaching_view n v) gives z) same
+      (put_is F laws declared id n v content may idle)

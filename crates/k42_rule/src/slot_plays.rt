@@ -1,0 +1,54 @@
+//! What each step on a lock or a slot tells its pass.
+use crate::cell::Content;
+use crate::view::View;
+use atomic_table::Play;
+
+pub(crate) struct Lock;
+
+impl<P: Drop> Play<Option<Content<P>>, View<P>> for Lock {
+    ghost use Rattle.k42_rule.specs.Steps.{Tells};
+    ghost use Rattle.k42_rule.specs.Taking.{cell_at_lock, locked_view};
+
+    ghost then = { λ step. Tells (locked_view (cell_at_lock step.word)) step };
+}
+
+pub(crate) struct Unlock;
+
+impl<P: Drop> Play<Option<Content<P>>, View<P>> for Unlock {
+    ghost use Rattle.k42_rule.specs.Steps.{Tells};
+    ghost use Rattle.k42_rule.specs.Taking.{cell_at_lock, unlocked_view};
+
+    ghost then = { λ step. Tells (λ found. unlocked_view (cell_at_lock step.word)) step };
+}
+
+pub(crate) struct Lift;
+
+impl<P: Drop> Play<Option<Content<P>>, View<P>> for Lift {
+    ghost use Rattle.k42_rule.specs.Taking.{Lifts};
+
+    ghost then = { Lifts };
+}
+
+pub(crate) struct GiveBack;
+
+impl<P: Drop> Play<Option<Content<P>>, View<P>> for GiveBack {
+    ghost use Rattle.k42_rule.specs.Taking.{GivesBack};
+
+    ghost then = { GivesBack };
+}
+
+pub(crate) struct Reach;
+
+impl<P: Drop> Play<Option<Content<P>>, View<P>> for Reach {
+    ghost use Rattle.k42_rule.specs.Taking.{Reaches};
+
+    ghost then = { Reaches };
+}
+
+pub(crate) struct PutBack;
+
+impl<P: Drop> Play<Option<Content<P>>, View<P>> for PutBack {
+    ghost use Rattle.k42_rule.specs.Taking.{Puts};
+
+    ghost then = { Puts };
+}
