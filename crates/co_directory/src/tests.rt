@@ -4,7 +4,7 @@ ghost use Rattle.k42_kinds.specs.declared.operation.Op.{Op};
 ghost use Rattle.k42_kinds.specs.Objects.{directory_object};
 
 use crate::{SharedDirectory, SpreadDirectory};
-use k42_kinds::{Layout, Name, Op, Reach, Reply, empty_row, step_row};
+use k42_kinds::{Kind, Layout, Name, Op, Reach, Reply, empty_row, step_row};
 use k42_memory::Memory;
 use std::alloc::Global;
 use std::process::Abort;
@@ -94,5 +94,17 @@ fn a_shared_directory_is_counted_at_all_its_cells_too(rt: HostRuntime) -> Result
     let mut row = empty_row(&SharedDirectory, rt.alloc(), 8)?;
     let size = SharedDirectory.step_all(rt.alloc(), &mut row, &Op::Size)?;
     assert_eq!(rt; size, Reply::Number(0));
+    Ok(())
+}
+
+#[test]
+fn both_layouts_step_the_directory_of_one_thread(rt: HostRuntime) -> Result<(), Fail> {
+    let x = Name::of(b"x").ok_or("no name")?;
+    let mut names = SharedDirectory.admit(SharedDirectory.empty(rt.alloc()));
+    let bound = SharedDirectory.step(rt.alloc(), &mut names, &Op::Bind(x, 1))?;
+    assert_eq!(rt; bound, Reply::Done);
+    let mut names = SpreadDirectory.admit(names);
+    let found = SpreadDirectory.step(rt.alloc(), &mut names, &Op::Find(x))?;
+    assert_eq!(rt; found, Reply::Number(1));
     Ok(())
 }
