@@ -18,5 +18,5 @@ pub use cell::{Cell, Content};
 pub use generating::{enter_step, leave_step};
 pub use pass::{Pass, Walker};
 pub use sys::Sys;
-pub use tabling::{end_call, install_step, look_up_step, root_step};
+pub use tabling::{end_call, install_step, knock_step, look_up_step, root_step, step_out};
 pub use view::{LastBegin, Row};
