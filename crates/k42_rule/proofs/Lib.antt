@@ -10,6 +10,7 @@ pub mod Fields
 pub mod Looking
 pub mod Installing
 pub mod Knocking
+pub mod Beginning
 pub mod FirstParts
 pub mod Opening
 pub mod Put
