@@ -47,3 +47,12 @@ impl<P: Drop> Play<Option<Content<P>>, View<P>> for Knock {
 
     ghost then = { λ step. Tells (knocked_view (word_object step.word)) step };
 }
+
+pub(crate) struct Begin;
+
+impl<P: Drop> Play<Option<Content<P>>, View<P>> for Begin {
+    ghost use Rattle.k42_rule.specs.Steps.{Tells};
+    ghost use Rattle.k42_rule.specs.Tabling.{word_object, begun_view};
+
+    ghost then = { λ step. Tells (begun_view (word_object step.word)) step };
+}
