@@ -11,6 +11,7 @@ pub mod Looking
 pub mod Installing
 pub mod Knocking
 pub mod Beginning
+pub mod EntryTurns
 pub mod FirstParts
 pub mod Opening
 pub mod Put
