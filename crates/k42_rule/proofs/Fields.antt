@@ -1,8 +1,14 @@
 -- What is read of a word is what it was made of.
-use Rattle.std.proofs.Common.{◌≡◌, ◌≢◌, ℕ, ◌+◌, ◌-◌, ◌*◌, ◌/◌, ◌%◌, ◌^◌, ◌<◌, ◌≤◌, ◌⊎◌, Bool, true, false, cond, eqb, List, [], ◌∷◌, Option, Some, None, length, get_or, sym, refl, ap, ◌∙◌, subst, ⊎_elim, arith}
+use Rattle.std.proofs.Common.{◌≡◌, ◌≢◌, ℕ, zero, suc, ◌+◌, ◌-◌, ◌*◌, ◌/◌, ◌%◌, ◌^◌, ◌<◌, ◌≤◌, ◌⊎◌, Bool, true, false, cond, eqb, List, [], ◌∷◌, Option, Some, None, length, get_or, sym, refl, ap, ◌∙◌, subst, ⊎_elim, arith}
 use Rattle.std.specs.Bool.{MatchBool}
 use Rattle.std.specs.List.{slice_get}
 use Rattle.std.proofs.lemmas.Bool.{eqb-true}
+use Rattle.std.proofs.lemmas.Nat.Bits.{bit_at_lowest, bit_at-suc}
+use Rattle.std.proofs.Math.Nat.{pow-suc}
+use Rattle.std.specs.Int.{bit_at}
+use Rattle.std.specs.Prelude.{max}
+use Rattle.std.specs.Int.RustNames.{bit_or}
+use lib.Bits.{or_step, or_zero_r}
 use Rattle.std.proofs.lemmas.List.Sums.{count_by-le-length}
 use Rattle.std.proofs.lemmas.Option.{slice_get-get_or}
 use Rattle.phase_core.specs.Effects.{root_of, counted_in, counted_out}
@@ -80,6 +86,44 @@ counted_less k word fits some is =
     let c : bit k.moving ≤ 1 = bit_small k.moving in
     let d : bit k.complete ≤ 1 = bit_small k.complete in
     let n = fits.count in let l = fits.layout in let i = fits.incarnation in omega (arith, is, some, a, b, c, d, n, l, i)
+
+-- the OR of a power of 2 whose bit is set, or is not
+half : (k : ℕ) → 2 ^ suc k / 2 ≡ 2 ^ k
+half k = let pow = pow-suc 2 k in omega (arith, pow)
+
+even : (k : ℕ) → 2 ^ suc k % 2 ≡ 0
+even k = let pow = pow-suc 2 k in omega (arith, pow)
+
+pub or_set : (k n : ℕ) → bit_at n k ≡ 1 → bit_or n (2 ^ k) ≡ n
+or_set zero n e =
+    let step = or_step n 1 in let low = bit_at_lowest n in let none = or_zero_r (n / 2) in omega (arith, step, low, none, e)
+or_set (suc k) n e =
+    let step : bit_or n (2 ^ suc k) ≡ bit_or (n / 2) (2 ^ k) * 2 + max (n % 2) 0 =
+    or_step n (2 ^ suc k) ∙ ap (λ (z : ℕ × ℕ). bit_or (n / 2) z.0 * 2 + max (n % 2) z.1) (λ j. (half k j, even k j)) in
+    let ih = or_set k (n / 2) (sym (bit_at-suc n k) ∙ e) in omega (arith, step, ih)
+
+pub or_clear : (k n : ℕ) → bit_at n k ≡ 0 → bit_or n (2 ^ k) ≡ n + 2 ^ k
+or_clear zero n e =
+    let step = or_step n 1 in let low = bit_at_lowest n in let none = or_zero_r (n / 2) in omega (arith, step, low, none, e)
+or_clear (suc k) n e =
+    let step : bit_or n (2 ^ suc k) ≡ bit_or (n / 2) (2 ^ k) * 2 + max (n % 2) 0 =
+    or_step n (2 ^ suc k) ∙ ap (λ (z : ℕ × ℕ). bit_or (n / 2) z.0 * 2 + max (n % 2) z.1) (λ j. (half k j, even k j)) in
+    let ih = or_clear k (n / 2) (sym (bit_at-suc n k) ∙ e) in let pow = pow-suc 2 k in omega (arith, step, ih, pow)
+
+pub swap_set : (k : Object) (word : ℕ) → Fits k → word ≡ object_value k → bit_or word 16777216 ≡ object_value (record k { swap = true })
+swap_set k word fits is =
+    let b : bit k.block ≤ 1 = bit_small k.block in
+    let c : bit k.moving ≤ 1 = bit_small k.moving in
+    let d : bit k.complete ≤ 1 = bit_small k.complete in
+    by_swap k.swap refl b c d fits.count fits.layout where
+      by_swap : (a : Bool) → k.swap ≡ a → bit k.block ≤ 1 → bit k.moving ≤ 1 → bit k.complete ≤ 1 → k.count ≤ 16 → k.layout ≤ 2
+          → bit_or word 16777216 ≡ object_value (record k { swap = true })
+      by_swap true e b c d n l =
+          let one : bit k.swap ≡ 1 = ap bit e in
+          or_set 24 word (omega (arith, is, one, b, c, d, n, l)) ∙ omega (arith, is, one)
+      by_swap false e b c d n l =
+          let none : bit k.swap ≡ 0 = ap bit e in
+          or_clear 24 word (omega (arith, is, none, b, c, d, n, l)) ∙ omega (arith, is, none)
 
 -- the fields of an entry have room in its word
 pub record EntryFits (e : LocalEntry) : Type 0 where

@@ -16,6 +16,8 @@ pub mod CellsSteps
 pub mod CellsEvents
 pub mod CellsAllowed
 pub mod CellsDrawn
+pub mod Beginning
+pub mod EntryTurns
 pub mod FirstParts
 pub mod Opening
 pub mod Replaced

@@ -1,13 +1,18 @@
 -- The steps on tables, for one pass: where each may be taken, and what the pass knows after it.
-use Rattle.std.specs.Prelude.{◌≡◌, ℕ, ◌-◌, ◌*◌, ◌/◌, ◌%◌, ◌<◌, ◌^◌, ◌==◌, true, if◌then◌else◌, List, Option, Some, None, is_some, unwrap_or}
-use Rattle.phase_core.specs.Effects.{root_of, at_place, looked_up, direct_entry, knocked}
-use Rattle.phase_core.specs.State.{empty_entry}
+use Rattle.std.specs.Prelude.{◌≡◌, ℕ, ◌-◌, ◌*◌, ◌/◌, ◌%◌, ◌<◌, ◌^◌, ◌==◌, ◌||◌, Bool, true, if◌then◌else◌, List, Option, Some, None, is_some, unwrap_or, length}
+use Rattle.k42_limits.specs.declared.TheConstants.{LAST_INCARNATION}
+use Rattle.gen_core.specs.Events.{is_free}
+use Rattle.phase_core.specs.Effects.{root_of, at_place, looked_up, direct_entry, knocked, at_stage, begun_as, after_interpose}
+use Rattle.phase_core.specs.State.{empty_entry, mediator_entry}
 use Rattle.phase_core.specs.Plain.{Visitor}
-use Rattle.phase_core.specs.Stages.{is_out, is_missed, is_at_mediator, is_uncounted, is_counted, row_of}
+use Rattle.phase_core.specs.Stages.{is_out, is_missed, is_at_mediator, is_uncounted, is_counted, is_idle, row_of}
 use Rattle.phase_core.specs.declared.caller.Place.TheVariants.{Out, Direct}
 use Rattle.phase_core.specs.declared.object.LocalEntry.{LocalEntry}
 use Rattle.k42_joined.specs.Swapping.{holds_none}
-use Rattle.k42_rule.specs.Values.{local_value, layout_in, incarnation_in, has_bit}
+use Rattle.k42_rule.specs.Values.{local_value, layout_in, incarnation_in, has_bit, answer_in}
+use Rattle.phase_core.specs.declared.caller.SwapAt.{SwapAt}
+use Rattle.phase_core.specs.declared.caller.SwapAt.TheVariants.{Begun, Interposing}
+use Rattle.k42_rule.specs.declared.view.LastBegin.{LastBegin}
 use Rattle.k42_rule.specs.declared.view.PassView.{PassView}
 
 -- a pass that has gone on in its call, and what it has learned of the row's layout
@@ -103,3 +108,46 @@ knocked_view o found v =
 pub record MayStepOut {P : Type 0} (v : PassView P) : Type 0 where
   pub counted : is_counted v.visitor.place ≡ true
   pub free : holds_none v.taker.held ≡ true
+
+-- it has no activity, no grace and no swap under way, and the object is one of so many
+pub record MayBegin {P : Type 0} (objects o : ℕ) (v : PassView P) : Type 0 where
+  pub free : is_free v.turn ≡ true
+  pub no_swap : is_idle v.visitor.swap ≡ true
+  pub there : o < objects
+
+-- the word says that the object is dead, or at its last incarnation
+abbrev pub is_over_in : ℕ → Bool
+is_over_in word = (layout_in word == 2) || (incarnation_in word == LAST_INCARNATION)
+
+-- where no swap was under way its own begins, or is refused
+abbrev pub stage_begun : ℕ → ℕ → Visitor → Visitor
+stage_begun o found x = if has_bit found 24 then x else at_stage x (begun_as o (is_over_in found))
+
+abbrev pub begun_view : {P : Type 0} → ℕ → ℕ → PassView P → PassView P
+begun_view o found v = record v {
+  visitor = stage_begun o found v.visitor;
+  last = Some (record { object = o; word = found });
+  found = answer_in found;
+}
+
+-- the word that its last Begin found
+abbrev pub word_begun : Option LastBegin → ℕ
+word_begun None = 0
+word_begun (Some begin) = begin.word
+
+-- the object and the processor whose entry leads to the mediator next
+abbrev pub next_interposed : SwapAt → Option (ℕ × ℕ)
+next_interposed (Begun o) = Some (o, 0)
+next_interposed (Interposing o p) = Some (o, p)
+next_interposed _ = None
+
+abbrev pub MayInterpose : {P : Type 0} → ℕ → ℕ → PassView P → Type 0
+MayInterpose o p v = next_interposed v.visitor.swap ≡ Some (o, p)
+
+-- a mediator at the incarnation that its Begin found
+abbrev pub mediator_after : {P : Type 0} → PassView P → ℕ
+mediator_after v = local_value (mediator_entry (incarnation_in (word_begun v.last)))
+
+abbrev pub interposed_view : {P : Type 0} → ℕ → ℕ → ℕ → PassView P → PassView P
+interposed_view o p found v =
+    record v { visitor = at_stage v.visitor (after_interpose o p (length v.turn.waits)) }

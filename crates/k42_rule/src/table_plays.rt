@@ -38,3 +38,21 @@ impl<P: Drop> Play<Option<Content<P>>, View<P>> for Install {
 
     ghost then = { λ step. Tells (installed_view (entry_object step.word)) step };
 }
+
+pub(crate) struct Knock;
+
+impl<P: Drop> Play<Option<Content<P>>, View<P>> for Knock {
+    ghost use Rattle.k42_rule.specs.Steps.{Tells};
+    ghost use Rattle.k42_rule.specs.Tabling.{word_object, knocked_view};
+
+    ghost then = { λ step. Tells (knocked_view (word_object step.word)) step };
+}
+
+pub(crate) struct Begin;
+
+impl<P: Drop> Play<Option<Content<P>>, View<P>> for Begin {
+    ghost use Rattle.k42_rule.specs.Steps.{Tells};
+    ghost use Rattle.k42_rule.specs.Tabling.{word_object, begun_view};
+
+    ghost then = { λ step. Tells (begun_view (word_object step.word)) step };
+}

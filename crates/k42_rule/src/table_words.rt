@@ -1,5 +1,5 @@
 //! The steps on the words of the tables, for a seat alone.
-ghost use Rattle.std.specs.Prelude.{◌≡◌, ◌<◌, ◌+◌, ◌*◌, ◌/◌, ◌%◌, ◌^◌, [], ◌∷◌, length};
+ghost use Rattle.std.specs.Prelude.{◌≡◌, ◌<◌, ◌+◌, ◌-◌, ◌*◌, ◌/◌, ◌%◌, ◌^◌, [], ◌∷◌, length, bit_or};
 ghost use Rattle.phase_core.specs.Effects.{place_found};
 ghost use Rattle.phase_core.specs.Event as phases;
 ghost use Rattle.phase_core.specs.Stages.{object_of};
@@ -8,13 +8,13 @@ ghost use Rattle.k42_joined.specs.Event.{AtPhases};
 ghost use Rattle.k42_rule.specs.Plan.{layouts_on};
 ghost use Rattle.k42_rule.specs.Seen.{pass_in, IsSeatOf};
 ghost use Rattle.k42_rule.specs.Steps.{StepIs};
-ghost use Rattle.k42_rule.specs.Tabling.{entry_in, layout_told, MayLookUp, looked_up_view, MayLoadRoot, rooted_view, MayEndCall, ended_view, MayInstall, empty_before, direct_after, installs, installed_view};
+ghost use Rattle.k42_rule.specs.Tabling.{entry_in, layout_told, MayLookUp, looked_up_view, MayLoadRoot, rooted_view, MayEndCall, ended_view, MayInstall, empty_before, direct_after, installs, installed_view, MayKnock, knocked_view, MayStepOut, MayBegin, begun_view};
 ghost use Rattle.k42_rule.specs.Values.{layout_in};
 ghost use Rattle.k42_rule.specs.Words.{many_words, local_word, object_word};
 ghost use Rattle.k42_rule.specs.declared.view.View.TheVariants.{Crew};
 
 use crate::board::{Board, Place};
-use crate::table_plays::{EndCall, Install, LoadRoot, LookUp};
+use crate::table_plays::{Begin, EndCall, Install, Knock, LoadRoot, LookUp};
 use k42_kinds::Layout;
 
 pub(crate) fn look_up_word<L: Layout>(
@@ -84,4 +84,44 @@ pub(crate) fn install_word<L: Layout>(
     board
         .shared
         .compare_exchange::<Install>(seat, 32 + 64 * home + object, old, new)
+}
+
+pub(crate) fn knock_word<L: Layout>(board: &Board<L>, seat: &mut Place<L>, object: usize) -> u64
+    requires ours { (seat.old.table_id ≡ board.now.shared.table_id) × (board.now.shared.table_id.words ≡ many_words) }
+    requires laws { AreLaws (layouts_on L.object L.tag_of L.ways L.whole L.serves L.admitted L.act_of board.now.shared.key.procs board.now.shared.key.callers.items) }
+    requires places { object < 16 }
+    requires may { IsSeatOf seat.old.me (pass_in seat.old.me.0) × MayKnock (length board.now.shared.key.layouts.items) object (pass_in seat.old.me.0) }
+    ensures ours { (seat.new.table_id ≡ seat.old.table_id) × (seat.new.id ≡ seat.old.id) }
+    ensures told { IsSeatOf seat.new.me (knocked_view object result (pass_in seat.old.me.0)) }
+    ensures event { StepIs (layouts_on L.object L.tag_of L.ways L.whole L.serves L.admitted L.act_of board.now.shared.key.procs board.now.shared.key.callers.items) board.now.shared.key.layouts.items (AtPhases (phases.Knock (pass_in seat.old.me.0).number object)) (object_word object) (λ word. (word + 1) % 2 ^ 64) seat.old.id (pass_in seat.old.me.0) result (pass_in seat.new.me.0) }
+{
+    board.shared.fetch_add::<Knock>(seat, 528 + 16 * object, 1)
+}
+
+pub(crate) fn step_out_word<L: Layout>(board: &Board<L>, seat: &mut Place<L>, object: usize) -> u64
+    requires ours { (seat.old.table_id ≡ board.now.shared.table_id) × (board.now.shared.table_id.words ≡ many_words) }
+    requires laws { AreLaws (layouts_on L.object L.tag_of L.ways L.whole L.serves L.admitted L.act_of board.now.shared.key.procs board.now.shared.key.callers.items) }
+    requires places { (object < 16) × (object_of (pass_in seat.old.me.0).visitor.place ≡ object) }
+    requires may { IsSeatOf seat.old.me (pass_in seat.old.me.0) × MayStepOut (pass_in seat.old.me.0) }
+    ensures ours { (seat.new.table_id ≡ seat.old.table_id) × (seat.new.id ≡ seat.old.id) }
+    ensures told { IsSeatOf seat.new.me (ended_view result (pass_in seat.old.me.0)) }
+    ensures event { StepIs (layouts_on L.object L.tag_of L.ways L.whole L.serves L.admitted L.act_of board.now.shared.key.procs board.now.shared.key.callers.items) board.now.shared.key.layouts.items (AtPhases (phases.StepOut (pass_in seat.old.me.0).number)) (object_word (object_of (pass_in seat.old.me.0).visitor.place)) (λ word. (word + (2 ^ 64 - 1)) % 2 ^ 64) seat.old.id (pass_in seat.old.me.0) result (pass_in seat.new.me.0) }
+{
+    board
+        .shared
+        .fetch_sub::<EndCall>(seat, 528 + 16 * object, 1)
+}
+
+pub(crate) fn begin_word<L: Layout>(board: &Board<L>, seat: &mut Place<L>, object: usize) -> u64
+    requires ours { (seat.old.table_id ≡ board.now.shared.table_id) × (board.now.shared.table_id.words ≡ many_words) }
+    requires laws { AreLaws (layouts_on L.object L.tag_of L.ways L.whole L.serves L.admitted L.act_of board.now.shared.key.procs board.now.shared.key.callers.items) }
+    requires places { object < 16 }
+    requires may { IsSeatOf seat.old.me (pass_in seat.old.me.0) × MayBegin (length board.now.shared.key.layouts.items) object (pass_in seat.old.me.0) }
+    ensures ours { (seat.new.table_id ≡ seat.old.table_id) × (seat.new.id ≡ seat.old.id) }
+    ensures told { IsSeatOf seat.new.me (begun_view object result (pass_in seat.old.me.0)) }
+    ensures event { StepIs (layouts_on L.object L.tag_of L.ways L.whole L.serves L.admitted L.act_of board.now.shared.key.procs board.now.shared.key.callers.items) board.now.shared.key.layouts.items (AtPhases (phases.Begin (pass_in seat.old.me.0).number object)) (object_word object) (λ word. bit_or word 16777216) seat.old.id (pass_in seat.old.me.0) result (pass_in seat.new.me.0) }
+{
+    board
+        .shared
+        .fetch_or::<Begin>(seat, 528 + 16 * object, 16_777_216)
 }

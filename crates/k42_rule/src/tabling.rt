@@ -1,5 +1,5 @@
 //! The steps of a call on the tables.
-ghost use Rattle.std.specs.Prelude.{◌≡◌, ◌<◌, ◌+◌, ◌*◌, ◌/◌, ◌%◌, ◌^◌, length};
+ghost use Rattle.std.specs.Prelude.{◌≡◌, ◌<◌, ◌+◌, ◌-◌, ◌*◌, ◌/◌, ◌%◌, ◌^◌, length};
 ghost use Rattle.phase_core.specs.Effects.{place_found, direct_entry};
 ghost use Rattle.phase_core.specs.Event as phases;
 ghost use Rattle.phase_core.specs.State.{empty_entry};
@@ -8,13 +8,15 @@ ghost use Rattle.k42_joined.specs.Event.{AtPhases};
 ghost use Rattle.k42_rule.specs.Plan.{layouts_on};
 ghost use Rattle.k42_rule.specs.Seen.{IsOf, IsSamePass};
 ghost use Rattle.k42_rule.specs.Steps.{StepIs};
-ghost use Rattle.k42_rule.specs.Tabling.{entry_in, layout_told, MayLookUp, looked_up_view, MayLoadRoot, rooted_view, MayEndCall, ended_view, MayInstall, installs, installed_view};
-ghost use Rattle.k42_rule.specs.Values.{layout_in, local_value};
+ghost use Rattle.k42_rule.specs.Tabling.{entry_in, layout_told, MayLookUp, looked_up_view, MayLoadRoot, rooted_view, MayEndCall, ended_view, MayInstall, installs, installed_view, MayKnock, knocked_view, MayStepOut};
+ghost use Rattle.k42_rule.specs.Values.{layout_in, local_value, has_bit};
 ghost use Rattle.k42_rule.specs.Words.{local_word, object_word};
 
 use crate::pass::Pass;
 use crate::sys::Sys;
-use crate::table_words::{end_word, install_word, look_up_word, root_word};
+use crate::table_words::{
+    end_word, install_word, knock_word, look_up_word, root_word, step_out_word,
+};
 use k42_kinds::Layout;
 use phase_core::Place;
 
@@ -170,5 +172,54 @@ pub fn install_step<L: Layout>(sys: &Sys<L>, pass: &mut Pass<L>, object: u32, ce
         pass.place = Place::Out;
         pass.layout = None;
     }
+    found
+}
+
+/// Whether the word of an object says that its swap blocks.
+fn is_blocked(word: u64) -> bool
+    ensures { result ≡ has_bit word 25 }
+{
+    word / 33_554_432 % 2 == 1
+}
+
+/// Knocks at the mediator, which counts the caller, and lets it in unless the swap blocks.
+pub fn knock_step<L: Layout>(sys: &Sys<L>, pass: &mut Pass<L>, object: u32) -> u64
+    requires ours { IsOf sys.now pass.old }
+    requires may { MayKnock (length sys.now.layouts) object pass.old.view }
+    ensures same { IsSamePass pass.old pass.new }
+    ensures knows { pass.new.view ≡ knocked_view object result pass.old.view }
+    ensures event { StepIs
+        (layouts_on L.object L.tag_of L.ways L.whole L.serves L.admitted L.act_of sys.now.procs sys.now.callers)
+        sys.now.layouts (AtPhases (phases.Knock pass.old.view.number object))
+        (object_word object) (λ word. (word + 1) % 2 ^ 64)
+        pass.old.seat pass.old.view result pass.new.view }
+{
+    let found = knock_word(&sys.board, &mut pass.seat, object as usize);
+    if is_blocked(found) {
+        pass.place = Place::Blocked(object);
+        pass.layout = None;
+    } else {
+        pass.place = Place::Tracked(object, (found >> 32) as u32);
+        pass.layout = Some((found / 268_435_456 % 4) as u32);
+    }
+    found
+}
+
+/// Is no longer counted at the mediator.
+pub fn step_out<L: Layout>(sys: &Sys<L>, pass: &mut Pass<L>) -> u64
+    requires ours { IsOf sys.now pass.old }
+    requires may { MayStepOut pass.old.view }
+    ensures same { IsSamePass pass.old pass.new }
+    ensures knows { pass.new.view ≡ ended_view result pass.old.view }
+    ensures event { StepIs
+        (layouts_on L.object L.tag_of L.ways L.whole L.serves L.admitted L.act_of sys.now.procs sys.now.callers)
+        sys.now.layouts (AtPhases (phases.StepOut pass.old.view.number))
+        (object_word (object_of pass.old.view.visitor.place)) (λ word. (word + (2 ^ 64 - 1)) % 2 ^ 64)
+        pass.old.seat pass.old.view result pass.new.view }
+{
+    let object = object_in(&pass.place) as usize;
+    let found = step_out_word(&sys.board, &mut pass.seat, object);
+    pass.place = Place::Out;
+    pass.layout = None;
     found
 }
