@@ -4,6 +4,7 @@
 mod board;
 mod cell;
 mod generating;
+mod laws;
 mod pass;
 mod plays;
 mod slot_plays;
@@ -20,6 +21,7 @@ mod words;
 
 pub use cell::{Cell, Content};
 pub use generating::{enter_step, leave_step};
+pub use laws::shown_states_are_safe;
 pub use pass::{Pass, Walker};
 pub use swap_begins::begin_step;
 pub use sys::Sys;
