@@ -42,7 +42,8 @@ use Rattle.k42_rule.specs.declared.view.View.{View}
 use Rattle.k42_rule.specs.declared.view.View.TheVariants.{Crew}
 use Rattle.k42_rule.proofs.CellsApart.{written, written_here, written_else, each_first, first_noted, further_noted, note_of, is_noted, IsKept, each_without, still_noted, at_within, cell_of_lock}
 use Rattle.k42_rule.specs.Steps.{Seated, on_pass, Always, Tells, StepIs}
-use Rattle.k42_rule.specs.Seen.{IsSeatOf, pass_in}
+use Rattle.k42_rule.specs.Seen.{IsSeatOf}
+use Rattle.k42_rule.specs.Views.{pass_in}
 use Rattle.k42_rule.proofs.CellsEvents.{locks, unlocks, take_found, takes_away, gives_back, reach_found, reaches, puts, note_there}
 use Rattle.k42_rule.proofs.CellsSteps.{free_word, held_word, some_one, stands, relock, take_move, slot_move, put_move, has_content, before}
 use Rattle.k42_rule.proofs.Moves.{Moves, seat_allowed, seat_is}

@@ -33,7 +33,8 @@ use Rattle.phase_core.specs.declared.object.LocalEntry.{LocalEntry}
 use Rattle.k42_rule.specs.Cells.{Slot}
 use Rattle.k42_rule.specs.Phases.{is_served}
 use Rattle.k42_rule.specs.Rule.{KnowsPass, Rule}
-use Rattle.k42_rule.specs.Seen.{IsSeatOf, pass_in}
+use Rattle.k42_rule.specs.Seen.{IsSeatOf}
+use Rattle.k42_rule.specs.Views.{pass_in, begun_of, kept_in}
 use Rattle.k42_rule.specs.Steps.{Seated, Tells}
 use Rattle.k42_rule.specs.Tabling.{word_begun, next_interposed, MayInterpose, mediator_after, interposed_view}
 use Rattle.k42_rule.specs.Values.{object_value, layout_in, incarnation_in, has_bit, answer_in}
@@ -58,7 +59,6 @@ use Rattle.phase_core.specs.Events as phase_events
 use Rattle.phase_core.proofs.InSound.{visitor_known}
 use Rattle.phase_core.proofs.Ranges.{some_procs, interposing_proc, turns_sound}
 use Rattle.gen_core.proofs.Ranges.{length-waits}
-use Rattle.k42_rule.specs.Views.{begun_of, kept_in}
 use Rattle.std.proofs.lemmas.Bool.{lt-ltb}
 use Rattle.std.specs.Prelude.{ltb}
 use Rattle.k42_rule.proofs.AtTables.{phases_but, trace_stays}

@@ -32,7 +32,8 @@ use Rattle.turn_core.specs.Plain as turns
 use Rattle.k42_rule.specs.Cells.{Slot}
 use Rattle.k42_rule.specs.Phases.{is_served}
 use Rattle.k42_rule.specs.Rule.{KnowsPass, Rule}
-use Rattle.k42_rule.specs.Seen.{IsSeatOf, pass_in}
+use Rattle.k42_rule.specs.Seen.{IsSeatOf}
+use Rattle.k42_rule.specs.Views.{pass_in}
 use Rattle.k42_rule.specs.Steps.{Seated, Tells}
 use Rattle.k42_rule.specs.Tabling.{went, word_object, MayKnock, knocked_view, MayStepOut, ended_view}
 use Rattle.k42_rule.specs.Values.{object_value, layout_in, incarnation_in, has_bit}

@@ -37,7 +37,8 @@ use Rattle.k42_joined.specs.Swapping.{holds_none}
 use Rattle.k42_rule.specs.Cells.{Slot}
 use Rattle.k42_rule.specs.Phases.{is_served}
 use Rattle.k42_rule.specs.Rule.{Beside, KnowsPass, Shows, Rule}
-use Rattle.k42_rule.specs.Seen.{IsSeatOf, pass_in}
+use Rattle.k42_rule.specs.Seen.{IsSeatOf}
+use Rattle.k42_rule.specs.Views.{pass_in}
 use Rattle.k42_rule.specs.Steps.{Seated, Tells}
 use Rattle.k42_rule.specs.Tabling.{went, entry_in, entry_object, layout_told, MayLookUp, looked_up_view, MayLoadRoot, rooted_view, MayEndCall, ended_view}
 use Rattle.k42_rule.specs.Values.{layout_in, local_value, object_value}

@@ -42,8 +42,10 @@ module _ {S L P : Type 0} (F : Layouts S L P) (declared : List L)
     pub passes :
         (j : ℕ) (x : PassView P) → x.number ≢ v.number → KnowsPass F.tag_of r.state r.beside j x
         → KnowsPass F.tag_of t beside j x
-    pub rows : (row : Row) → IsOld r.state.phases row → IsOld t.phases row
-    pub row_seats : (row : Row) → beside.row_seat row ≡ r.beside.row_seat row
+    -- and what is named keeps its name
+    pub named :
+        (j : ℕ) (row : Row) → j ≢ id → IsOld r.state.phases row → r.beside.row_seat row ≡ j
+        → IsOld t.phases row × (beside.row_seat row ≡ j)
 
   module _ (t : Joined L) (beside : Beside P) (words : List ℕ) (homes : List (maybe.Option (Slot P)))
       (w : PassView P) (leaves : LeavesOthers t beside) where
@@ -55,7 +57,7 @@ module _ {S L P : Type 0} (F : Layouts S L P) (declared : List L)
           leaves.passes j x (λ e. not (sym k.seat ∙ ap r.beside.seat e ∙ known.seat)) k,
     )
     other j (Kept told) not knows = tt
-    other j (Named row) not knows = (leaves.rows row knows.0, leaves.row_seats row ∙ knows.1)
+    other j (Named row) not knows = leaves.named j row not knows.0 knows.1
     other j Spent not knows = tt
 
     own : KnowsPass F.tag_of t beside id w → (place : ℕ) (x : PassView P) → slice_get (w ∷ []) place ≡ Some x

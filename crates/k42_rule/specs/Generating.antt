@@ -5,6 +5,7 @@ use Rattle.gen_core.specs.Events.{is_free}
 use Rattle.phase_core.specs.Stages.{is_idle, is_out}
 use Rattle.k42_rule.specs.Generations.{MOST}
 use Rattle.k42_rule.specs.Values.{generation_in}
+use Rattle.k42_rule.specs.Views.{hears}
 use Rattle.k42_rule.specs.declared.view.PassView.{PassView}
 
 -- it has no activity, no grace and no swap under way, and has begun few activities
@@ -15,7 +16,7 @@ pub record MayEnter {P : Type 0} (v : PassView P) : Type 0 where
 
 abbrev pub entered_view : {P : Type 0} → ℕ → PassView P → PassView P
 entered_view found v =
-    record v { turn = record v.turn { active = Some (generation_in found) }; activities = v.activities + 1 }
+    hears found (record v { turn = record v.turn { active = Some (generation_in found) }; activities = v.activities + 1 })
 
 -- it has an activity, of this generation, and is inside no call
 pub record MayLeave {P : Type 0} (generation : ℕ) (v : PassView P) : Type 0 where
@@ -31,4 +32,4 @@ active_in v = unwrap_or v.turn.active 0
 
 abbrev pub left_view : {P : Type 0} → ℕ → PassView P → PassView P
 left_view found v =
-    record v { turn = record v.turn { active = None }; visitor = record v.visitor { read = [] } }
+    hears found (record v { turn = record v.turn { active = None }; visitor = record v.visitor { read = [] } })

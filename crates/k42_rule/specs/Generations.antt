@@ -1,6 +1,7 @@
 -- The words of the generations, and what a pass knows of them.
 use Rattle.std.specs.Prelude.{if◌then◌else◌, ◌≡◌, ◌≢◌, ℕ, ◌+◌, ◌<◌, ◌≤◌, ◌^◌, Bool, true, false, List, Option, Some, None, length, slice_index, sum}
 use Rattle.k42_places.specs.Places.{EachPlace}
+use Rattle.gen_core.specs.Consequences.{entries_so_far}
 use Rattle.gen_core.specs.Events.{is_idle}
 use Rattle.gen_core.specs.Plain.{Generations}
 use Rattle.gen_core.specs.Sound.{generation_of, is_flipped}
@@ -42,7 +43,7 @@ will_flip (Some holder) grace p = if is_flipped grace p then 0 else 1
 
 -- a processor is entered by activities, and flipped by graces, that were begun
 pub record IsProcessorBegun (g : Generations) (counts : Counts) (p : ℕ) (k : GenProc) : Type 0 where
-  pub entered : k.entered ≤ sum counts.activities
+  pub entered : entries_so_far g p ≤ sum counts.activities
   pub flipped : k.generation + will_flip g.role (grace_of g g.role) p ≤ sum counts.graces
 
 pub record AreGenerations (words : List ℕ) (g : Generations) (counts : Counts) : Type 0 where

@@ -10,6 +10,11 @@ pub mod Trace
 pub mod Rule
 pub mod Steps
 pub mod Generating
+pub mod Noting
+pub mod Gracing
+pub mod Freeing
+pub mod Swapping
+pub mod Finishing
 pub mod Tabling
 pub mod Seen
 pub mod Taking

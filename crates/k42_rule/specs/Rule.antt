@@ -11,7 +11,7 @@ use Rattle.k42_joined.specs.Plain.{Joined}
 use Rattle.k42_joined.specs.Sound.{IsSound}
 use Rattle.k42_joined.specs.State.{many_procs, many_callers, many_objects}
 use Rattle.k42_rule.specs.Cells.{Slot, Contents, IsCellShown, KnowsCells}
-use Rattle.k42_rule.specs.Generations.{Counts, AreGenerations, KnowsGenerations}
+use Rattle.k42_rule.specs.Generations.{Counts, MOST, AreGenerations, KnowsGenerations}
 use Rattle.k42_rule.specs.Parts.{IsPart}
 use Rattle.k42_rule.specs.Phases.{AreObjects, IsOld, KnowsPhases}
 use Rattle.k42_rule.specs.Trace.{KnowsTrace}
@@ -35,11 +35,22 @@ AreApart {P} passes =
     (i j : ℕ) (v w : PassView P) → slice_get passes i ≡ Some v → slice_get passes j ≡ Some w
     → v.number ≡ w.number → i ≡ j
 
+-- no row stands twice in the list
+abbrev pub AreOnce : List Row → Type 0
+AreOnce rows =
+    (i j : ℕ) (row : Row) → slice_get rows i ≡ Some row → slice_get rows j ≡ Some row → i ≡ j
+
+-- a seat names the rows of its pass, each once; no other seat names one of them
+pub record NamesRows {P : Type 0} (beside : Beside P) (id : ℕ) (rows : List Row) : Type 0 where
+  pub named : EachPlace (λ place row. beside.row_seat row ≡ id) rows
+  pub once : AreOnce rows
+
 module _ {L P : Type 0} (tag_of : L → ℕ) (s : Joined L) (beside : Beside P) where
   -- a pass knows its caller, which no other seat has
   pub record KnowsPass (id : ℕ) (v : PassView P) : Type 0 where
     pub there : v.number < many_callers s
     pub seat : beside.seat v.number ≡ id
+    pub names : NamesRows beside id v.rows
     pub generations : KnowsGenerations s.phases.turns beside.counts v
     pub phases : KnowsPhases s.phases v
     pub cells : KnowsCells s.turns beside.contents v
@@ -57,6 +68,7 @@ pub record Shows
   pub many_words : length table.words ≡ many_words
   pub many_slots : length table.homes ≡ many_slots
   pub few_objects : many_objects s ≤ OBJECTS
+  pub few_entries : EachPlace (λ c x. length x.mine ≤ MOST) s.turns.callers
   pub generations : AreGenerations table.words s.phases.turns beside.counts
   pub objects : AreObjects table.words s.phases.objects
   pub cells :
@@ -72,3 +84,10 @@ pub record Rule
   pub parts : (n : ℕ) → n < length state.turns.cells → IsPart F declared state n (beside.contents.part n)
   pub seats :
       (id : ℕ) (view : View P) → get_elem? table.views id ≡ some view → Knows F.tag_of state beside id view
+
+-- and that of a table which was made for so many callers
+pub record Ruled
+    {S L P : Type 0} (F : Layouts S L P) (declared : List L) (callers : ℕ) (table : State (Slot P) (View P))
+    : Type 0 where
+  pub rule : Rule F declared table
+  pub many : many_callers rule.state ≡ callers

@@ -9,7 +9,7 @@ use Rattle.k42_kinds.specs.declared.entry.Entry.{Entry}
 use Rattle.phase_core.specs.declared.caller.Place.{Place}
 use Rattle.phase_core.specs.declared.caller.SwapAt.{SwapAt}
 use Rattle.k42_rule.specs.Steps.{Seated}
-use Rattle.k42_rule.specs.Views.{new_pass}
+use Rattle.k42_rule.specs.Views.{pass_in}
 use Rattle.k42_rule.specs.declared.view.LastBegin.{LastBegin}
 use Rattle.k42_rule.specs.declared.view.PassView.{PassView}
 use Rattle.k42_rule.specs.declared.view.Row.{Row}
@@ -31,11 +31,6 @@ pub record PassSeen (P : Type 0) : Type 0 where
   pub room : ℕ
   pub row_room : ℕ
 
--- the pass that alone has the view of a seat
-abbrev pub pass_in : {P : Type 0} → View P → PassView P
-pass_in (Crew (v ∷ [])) = v
-pass_in view = new_pass 0 0 0 0
-
 -- what the pass keeps by itself of what it knows
 pub record Own : Type 0 where
   pub number : ℕ
@@ -49,6 +44,7 @@ pub record Own : Type 0 where
   pub graces : ℕ
   pub base : Option ℕ
   pub last : Option LastBegin
+  pub turned : Bool
   pub layout : Option ℕ
   pub handed : Option ℕ
   pub rows : List Row
@@ -67,6 +63,7 @@ own_in v = record {
   graces = v.graces;
   base = v.base;
   last = v.last;
+  turned = v.turned;
   layout = v.layout;
   handed = v.handed;
   rows = v.rows;
@@ -77,10 +74,12 @@ own_in v = record {
 abbrev pub IsSeatOf : {P : Type 0} → Seated P → PassView P → Type 0
 IsSeatOf me v = me ≡ (Crew (v ∷ []), [])
 
--- between two calls no slot is out with the pass
-abbrev pub Mirrors : {P : Type 0} → Seated P → Own → Type 0
-Mirrors me own =
-    IsSeatOf me (pass_in me.0) × (own ≡ own_in (pass_in me.0)) × ((pass_in me.0).out ≡ None)
+-- between two calls no slot is out with the pass, and each cell at which it drew tells so
+pub record Mirrors {P : Type 0} (me : Seated P) (own : Own) : Type 0 where
+  pub seat : IsSeatOf me (pass_in me.0)
+  pub own_is : own ≡ own_in (pass_in me.0)
+  pub out : (pass_in me.0).out ≡ None
+  pub told : (pass_in me.0).untold ≡ []
 
 -- the pass has a seat of the system's table
 abbrev pub IsOf : {L P : Type 0} → SysSeen L → PassSeen P → Type 0

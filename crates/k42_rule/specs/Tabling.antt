@@ -1,23 +1,21 @@
 -- The steps on tables, for one pass: where each may be taken, and what the pass knows after it.
-use Rattle.std.specs.Prelude.{◌≡◌, ℕ, ◌-◌, ◌*◌, ◌/◌, ◌%◌, ◌<◌, ◌^◌, ◌==◌, ◌||◌, Bool, true, if◌then◌else◌, List, Option, Some, None, is_some, unwrap_or, length}
+use Rattle.std.specs.Prelude.{◌≡◌, ℕ, ◌-◌, ◌*◌, ◌/◌, ◌%◌, ◌<◌, ◌^◌, ◌==◌, ◌||◌, Bool, true, if◌then◌else◌, List, Option, Some, None, is_some, unwrap_or}
 use Rattle.k42_limits.specs.declared.TheConstants.{LAST_INCARNATION}
 use Rattle.gen_core.specs.Events.{is_free}
-use Rattle.phase_core.specs.Effects.{root_of, at_place, looked_up, direct_entry, knocked, at_stage, begun_as, after_interpose}
-use Rattle.phase_core.specs.State.{empty_entry, mediator_entry}
+use Rattle.phase_core.specs.Effects.{root_of, at_place, looked_up, direct_entry, knocked, at_stage, begun_as}
+use Rattle.phase_core.specs.State.{empty_entry}
 use Rattle.phase_core.specs.Plain.{Visitor}
 use Rattle.phase_core.specs.Stages.{is_out, is_missed, is_at_mediator, is_uncounted, is_counted, is_idle, row_of}
 use Rattle.phase_core.specs.declared.caller.Place.TheVariants.{Out, Direct}
 use Rattle.phase_core.specs.declared.object.LocalEntry.{LocalEntry}
 use Rattle.k42_joined.specs.Swapping.{holds_none}
 use Rattle.k42_rule.specs.Values.{local_value, layout_in, incarnation_in, has_bit, answer_in}
-use Rattle.phase_core.specs.declared.caller.SwapAt.{SwapAt}
-use Rattle.phase_core.specs.declared.caller.SwapAt.TheVariants.{Begun, Interposing}
-use Rattle.k42_rule.specs.declared.view.LastBegin.{LastBegin}
+use Rattle.k42_rule.specs.Views.{hears}
 use Rattle.k42_rule.specs.declared.view.PassView.{PassView}
 
--- a pass that has gone on in its call, and what it has learned of the row's layout
-abbrev pub went : {P : Type 0} → PassView P → Visitor → Option ℕ → PassView P
-went v visitor layout = record v { visitor = visitor; layout = layout }
+-- a pass that has gone on in its call by a step that found this word, and what it has learned of the row's layout
+abbrev pub went : {P : Type 0} → ℕ → PassView P → Visitor → Option ℕ → PassView P
+went found v visitor layout = hears found (record v { visitor = visitor; layout = layout })
 
 -- the entry of a processor, as its word says it
 abbrev pub entry_in : ℕ → LocalEntry
@@ -43,7 +41,7 @@ pub record MayLookUp {P : Type 0} (objects o : ℕ) (v : PassView P) : Type 0 wh
   pub there : o < objects
 
 abbrev pub looked_up_view : {P : Type 0} → ℕ → ℕ → PassView P → PassView P
-looked_up_view o found v = went v (looked_up v.visitor o (entry_in found)) (layout_told (entry_in found))
+looked_up_view o found v = went found v (looked_up v.visitor o (entry_in found)) (layout_told (entry_in found))
 
 -- it has found its processor's entry of the object empty
 pub record MayLoadRoot {P : Type 0} (objects o : ℕ) (v : PassView P) : Type 0 where
@@ -51,7 +49,7 @@ pub record MayLoadRoot {P : Type 0} (objects o : ℕ) (v : PassView P) : Type 0 
   pub there : o < objects
 
 abbrev pub rooted_view : {P : Type 0} → ℕ → PassView P → PassView P
-rooted_view found v = went v v.visitor (Some (layout_in found))
+rooted_view found v = went found v v.visitor (Some (layout_in found))
 
 -- the layout that it has learned
 abbrev pub layout_learned : {P : Type 0} → PassView P → ℕ
@@ -78,8 +76,8 @@ installs v word = if word == empty_before v then direct_after v else word
 abbrev pub installed_view : {P : Type 0} → ℕ → ℕ → PassView P → PassView P
 installed_view o found v =
     if found == empty_before v
-    then went v (at_place v.visitor (Direct o (row_of v.visitor.place))) v.layout
-    else went v (at_place v.visitor Out) None
+    then went found v (at_place v.visitor (Direct o (row_of v.visitor.place))) v.layout
+    else went found v (at_place v.visitor Out) None
 
 -- it is in a direct call, or has found its entry empty, and holds no cell
 pub record MayEndCall {P : Type 0} (v : PassView P) : Type 0 where
@@ -87,7 +85,7 @@ pub record MayEndCall {P : Type 0} (v : PassView P) : Type 0 where
   pub free : holds_none v.taker.held ≡ true
 
 abbrev pub ended_view : {P : Type 0} → ℕ → PassView P → PassView P
-ended_view found v = went v (at_place v.visitor Out) None
+ended_view found v = went found v (at_place v.visitor Out) None
 
 -- the object of its word
 abbrev pub word_object : ℕ → ℕ
@@ -101,7 +99,7 @@ pub record MayKnock {P : Type 0} (objects o : ℕ) (v : PassView P) : Type 0 whe
 -- it is let in, and learns the row and its layout, unless the swap blocks
 abbrev pub knocked_view : {P : Type 0} → ℕ → ℕ → PassView P → PassView P
 knocked_view o found v =
-    went v (knocked v.visitor o (incarnation_in found) (has_bit found 25))
+    went found v (knocked v.visitor o (incarnation_in found) (has_bit found 25))
     (if has_bit found 25 then None else Some (layout_in found))
 
 -- the mediator counts it, and it holds no cell; its call is over then
@@ -124,30 +122,8 @@ abbrev pub stage_begun : ℕ → ℕ → Visitor → Visitor
 stage_begun o found x = if has_bit found 24 then x else at_stage x (begun_as o (is_over_in found))
 
 abbrev pub begun_view : {P : Type 0} → ℕ → ℕ → PassView P → PassView P
-begun_view o found v = record v {
+begun_view o found v = hears found (record v {
   visitor = stage_begun o found v.visitor;
   last = Some (record { object = o; word = found });
   found = answer_in found;
-}
-
--- the word that its last Begin found
-abbrev pub word_begun : Option LastBegin → ℕ
-word_begun None = 0
-word_begun (Some begin) = begin.word
-
--- the object and the processor whose entry leads to the mediator next
-abbrev pub next_interposed : SwapAt → Option (ℕ × ℕ)
-next_interposed (Begun o) = Some (o, 0)
-next_interposed (Interposing o p) = Some (o, p)
-next_interposed _ = None
-
-abbrev pub MayInterpose : {P : Type 0} → ℕ → ℕ → PassView P → Type 0
-MayInterpose o p v = next_interposed v.visitor.swap ≡ Some (o, p)
-
--- a mediator at the incarnation that its Begin found
-abbrev pub mediator_after : {P : Type 0} → PassView P → ℕ
-mediator_after v = local_value (mediator_entry (incarnation_in (word_begun v.last)))
-
-abbrev pub interposed_view : {P : Type 0} → ℕ → ℕ → ℕ → PassView P → PassView P
-interposed_view o p found v =
-    record v { visitor = at_stage v.visitor (after_interpose o p (length v.turn.waits)) }
+})

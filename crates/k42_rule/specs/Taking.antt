@@ -1,20 +1,29 @@
 -- The steps of a call on cells, for one pass: where each may be taken, and what the pass knows after it.
-use Rattle.std.specs.Prelude.{◌≡◌, ℕ, ◌+◌, ◌*◌, ◌-◌, ◌/◌, ◌%◌, ◌<◌, ◌==◌, if◌then◌else◌, true, false, not, List, [], ◌∷◌, Option, Some, None, slice_get, slice_index}
+use Rattle.std.specs.Prelude.{◌≡◌, ◌≢◌, ◌⊎◌, ℕ, ◌≤◌, ◌+◌, ◌*◌, ◌-◌, ◌/◌, ◌%◌, ◌<◌, ◌==◌, if◌then◌else◌, true, false, not, List, [], ◌∷◌, Option, Some, None, slice_get, slice_index}
 use Rattle.std.specs.List.{filter}
 use mathlib.Core.Option.{some}
 use lib.ListN.{get_elem?}
 use Rattle.atomic_table.specs.Table.{State, Step, Act, Valid, rest, stepped}
+use Rattle.k42_limits.specs.declared.TheConstants.{CALLERS}
+use Rattle.k42_kinds.specs.Rows.{part_at}
+use Rattle.k42_kinds.specs.declared.entry.Answer.{Answer}
+use Rattle.phase_core.specs.Stages.{IsInside}
+use Rattle.phase_core.specs.declared.caller.SwapAt.TheVariants.{Moved}
 use Rattle.turn_core.specs.Events.{caller_locked, caller_unlocked}
 use Rattle.turn_core.specs.Names.{names}
 use Rattle.k42_stamp.specs.Layouts.{Layouts}
 use Rattle.k42_joined.specs.Plain.{Joined}
-use Rattle.k42_joined.specs.Possible.{MayTouch}
+use Rattle.k42_joined.specs.Found.{tells_over}
+use Rattle.k42_joined.specs.Numbers.{cell_of, object_of, place_of}
+use Rattle.k42_joined.specs.Touching.{is_moving, is_freeing}
 use Rattle.k42_joined.specs.State.{cell}
 use Rattle.k42_rule.specs.Cells.{Slot, IsCell, cells_noted}
-use Rattle.k42_rule.specs.Parts.{IsPart}
+use Rattle.k42_rule.specs.Parts.{HasDue, IsPart}
 use Rattle.k42_rule.specs.Rule.{Rule}
 use Rattle.k42_rule.specs.Seats.{told_by}
 use Rattle.k42_rule.specs.Steps.{Seated, on_pass, Always}
+use Rattle.k42_rule.specs.Values.{layout_in, incarnation_in}
+use Rattle.k42_rule.specs.Views.{hears, object_begun, word_begun}
 use Rattle.k42_rule.specs.Words.{slot_of}
 use Rattle.k42_rule.specs.declared.cell.Content.{Content}
 use Rattle.k42_rule.specs.declared.view.Note.{Note}
@@ -46,7 +55,7 @@ without n notes = filter (λ note. not (note.cell == n)) notes
 
 -- it has the lock, where that was found free
 abbrev pub locked_view : {P : Type 0} → ℕ → ℕ → PassView P → PassView P
-locked_view n found v = record v { taker = if found == 0 then caller_locked n v.taker else v.taker }
+locked_view n found v = hears found (record v { taker = if found == 0 then caller_locked n v.taker else v.taker })
 
 abbrev pub unlocked_view : {P : Type 0} → ℕ → PassView P → PassView P
 unlocked_view n v = record v { taker = caller_unlocked n v.taker }
@@ -92,13 +101,55 @@ pub record HoldsHome {P : Type 0} (n : ℕ) (v : PassView P) : Type 0 where
   pub held : names v.taker.held n ≡ true
   pub home : names (cells_noted v.notes) n ≡ false
 
-module _ {S L P : Type 0} (F : Layouts S L P) (declared : List L) where
-  -- it does not hold the cell, and may touch it
-  pub record MayLock (id n : ℕ) (v : PassView P) : Type 0 where
-    pub cell : n < CELLS
-    pub unheld : names v.taker.held n ≡ false
-    pub touched : Always F declared id v (λ s. MayTouch s v.number n)
+-- by what a pass may touch a cell, of so many processors
 
+-- its call is inside the row of the cell
+pub record TouchesInside {P : Type 0} (procs n : ℕ) (v : PassView P) : Type 0 where
+  pub object : ℕ
+  pub row : ℕ
+  pub place : ℕ
+  pub cell : n ≡ cell_of object row place
+  pub there : place < procs
+  pub inside : IsInside v.visitor.place object row
+
+-- it moves the object of the cell
+pub record TouchesMoved {P : Type 0} (procs n : ℕ) (v : PassView P) : Type 0 where
+  pub there : place_of n < procs
+  pub moves : is_moving v.visitor.swap (object_of n) ≡ true
+
+-- it has freed the row of the cell
+pub record TouchesFreed {P : Type 0} (procs n : ℕ) (v : PassView P) : Type 0 where
+  pub object : ℕ
+  pub row : ℕ
+  pub place : ℕ
+  pub cell : n ≡ cell_of object row place
+  pub there : place < procs
+  pub freed : is_freeing v.visitor.freeing object row ≡ true
+
+-- its last Begin found the object of the cell dead or at its last incarnation, and the cell is of that row
+pub record TouchesOver {P : Type 0} (procs n : ℕ) (v : PassView P) : Type 0 where
+  pub place : ℕ
+  pub cell : n ≡ cell_of (object_begun v.last) (incarnation_in (word_begun v.last)) place
+  pub there : place < procs
+  pub answer : Answer
+  pub found : v.found ≡ Some answer
+  pub over : tells_over answer ≡ true
+
+abbrev pub Touches : {P : Type 0} → ℕ → ℕ → PassView P → Type 0
+Touches procs n v = TouchesInside procs n v ⊎ (TouchesMoved procs n v ⊎ (TouchesFreed procs n v ⊎ TouchesOver procs n v))
+
+-- it does not hold the cell, and may touch it
+pub record MayLock {P : Type 0} (procs n : ℕ) (v : PassView P) : Type 0 where
+  pub cell : n < CELLS
+  pub unheld : names v.taker.held n ≡ false
+  pub touches : Touches procs n v
+
+-- the word found is that of nobody, or of another caller
+pub record LockFound {P : Type 0} (v : PassView P) (found : ℕ) : Type 0 where
+  pub another : found ≢ v.number + 1
+  pub small : found ≤ CALLERS
+
+module _ {S L P : Type 0} (F : Layouts S L P) (declared : List L) where
   -- it has taken the cell of which this is the content: its number, its history, and the part that is due
   pub record MayPut (id n : ℕ) (content : Content P) (v : PassView P) : Type 0 where
     pub cell : n < CELLS
@@ -114,6 +165,27 @@ module _ {S L P : Type 0} (F : Layouts S L P) (declared : List L) where
     pub history : (cell s n).history ≡ (told_by content.badge.views).history
     pub closed : (cell s n).closed ≡ (told_by content.badge.views).closed
     pub part : IsPart F declared s n content.part
+
+  -- The noted parts of a row with a layout of this tag are those of one whole row.
+  pub record IsRowNoted (notes : List (Note P)) (o i tag : ℕ) : Type 0 where
+    pub declaration : L
+    pub declares : slice_get declared o ≡ Some declaration
+    pub layout : L
+    pub same : F.object_of layout ≡ F.object_of declaration
+    pub tagged : F.tag_of layout ≡ tag
+    pub row : List P
+    pub whole : F.Whole layout F.procs row
+    pub parts :
+        (k p : ℕ) (note : Note P) → p < F.procs → slice_get notes k ≡ Some note → note.cell ≡ cell_of o i p
+        → HasDue (F.ways_of layout) F.procs p note.part (part_at row p)
+
+  -- so are those of the row that the pass is inside, and of the one that it moves and has not handed on
+  pub record AreRowsNoted (v : PassView P) : Type 0 where
+    pub inside :
+        (o i tag : ℕ) → IsInside v.visitor.place o i → v.layout ≡ Some tag → IsRowNoted v.notes o i tag
+    pub moved :
+        (o : ℕ) → v.visitor.swap ≡ Moved o → v.handed ≡ None
+        → IsRowNoted v.notes o (incarnation_in (word_begun v.last)) (layout_in (word_begun v.last))
 
   -- Whatever state the table shows, and whatever the word is, the slot moves and the state becomes this.
   abbrev pub ActIs :

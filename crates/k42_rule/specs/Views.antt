@@ -13,6 +13,20 @@ abbrev pub begun_of : Option LastBegin → Option ℕ
 begun_of None = None
 begun_of (Some begin) = Some begin.object
 
+-- the word that its last Begin found, 0 where there is none
+abbrev pub word_begun : Option LastBegin → ℕ
+word_begun None = 0
+word_begun (Some begin) = begin.word
+
+-- and its object
+abbrev pub object_begun : Option LastBegin → ℕ
+object_begun None = 0
+object_begun (Some begin) = begin.object
+
+-- the pass has found this word
+abbrev pub hears : {P : Type 0} → ℕ → PassView P → PassView P
+hears found v = record v { heard = found }
+
 -- what the joined machine keeps of the pass
 abbrev pub kept_in : {P : Type 0} → PassView P → Kept
 kept_in v = record { begun = begun_of v.last; found = v.found; abandoned = v.abandoned }
@@ -30,14 +44,22 @@ new_pass procs objects number home = record {
   last = None;
   found = None;
   abandoned = false;
+  turned = false;
   layout = None;
   handed = None;
   rows = [];
   granted = 0;
+  swept = [];
   notes = [];
   out = None;
   untold = [];
+  heard = 0;
 }
+
+-- the pass that alone has the view of a seat
+abbrev pub pass_in : {P : Type 0} → View P → PassView P
+pass_in (Crew (v ∷ [])) = v
+pass_in view = new_pass 0 0 0 0
 
 -- the callers on these processors, counted from a first one
 abbrev pub new_passes : {P : Type 0} → ℕ → ℕ → ℕ → List ℕ → List (PassView P)

@@ -19,13 +19,14 @@ pub struct Ruling<L> {
 }
 
 impl<L: Layout> TableRule<Option<Cell<L>>, View<L::Part>, Setup<L>> for Ruling<L> {
+    ghost use Rattle.std.specs.Prelude.{length};
     ghost use Rattle.k42_rule.specs.Plan.{layouts_on};
-    ghost use Rattle.k42_rule.specs.Rule.{Rule};
+    ghost use Rattle.k42_rule.specs.Rule.{Ruled};
     ghost use Rattle.k42_rule.specs.Views.{first_view};
 
-    ghost holds = { λ key s. Rule
+    ghost holds = { λ key s. Ruled
         (layouts_on L.object L.tag_of L.ways L.whole L.serves L.admitted L.act_of key.procs key.callers.items)
-        key.layouts.items s };
+        key.layouts.items (length key.callers.items) s };
 
     ghost first = { λ key. first_view key.procs key.layouts.items key.callers.items };
 }

@@ -29,6 +29,7 @@ pub struct Walker<P: Drop> {
     pub(crate) graces: u32,
     pub(crate) base: Option<u32>,
     pub(crate) last: Option<LastBegin>,
+    pub(crate) turned: bool,
     pub(crate) layout: Option<u32>,
     pub(crate) handed: Option<u32>,
     pub(crate) rows: Vec<Row>,
@@ -41,7 +42,8 @@ impl<P: Drop> Model for Walker<P> {
     ghost use Rattle.std.specs.Prelude.{ℕ, ◌-◌, ◌≡◌, ◌<◌, length, vec_capacity};
     ghost use Rattle.std.specs.Option.{unwrap_or};
     ghost use Rattle.phase_core.specs.Stages.{object_of};
-    ghost use Rattle.k42_rule.specs.Seen.{PassSeen, Mirrors, pass_in};
+    ghost use Rattle.k42_rule.specs.Seen.{PassSeen, Mirrors};
+    ghost use Rattle.k42_rule.specs.Views.{pass_in};
 
     ghost Value = { PassSeen P };
 
@@ -65,6 +67,7 @@ impl<P: Drop> Model for Walker<P> {
       graces = p.graces;
       base = p.base;
       last = p.last;
+      turned = p.turned;
       layout = p.layout;
       handed = p.handed;
       rows = p.rows.items;

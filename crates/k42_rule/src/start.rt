@@ -83,6 +83,7 @@ fn deal<L: Layout>(
         graces: 0,
         base: None,
         last: None,
+        turned: false,
         layout: None,
         handed: None,
         rows,

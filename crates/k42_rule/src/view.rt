@@ -43,6 +43,8 @@ pub struct PassView<P> {
     pub last: Option<LastBegin>,
     pub found: Option<Answer>,
     pub abandoned: bool,
+    /// Whether it has turned over the object that it swaps.
+    pub turned: bool,
     /// The layout of the row that it is inside, once it has learned it.
     pub layout: Option<u32>,
     /// The tag of the layout with which it has handed on a row that it has not turned over.
@@ -50,11 +52,15 @@ pub struct PassView<P> {
     /// The rows that it holds, and how many of them it held as it took the role.
     pub rows: [Row; 0],
     pub granted: u32,
+    /// The objects that its last grace has freed up to the noted number.
+    pub swept: [u32; 0],
     pub notes: LinkedList<Note<P>>,
     /// The cell whose slot is out with it.
     pub out: Option<u32>,
     /// The cells at which its last entry was drawn, and whose seats do not tell it yet.
     pub untold: [u32; 0],
+    /// The word that its last step found, or the stamp that it drew.
+    pub heard: u64,
 }
 
 /// What the seat of a cell knows: a copy of its history.

@@ -3,7 +3,7 @@ use mathlib.Core.Option.{none}
 use Rattle.atomic_table.specs.Table.{step}
 use Rattle.turn_core.specs.declared.event.TurnEvent.TheVariants.{Lock}
 use Rattle.k42_joined.specs.Event.{AtCells}
-use Rattle.k42_rule.specs.Seen.{pass_in}
+use Rattle.k42_rule.specs.Views.{pass_in}
 use Rattle.k42_rule.specs.Steps.{StepIs}
 use Rattle.k42_rule.specs.Words.{lock_word}
 use Rattle.k42_rule.proofs.CellsAllowed.{lock_allowed, lock_is, lock_value}

@@ -2,7 +2,7 @@ use Rattle.std.proofs.Common.{◌≡◌, ℕ, ◌+◌, [], ◌∷◌, sym, ap, �
 use Rattle.std.specs.Prelude.{Some, None}
 use mathlib.Core.Option.{none}
 use Rattle.atomic_table.specs.Table.{step, rest}
-use Rattle.k42_rule.specs.Seen.{pass_in}
+use Rattle.k42_rule.specs.Views.{pass_in}
 use Rattle.k42_rule.specs.Steps.{Seated, on_pass}
 use Rattle.k42_rule.specs.Taking.{cell_at_lock, reaching_view, put_view}
 use Rattle.k42_rule.specs.Words.{lock_word, slot_of}

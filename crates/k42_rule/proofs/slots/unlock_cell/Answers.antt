@@ -1,7 +1,7 @@
 use Rattle.std.proofs.Common.{◌≡◌, ℕ, ◌+◌, sym, ap, ◌∙◌, subst, refl, arith}
 use mathlib.Core.Option.{none}
 use Rattle.atomic_table.specs.Table.{step}
-use Rattle.k42_rule.specs.Seen.{pass_in}
+use Rattle.k42_rule.specs.Views.{pass_in}
 use Rattle.k42_rule.specs.Words.{lock_word}
 use Rattle.k42_rule.proofs.CellsAllowed.{unlock_allowed, unlock_is}
 use Rattle.k42_rule.proofs.slots.unlock_cell.Goals as goal

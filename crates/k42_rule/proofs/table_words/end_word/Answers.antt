@@ -3,7 +3,7 @@ use mathlib.Core.Option.{none}
 use Rattle.atomic_table.specs.Table.{step}
 use Rattle.k42_rule.proofs.Looking.{end_moves}
 use Rattle.k42_rule.proofs.Moves.{seat_allowed, seat_is}
-use Rattle.k42_rule.specs.Seen.{pass_in}
+use Rattle.k42_rule.specs.Views.{pass_in}
 use Rattle.k42_rule.specs.Words.{local_word}
 use Rattle.phase_core.specs.Stages.{object_of}
 use Rattle.k42_rule.proofs.table_words.end_word.Goals as goal

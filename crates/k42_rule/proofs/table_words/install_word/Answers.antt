@@ -3,7 +3,7 @@ use mathlib.Core.Option.{none}
 use Rattle.atomic_table.specs.Table.{step}
 use Rattle.k42_rule.proofs.Installing.{install_moves, install_allowed, install_told}
 use Rattle.k42_rule.proofs.Moves.{seat_is}
-use Rattle.k42_rule.specs.Seen.{pass_in}
+use Rattle.k42_rule.specs.Views.{pass_in}
 use Rattle.k42_rule.proofs.table_words.install_word.Goals as goal
 
 pub compare_exchange-requires : goal.compare_exchange-requires

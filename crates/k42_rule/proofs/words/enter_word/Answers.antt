@@ -3,7 +3,7 @@ use mathlib.Core.Option.{none}
 use Rattle.atomic_table.specs.Table.{step}
 use Rattle.k42_rule.proofs.Entering.{enter_moves}
 use Rattle.k42_rule.proofs.Moves.{seat_allowed, seat_is}
-use Rattle.k42_rule.specs.Seen.{pass_in}
+use Rattle.k42_rule.specs.Views.{pass_in}
 use Rattle.k42_rule.proofs.words.enter_word.Goals as goal
 
 pub fetch_add-requires : goal.fetch_add-requires

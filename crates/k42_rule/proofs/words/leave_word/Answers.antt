@@ -1,7 +1,7 @@
 use Rattle.std.proofs.Common.{ℕ, ◌+◌, ◌*◌, ◌%◌, refl, arith}
 use mathlib.Core.Option.{none}
 use Rattle.atomic_table.specs.Table.{step}
-use Rattle.k42_rule.specs.Seen.{pass_in}
+use Rattle.k42_rule.specs.Views.{pass_in}
 use Rattle.k42_rule.proofs.Leaving.{leave_moves}
 use Rattle.k42_rule.proofs.Moves.{seat_allowed, seat_is}
 use Rattle.k42_rule.proofs.words.leave_word.Goals as goal

@@ -1,0 +1,40 @@
+-- A system that is finished: what its passes owe, and what their lists are.
+use Rattle.std.specs.Prelude.{◌≡◌, ℕ, ◌<◌, true, List, length, None}
+use Rattle.k42_places.specs.Places.{EachPlace}
+use Rattle.gen_core.specs.State.{caller_at}
+use Rattle.k42_kinds.specs.declared.entry.Entry.{Entry}
+use Rattle.phase_core.specs.Stages.{is_out, is_idle}
+use Rattle.phase_core.specs.State.{visitor_at}
+use Rattle.k42_stamp.specs.Layouts.{Layouts}
+use Rattle.k42_joined.specs.Fitting.{lists_of}
+use Rattle.k42_joined.specs.Plain.{Joined}
+use Rattle.k42_joined.specs.Sound.{IsSound}
+use Rattle.k42_joined.specs.State.{many_callers}
+use Rattle.k42_rule.specs.Seen.{SysSeen, PassSeen, IsOf, is_at_rest}
+
+-- the pass is that of the caller with this number, and has nothing under way
+pub record IsPassAtRest {L P : Type 0} (sys : SysSeen L) (c : ℕ) (pass : PassSeen P) : Type 0 where
+  pub ours : IsOf sys pass
+  pub number : pass.view.number ≡ c
+  pub rests : is_at_rest pass.view ≡ true
+
+-- all passes of the system, in order
+pub record AreAtRest {L P : Type 0} (sys : SysSeen L) (passes : List (PassSeen P)) : Type 0 where
+  pub many : length passes ≡ length sys.callers
+  pub each : EachPlace (IsPassAtRest sys) passes
+
+-- a caller that is in no activity, no grace, no call and no swap
+pub record IsResting {L : Type 0} (s : Joined L) (c : ℕ) : Type 0 where
+  pub inactive : (caller_at s.phases.turns c).active ≡ None
+  pub out : is_out (visitor_at s.phases c).place ≡ true
+  pub swap : is_idle (visitor_at s.phases c).swap ≡ true
+
+-- the lists are those that the callers drew in a state that meets the invariant, where everybody rests
+pub record AreLastLists
+    {S L P : Type 0} (F : Layouts S L P) (declared : List L) (callers : ℕ) (lists : List (List Entry))
+    : Type 0 where
+  pub state : Joined L
+  pub sound : IsSound F declared state
+  pub many : many_callers state ≡ callers
+  pub drawn : lists ≡ lists_of state
+  pub resting : (c : ℕ) → c < callers → IsResting state c
