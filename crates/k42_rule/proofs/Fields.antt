@@ -11,6 +11,7 @@ use Rattle.std.specs.Int.RustNames.{bit_or}
 use lib.Bits.{or_step, or_zero_r}
 use Rattle.std.proofs.lemmas.List.Sums.{count_by-le-length}
 use Rattle.std.proofs.lemmas.Option.{slice_get-get_or}
+use Rattle.k42_limits.specs.declared.TheConstants.{LAST_INCARNATION}
 use Rattle.phase_core.specs.Effects.{root_of, counted_in, counted_out}
 use Rattle.phase_core.specs.Objects.{IsMediator, IsOpen, IsEntry, IsObject, counts_at}
 use Rattle.phase_core.specs.Outlooks.{is_mediated, behind}
@@ -35,7 +36,7 @@ bit_is false = refl
 pub record Fits (k : Object) : Type 0 where
   pub count : k.count ≤ 16
   pub layout : k.layout ≤ 2
-  pub incarnation : k.incarnation ≤ 2 ^ 20
+  pub incarnation : k.incarnation ≤ LAST_INCARNATION
 
 pub record IsRead (k : Object) (word : ℕ) : Type 0 where
   pub count : count_in word ≡ k.count
@@ -149,9 +150,11 @@ pub record IsEntryOf (layout : ℕ) (e : LocalEntry) : Type 0 where
   pub fits : EntryFits e
   pub direct : e.tag ≡ 1 → e.layout ≡ layout
   pub empty : e.tag ≡ 0 → (e.layout ≡ 0) × (e.cell ≡ 0)
+  pub last : e.incarnation ≤ LAST_INCARNATION
 
-pub entry_of : (stage : SwapAt) (incarnation layout p : ℕ) (e : LocalEntry) → layout ≤ 2 → p < 8 → IsEntry stage incarnation layout p e → IsEntryOf layout e
-entry_of stage incarnation layout p e few small is = by_test (is_mediated stage p) is where
+pub entry_of : (stage : SwapAt) (incarnation layout p : ℕ) (e : LocalEntry) → layout ≤ 2 → p < 8 → incarnation ≤ LAST_INCARNATION → IsEntry stage incarnation layout p e
+    → IsEntryOf layout e
+entry_of stage incarnation layout p e few small most is = by_test (is_mediated stage p) is where
   by_test : (b : Bool) → MatchBool b (IsMediator incarnation (behind stage) e) (IsOpen incarnation layout p e) → IsEntryOf layout e
   by_test true m = record {
     fits = record {
@@ -161,6 +164,7 @@ entry_of stage incarnation layout p e few small is = by_test (is_mediated stage 
     };
     direct = λ one. absurd (let t = m.tag in omega (arith, t, one));
     empty = λ none. m.blank;
+    last = let t = m.number in omega (arith, t, most);
   }
   by_test false o =
       ⊎_elim
@@ -169,6 +173,7 @@ entry_of stage incarnation layout p e few small is = by_test (is_mediated stage 
         fits = record { tag = let t = none.0 in omega (arith, t); layout = let t = none.1 in omega (arith, t); cell = let t = none.2 in omega (arith, t) };
         direct = λ one. absurd (let t = none.0 in omega (arith, t, one));
         empty = λ zero. (none.1, none.2);
+        last = let t = o.number in omega (arith, t, most);
       })
       (λ (some : (e.tag ≡ 1) × (e.layout ≡ layout) × (e.cell ≡ root_of layout p)).
       record {
@@ -179,6 +184,7 @@ entry_of stage incarnation layout p e few small is = by_test (is_mediated stage 
         };
         direct = λ one. some.1;
         empty = λ zero. absurd (let t = some.0 in omega (arith, t, zero));
+        last = let t = o.number in omega (arith, t, most);
       })
       o.tagged
 
@@ -191,7 +197,7 @@ module _ (s : Phases) (sound : IsSound s) (o : ℕ) (there : o < length s.object
         let many = sound.in_scene.many_callers in let callers = sound.in_scene.in_course.limits.few_callers in
         omega (arith, counted, few, many, callers);
     layout = (object_known s sound o there).bits_follow.layout;
-    incarnation = let last = (object_known s sound o there).bits_follow.last in omega (arith, last);
+    incarnation = (object_known s sound o there).bits_follow.last;
   }
 
   pub entry_known : (p : ℕ) → p < length s.turns.procs → IsEntryOf (object_at s o).layout (entry_at (object_at s o) p)
@@ -200,5 +206,6 @@ module _ (s : Phases) (sound : IsSound s) (o : ℕ) (there : o < length s.object
       let many = sound.in_scene.in_course.many_procs in let few = sound.in_scene.in_course.limits.few_procs in
       let long = (object_known s sound o there).many_entries in
       entry_of look.stage look.incarnation k.layout p (entry_at k p) object_fits.layout (omega (arith, many, few, at))
+      (subst (λ i. i ≤ LAST_INCARNATION) (object_known s sound o there).bits_follow.incarnation object_fits.incarnation)
       ((object_known s sound o there).entries_follow p (entry_at k p)
       (slice_get-get_or k.entries p (empty_entry 0) (omega (arith, many, long, at))))

@@ -24,4 +24,3 @@ pub mod Replaced
 pub mod Dealing
 pub mod Starting
 pub mod Plans
-pub mod Visiting

@@ -1,5 +1,5 @@
 -- The steps on tables, for one pass: where each may be taken, and what the pass knows after it.
-use Rattle.std.specs.Prelude.{◌≡◌, ℕ, ◌-◌, ◌*◌, ◌/◌, ◌%◌, ◌<◌, ◌^◌, ◌==◌, ◌||◌, Bool, true, if◌then◌else◌, List, Option, Some, None, is_some, unwrap_or}
+use Rattle.std.specs.Prelude.{◌≡◌, ℕ, ◌-◌, ◌*◌, ◌/◌, ◌%◌, ◌<◌, ◌≤◌, ◌^◌, ◌==◌, ◌||◌, Bool, true, if◌then◌else◌, List, Option, Some, None, is_some, unwrap_or}
 use Rattle.k42_limits.specs.declared.TheConstants.{LAST_INCARNATION}
 use Rattle.gen_core.specs.Events.{is_free}
 use Rattle.phase_core.specs.Effects.{root_of, at_place, looked_up, direct_entry, knocked, at_stage, begun_as}
@@ -29,6 +29,10 @@ entry_in word = record {
 -- the object of the word of an entry
 abbrev pub entry_object : ℕ → ℕ
 entry_object word = word % 64 - 32
+
+-- the row that a word tells is at the last incarnation at most
+abbrev pub RowFound : {P : Type 0} → PassView P → ℕ → Type 0
+RowFound v found = incarnation_in found ≤ LAST_INCARNATION
 
 -- a direct entry tells its row's layout
 abbrev pub layout_told : LocalEntry → Option ℕ
