@@ -10,7 +10,7 @@ use Rattle.phase_core.specs.Plain.{Object, Visitor, Phases}
 use Rattle.phase_core.specs.Stages.{IsInside, named_by, is_moved, object_named}
 use Rattle.phase_core.specs.State.{object_at, visitor_at, note_at, span_at, fresh_object, fresh_visitor, put_entry}
 use Rattle.phase_core.specs.declared.caller.SwapAt.{SwapAt}
-use Rattle.phase_core.specs.declared.caller.SwapAt.TheVariants.{Opened}
+use Rattle.phase_core.specs.declared.caller.SwapAt.TheVariants.{Moved, Opened}
 use Rattle.k42_stamp.specs.Laws.{AreLaws}
 use Rattle.k42_stamp.specs.Layouts.{Layouts}
 use Rattle.k42_joined.specs.Answers.{is_turned}
@@ -231,12 +231,12 @@ module _ {L P : Type 0} (tag_of : L → ℕ) (s : Joined L) (objects : List Obje
     (beside : Beside P) (id : ℕ) (v : PassView P) (knows : KnowsPass tag_of s beside id v)
     (x : Visitor) (last : Option LastBegin) (found : Option Answer) (abandoned turned : Bool) (layout handed : Option ℕ)
     (rows : List Row) (heard : ℕ) where
-  abbrev w : PassView P
-  w = told v x last found abandoned turned layout handed rows heard
+  abbrev own : PassView P
+  own = told v x last found abandoned turned layout handed rows heard
 
   pub own_after : (naming : Row → ℕ) → length visitors ≡ length s.phases.callers → NamesRows (record beside { row_seat = naming }) id rows
-      → KnowsPhases (visited s objects visitors kept).phases w → KnowsTrace tag_of (visited s objects visitors kept) w
-      → KnowsPass tag_of (visited s objects visitors kept) (record beside { row_seat = naming }) id w
+      → KnowsPhases (visited s objects visitors kept).phases own → KnowsTrace tag_of (visited s objects visitors kept) own
+      → KnowsPass tag_of (visited s objects visitors kept) (record beside { row_seat = naming }) id own
   own_after naming many names phases trace = record {
     there = rw many knows.there;
     seat = knows.seat;
@@ -254,7 +254,7 @@ module _ {L P : Type 0} (tag_of : L → ℕ) (s : Joined L) (objects : List Obje
 
   -- of rows it knows as much, and of those that are new too
   pub rows_told : (p : Phases) → x.noted ≡ v.visitor.noted → x.freeing ≡ v.visitor.freeing → take v.granted rows ≡ take v.granted v.rows
-      → EachPlace (λ place row. IsOld p row) rows → KnowsRows p v → KnowsRows p w
+      → EachPlace (λ place row. IsOld p row) rows → KnowsRows p v → KnowsRows p own
   rows_told p noted freeing granted old was = record {
     old = old;
     granted = subst (λ (z : List (Option ℕ) × List Row). EachPlace (λ place row. IsGranted z.0 row) z.1) (λ j. (sym noted j, sym granted j)) was.granted;
@@ -325,7 +325,7 @@ module _ {S L P : Type 0} (F : Layouts S L P) (laws : AreLaws F) (declared : Lis
         (shows_naming state_after r.beside naming (with_pass table words table.homes id w) shows)
         (λ n lt. part_stays r.state objects visitors_after kept F declared visit.on n (r.beside.contents.part n) (r.parts n lt))
         mine
-        in (after.0, (after.1 ∙ visit.effect_is, visit.possible))
+        in (after.0, after.1 ∙ visit.effect_is, visit.possible)
 
   pub visits : IsVisit → (words : List ℕ) (w : PassView P)
       → Shows state_after r.beside (with_pass table words table.homes id w) → KnowsPass F.tag_of state_after r.beside id w

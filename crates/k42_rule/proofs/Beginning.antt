@@ -35,7 +35,7 @@ use Rattle.k42_rule.specs.Rule.{KnowsPass, Rule, Ruled}
 use Rattle.k42_rule.specs.Seen.{IsSeatOf}
 use Rattle.k42_rule.specs.Views.{pass_in}
 use Rattle.k42_rule.specs.Steps.{Seated, Tells, TellsWith}
-use Rattle.k42_rule.specs.Tabling.{RowFound, word_object, MayBegin, is_over_in, stage_begun, begun_view}
+use Rattle.k42_rule.specs.Tabling.{ObjectFound, word_object, MayBegin, is_over_in, stage_begun, begun_view}
 use Rattle.k42_rule.specs.Values.{object_value, layout_in, incarnation_in, has_bit, answer_in}
 use Rattle.k42_rule.specs.Words.{object_word}
 use Rattle.k42_rule.specs.declared.view.PassView.{PassView}
@@ -44,7 +44,7 @@ use Rattle.k42_rule.specs.declared.view.View.TheVariants.{Crew}
 use Rattle.k42_rule.proofs.AtTables.{visited, Steps, AreSameRows, same_on, same_left, same_visit, visits, rows_stay, own_after, rows_told, of_object, object_written, rows_same, few_entries, written_shows}
 use Rattle.k42_rule.proofs.Fields.{IsRead, object_fits, swap_set}
 use Rattle.k42_rule.proofs.Looking.{object_shown, object_is_read}
-use Rattle.k42_rule.proofs.Knocking.{word_object_is, row_finds}
+use Rattle.k42_rule.proofs.Knocking.{word_object_is, object_finds}
 use Rattle.std.specs.Int.RustNames.{bit_or}
 use Rattle.k42_joined.specs.Plain.{Kept}
 use Rattle.k42_joined.specs.State.{kept_of, keep, nothing_kept}
@@ -256,11 +256,11 @@ begin_moves F laws declared id o v may = record { from = λ table r at. begins F
 module _ {S L P : Type 0} (F : Layouts S L P) (laws : AreLaws F) (declared : List L) (id o : ℕ)
     (me : Seated P) (is : IsSeatOf me (pass_in me.0)) (may : MayBegin (length declared) o (pass_in me.0)) where
   pub begin_allowed : {callers : ℕ} (slots : ℕ) (step : Step (Slot P))
-      → Allows (Ruled F declared callers) slots id me (object_word o) (λ n. bit_or n 16777216) (TellsWith (begun_view (word_object (object_word o))) RowFound step me)
+      → Allows (Ruled F declared callers) slots id me (object_word o) (λ n. bit_or n 16777216) (TellsWith (begun_view (word_object (object_word o))) ObjectFound step me)
   begin_allowed {callers} slots step =
-      subst (λ q. Allows (Ruled F declared callers) slots id me (object_word o) (λ n. bit_or n 16777216) (TellsWith (begun_view q) RowFound step me)) (sym (word_object_is o))
-      (seat_allowed_with (begin_moves F laws declared id o (pass_in me.0) may) RowFound (row_finds F laws declared id o (pass_in me.0) may.there) me is slots step)
+      subst (λ q. Allows (Ruled F declared callers) slots id me (object_word o) (λ n. bit_or n 16777216) (TellsWith (begun_view q) ObjectFound step me)) (sym (word_object_is o))
+      (seat_allowed_with (begin_moves F laws declared id o (pass_in me.0) may) ObjectFound (object_finds F laws declared id o (pass_in me.0) may.there) me is slots step)
 
-  pub begin_told : (step : Step (Slot P)) (found : ℕ) (after : Seated P) → TellsWith (begun_view (word_object (object_word o))) RowFound step me found after
+  pub begin_told : (step : Step (Slot P)) (found : ℕ) (after : Seated P) → TellsWith (begun_view (word_object (object_word o))) ObjectFound step me found after
       → Tells (begun_view o) step me found after
   begin_told step found after told = subst (λ q. Tells (begun_view q) step me found after) (word_object_is o) told.0

@@ -146,16 +146,17 @@ root_small layout p few = by_test (eqb layout 1) where
   by_test false = omega arith
 
 -- what an entry tells
-pub record IsEntryOf (layout : ℕ) (e : LocalEntry) : Type 0 where
+pub record IsEntryOf (layout p : ℕ) (e : LocalEntry) : Type 0 where
   pub fits : EntryFits e
   pub direct : e.tag ≡ 1 → e.layout ≡ layout
+  pub root : e.tag ≡ 1 → e.cell ≡ root_of e.layout p
   pub empty : e.tag ≡ 0 → (e.layout ≡ 0) × (e.cell ≡ 0)
   pub last : e.incarnation ≤ LAST_INCARNATION
 
 pub entry_of : (stage : SwapAt) (incarnation layout p : ℕ) (e : LocalEntry) → layout ≤ 2 → p < 8 → incarnation ≤ LAST_INCARNATION → IsEntry stage incarnation layout p e
-    → IsEntryOf layout e
+    → IsEntryOf layout p e
 entry_of stage incarnation layout p e few small most is = by_test (is_mediated stage p) is where
-  by_test : (b : Bool) → MatchBool b (IsMediator incarnation (behind stage) e) (IsOpen incarnation layout p e) → IsEntryOf layout e
+  by_test : (b : Bool) → MatchBool b (IsMediator incarnation (behind stage) e) (IsOpen incarnation layout p e) → IsEntryOf layout p e
   by_test true m = record {
     fits = record {
       tag = let t = m.tag in omega (arith, t);
@@ -163,6 +164,7 @@ entry_of stage incarnation layout p e few small most is = by_test (is_mediated s
       cell = let t = m.blank.1 in omega (arith, t);
     };
     direct = λ one. absurd (let t = m.tag in omega (arith, t, one));
+    root = λ one. absurd (let t = m.tag in omega (arith, t, one));
     empty = λ none. m.blank;
     last = let t = m.number in omega (arith, t, most);
   }
@@ -172,6 +174,7 @@ entry_of stage incarnation layout p e few small most is = by_test (is_mediated s
       record {
         fits = record { tag = let t = none.0 in omega (arith, t); layout = let t = none.1 in omega (arith, t); cell = let t = none.2 in omega (arith, t) };
         direct = λ one. absurd (let t = none.0 in omega (arith, t, one));
+        root = λ one. absurd (let t = none.0 in omega (arith, t, one));
         empty = λ zero. (none.1, none.2);
         last = let t = o.number in omega (arith, t, most);
       })
@@ -183,6 +186,7 @@ entry_of stage incarnation layout p e few small most is = by_test (is_mediated s
           cell = let t = some.2 in let lt = root_small layout p small in omega (arith, t, lt);
         };
         direct = λ one. some.1;
+        root = λ one. some.2 ∙ ap (λ z. root_of z p) (sym some.1);
         empty = λ zero. absurd (let t = some.0 in omega (arith, t, zero));
         last = let t = o.number in omega (arith, t, most);
       })
@@ -200,7 +204,7 @@ module _ (s : Phases) (sound : IsSound s) (o : ℕ) (there : o < length s.object
     incarnation = (object_known s sound o there).bits_follow.last;
   }
 
-  pub entry_known : (p : ℕ) → p < length s.turns.procs → IsEntryOf (object_at s o).layout (entry_at (object_at s o) p)
+  pub entry_known : (p : ℕ) → p < length s.turns.procs → IsEntryOf (object_at s o).layout p (entry_at (object_at s o) p)
   entry_known p at =
       let look = sound.scene.looks o in let k = object_at s o in
       let many = sound.in_scene.in_course.many_procs in let few = sound.in_scene.in_course.limits.few_procs in

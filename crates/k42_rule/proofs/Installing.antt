@@ -51,9 +51,9 @@ both_or_none false true f g = absurd (let e = g refl in cc)
 both_or_none false false f g = refl
 
 -- the word is that of an empty entry just where the entry is empty
-empty_shown : (layout i found : ℕ) (e : LocalEntry) → IsEntryOf layout e → found ≡ local_value e
+empty_shown : (layout p i found : ℕ) (e : LocalEntry) → IsEntryOf layout p e → found ≡ local_value e
     → eqb found (local_value (empty_entry i)) ≡ is_empty_at e i
-empty_shown layout i found e is shown =
+empty_shown layout p i found e is shown =
     let t = is.fits.tag in let l = is.fits.layout in let c = is.fits.cell in
     both_or_none (eqb found (local_value (empty_entry i))) (is_empty_at e i)
     (λ same.
@@ -119,7 +119,7 @@ module _ {S L P : Type 0} (F : Layouts S L P) (laws : AreLaws F) (declared : Lis
   layout_is : k.layout ≡ l
   layout_is = learned v.layout refl may.rooted
 
-  entry_is : IsEntryOf k.layout (entry_at k p) × (found ≡ local_value (entry_at k p))
+  entry_is : IsEntryOf k.layout p (entry_at k p) × (found ≡ local_value (entry_at k p))
   entry_is = entry_at_home F laws declared table r id v at o there
 
   -- the event, where the entry is empty and where it is not
@@ -132,7 +132,7 @@ module _ {S L P : Type 0} (F : Layouts S L P) (laws : AreLaws F) (declared : Lis
 
   test_is : eqb found (empty_before v) ≡ is_empty_at (entry_at k (proc_of s c)) (row_of (visitor_at s c).place)
   test_is =
-      empty_shown k.layout i found (entry_at k p) entry_is.0 entry_is.1
+      empty_shown k.layout p i found (entry_at k p) entry_is.0 entry_is.1
       ∙ ap (λ (z : ℕ × Visitor). is_empty_at (entry_at k z.0) (row_of z.1.place)) (λ j. (sym home j, sym knows.phases.visitor j)) where
         home : proc_of s c ≡ p
         home = ap (λ z. z.proc) knows.generations.turn

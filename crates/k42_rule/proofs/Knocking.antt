@@ -35,7 +35,7 @@ use Rattle.k42_rule.specs.Rule.{KnowsPass, Rule, Ruled}
 use Rattle.k42_rule.specs.Seen.{IsSeatOf}
 use Rattle.k42_rule.specs.Views.{pass_in}
 use Rattle.k42_rule.specs.Steps.{Seated, Tells, TellsWith}
-use Rattle.k42_rule.specs.Tabling.{went, RowFound, word_object, MayKnock, knocked_view, MayStepOut, ended_view}
+use Rattle.k42_rule.specs.Tabling.{went, ObjectFound, word_object, MayKnock, knocked_view, MayStepOut, ended_view}
 use Rattle.k42_rule.specs.Values.{object_value, layout_in, incarnation_in, has_bit}
 use Rattle.k42_rule.specs.Words.{object_word}
 use Rattle.k42_rule.specs.declared.view.PassView.{PassView}
@@ -43,7 +43,7 @@ use Rattle.k42_rule.specs.declared.view.View.{View}
 use Rattle.k42_rule.specs.declared.view.View.TheVariants.{Crew}
 use Rattle.k42_rule.proofs.AtTables.{visited, Steps, IsSameRow, AreSameRows, same_visit, visits, goes, of_object, object_written, rows_same, few_entries, written_shows}
 use Rattle.k42_rule.proofs.Fields.{IsRead, object_fits, counted_more, counted_less}
-use Rattle.k42_rule.proofs.Looking.{place_is, object_shown, object_is_read}
+use Rattle.k42_rule.proofs.Looking.{place_is, object_shown, object_is_read, object_seen}
 use Rattle.k42_rule.proofs.Moves.{Moves, Finds, seat_allowed_with}
 use Rattle.k42_rule.proofs.OnePass.{with_pass, known}
 
@@ -189,23 +189,20 @@ step_out_moves F laws declared id o v may same =
 pub word_object_is : (o : ℕ) → word_object (object_word o) ≡ o
 word_object_is o = omega arith
 
--- the row of an object's word is there
-pub row_finds : {S L P : Type 0} (F : Layouts S L P) → AreLaws F → (declared : List L) (id o : ℕ) (v : PassView P) → o < length declared
-    → Finds F declared (object_word o) RowFound id v
-row_finds F laws declared id o v lt table r at =
-    let many = r.sound.cells.rows.objects in
-    let there : o < length r.state.phases.objects = omega (arith, many, lt) in
-    let is = (object_is_read F laws declared table r id v at o there).incarnation in
-    let most = (object_fits r.state.phases r.sound.phases o there).incarnation in omega (arith, is, most)
+-- what is found of an object
+pub object_finds : {S L P : Type 0} (F : Layouts S L P) → AreLaws F → (declared : List L) (id o : ℕ) (v : PassView P) → o < length declared
+    → Finds F declared (object_word o) ObjectFound id v
+object_finds F laws declared id o v lt table r at =
+    object_seen F laws declared table r id v at o (let many = r.sound.cells.rows.objects in omega (arith, many, lt))
 
 module _ {S L P : Type 0} (F : Layouts S L P) (laws : AreLaws F) (declared : List L) (id o : ℕ)
     (me : Seated P) (is : IsSeatOf me (pass_in me.0)) (may : MayKnock (length declared) o (pass_in me.0)) where
   pub knock_allowed : {callers : ℕ} (slots : ℕ) (step : Step (Slot P))
-      → Allows (Ruled F declared callers) slots id me (object_word o) (λ n. (n + 1) % 2 ^ 64) (TellsWith (knocked_view (word_object (object_word o))) RowFound step me)
+      → Allows (Ruled F declared callers) slots id me (object_word o) (λ n. (n + 1) % 2 ^ 64) (TellsWith (knocked_view (word_object (object_word o))) ObjectFound step me)
   knock_allowed {callers} slots step =
-      subst (λ q. Allows (Ruled F declared callers) slots id me (object_word o) (λ n. (n + 1) % 2 ^ 64) (TellsWith (knocked_view q) RowFound step me)) (sym (word_object_is o))
-      (seat_allowed_with (knock_moves F laws declared id o (pass_in me.0) may) RowFound (row_finds F laws declared id o (pass_in me.0) may.there) me is slots step)
+      subst (λ q. Allows (Ruled F declared callers) slots id me (object_word o) (λ n. (n + 1) % 2 ^ 64) (TellsWith (knocked_view q) ObjectFound step me)) (sym (word_object_is o))
+      (seat_allowed_with (knock_moves F laws declared id o (pass_in me.0) may) ObjectFound (object_finds F laws declared id o (pass_in me.0) may.there) me is slots step)
 
-  pub knock_told : (step : Step (Slot P)) (found : ℕ) (after : Seated P) → TellsWith (knocked_view (word_object (object_word o))) RowFound step me found after
+  pub knock_told : (step : Step (Slot P)) (found : ℕ) (after : Seated P) → TellsWith (knocked_view (word_object (object_word o))) ObjectFound step me found after
       → Tells (knocked_view o) step me found after
   knock_told step found after told = subst (λ q. Tells (knocked_view q) step me found after) (word_object_is o) told.0

@@ -41,7 +41,7 @@ use Rattle.k42_rule.specs.Rule.{Beside, KnowsPass, Shows, Rule, Ruled}
 use Rattle.k42_rule.specs.Seen.{IsSeatOf}
 use Rattle.k42_rule.specs.Views.{pass_in}
 use Rattle.k42_rule.specs.Steps.{Seated, Tells, TellsWith}
-use Rattle.k42_rule.specs.Tabling.{went, RowFound, entry_in, entry_object, layout_told, MayLookUp, looked_up_view, MayLoadRoot, rooted_view, MayEndCall, ended_view}
+use Rattle.k42_rule.specs.Tabling.{went, EntryFound, ObjectFound, entry_in, entry_object, layout_told, MayLookUp, looked_up_view, MayLoadRoot, rooted_view, MayEndCall, ended_view}
 use Rattle.k42_rule.specs.Values.{layout_in, incarnation_in, local_value, object_value}
 use Rattle.k42_rule.specs.Words.{object_word, local_word}
 use Rattle.k42_rule.specs.declared.view.PassView.{PassView}
@@ -140,6 +140,14 @@ module _ {S L P : Type 0} (F : Layouts S L P) (laws : AreLaws F) (declared : Lis
   object_is_read o there =
       object_read (object_at s o) (get_or table.words (object_word o) 0) (object_fits s r.sound.phases o there) (object_shown o there)
 
+  pub object_seen : (o : ℕ) → o < length s.objects → ObjectFound v (get_or table.words (object_word o) 0)
+  object_seen o there =
+      let is = object_is_read o there in let fits = object_fits s r.sound.phases o there in
+      record {
+        layout = let same = is.layout in let most = fits.layout in omega (arith, same, most);
+        last = let same = is.incarnation in let most = fits.incarnation in omega (arith, same, most);
+      }
+
   word_there : (o : ℕ) → o < length s.objects → layout_in (get_or table.words (object_word o) 0) ≡ (object_at s o).layout
   word_there o there = (object_is_read o there).layout
 
@@ -195,7 +203,7 @@ module _ {S L P : Type 0} (F : Layouts S L P) (laws : AreLaws F) (declared : Lis
 
   -- the entry of its own processor
   pub entry_at_home : (o : ℕ) → o < length s.objects
-      → IsEntryOf (object_at s o).layout (entry_at (object_at s o) v.turn.proc)
+      → IsEntryOf (object_at s o).layout v.turn.proc (entry_at (object_at s o) v.turn.proc)
       × (get_or table.words (local_word v.turn.proc o) 0 ≡ local_value (entry_at (object_at s o) v.turn.proc))
   entry_at_home o there = (
     entry_known s r.sound.phases o there v.turn.proc home_there',
@@ -238,16 +246,25 @@ module _ {S L P : Type 0} (F : Layouts S L P) (laws : AreLaws F) (declared : Lis
               ∙ ap (λ (z : LocalEntry). z.layout) (sym entry_is) ∙ same_Some e.layout l told
           told_by false one l q same told = absurd (cc)
 
-    pub row_seen : incarnation_in seen ≤ LAST_INCARNATION
-    row_seen =
-        let known = entry_at_home o there in let most = known.0.last in let a = known.0.fits.tag in let b = known.0.fits.layout in
-        let c = known.0.fits.cell in let is = known.1 in omega (arith, most, a, b, c, is)
+    pub entry_seen : EntryFound v seen
+    entry_seen =
+        let known = (entry_at_home o there).0 in
+        record {
+          tag = rw entry_is known.fits.tag;
+          layout = rw entry_is known.fits.layout;
+          cell = rw entry_is known.root;
+          last = let same = ap (λ (z : LocalEntry). z.incarnation) entry_is in let most = known.last in omega (arith, same, most);
+        }
 
 -- as moves of the pass
 
 pub root_moves : {S L P : Type 0} (F : Layouts S L P) → AreLaws F → (declared : List L) (id o : ℕ) (v : PassView P) → MayLoadRoot (length declared) o v
     → Moves F declared (AtPhases (RootLoad v.number o)) (object_word o) (λ word. word) rooted_view id v
 root_moves F laws declared id o v may = record { from = λ table r at. roots F laws declared table r id v at o may }
+
+pub root_finds : {S L P : Type 0} (F : Layouts S L P) → AreLaws F → (declared : List L) (id o : ℕ) (v : PassView P) → MayLoadRoot (length declared) o v
+    → Finds F declared (object_word o) ObjectFound id v
+root_finds F laws declared id o v may table r at = object_seen F laws declared table r id v at o (missed_there F laws declared table r id v at o may.missed)
 
 pub end_moves : {S L P : Type 0} (F : Layouts S L P) → AreLaws F → (declared : List L) (id word : ℕ) (v : PassView P) → MayEndCall v
     → Moves F declared (AtPhases (EndCall v.number)) word (λ word. word) ended_view id v
@@ -264,23 +281,23 @@ look_moves F laws declared id home o v may same =
 pub object_is : (home o : ℕ) → o < 16 → entry_object (local_word home o) ≡ o
 object_is home o few = omega (arith, few)
 
--- the row that an entry tells is there
+-- what it finds
 pub look_finds : {S L P : Type 0} (F : Layouts S L P) → AreLaws F → (declared : List L) (id home o : ℕ) (v : PassView P) → MayLookUp (length declared) o v
-    → v.turn.proc ≡ home → Finds F declared (local_word home o) RowFound id v
+    → v.turn.proc ≡ home → Finds F declared (local_word home o) EntryFound id v
 look_finds F laws declared id home o v may same =
-    subst (λ p. Finds F declared (local_word p o) RowFound id v) same
-    (λ table r at. row_seen F laws declared table r id v at o may)
+    subst (λ p. Finds F declared (local_word p o) EntryFound id v) same
+    (λ table r at. entry_seen F laws declared table r id v at o may)
 
 module _ {S L P : Type 0} (F : Layouts S L P) (laws : AreLaws F) (declared : List L) (id home o : ℕ) (few : o < 16)
     (me : Seated P) (is : IsSeatOf me (pass_in me.0)) (may : MayLookUp (length declared) o (pass_in me.0))
     (same : (pass_in me.0).turn.proc ≡ home) where
   pub look_allowed : {callers : ℕ} (slots : ℕ) (step : Step (Slot P))
-      → Allows (Ruled F declared callers) slots id me (local_word home o) (λ n. n) (TellsWith (looked_up_view (entry_object (local_word home o))) RowFound step me)
+      → Allows (Ruled F declared callers) slots id me (local_word home o) (λ n. n) (TellsWith (looked_up_view (entry_object (local_word home o))) EntryFound step me)
   look_allowed {callers} slots step =
-      subst (λ q. Allows (Ruled F declared callers) slots id me (local_word home o) (λ n. n) (TellsWith (looked_up_view q) RowFound step me)) (sym (object_is home o few))
-      (seat_allowed_with (look_moves F laws declared id home o (pass_in me.0) may same) RowFound
+      subst (λ q. Allows (Ruled F declared callers) slots id me (local_word home o) (λ n. n) (TellsWith (looked_up_view q) EntryFound step me)) (sym (object_is home o few))
+      (seat_allowed_with (look_moves F laws declared id home o (pass_in me.0) may same) EntryFound
       (look_finds F laws declared id home o (pass_in me.0) may same) me is slots step)
 
-  pub look_told : (step : Step (Slot P)) (found : ℕ) (after : Seated P) → TellsWith (looked_up_view (entry_object (local_word home o))) RowFound step me found after
+  pub look_told : (step : Step (Slot P)) (found : ℕ) (after : Seated P) → TellsWith (looked_up_view (entry_object (local_word home o))) EntryFound step me found after
       → Tells (looked_up_view o) step me found after
   look_told step found after told = subst (λ q. Tells (looked_up_view q) step me found after) (object_is home o few) told.0

@@ -30,9 +30,17 @@ entry_in word = record {
 abbrev pub entry_object : ℕ → ℕ
 entry_object word = word % 64 - 32
 
--- the row that a word tells is at the last incarnation at most
-abbrev pub RowFound : {P : Type 0} → PassView P → ℕ → Type 0
-RowFound v found = incarnation_in found ≤ LAST_INCARNATION
+-- what is so of each word of an entry: a direct one leads where the root of its layout does
+pub record EntryFound {P : Type 0} (v : PassView P) (found : ℕ) : Type 0 where
+  pub tag : (entry_in found).tag ≤ 2
+  pub layout : (entry_in found).layout ≤ 2
+  pub cell : (entry_in found).tag ≡ 1 → (entry_in found).cell ≡ root_of (entry_in found).layout v.turn.proc
+  pub last : incarnation_in found ≤ LAST_INCARNATION
+
+-- and of each word of an object
+pub record ObjectFound {P : Type 0} (v : PassView P) (found : ℕ) : Type 0 where
+  pub layout : layout_in found ≤ 2
+  pub last : incarnation_in found ≤ LAST_INCARNATION
 
 -- a direct entry tells its row's layout
 abbrev pub layout_told : LocalEntry → Option ℕ

@@ -45,7 +45,7 @@ impl<P: Drop> Model for Walker<P> {
     ghost use Rattle.phase_core.specs.Stages.{object_of, row_of, object_named};
     ghost use Rattle.k42_rule.specs.Seen.{PassSeen, Mirrors};
     ghost use Rattle.k42_rule.specs.Swapping.{next_entry};
-    ghost use Rattle.k42_rule.specs.Values.{incarnation_in};
+    ghost use Rattle.k42_rule.specs.Values.{layout_in, incarnation_in};
     ghost use Rattle.k42_rule.specs.Views.{pass_in, word_begun};
 
     ghost Value = { PassSeen P };
@@ -75,9 +75,10 @@ impl<P: Drop> Model for Walker<P> {
       handed = p.handed;
       rows = p.rows.items;
       granted = p.granted;
-    }) × (p.home < 8) × (object_of p.place < 16) × (unwrap_or p.layout 0 < 4)
+    }) × (p.home < 8) × (object_of p.place < 16) × (unwrap_or p.layout 0 ≤ 2)
         × (object_named p.swap < 16) × (unwrap_or (next_entry p.swap) 0 < 8) × (length p.waits.items ≤ 8)
-        × (incarnation_in (word_begun p.last) ≤ LAST_INCARNATION) × (row_of p.place ≤ LAST_INCARNATION)
+        × (incarnation_in (word_begun p.last) ≤ LAST_INCARNATION) × (layout_in (word_begun p.last) ≤ 2)
+        × (row_of p.place ≤ LAST_INCARNATION)
         × (p.granted ≤ length p.rows.items) };
 }
 
