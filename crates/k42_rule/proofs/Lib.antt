@@ -22,5 +22,7 @@ pub mod FirstParts
 pub mod Opening
 pub mod Replaced
 pub mod Dealing
+pub mod Joining
+pub mod Ending
 pub mod Starting
 pub mod Plans

@@ -1,5 +1,5 @@
 -- A system that is finished: what its passes owe, and what their lists are.
-use Rattle.std.specs.Prelude.{◌≡◌, ℕ, ◌<◌, true, List, length, None}
+use Rattle.std.specs.Prelude.{◌≡◌, ℕ, ◌<◌, true, List, length, map, None}
 use Rattle.k42_places.specs.Places.{EachPlace}
 use Rattle.gen_core.specs.State.{caller_at}
 use Rattle.k42_kinds.specs.declared.entry.Entry.{Entry}
@@ -11,6 +11,14 @@ use Rattle.k42_joined.specs.Plain.{Joined}
 use Rattle.k42_joined.specs.Sound.{IsSound}
 use Rattle.k42_joined.specs.State.{many_callers}
 use Rattle.k42_rule.specs.Seen.{SysSeen, PassSeen, IsOf, is_at_rest}
+use Rattle.k42_rule.specs.declared.view.PassView.{PassView}
+
+-- what the passes know, and their entries
+abbrev pub views_of : {P : Type 0} → List (PassSeen P) → List (PassView P)
+views_of passes = map (λ pass. pass.view) passes
+
+abbrev pub lists_in : {P : Type 0} → List (PassSeen P) → List (List Entry)
+lists_in passes = map (λ pass. pass.view.taker.mine) passes
 
 -- the pass is that of the caller with this number, and has nothing under way
 pub record IsPassAtRest {L P : Type 0} (sys : SysSeen L) (c : ℕ) (pass : PassSeen P) : Type 0 where

@@ -3,6 +3,7 @@
 
 mod board;
 mod cell;
+mod finish;
 mod generating;
 mod laws;
 mod pass;
@@ -24,7 +25,7 @@ pub use generating::{enter_step, leave_step};
 pub use laws::shown_states_are_safe;
 pub use pass::{Pass, Walker};
 pub use swap_begins::begin_step;
-pub use sys::Sys;
+pub use sys::{Sys, Unfinished};
 pub use tabling::{end_call, install_step, knock_step, look_up_step, root_step, step_out};
 pub use taking::{lock, put, take, unlock};
-pub use view::{LastBegin, Row};
+pub use view::{Inside, LastBegin, Row};

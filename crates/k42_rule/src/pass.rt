@@ -1,13 +1,18 @@
 //! A pass: what one caller steps with.
-ghost use Rattle.std.specs.Prelude.{◌≡◌, ◌<◌, length, is_some};
+ghost use Rattle.std.specs.Prelude.{◌≡◌, ◌<◌, ◌≤◌, true, Some, length, is_some, OnOk};
+ghost use Rattle.phase_core.specs.Stages.{named_by};
 ghost use Rattle.phase_core.specs.State.{note_at};
-ghost use Rattle.k42_rule.specs.Seen.{is_at_rest};
+ghost use Rattle.k42_rule.specs.Phases.{is_served};
+ghost use Rattle.k42_rule.specs.Seen.{IsRoomier, inside_in, is_at_rest};
+ghost use Rattle.k42_rule.specs.Values.{layout_in};
+ghost use Rattle.k42_rule.specs.Views.{word_begun};
 
 use crate::cell::Content;
-use crate::view::{LastBegin, Row, View};
+use crate::view::{Inside, LastBegin, Row, View};
 use atomic_table::Seat;
 use gen_core::GraceAt;
 use k42_kinds::{Entry, Layout};
+use k42_memory::Memory;
 use phase_core::{Place, SwapAt};
 use std::marker::Model;
 
@@ -164,5 +169,58 @@ impl<P: Drop> Walker<P> {
         ensures { result ≡ is_at_rest self.now.view }
     {
         self.active.is_none() && self.grace == GraceAt::Idle && self.swap == SwapAt::Idle
+    }
+
+    /// The row that its call is inside.
+    pub fn inside(&self) -> Inside
+        requires { is_served self.now.view.visitor.place ≡ true }
+        ensures { result ≡ inside_in self.now.view }
+    {
+        let layout = self.layout.unwrap_or(0);
+        match self.place {
+            Place::Direct(object, incarnation) => Inside {
+                object,
+                incarnation,
+                layout,
+                tracked: false,
+            },
+            Place::Tracked(object, incarnation) => Inside {
+                object,
+                incarnation,
+                layout,
+                tracked: true,
+            },
+            _ => unreachable!(),
+        }
+    }
+
+    /// The tag of the layout with which it has handed on a row, until it turns over.
+    pub fn handed_layout(&self) -> u32
+        requires { is_some self.now.view.handed ≡ true }
+        ensures { self.now.view.handed ≡ Some result }
+    {
+        let Some(tag) = self.handed else {
+            unreachable!()
+        };
+        tag
+    }
+
+    /// The tag of the layout that its last Begin found.
+    pub fn begun_layout(&self) -> u32
+        requires { is_some (named_by self.now.view.visitor.swap) ≡ true }
+        ensures { result ≡ layout_in (word_begun self.now.view.last) }
+    {
+        let word = self.last.map_or(0, |begin| begin.word);
+        (word / 268_435_456 % 4) as u32
+    }
+
+    /// Makes room for one more entry and one more row. Where there is no memory it knows the same.
+    pub fn reserve(&mut self) -> Result<(), Memory>
+        ensures same { IsRoomier self.old self.new }
+        ensures ok { OnOk result ((1 ≤ self.new.room) × (1 ≤ self.new.row_room)) }
+    {
+        self.entries.reserve(1)?;
+        self.rows.reserve(1)?;
+        Ok(())
     }
 }
