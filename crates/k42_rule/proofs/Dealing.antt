@@ -111,4 +111,5 @@ module _ {S L P : Type 0} (F : Layouts S L P) (declared : List L) (callers : ℕ
     other j Spent not known = tt
 
   pub deals : Splits (Ruled F declared callers) id (Crew (v ∷ rest)) (Crew rest) (Crew (v ∷ []))
+  unfolding parted
   deals table ruled at = record { rule = parted table ruled.rule at; many = ruled.many }

@@ -129,4 +129,5 @@ module _ {S L P : Type 0} (F : Layouts S L P) (declared : List L) (callers id ot
         (r.seats other (Crew theirs) (sym (set_else table.views id other (Crew (ours ++ theirs)) apart) ∙ at_other))
 
   pub joins : Joins (Ruled F declared callers) id (Crew ours) other (Crew theirs) (Crew (ours ++ theirs)) Spent
+  unfolding joined
   joins table ruled at apart at_other = record { rule = joined table ruled.rule at apart at_other; many = ruled.many }

@@ -24,5 +24,6 @@ pub mod Replaced
 pub mod Dealing
 pub mod Joining
 pub mod Ending
+pub mod Showing
 pub mod Starting
 pub mod Plans

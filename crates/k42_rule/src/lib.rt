@@ -22,7 +22,9 @@ mod words;
 
 pub use cell::{Cell, Content};
 pub use generating::{enter_step, leave_step};
-pub use laws::shown_states_are_safe;
+pub use laws::{
+    freed_rows_stay_freed, rows_have_one_name, rows_inside_are_present, shown_states_are_safe,
+};
 pub use pass::{Pass, Walker};
 pub use swap_begins::begin_step;
 pub use sys::{Sys, Unfinished};

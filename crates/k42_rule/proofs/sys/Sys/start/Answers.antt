@@ -55,4 +55,5 @@ invariant_of-sys g c =
       subst
           (λ k. AreLaws (layouts_on g.L.Kind.object g.L.Layout.tag_of g.L.Layout.ways g.L.Layout.whole g.L.Layout.serves g.L.Layout.admitted g.L.Layout.act_of k.procs k.callers.items))
           (sym made.5) (laws_at g procs callers c.requires.turns.limits.some_procs c.requires.turns.placed),
+      subst (λ k. 0 < length k.callers.items) (sym made.5) c.requires.turns.limits.some_callers,
     )
