@@ -1,5 +1,5 @@
 -- Systems and passes, as contracts see them.
-use Rattle.std.specs.Prelude.{◌≡◌, ◌≤◌, ℕ, ◌&&◌, Bool, true, false, List, [], ◌∷◌, Option, None, is_none, unwrap_or}
+use Rattle.std.specs.Prelude.{◌≡◌, ◌<◌, ◌≤◌, ℕ, ◌&&◌, Bool, true, false, List, [], ◌∷◌, Option, None, is_none, length, unwrap_or}
 use Rattle.atomic_table.specs.Seated.{TableId}
 use Rattle.gen_core.specs.Events as graces
 use Rattle.gen_core.specs.Plain as gens
@@ -86,6 +86,14 @@ pub record Mirrors {P : Type 0} (me : Seated P) (own : Own) : Type 0 where
 -- the pass has a seat of the system's table
 abbrev pub IsOf : {L P : Type 0} → SysSeen L → PassSeen P → Type 0
 IsOf sys pass = pass.table ≡ sys.table
+
+-- and is of its processors and objects
+pub record IsPassOf {L P : Type 0} (sys : SysSeen L) (pass : PassSeen P) : Type 0 where
+  pub table : IsOf sys pass
+  pub proc : pass.view.turn.proc < sys.procs
+  pub waits : length pass.view.turn.waits ≡ sys.procs
+  pub objects : length pass.view.visitor.noted ≡ length sys.layouts
+  pub spans : length pass.view.visitor.freeing ≡ length sys.layouts
 
 -- it has the same seat, and the same room
 pub record IsSamePass {P : Type 0} (old new : PassSeen P) : Type 0 where

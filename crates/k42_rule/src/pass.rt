@@ -1,5 +1,5 @@
 //! A pass: what one caller steps with.
-ghost use Rattle.std.specs.Prelude.{◌≡◌, ◌<◌, ◌≤◌, true, Some, length, is_some, OnOk};
+ghost use Rattle.std.specs.Prelude.{◌≡◌, ◌<◌, ◌≤◌, true, Some, length, slice_index, is_some, OnOk};
 ghost use Rattle.phase_core.specs.Stages.{named_by};
 ghost use Rattle.phase_core.specs.State.{note_at};
 ghost use Rattle.k42_rule.specs.Phases.{is_served};
@@ -112,6 +112,28 @@ impl<P: Drop> Walker<P> {
         ensures { result ≡ self.now.view.turn.active }
     {
         self.active
+    }
+
+    /// How far its grace is.
+    pub fn grace(&self) -> GraceAt
+        ensures { result ≡ self.now.view.turn.grace }
+    {
+        self.grace
+    }
+
+    /// How many entries of the former generation on the processor its grace waits for.
+    pub fn waits(&self, proc: u32) -> u32
+        requires { proc < length self.now.view.turn.waits }
+        ensures { result ≡ slice_index self.now.view.turn.waits proc }
+    {
+        self.waits[proc as usize]
+    }
+
+    /// The generation that its grace found.
+    pub fn base(&self) -> Option<u32>
+        ensures { result ≡ self.now.view.base }
+    {
+        self.base
     }
 
     /// Its entries, the oldest first.
