@@ -23,6 +23,7 @@ pub mod Opening
 pub mod Replaced
 pub mod Dealing
 pub mod Joining
+pub mod Gathering
 pub mod Ending
 pub mod Showing
 pub mod Starting

@@ -40,12 +40,12 @@ served_inside (AtMediator o) e = absurd (cc)
 served_inside (Blocked o) e = absurd (cc)
 
 learned_is : (layout : Option ℕ) (n : ℕ) → (layout ≡ None → ⊥) → ((l : ℕ) → layout ≡ Some l → n ≡ l) → unwrap_or layout 0 ≡ n
-learned_is None n some is = absurd (some refl)
-learned_is (Some l) n some is = sym (is l refl)
+learned_is None n there is = absurd (there refl)
+learned_is (Some l) n there is = sym (is l refl)
 
 when_true : {A : Type 0} (b : Bool) (x y : A) → IsTrue b → cond b x y ≡ x
 when_true true x y e = refl
-when_true false x y e = absurd e
+when_true false x y e = absurd (cc)
 
 -- an event frees rows, and takes none back
 event_keeps_freed : {S L P : Type 0} (F : Layouts S L P) (declared : List L) (s : Joined L) (event : Event L) → IsPossible F declared s event
@@ -61,23 +61,21 @@ module _ {S L P : Type 0} (F : Layouts S L P) (declared : List L) where
   pub present : (table : State (Slot P) (View P)) (rule : Rule F declared table) (id : ℕ) (v : PassView P)
       → get_elem? table.views id ≡ some (Crew (v ∷ [])) → is_served v.visitor.place ≡ true → IsPresent v rule.state
   present table rule id v at served = record {
-    incarnation_is = (inside_is_present rule.state.phases rule.sound.phases v.number o i knows.there (rw knows.phases.visitor inside)).1;
-    layout_is = learned_is v.layout (object rule.state o).layout (knows.phases.learned served) (λ l is. knows.phases.layout l o i is inside);
+    incarnation_is = (inside_is_present rule.state.phases rule.sound.phases v.number (object_of v.visitor.place) (row_of v.visitor.place) knows.there (rw knows.phases.visitor inside)).1;
+    layout_is = learned_is v.layout (object rule.state (object_of v.visitor.place)).layout (knows.phases.learned served)
+        (λ l is. knows.phases.layout l (object_of v.visitor.place) (row_of v.visitor.place) is inside);
   } where
-    abbrev o = object_of v.visitor.place
-    abbrev i = row_of v.visitor.place
-
     knows : KnowsPass F.tag_of rule.state rule.beside id v
     knows = (rule.seats id (Crew (v ∷ [])) at).1 0 v refl
 
-    inside : IsInside v.visitor.place o i
+    inside : IsInside v.visitor.place (object_of v.visitor.place) (row_of v.visitor.place)
     inside = served_inside v.visitor.place served
 
   pub step_keeps_freed : (event : Event L) (word : ℕ) (changed : ℕ → ℕ) (id : ℕ) (v : PassView P) (found : ℕ) (w : PassView P)
       → StepIs F declared event word changed id v found w → StepKeepsFreed F declared word changed id v found w
   step_keeps_freed event word changed id v found w step table r at is =
       let after = step table r at is in
-      (after.0, subst (KeepsFreed r.state) (sym after.1.0) (event_keeps_freed F declared r.state event after.1.1))
+      (after.0, subst (KeepsFreed r.state) (sym after.1) (event_keeps_freed F declared r.state event after.2))
 
 -- the seat of a view is that of each row that it names
 named_at : {L P : Type 0} (tag_of : L → ℕ) (s : Joined L) (beside : Beside P) (id : ℕ) (view : View P) (row : Row) → Knows tag_of s beside id view
