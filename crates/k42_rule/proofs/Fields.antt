@@ -126,6 +126,14 @@ swap_set k word fits is =
           let none : bit k.swap ≡ 0 = ap bit e in
           or_clear 24 word (omega (arith, is, none, b, c, d, n, l)) ∙ omega (arith, is, none)
 
+pub block_set : (k : Object) (word : ℕ) → Fits k → k.block ≡ false → word ≡ object_value k → bit_or word 33554432 ≡ object_value (record k { block = true })
+block_set k word fits e is =
+    let a : bit k.swap ≤ 1 = bit_small k.swap in
+    let c : bit k.moving ≤ 1 = bit_small k.moving in
+    let d : bit k.complete ≤ 1 = bit_small k.complete in
+    let none : bit k.block ≡ 0 = ap bit e in let n = fits.count in let l = fits.layout in
+    or_clear 25 word (omega (arith, is, none, a, c, d, n, l)) ∙ omega (arith, is, none)
+
 -- the fields of an entry have room in its word
 pub record EntryFits (e : LocalEntry) : Type 0 where
   pub tag : e.tag ≤ 2

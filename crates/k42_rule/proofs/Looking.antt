@@ -12,7 +12,7 @@ use Rattle.gen_core.specs.Plain.{Caller}
 use Rattle.gen_core.specs.State.{caller_at}
 use Rattle.gen_core.proofs.Ranges.{home_there}
 use Rattle.phase_core.specs.Callers.{IsAtPlace}
-use Rattle.phase_core.specs.Effects.{at_place, looked_up, place_found}
+use Rattle.phase_core.specs.Effects.{root_of, at_place, looked_up, place_found}
 use Rattle.phase_core.specs.Event.{Event, RootLoad, LookUp, EndCall}
 use Rattle.phase_core.specs.Plain.{Object, Visitor, Phases}
 use Rattle.phase_core.specs.Sound.{IsSound}
@@ -250,9 +250,9 @@ module _ {S L P : Type 0} (F : Layouts S L P) (laws : AreLaws F) (declared : Lis
     entry_seen =
         let known = (entry_at_home o there).0 in
         record {
-          tag = rw entry_is known.fits.tag;
-          layout = rw entry_is known.fits.layout;
-          cell = rw entry_is known.root;
+          tag = subst (λ (z : LocalEntry). z.tag ≤ 2) (sym entry_is) known.fits.tag;
+          layout = subst (λ (z : LocalEntry). z.layout ≤ 2) (sym entry_is) known.fits.layout;
+          cell = subst (λ (z : LocalEntry). z.tag ≡ 1 → z.cell ≡ root_of z.layout v.turn.proc) (sym entry_is) known.root;
           last = let same = ap (λ (z : LocalEntry). z.incarnation) entry_is in let most = known.last in omega (arith, same, most);
         }
 
