@@ -22,6 +22,8 @@ pub mod EntryTurns
 pub mod Blocking
 pub mod MovingOver
 pub mod TurningOver
+pub mod Clearing
+pub mod WordExamples
 pub mod FirstParts
 pub mod Opening
 pub mod Replaced

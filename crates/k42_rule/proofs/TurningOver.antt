@@ -123,8 +123,8 @@ module _ {S L P : Type 0} (F : Layouts S L P) (laws : AreLaws F) (declared : Lis
       (object_known s r.sound.phases o o_there).freed_rows.stage
 
   not_freed : (d : ℕ) → d < many_callers r.state → (span_at (visitor_at s d).freeing o).0 < (span_at (visitor_at s d).freeing o).1 → ⊥
-  not_freed d lt some =
-      let not = ((visitor_known s r.sound.phases d lt).frees_alone.freeing o some).3 in
+  not_freed d lt spans =
+      let not = ((visitor_known s r.sound.phases d lt).frees_alone.freeing o spans).3 in
       let is = settled in absurd (cc)
 
   not_inside : (d i : ℕ) → d < many_callers r.state → ¬ IsInside (visitor_at s d).place o i
@@ -140,7 +140,7 @@ module _ {S L P : Type 0} (F : Layouts S L P) (laws : AreLaws F) (declared : Lis
       freed = refl;
       old = λ i lt ended. (omega (arith, lt), λ done. omega (arith, lt));
       inside = λ d i lt inside. absurd (not_inside d i lt inside);
-      freeing = λ d lt some. absurd (not_freed d lt some);
+      freeing = λ d lt spans. absurd (not_freed d lt spans);
       over = λ e. absurd (not_over k bits_are.1 e);
     }
 

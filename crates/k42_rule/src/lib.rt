@@ -27,7 +27,7 @@ pub use generating::{enter_step, leave_step};
 pub use laws::shown_states_are_safe;
 pub use pass::{Pass, Walker};
 pub use swap_begins::begin_step;
-pub use swapping::{block_step, entry_step, move_step, turn_over};
+pub use swapping::{block_step, clear_step, entry_step, move_step, turn_over};
 pub use sys::Sys;
 pub use tabling::{end_call, install_step, knock_step, look_up_step, root_step, step_out};
 pub use taking::{lock, put, take, unlock};

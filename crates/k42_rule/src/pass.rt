@@ -159,6 +159,20 @@ impl<P: Drop> Walker<P> {
         self.noted[object as usize]
     }
 
+    /// How far its swap is.
+    pub fn swap(&self) -> SwapAt
+        ensures { result ≡ self.now.view.visitor.swap }
+    {
+        self.swap
+    }
+
+    /// Whether it has turned over the object that it swaps.
+    pub fn has_turned(&self) -> bool
+        ensures { result ≡ self.now.view.turned }
+    {
+        self.turned
+    }
+
     /// Whether it has no activity, no grace and no swap under way.
     pub fn is_idle(&self) -> bool
         ensures { result ≡ is_at_rest self.now.view }

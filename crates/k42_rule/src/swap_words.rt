@@ -7,12 +7,12 @@ ghost use Rattle.k42_rule.specs.Plan.{layouts_on};
 ghost use Rattle.k42_rule.specs.Seen.{IsSeatOf};
 ghost use Rattle.k42_rule.specs.Views.{pass_in};
 ghost use Rattle.k42_rule.specs.Steps.{StepIs};
-ghost use Rattle.k42_rule.specs.Swapping.{object_swapped, MayChangeEntry, entry_after, entry_event, changed_view, MayBlock, blocked_view, MayMove, blocked_word, moves, moved_view, CountFound, MayTurnOver, turn_amount, turned_view};
+ghost use Rattle.k42_rule.specs.Swapping.{object_swapped, MayChangeEntry, entry_after, entry_event, changed_view, MayBlock, blocked_view, MayMove, blocked_word, moves, moved_view, CountFound, MayTurnOver, turn_amount, turned_view, MayClear, clear_event, kept_bits, clears, cleared_view};
 ghost use Rattle.k42_rule.specs.Words.{many_words, local_word, object_word};
 ghost use Rattle.k42_rule.specs.declared.view.View.TheVariants.{Crew};
 
 use crate::board::{Board, Place};
-use crate::swap_plays::{Block, ChangeEntry, Move, TurnOver};
+use crate::swap_plays::{Block, ChangeEntry, Clear, Move, TurnOver};
 use k42_kinds::Layout;
 
 pub(crate) fn change_entry_word<L: Layout>(
@@ -91,4 +91,25 @@ pub(crate) fn turn_word<L: Layout>(
     board
         .shared
         .fetch_add::<TurnOver>(seat, 528 + 16 * object, amount)
+}
+
+pub(crate) fn clear_word<L: Layout>(
+    board: &Board<L>,
+    seat: &mut Place<L>,
+    object: usize,
+    mask: u64,
+) -> u64
+    requires ours { (seat.old.table_id ≡ board.now.shared.table_id) × (board.now.shared.table_id.words ≡ many_words) }
+    requires laws { AreLaws (layouts_on L.object L.tag_of L.ways L.whole L.serves L.admitted L.act_of board.now.shared.key.procs board.now.shared.key.callers.items) }
+    requires places { (object < 16) × (object_swapped (pass_in seat.old.me.0) ≡ object) }
+    requires mask { mask ≡ kept_bits (pass_in seat.old.me.0).visitor.swap }
+    requires granted { (pass_in seat.old.me.0).granted ≤ length (pass_in seat.old.me.0).rows }
+    requires may { IsSeatOf seat.old.me (pass_in seat.old.me.0) × MayClear (pass_in seat.old.me.0) }
+    ensures ours { (seat.new.table_id ≡ seat.old.table_id) × (seat.new.id ≡ seat.old.id) }
+    ensures told { IsSeatOf seat.new.me (cleared_view result (pass_in seat.old.me.0)) }
+    ensures event { StepIs (layouts_on L.object L.tag_of L.ways L.whole L.serves L.admitted L.act_of board.now.shared.key.procs board.now.shared.key.callers.items) board.now.shared.key.layouts.items (AtPhases (clear_event (pass_in seat.old.me.0).number (pass_in seat.old.me.0).visitor.swap)) (object_word (object_swapped (pass_in seat.old.me.0))) (clears (pass_in seat.old.me.0).visitor.swap) seat.old.id (pass_in seat.old.me.0) result (pass_in seat.new.me.0) }
+{
+    board
+        .shared
+        .fetch_and::<Clear>(seat, 528 + 16 * object, mask)
 }

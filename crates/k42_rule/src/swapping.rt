@@ -1,24 +1,24 @@
 //! The steps of a swap.
-ghost use Rattle.std.specs.Prelude.{◌≡◌, ◌<◌, ◌≤◌, ◌+◌, ◌-◌, ◌*◌, ◌%◌, ◌^◌, length, bit_or, if◌then◌else◌};
+ghost use Rattle.std.specs.Prelude.{◌≡◌, ◌<◌, ◌≤◌, ◌+◌, ◌-◌, ◌*◌, ◌%◌, ◌^◌, true, length, bit_or, if◌then◌else◌};
 ghost use Rattle.std.specs.Option.{unwrap_or};
 ghost use Rattle.k42_limits.specs.declared.TheConstants.{LAST_INCARNATION};
 ghost use Rattle.phase_core.specs.Effects.{after_interpose};
 ghost use Rattle.phase_core.specs.Event as phases;
-ghost use Rattle.phase_core.specs.Stages.{object_named, is_interposing};
+ghost use Rattle.phase_core.specs.Stages.{object_named, is_interposing, is_moved};
 ghost use Rattle.phase_core.specs.State.{empty_entry, mediator_entry};
 ghost use Rattle.k42_joined.specs.Event.{AtPhases};
 ghost use Rattle.k42_rule.specs.Plan.{layouts_on};
-ghost use Rattle.k42_rule.specs.Seen.{IsOf, IsSamePass};
+ghost use Rattle.k42_rule.specs.Seen.{IsOf, IsSamePass, HasSameRoom};
 ghost use Rattle.k42_rule.specs.Steps.{StepIs};
-ghost use Rattle.k42_rule.specs.Swapping.{object_swapped, next_entry, after_entry, MayChangeEntry, entry_after, entry_event, changed_view, MayBlock, blocked_view, MayMove, moves, moved_view, CountFound, MayTurnOver, turn_amount, turned_view};
+ghost use Rattle.k42_rule.specs.Swapping.{object_swapped, next_entry, after_entry, MayChangeEntry, entry_after, entry_event, changed_view, MayBlock, blocked_view, MayMove, moves, moved_view, CountFound, MayTurnOver, turn_amount, turned_view, MayClear, clear_event, kept_bits, clears, cleared_view};
 ghost use Rattle.k42_rule.specs.Values.{local_value, incarnation_in};
 ghost use Rattle.k42_rule.specs.Views.{word_begun};
 ghost use Rattle.k42_rule.specs.Words.{local_word, object_word};
 
 use crate::pass::Pass;
-use crate::swap_words::{block_word, change_entry_word, move_word, turn_word};
+use crate::swap_words::{block_word, change_entry_word, clear_word, move_word, turn_word};
 use crate::sys::Sys;
-use crate::view::LastBegin;
+use crate::view::{LastBegin, Row};
 use k42_kinds::Layout;
 use phase_core::SwapAt;
 
@@ -181,5 +181,47 @@ pub fn turn_over<L: Layout>(sys: &Sys<L>, pass: &mut Pass<L>, layout: u32) -> u6
     pass.swap = SwapAt::Opening(object, 0);
     pass.turned = true;
     pass.handed = None;
+    found
+}
+
+/// Whether a swap moves its object.
+fn moves(swap: &SwapAt) -> bool
+    ensures { result ≡ is_moved swap.now }
+{
+    matches!(*swap, SwapAt::Moved(_))
+}
+
+/// Gives up what it moves and has not handed on, or ends the swap. The row that it has handed on and turned over is
+/// then one of the pass's rows.
+pub fn clear_step<L: Layout>(sys: &Sys<L>, pass: &mut Pass<L>) -> u64
+    requires ours { IsOf sys.now pass.old }
+    requires may { MayClear pass.old.view }
+    requires room { pass.old.view.turned ≡ true → 0 < pass.old.row_room }
+    ensures same { HasSameRoom pass.old pass.new }
+    ensures knows { pass.new.view ≡ cleared_view result pass.old.view }
+    ensures event { StepIs
+        (layouts_on L.object L.tag_of L.ways L.whole L.serves L.admitted L.act_of sys.now.procs sys.now.callers)
+        sys.now.layouts (AtPhases (clear_event pass.old.view.number pass.old.view.visitor.swap))
+        (object_word (object_swapped pass.old.view)) (clears pass.old.view.visitor.swap)
+        pass.old.seat pass.old.view result pass.new.view }
+{
+    let object = object_at(&pass.swap);
+    if moves(&pass.swap) {
+        let mask = u64::MAX - 33_554_432 - 67_108_864;
+        let found = clear_word(&sys.board, &mut pass.seat, object as usize, mask);
+        pass.swap = SwapAt::Reopening(object, 0);
+        return found;
+    }
+    let mask = u64::MAX - 16_777_216 - 134_217_728;
+    let found = clear_word(&sys.board, &mut pass.seat, object as usize, mask);
+    if pass.turned {
+        let incarnation = (begun_word(&pass.last) >> 32) as u32;
+        pass.rows.push_reserved(Row {
+            object,
+            incarnation,
+        });
+    }
+    pass.turned = false;
+    pass.swap = SwapAt::Idle;
     found
 }
