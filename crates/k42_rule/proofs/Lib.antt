@@ -17,7 +17,13 @@ pub mod CellsEvents
 pub mod CellsAllowed
 pub mod CellsDrawn
 pub mod Beginning
+pub mod Staging
 pub mod EntryTurns
+pub mod Blocking
+pub mod MovingOver
+pub mod TurningOver
+pub mod Clearing
+pub mod WordExamples
 pub mod FirstParts
 pub mod Opening
 pub mod Replaced

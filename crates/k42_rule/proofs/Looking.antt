@@ -12,16 +12,16 @@ use Rattle.gen_core.specs.Plain.{Caller}
 use Rattle.gen_core.specs.State.{caller_at}
 use Rattle.gen_core.proofs.Ranges.{home_there}
 use Rattle.phase_core.specs.Callers.{IsAtPlace}
-use Rattle.phase_core.specs.Effects.{at_place, looked_up, place_found}
+use Rattle.phase_core.specs.Effects.{root_of, at_place, looked_up, place_found}
 use Rattle.phase_core.specs.Event.{Event, RootLoad, LookUp, EndCall}
 use Rattle.phase_core.specs.Plain.{Object, Visitor, Phases}
 use Rattle.phase_core.specs.Sound.{IsSound}
-use Rattle.phase_core.specs.Stages.{IsInside, is_missed, is_out, is_uncounted}
+use Rattle.phase_core.specs.Stages.{IsInside, is_missed, is_out, is_uncounted, row_of}
 use Rattle.phase_core.specs.State.{object_at, visitor_at, entry_at, fresh_object, fresh_visitor, empty_entry, with_row}
 use Rattle.phase_core.specs.declared.caller.Place.{Place}
 use Rattle.phase_core.specs.declared.caller.Place.TheVariants.{Out, Missed, Direct, AtMediator}
 use Rattle.phase_core.specs.declared.object.LocalEntry.{LocalEntry}
-use Rattle.phase_core.proofs.InSound.{visitor_known}
+use Rattle.phase_core.proofs.InSound.{visitor_known, inside_is_present}
 use Rattle.phase_core.proofs.Ranges.{turns_sound, entry_there}
 use Rattle.phase_core.proofs.Reached.{turn_there}
 use Rattle.turn_core.specs.Plain as turns
@@ -41,7 +41,7 @@ use Rattle.k42_rule.specs.Rule.{Beside, KnowsPass, Shows, Rule, Ruled}
 use Rattle.k42_rule.specs.Seen.{IsSeatOf}
 use Rattle.k42_rule.specs.Views.{pass_in}
 use Rattle.k42_rule.specs.Steps.{Seated, Tells, TellsWith}
-use Rattle.k42_rule.specs.Tabling.{went, EntryFound, ObjectFound, entry_in, entry_object, layout_told, MayLookUp, looked_up_view, MayLoadRoot, rooted_view, MayEndCall, ended_view}
+use Rattle.k42_rule.specs.Tabling.{went, EntryFound, ObjectFound, RootFound, entry_in, entry_object, layout_told, MayLookUp, looked_up_view, MayLoadRoot, rooted_view, MayEndCall, ended_view}
 use Rattle.k42_rule.specs.Values.{layout_in, incarnation_in, local_value, object_value}
 use Rattle.k42_rule.specs.Words.{object_word, local_word}
 use Rattle.k42_rule.specs.declared.view.PassView.{PassView}
@@ -174,6 +174,17 @@ module _ {S L P : Type 0} (F : Layouts S L P) (laws : AreLaws F) (declared : Lis
               let here : IsInside (Missed o is.0) q i = subst (λ z. IsInside z q i) is.1 inside in
               ap (λ z. (object_at s z).layout) (sym here.0) ∙ sym (word_there o (missed_there o may.missed)) ∙ same_Some (layout_in found) l told
 
+    pub root_seen : RootFound v found
+    root_seen = record {
+      word = object_seen o (missed_there o may.missed);
+      row =
+          let is = missed_is v.visitor.place o may.missed in
+          let inside : IsInside (visitor_at s v.number).place o is.0 = subst (λ z. IsInside z o is.0) (sym (place_is ∙ is.1)) (refl, refl) in
+          (object_is_read o (missed_there o may.missed)).incarnation
+          ∙ sym (inside_is_present s r.sound.phases v.number o is.0 knows.there inside).1
+          ∙ ap row_of (sym is.1);
+    }
+
   -- the end of a call
   module _ (may : MayEndCall v) where
     pub holds_no_cell : holds_none (held r.state v.number) ≡ true
@@ -250,9 +261,9 @@ module _ {S L P : Type 0} (F : Layouts S L P) (laws : AreLaws F) (declared : Lis
     entry_seen =
         let known = (entry_at_home o there).0 in
         record {
-          tag = rw entry_is known.fits.tag;
-          layout = rw entry_is known.fits.layout;
-          cell = rw entry_is known.root;
+          tag = subst (λ (z : LocalEntry). z.tag ≤ 2) (sym entry_is) known.fits.tag;
+          layout = subst (λ (z : LocalEntry). z.layout ≤ 2) (sym entry_is) known.fits.layout;
+          cell = subst (λ (z : LocalEntry). z.tag ≡ 1 → z.cell ≡ root_of z.layout v.turn.proc) (sym entry_is) known.root;
           last = let same = ap (λ (z : LocalEntry). z.incarnation) entry_is in let most = known.last in omega (arith, same, most);
         }
 
@@ -263,8 +274,8 @@ pub root_moves : {S L P : Type 0} (F : Layouts S L P) → AreLaws F → (declare
 root_moves F laws declared id o v may = record { from = λ table r at. roots F laws declared table r id v at o may }
 
 pub root_finds : {S L P : Type 0} (F : Layouts S L P) → AreLaws F → (declared : List L) (id o : ℕ) (v : PassView P) → MayLoadRoot (length declared) o v
-    → Finds F declared (object_word o) ObjectFound id v
-root_finds F laws declared id o v may table r at = object_seen F laws declared table r id v at o (missed_there F laws declared table r id v at o may.missed)
+    → Finds F declared (object_word o) RootFound id v
+root_finds F laws declared id o v may table r at = root_seen F laws declared table r id v at o may
 
 pub end_moves : {S L P : Type 0} (F : Layouts S L P) → AreLaws F → (declared : List L) (id word : ℕ) (v : PassView P) → MayEndCall v
     → Moves F declared (AtPhases (EndCall v.number)) word (λ word. word) ended_view id v

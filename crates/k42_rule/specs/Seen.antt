@@ -1,5 +1,5 @@
 -- Systems and passes, as contracts see them.
-use Rattle.std.specs.Prelude.{◌≡◌, ◌<◌, ◌≤◌, ℕ, ◌&&◌, Bool, true, false, List, [], ◌∷◌, Option, None, is_none, length, unwrap_or}
+use Rattle.std.specs.Prelude.{◌≡◌, ◌+◌, ◌<◌, ◌≤◌, ℕ, ◌&&◌, Bool, true, false, List, [], ◌∷◌, Option, None, is_none, length, unwrap_or}
 use Rattle.atomic_table.specs.Seated.{TableId}
 use Rattle.gen_core.specs.Events as graces
 use Rattle.gen_core.specs.Plain as gens
@@ -101,6 +101,13 @@ pub record IsSamePass {P : Type 0} (old new : PassSeen P) : Type 0 where
   pub seat : new.seat ≡ old.seat
   pub room : new.room ≡ old.room
   pub row_room : new.row_room ≡ old.row_room
+
+-- it has the same seat, and the same room for entries; for rows it has room as before, less what they need that are new
+pub record HasSameRoom {P : Type 0} (old new : PassSeen P) : Type 0 where
+  pub table : new.table ≡ old.table
+  pub seat : new.seat ≡ old.seat
+  pub room : new.room ≡ old.room
+  pub row_room : new.row_room + length new.view.rows ≡ old.row_room + length old.view.rows
 
 -- it has room for no fewer entries and rows, and knows the same
 pub record IsRoomier {P : Type 0} (old new : PassSeen P) : Type 0 where

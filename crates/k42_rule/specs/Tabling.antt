@@ -42,6 +42,11 @@ pub record ObjectFound {P : Type 0} (v : PassView P) (found : ℕ) : Type 0 wher
   pub layout : layout_in found ≤ 2
   pub last : incarnation_in found ≤ LAST_INCARNATION
 
+-- and of the word of an object that the pass has missed: it is still in that row
+pub record RootFound {P : Type 0} (v : PassView P) (found : ℕ) : Type 0 where
+  pub word : ObjectFound v found
+  pub row : incarnation_in found ≡ row_of v.visitor.place
+
 -- a direct entry tells its row's layout
 abbrev pub layout_told : LocalEntry → Option ℕ
 layout_told e = if e.tag == 1 then Some e.layout else None

@@ -12,6 +12,9 @@ mod slot_plays;
 mod slots;
 mod start;
 mod swap_begins;
+mod swap_plays;
+mod swap_words;
+mod swapping;
 mod sys;
 mod table_plays;
 mod table_words;
@@ -27,6 +30,7 @@ pub use laws::{
 };
 pub use pass::{Pass, Walker};
 pub use swap_begins::begin_step;
+pub use swapping::{block_step, clear_step, entry_step, move_step, turn_over};
 pub use sys::{Sys, Unfinished};
 pub use tabling::{end_call, install_step, knock_step, look_up_step, root_step, step_out};
 pub use taking::{lock, put, take, unlock};

@@ -1,10 +1,12 @@
 //! A pass: what one caller steps with.
 ghost use Rattle.std.specs.Prelude.{◌≡◌, ◌<◌, ◌≤◌, true, Some, length, slice_index, is_some, OnOk};
+ghost use Rattle.k42_limits.specs.declared.TheConstants.{LAST_INCARNATION};
+ghost use Rattle.k42_stamp.specs.Lists.{IsListOf};
 ghost use Rattle.phase_core.specs.Stages.{named_by};
 ghost use Rattle.phase_core.specs.State.{note_at};
 ghost use Rattle.k42_rule.specs.Phases.{is_served};
 ghost use Rattle.k42_rule.specs.Seen.{IsRoomier, inside_in, is_at_rest};
-ghost use Rattle.k42_rule.specs.Values.{layout_in};
+ghost use Rattle.k42_rule.specs.Values.{layout_in, incarnation_in};
 ghost use Rattle.k42_rule.specs.Views.{word_begun};
 
 use crate::cell::Content;
@@ -48,6 +50,7 @@ impl<P: Drop> Model for Walker<P> {
     ghost use Rattle.std.specs.Option.{unwrap_or};
     ghost use Rattle.k42_limits.specs.declared.TheConstants.{LAST_INCARNATION};
     ghost use Rattle.phase_core.specs.Stages.{object_of, row_of, object_named};
+    ghost use Rattle.k42_stamp.specs.Lists.{IsListOf};
     ghost use Rattle.k42_rule.specs.Seen.{PassSeen, Mirrors};
     ghost use Rattle.k42_rule.specs.Swapping.{next_entry};
     ghost use Rattle.k42_rule.specs.Values.{layout_in, incarnation_in};
@@ -84,7 +87,7 @@ impl<P: Drop> Model for Walker<P> {
         × (object_named p.swap < 16) × (unwrap_or (next_entry p.swap) 0 < 8) × (length p.waits.items ≤ 8)
         × (incarnation_in (word_begun p.last) ≤ LAST_INCARNATION) × (layout_in (word_begun p.last) ≤ 2)
         × (row_of p.place ≤ LAST_INCARNATION)
-        × (p.granted ≤ length p.rows.items) };
+        × (p.granted ≤ length p.rows.items) × IsListOf p.number p.entries.items };
 }
 
 impl<P: Drop> Walker<P> {
@@ -136,9 +139,17 @@ impl<P: Drop> Walker<P> {
         self.base
     }
 
+    /// What it has learned of the exits to come on the processor that its grace flips next.
+    pub fn coming(&self) -> Option<u64>
+        ensures { result ≡ self.now.view.turn.coming }
+    {
+        self.coming
+    }
+
     /// Its entries, the oldest first.
     pub fn entries(&self) -> &[Entry]
-        ensures { result.now ≡ self.now.view.taker.mine }
+        ensures are { result.now ≡ self.now.view.taker.mine }
+        ensures listed { IsListOf self.now.view.number self.now.view.taker.mine }
     {
         self.entries.as_slice()
     }
@@ -159,7 +170,8 @@ impl<P: Drop> Walker<P> {
 
     /// The object of its last Begin, and the word that this found.
     pub fn last_begin(&self) -> Option<LastBegin>
-        ensures { result ≡ self.now.view.last }
+        ensures is { result ≡ self.now.view.last }
+        ensures bound { incarnation_in (word_begun self.now.view.last) ≤ LAST_INCARNATION }
     {
         self.last
     }
@@ -186,6 +198,20 @@ impl<P: Drop> Walker<P> {
         self.noted[object as usize]
     }
 
+    /// How far its swap is.
+    pub fn swap(&self) -> SwapAt
+        ensures { result ≡ self.now.view.visitor.swap }
+    {
+        self.swap
+    }
+
+    /// Whether it has turned over the object that it swaps.
+    pub fn has_turned(&self) -> bool
+        ensures { result ≡ self.now.view.turned }
+    {
+        self.turned
+    }
+
     /// Whether it has no activity, no grace and no swap under way.
     pub fn is_idle(&self) -> bool
         ensures { result ≡ is_at_rest self.now.view }
@@ -196,7 +222,8 @@ impl<P: Drop> Walker<P> {
     /// The row that its call is inside.
     pub fn inside(&self) -> Inside
         requires { is_served self.now.view.visitor.place ≡ true }
-        ensures { result ≡ inside_in self.now.view }
+        ensures is { result ≡ inside_in self.now.view }
+        ensures bounds { (result.object < 16) × (result.incarnation ≤ LAST_INCARNATION) × (result.layout ≤ 2) }
     {
         let layout = self.layout.unwrap_or(0);
         match self.place {
@@ -230,7 +257,8 @@ impl<P: Drop> Walker<P> {
     /// The tag of the layout that its last Begin found.
     pub fn begun_layout(&self) -> u32
         requires { is_some (named_by self.now.view.visitor.swap) ≡ true }
-        ensures { result ≡ layout_in (word_begun self.now.view.last) }
+        ensures is { result ≡ layout_in (word_begun self.now.view.last) }
+        ensures bound { result ≤ 2 }
     {
         let word = self.last.map_or(0, |begin| begin.word);
         (word / 268_435_456 % 4) as u32

@@ -16,9 +16,9 @@ pub(crate) struct LoadRoot;
 
 impl<P: Drop> Play<Option<Content<P>>, View<P>> for LoadRoot {
     ghost use Rattle.k42_rule.specs.Steps.{TellsWith};
-    ghost use Rattle.k42_rule.specs.Tabling.{ObjectFound, rooted_view};
+    ghost use Rattle.k42_rule.specs.Tabling.{RootFound, rooted_view};
 
-    ghost then = { TellsWith rooted_view ObjectFound };
+    ghost then = { TellsWith rooted_view RootFound };
 }
 
 pub(crate) struct EndCall;

@@ -9,7 +9,7 @@ ghost use Rattle.k42_rule.specs.Plan.{layouts_on};
 ghost use Rattle.k42_rule.specs.Seen.{IsSeatOf};
 ghost use Rattle.k42_rule.specs.Views.{pass_in};
 ghost use Rattle.k42_rule.specs.Steps.{StepIs};
-ghost use Rattle.k42_rule.specs.Tabling.{EntryFound, ObjectFound, entry_in, layout_told, MayLookUp, looked_up_view, MayLoadRoot, rooted_view, MayEndCall, ended_view, MayInstall, empty_before, direct_after, installs, installed_view, MayKnock, knocked_view, MayStepOut, MayBegin, begun_view};
+ghost use Rattle.k42_rule.specs.Tabling.{EntryFound, ObjectFound, RootFound, entry_in, layout_told, MayLookUp, looked_up_view, MayLoadRoot, rooted_view, MayEndCall, ended_view, MayInstall, empty_before, direct_after, installs, installed_view, MayKnock, knocked_view, MayStepOut, MayBegin, begun_view};
 ghost use Rattle.k42_rule.specs.Values.{layout_in};
 ghost use Rattle.k42_rule.specs.Words.{many_words, local_word, object_word};
 ghost use Rattle.k42_rule.specs.declared.view.View.TheVariants.{Crew};
@@ -43,7 +43,7 @@ pub(crate) fn root_word<L: Layout>(board: &Board<L>, seat: &mut Place<L>, object
     requires may { IsSeatOf seat.old.me (pass_in seat.old.me.0) × MayLoadRoot (length board.now.shared.key.layouts.items) object (pass_in seat.old.me.0) }
     ensures ours { (seat.new.table_id ≡ seat.old.table_id) × (seat.new.id ≡ seat.old.id) }
     ensures told { IsSeatOf seat.new.me (rooted_view result (pass_in seat.old.me.0)) }
-    ensures found { ObjectFound (pass_in seat.old.me.0) result }
+    ensures found { RootFound (pass_in seat.old.me.0) result }
     ensures event { StepIs (layouts_on L.object L.tag_of L.ways L.whole L.serves L.admitted L.act_of board.now.shared.key.procs board.now.shared.key.callers.items) board.now.shared.key.layouts.items (AtPhases (phases.RootLoad (pass_in seat.old.me.0).number object)) (object_word object) (λ word. word) seat.old.id (pass_in seat.old.me.0) result (pass_in seat.new.me.0) }
 {
     board.shared.load::<LoadRoot>(seat, 528 + 16 * object)

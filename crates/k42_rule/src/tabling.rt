@@ -8,7 +8,7 @@ ghost use Rattle.k42_joined.specs.Event.{AtPhases};
 ghost use Rattle.k42_rule.specs.Plan.{layouts_on};
 ghost use Rattle.k42_rule.specs.Seen.{IsOf, IsSamePass};
 ghost use Rattle.k42_rule.specs.Steps.{StepIs};
-ghost use Rattle.k42_rule.specs.Tabling.{EntryFound, ObjectFound, entry_in, layout_told, MayLookUp, looked_up_view, MayLoadRoot, rooted_view, MayEndCall, ended_view, MayInstall, installs, installed_view, MayKnock, knocked_view, MayStepOut};
+ghost use Rattle.k42_rule.specs.Tabling.{EntryFound, ObjectFound, RootFound, entry_in, layout_told, MayLookUp, looked_up_view, MayLoadRoot, rooted_view, MayEndCall, ended_view, MayInstall, installs, installed_view, MayKnock, knocked_view, MayStepOut};
 ghost use Rattle.k42_rule.specs.Values.{layout_in, local_value, has_bit};
 ghost use Rattle.k42_rule.specs.Words.{local_word, object_word};
 
@@ -110,7 +110,7 @@ pub fn root_step<L: Layout>(sys: &Sys<L>, pass: &mut Pass<L>, object: u32) -> u6
     requires may { MayLoadRoot (length sys.now.layouts) object pass.old.view }
     ensures same { IsSamePass pass.old pass.new }
     ensures knows { pass.new.view ≡ rooted_view result pass.old.view }
-    ensures found { ObjectFound pass.old.view result }
+    ensures found { RootFound pass.old.view result }
     ensures event { StepIs
         (layouts_on L.object L.tag_of L.ways L.whole L.serves L.admitted L.act_of sys.now.procs sys.now.callers)
         sys.now.layouts (AtPhases (phases.RootLoad pass.old.view.number object))
