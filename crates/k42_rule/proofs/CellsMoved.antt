@@ -37,6 +37,7 @@ use Rattle.k42_rule.specs.Phases.{KnowsPhases}
 use Rattle.k42_rule.specs.Rule.{Beside, KnowsPass, NamesRows, Shows, Rule}
 use Rattle.k42_rule.specs.Words.{lock_word, slot_of}
 use Rattle.k42_rule.specs.Values.{holder_value}
+use Rattle.k42_rule.specs.Views.{hears}
 use Rattle.k42_rule.specs.declared.view.Note.{Note}
 use Rattle.k42_rule.specs.declared.view.PassView.{PassView}
 use Rattle.k42_rule.specs.declared.view.Row as named
@@ -109,6 +110,33 @@ module _ {P : Type 0} (v : PassView P) (taker : Caller) (found : Option Answer) 
     swap = record { turned = k.swap.turned; layout_begun = k.swap.layout_begun; begun = k.swap.begun; next = k.swap.next };
     rows = record { old = k.rows.old; granted = k.rows.granted; swept = k.rows.swept; spans = k.rows.spans };
   }
+
+-- nor does the word that it found
+pub known_heard : {L P : Type 0} (tag_of : L → ℕ) (s : Joined L) (beside : Beside P) (id : ℕ) (v : PassView P) (heard : ℕ)
+    → KnowsPass tag_of s beside id v → KnowsPass tag_of s beside id (hears heard v)
+known_heard tag_of s beside id v heard k = record {
+  there = k.there;
+  seat = k.seat;
+  names = k.names;
+  generations = generations_stay v v.taker v.found v.abandoned v.handed v.notes v.out v.untold heard s.phases.turns beside.counts k.generations;
+  phases = phases_stay v v.taker v.found v.abandoned v.handed v.notes v.out v.untold heard s.phases k.phases;
+  cells = record { taker = k.cells.taker; notes = k.cells.notes; noted = k.cells.noted; out = k.cells.out; only = k.cells.only };
+  trace = record { kept = k.trace.kept; found = k.trace.found; over = k.trace.over; handed = k.trace.handed; unhanded = k.trace.unhanded; times = k.trace.times };
+}
+
+-- no view is shown
+pub shows_again : {L P : Type 0} (s : Joined L) (beside : Beside P) (table : State (Slot P) (View P)) (words : List ℕ) (id : ℕ) (w : PassView P) → Shows s beside table
+    → words ≡ table.words → Shows s beside (with_pass table words table.homes id w)
+shows_again s beside table words id w shows same =
+    subst (λ (z : List ℕ). Shows s beside (with_pass table z table.homes id w)) (sym same) (record {
+      many_words = shows.many_words;
+      many_slots = shows.many_slots;
+      few_objects = shows.few_objects;
+      few_entries = shows.few_entries;
+      generations = shows.generations;
+      objects = shows.objects;
+      cells = shows.cells;
+    })
 
 -- no caller has drawn more entries than are counted
 pub few_drawn : (callers : List Caller) → EachPlace (λ c x. length x.mine ≤ MOST) callers → (d : ℕ) → length (get_or callers d fresh_caller).mine ≤ MOST
