@@ -4,7 +4,7 @@ use Rattle.std.specs.List.{filter}
 use mathlib.Core.Option.{some}
 use lib.ListN.{get_elem?}
 use Rattle.atomic_table.specs.Table.{State, Step, Act, Valid, rest, stepped}
-use Rattle.k42_limits.specs.declared.TheConstants.{CALLERS}
+use Rattle.k42_limits.specs.declared.TheConstants.{CALLERS, PROCESSORS}
 use Rattle.k42_kinds.specs.Rows.{part_at}
 use Rattle.k42_kinds.specs.declared.entry.Answer.{Answer}
 use Rattle.phase_core.specs.Stages.{IsInside}
@@ -144,10 +144,11 @@ pub record MayLock {P : Type 0} (procs n : ℕ) (v : PassView P) : Type 0 where
   pub unheld : names v.taker.held n ≡ false
   pub touches : Touches procs n v
 
--- the word found is that of nobody, or of another caller
-pub record LockFound {P : Type 0} (v : PassView P) (found : ℕ) : Type 0 where
+-- The word found is that of nobody, or of another caller; of nobody where the pass is alone at the row.
+pub record LockFound {P : Type 0} (n : ℕ) (v : PassView P) (found : ℕ) : Type 0 where
   pub another : found ≢ v.number + 1
   pub small : found ≤ CALLERS
+  pub free : TouchesMoved PROCESSORS n v ⊎ TouchesFreed PROCESSORS n v → found ≡ 0
 
 module _ {S L P : Type 0} (F : Layouts S L P) (declared : List L) where
   -- it has taken the cell of which this is the content: its number, its history, and the part that is due

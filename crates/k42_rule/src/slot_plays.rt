@@ -6,10 +6,10 @@ use atomic_table::Play;
 pub(crate) struct Lock;
 
 impl<P: Drop> Play<Option<Content<P>>, View<P>> for Lock {
-    ghost use Rattle.k42_rule.specs.Steps.{Tells};
-    ghost use Rattle.k42_rule.specs.Taking.{cell_at_lock, locked_view};
+    ghost use Rattle.k42_rule.specs.Steps.{TellsWith};
+    ghost use Rattle.k42_rule.specs.Taking.{LockFound, cell_at_lock, locked_view};
 
-    ghost then = { λ step. Tells (locked_view (cell_at_lock step.word)) step };
+    ghost then = { λ step. TellsWith (locked_view (cell_at_lock step.word)) (LockFound (cell_at_lock step.word)) step };
 }
 
 pub(crate) struct Unlock;

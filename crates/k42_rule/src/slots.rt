@@ -9,7 +9,7 @@ ghost use Rattle.k42_rule.specs.Plan.{layouts_on};
 ghost use Rattle.k42_rule.specs.Seen.{IsSeatOf};
 ghost use Rattle.k42_rule.specs.Views.{pass_in};
 ghost use Rattle.k42_rule.specs.Steps.{StepIs, Always};
-ghost use Rattle.k42_rule.specs.Taking.{ActIs, MayLock, HoldsHome, MayPut, IsWhole, locked_view, unlocked_view, lifted_view, reaching_view, taken_view, put_view};
+ghost use Rattle.k42_rule.specs.Taking.{ActIs, MayLock, LockFound, HoldsHome, MayPut, IsWhole, locked_view, unlocked_view, lifted_view, reaching_view, taken_view, put_view};
 ghost use Rattle.k42_rule.specs.Words.{many_words, many_slots, lock_word, slot_of};
 ghost use Rattle.k42_rule.specs.declared.view.View.TheVariants.{Crew};
 
@@ -28,9 +28,10 @@ pub(crate) fn lock_cell<L: Layout>(
     requires laws { AreLaws (layouts_on L.object L.tag_of L.ways L.whole L.serves L.admitted L.act_of board.now.shared.key.procs board.now.shared.key.callers.items) }
     requires number { (pass_in seat.old.me.0).number ≡ number }
     requires idle { IsSeatOf seat.old.me (pass_in seat.old.me.0) × ((pass_in seat.old.me.0).out ≡ None) }
-    requires may { MayLock (layouts_on L.object L.tag_of L.ways L.whole L.serves L.admitted L.act_of board.now.shared.key.procs board.now.shared.key.callers.items) board.now.shared.key.layouts.items seat.old.id cell (pass_in seat.old.me.0) }
+    requires may { MayLock board.now.shared.key.procs cell (pass_in seat.old.me.0) }
     ensures ours { (seat.new.table_id ≡ seat.old.table_id) × (seat.new.id ≡ seat.old.id) }
     ensures told { IsSeatOf seat.new.me (locked_view cell result (pass_in seat.old.me.0)) }
+    ensures found { LockFound cell (pass_in seat.old.me.0) result }
     ensures event { StepIs (layouts_on L.object L.tag_of L.ways L.whole L.serves L.admitted L.act_of board.now.shared.key.procs board.now.shared.key.callers.items) board.now.shared.key.layouts.items (AtCells (TurnEvent.Lock (pass_in seat.old.me.0).number cell)) (lock_word cell) (λ word. if word == 0 then (pass_in seat.old.me.0).number + 1 else word) seat.old.id (pass_in seat.old.me.0) result (pass_in seat.new.me.0) }
 {
     let new = u64::from(number) + 1;

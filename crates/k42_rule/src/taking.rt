@@ -7,7 +7,7 @@ ghost use Rattle.k42_joined.specs.Event.{AtCells};
 ghost use Rattle.k42_rule.specs.Plan.{layouts_on};
 ghost use Rattle.k42_rule.specs.Seen.{IsOf, IsSamePass};
 ghost use Rattle.k42_rule.specs.Steps.{StepIs, Always};
-ghost use Rattle.k42_rule.specs.Taking.{ActIs, MayLock, HoldsHome, MayPut, IsWhole, locked_view, unlocked_view, lifted_view, reaching_view, taken_view, put_view};
+ghost use Rattle.k42_rule.specs.Taking.{ActIs, MayLock, LockFound, HoldsHome, MayPut, IsWhole, locked_view, unlocked_view, lifted_view, reaching_view, taken_view, put_view};
 ghost use Rattle.k42_rule.specs.Words.{lock_word, slot_of};
 
 use crate::cell::Cell;
@@ -19,11 +19,10 @@ use k42_kinds::Layout;
 /// Takes the lock of a cell, where it is free.
 pub fn lock<L: Layout>(sys: &Sys<L>, pass: &mut Pass<L>, cell: u32) -> u64
     requires ours { IsOf sys.now pass.old }
-    requires may { MayLock
-        (layouts_on L.object L.tag_of L.ways L.whole L.serves L.admitted L.act_of sys.now.procs sys.now.callers)
-        sys.now.layouts pass.old.seat cell pass.old.view }
+    requires may { MayLock sys.now.procs cell pass.old.view }
     ensures same { IsSamePass pass.old pass.new }
     ensures knows { pass.new.view ≡ locked_view cell result pass.old.view }
+    ensures found { LockFound cell pass.old.view result }
     ensures event { StepIs
         (layouts_on L.object L.tag_of L.ways L.whole L.serves L.admitted L.act_of sys.now.procs sys.now.callers)
         sys.now.layouts (AtCells (TurnEvent.Lock pass.old.view.number cell)) (lock_word cell)
