@@ -158,7 +158,7 @@ module _ {S L P : Type 0} (F : Layouts S L P) (laws : AreLaws F) (declared : Lis
   begun_there : (o : ℕ) → begun_of v.last ≡ Some o → o < many_objects s
   begun_there o e = (r.sound.answers c knows.there).kept.there o (ap (λ (k : Kept). k.begun) knows.trace.kept ∙ e)
 
-  swapped_there : (o : ℕ) → named_by v.visitor.swap ≡ Some o → o < many_objects s
+  pub swapped_there : (o : ℕ) → named_by v.visitor.swap ≡ Some o → o < many_objects s
   swapped_there o e =
       let is = (r.sound.answers c knows.there).kept in
       is.there o (is.begun o (ap (λ x. named_by x.swap) visitor ∙ e))
@@ -175,10 +175,11 @@ module _ {S L P : Type 0} (F : Layouts S L P) (laws : AreLaws F) (declared : Lis
       }
 
   -- the cell is in the life of the row that was freed, which is the last before the present one
-  record IsFreed (is : TouchesFreed F.procs n v) : Type 0 where
-    named : is.object < many_objects s
-    before : is.row + 1 ≡ incarnation s is.object
-    life : (cell_in s is.object is.row is.place).life ≡ is.row
+  pub record IsFreed (is : TouchesFreed F.procs n v) : Type 0 where
+    pub named : is.object < many_objects s
+    pub before : is.row + 1 ≡ incarnation s is.object
+    pub life : (cell_in s is.object is.row is.place).life ≡ is.row
+    pub gone : is.row < (object s is.object).freed
 
   module _ (is : TouchesFreed F.procs n v) where
     abbrev o : ℕ
@@ -209,6 +210,16 @@ module _ {S L P : Type 0} (F : Layouts S L P) (laws : AreLaws F) (declared : Lis
         let own : length (visitor_at s.phases c).freeing ≡ length v.visitor.freeing = ap (λ x. length x.freeing) visitor in
         let there = span_within v.visitor.freeing o some_rows in omega (arith, many, all, own, there)
 
+    some_span : (span_at (visitor_at s.phases c).freeing o).0 < (span_at (visitor_at s.phases c).freeing o).1
+    some_span = subst (λ x. (span_at x.freeing o).0 < (span_at x.freeing o).1) (sym visitor) some_rows
+
+    gone : i < (object s o).freed
+    gone =
+        let upto = ((visitor_known s.phases r.sound.phases c knows.there).frees_alone.freeing o some_span).1 in
+        let all = (object_known s.phases r.sound.phases o named).bits_follow.freed in
+        let own : (span_at (visitor_at s.phases c).freeing o).1 ≡ span.1 = ap (λ x. (span_at x.freeing o).1) visitor in
+        omega (arith, high, upto, all, own)
+
     unhanded : is_handed s o ≡ false
     unhanded = go (is_handed s o) refl where
       go : (b : Bool) → is_handed s o ≡ b → b ≡ false
@@ -216,7 +227,7 @@ module _ {S L P : Type 0} (F : Layouts S L P) (laws : AreLaws F) (declared : Lis
       go true e =
           let mover = handed_moved F laws declared s r.sound.cells.turns r.sound.cells.locks r.sound.cells.rows r.sound.answers o named e in
           let yes = settled_by s.phases r.sound.phases o named mover.caller mover.there mover.moves in
-          let no = unsettled_by s.phases r.sound.phases o named c knows.there (subst (λ x. (span_at x.freeing o).0 < (span_at x.freeing o).1) (sym visitor) some_rows) in
+          let no = unsettled_by s.phases r.sound.phases o named c knows.there some_span in
           absurd (cc)
 
     life : (cell_in s o i is.place).life ≡ i
@@ -226,8 +237,8 @@ module _ {S L P : Type 0} (F : Layouts S L P) (laws : AreLaws F) (declared : Lis
         let former : other_life (incarnation s o) false ≡ i = subst (λ j. other_life j false ≡ i) last (grind (arith, nat_tests)) in
         ap (λ m. (cell s m).life) same ∙ other ∙ ap (other_life (incarnation s o)) unhanded ∙ former
 
-    freed : IsFreed is
-    freed = record { named = named; before = last; life = life }
+    pub freed : IsFreed is
+    freed = record { named = named; before = last; life = life; gone = gone }
 
   touch_freed : TouchesFreed F.procs n v → MayTouch s c n
   touch_freed is =

@@ -16,6 +16,7 @@ pub mod CellsTouched
 pub mod CellsSteps
 pub mod CellsEvents
 pub mod CellsAllowed
+pub mod PartLaws
 pub mod CellsDrawn
 pub mod Beginning
 pub mod EntryTurns

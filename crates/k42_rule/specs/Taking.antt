@@ -174,19 +174,21 @@ module _ {S L P : Type 0} (F : Layouts S L P) (declared : List L) where
     pub layout : L
     pub same : F.object_of layout ≡ F.object_of declaration
     pub tagged : F.tag_of layout ≡ tag
+    pub known : F.tag_of layout ≤ 2
     pub row : List P
     pub whole : F.Whole layout F.procs row
     pub parts :
         (k p : ℕ) (note : Note P) → p < F.procs → slice_get notes k ≡ Some note → note.cell ≡ cell_of o i p
         → HasDue (F.ways_of layout) F.procs p note.part (part_at row p)
 
-  -- so are those of the row that the pass is inside, and of the one that it moves and has not handed on
+  -- so are those of the row that the pass is inside, and of the one that it moves and has not handed on, which is live
   pub record AreRowsNoted (v : PassView P) : Type 0 where
     pub inside :
         (o i tag : ℕ) → IsInside v.visitor.place o i → v.layout ≡ Some tag → IsRowNoted v.notes o i tag
     pub moved :
         (o : ℕ) → v.visitor.swap ≡ Moved o → v.handed ≡ None
         → IsRowNoted v.notes o (incarnation_in (word_begun v.last)) (layout_in (word_begun v.last))
+        × (layout_in (word_begun v.last) ≤ 1)
 
   -- Whatever state the table shows, and whatever the word is, the slot moves and the state becomes this.
   abbrev pub ActIs :
