@@ -32,7 +32,7 @@ use Rattle.k42_joined.proofs.Kept.{joined_keeps}
 use Rattle.k42_rule.specs.Cells.{Slot, Contents, IsCell, IsCellShown, IsSlot, IsNoted, IsOut, KnowsCells, cells_noted}
 use Rattle.k42_rule.specs.Parts.{IsPart}
 use Rattle.k42_rule.specs.Rule.{Beside, KnowsPass, Shows, Rule, Ruled}
-use Rattle.k42_rule.specs.Taking.{cell_at_lock, HoldsHome, MayLock, LockFound, MayPut, IsWhole, Lifts, GivesBack, Reaches, Puts, given_view, noted, ActIs, locked_view, unlocked_view, reaching_view, lifted_view, taken_view, put_view, without}
+use Rattle.k42_rule.specs.Taking.{cell_at_lock, HoldsHome, MayLock, LockFound, MayPut, IsWhole, AreRowsNoted, Lifts, GivesBack, GivesBackKnown, Reaches, Puts, given_view, noted, ActIs, locked_view, unlocked_view, reaching_view, lifted_view, taken_view, put_view, without}
 use Rattle.k42_rule.specs.Words.{lock_word, slot_of, many_words, many_slots}
 use Rattle.k42_rule.specs.Values.{holder_value}
 use Rattle.k42_rule.specs.declared.cell.Content as code
@@ -48,6 +48,7 @@ use Rattle.k42_rule.proofs.CellsEvents.{locks, lock_found, unlocks, may_take, ma
 use Rattle.k42_rule.proofs.CellsSteps.{free_word, held_word, some_one, stands, relock, take_move, slot_move, put_move, has_content, before}
 use Rattle.k42_rule.proofs.Moves.{Moves, Finds, seat_allowed, seat_allowed_with, seat_is}
 use Rattle.k42_rule.proofs.OnePass.{with_pass, known, LeavesOthers, moved}
+use Rattle.k42_rule.proofs.PartLaws.{rows_noted}
 
 abbrev pub lock_value : ℕ → ℕ → ℕ
 lock_value c word = cond (eqb word 0) (c + 1) word
@@ -104,6 +105,17 @@ module _ {S L P : Type 0} (F : Layouts S L P) (laws : AreLaws F) (declared : Lis
         part = subst (IsPart F declared r.state n) (ap r.beside.contents.part (sym named) ∙ is.part) (r.parts n there);
       }
 
+  -- what a pass knows of rows does not hang on the slot that is out with it
+  rows_given : AreRowsNoted F declared v → AreRowsNoted F declared (given_view v)
+  rows_given is = record { inside = is.inside; moved = is.moved }
+
+  pub take_possible_always : HoldsHome n v → Always F declared id v (λ s. IsPossible F declared s (AtCells (Take v.number n)))
+  take_possible_always may table r at = may_take F laws declared table r id v at n may
+
+  pub put_possible_always : (place : ℕ) (note : Note P) → slice_get v.notes place ≡ Some note → note.cell ≡ n
+      → Always F declared id (reaching_view n v) (λ s. IsPossible F declared s (AtCells (Put v.number n)))
+  put_possible_always place note e named table r at = may_put F laws declared table r id (reaching_view n v) at n place note e named
+
   -- a move of a slot makes no caller
   still_ruled : (callers : ℕ) {table after : State (Slot P) (View P)} (r : Ruled F declared callers table) {t : Joined L} → (new : Rule F declared after) × (new.state ≡ t)
       → many_callers t ≡ many_callers r.rule.state → Ruled F declared callers after
@@ -120,11 +132,13 @@ module _ {S L P : Type 0} (F : Layouts S L P) (laws : AreLaws F) (declared : Lis
         let after = takes_away F laws declared table r.rule id v at n may idle has.0 has.1 in
         (Crew (lifted_view has.0 v ∷ []), takes (slot_of n) (Some has.0), has.1, still_ruled callers r after refl, (has.0, has.2 ∙ same_cell, λ k. (Crew (lifted_view has.0 v ∷ []), (slot_of (same_cell k), Some has.0) ∷ [])))
 
-    pub give_allowed : v.out ≡ Some n → (slots : ℕ)
+    pub give_allowed : (Known : PassView P → Type 0) → ((w : PassView P) → AreRowsNoted F declared w → Known w) → v.out ≡ Some n → (slots : ℕ)
         → Allows (Ruled F declared callers) slots id (Crew (v ∷ []), (slot_of n, None) ∷ []) (lock_word n) (λ word. word)
-        (GivesBack (step slots (lock_word n) 0 0 none) (Crew (v ∷ []), (slot_of n, None) ∷ []))
-    give_allowed out slots table r long at fits =
-        let after = gives_back F laws declared table r.rule id v at n out in (Crew (given_view v ∷ []), gives, tt, still_ruled callers r after refl, refl)
+        (GivesBackKnown Known (step slots (lock_word n) 0 0 none) (Crew (v ∷ []), (slot_of n, None) ∷ []))
+    give_allowed Known known' out slots table r long at fits =
+        let after = gives_back F laws declared table r.rule id v at n out in
+        let noted' = rows_given (rows_noted F laws declared table r.rule id v at) in
+        (Crew (given_view v ∷ []), gives, tt, still_ruled callers r after refl, (refl, known' (given_view v) noted'))
 
     pub reach_allowed : v.out ≡ None → (place : ℕ) (note : Note P) → slice_get v.notes place ≡ Some note → note.cell ≡ n → (slots : ℕ)
         → Allows (Ruled F declared callers) slots id (Crew (v ∷ []), []) (lock_word n) (λ word. word) (Reaches (step slots (lock_word n) 0 0 none) (Crew (v ∷ []), []))
@@ -183,11 +197,12 @@ module _ {S L P : Type 0} (F : Layouts S L P) (laws : AreLaws F) (declared : Lis
       (lift_allowed F laws declared id n v callers may.cell may idle slots)
 
   -- the slot comes back from any seat that has it
-  pub give_seat : {callers : ℕ} (few : n < 256) (content : code.Content P) → content.number ≡ n → (now : Seated P) → now ≡ (Crew (lifted_view content v ∷ []), (slot_of n, None) ∷ []) → (slots : ℕ)
-      → Allows (Ruled F declared callers) slots id now (lock_word n) (λ word. word) (GivesBack (step slots (lock_word n) 0 0 none) now)
-  give_seat {callers} few content number now same slots =
-      subst (λ (m : Seated P). Allows (Ruled F declared callers) slots id m (lock_word n) (λ word. word) (GivesBack (step slots (lock_word n) 0 0 none) m)) (sym same)
-      (give_allowed F laws declared id n (lifted_view content v) callers few (ap Some number) slots)
+  pub give_seat : {callers : ℕ} (Known : PassView P → Type 0) → ((w : PassView P) → AreRowsNoted F declared w → Known w) → (few : n < 256) (content : code.Content P) → content.number ≡ n
+      → (now : Seated P) → now ≡ (Crew (lifted_view content v ∷ []), (slot_of n, None) ∷ []) → (slots : ℕ)
+      → Allows (Ruled F declared callers) slots id now (lock_word n) (λ word. word) (GivesBackKnown Known (step slots (lock_word n) 0 0 none) now)
+  give_seat {callers} Known known' few content number now same slots =
+      subst (λ (m : Seated P). Allows (Ruled F declared callers) slots id m (lock_word n) (λ word. word) (GivesBackKnown Known (step slots (lock_word n) 0 0 none) m)) (sym same)
+      (give_allowed F laws declared id n (lifted_view content v) callers few Known known' (ap Some number) slots)
 
   pub reach_seat : {callers : ℕ} (content : code.Content P) → MayPut F declared id n content v → (slots : ℕ)
       → Allows (Ruled F declared callers) slots id me (lock_word n) (λ word. word) (Reaches (step slots (lock_word n) 0 0 none) me)
@@ -215,6 +230,13 @@ module _ {P : Type 0} (n : ℕ) (v : PassView P) (me : Seated P) (is : IsSeatOf 
       → after ≡ (Crew (reaching_view n v ∷ []), (slot_of n, None) ∷ [])
   reached_seat few after told =
       told ∙ (λ k. (on_pass (reaching_view (cell_of_lock n few k)) (is k).0, (slot_of (cell_of_lock n few k), None) ∷ (is k).1))
+
+-- what it knows as the slot comes back, it knows after that
+pub given_known : {P : Type 0} (Known : PassView P → Type 0) (me after : Seated P) (w : PassView P) (carried : List (ℕ × Slot P)) → me ≡ (Crew (w ∷ []), carried)
+    → after ≡ (on_pass given_view me.0, rest me.1) → Known (given_view (pass_in me.0)) → Known (pass_in after.0)
+given_known Known me after w carried is told known =
+    subst Known (sym (ap (λ (m : Seated _). pass_in m.0) told ∙ ap (λ (m : Seated _). pass_in (on_pass given_view m.0)) is))
+    (subst (λ (m : Seated _). Known (given_view (pass_in m.0))) is known)
 
 -- the slot that went out, and what an exchange leaves of the seat
 module _ {P : Type 0} (lifted : Seated P) (w : PassView P) (slot : ℕ) (y : Slot P) (is : lifted ≡ (Crew (w ∷ []), (slot, y) ∷ [])) where

@@ -61,7 +61,7 @@ empty_for_none ways procs place (Some due) there is = sym is
 empty_for_none ways procs place None there is = there refl
 
 no_second : {L P : Type 0} (chain : Chain L P) (row : Row L P) → length chain.past ≡ 0 → row_in chain 1 ≡ Some row → ⊥
-no_second chain row none e = go chain.past refl none where
+no_second {L} {P} chain row none e = go chain.past refl none where
   go : (past : List (Turn L P)) → chain.past ≡ past → length chain.past ≡ 0 → ⊥
   go [] is none' = let found = ap (λ (turns : List (Turn L P)). row_in (record chain { past = turns }) 1) (sym is) ∙ e in cc
   go (turn ∷ past) is none' = let long = ap length is in omega (arith, long, none')

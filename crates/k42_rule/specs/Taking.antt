@@ -23,7 +23,7 @@ use Rattle.k42_rule.specs.Rule.{Rule}
 use Rattle.k42_rule.specs.Seats.{told_by}
 use Rattle.k42_rule.specs.Steps.{Seated, on_pass, Always}
 use Rattle.k42_rule.specs.Values.{layout_in, incarnation_in}
-use Rattle.k42_rule.specs.Views.{hears, object_begun, word_begun}
+use Rattle.k42_rule.specs.Views.{hears, pass_in, object_begun, word_begun}
 use Rattle.k42_rule.specs.Words.{slot_of}
 use Rattle.k42_rule.specs.declared.cell.Content.{Content}
 use Rattle.k42_rule.specs.declared.view.Note.{Note}
@@ -86,6 +86,10 @@ Lifts step me found after =
 
 abbrev pub GivesBack : {P : Type 0} → Step (Slot P) → Seated P → ℕ → Seated P → Type 0
 GivesBack step me found after = after ≡ (on_pass given_view me.0, rest me.1)
+
+-- and what the pass knows then
+abbrev pub GivesBackKnown : {P : Type 0} → (PassView P → Type 0) → Step (Slot P) → Seated P → ℕ → Seated P → Type 0
+GivesBackKnown Known step me found after = GivesBack step me found after × Known (given_view (pass_in me.0))
 
 abbrev pub Reaches : {P : Type 0} → Step (Slot P) → Seated P → ℕ → Seated P → Type 0
 Reaches step me found after =
