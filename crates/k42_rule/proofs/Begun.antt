@@ -10,7 +10,7 @@ use Rattle.k42_places.specs.Places.{EachPlace}
 use Rattle.gen_core.specs.Consequences.{entries_so_far, exits_so_far, is_active_on, entries_by}
 use Rattle.gen_core.specs.Events.{is_even, exits_of, is_possible, effect, caller_of}
 use Rattle.gen_core.specs.Plain.{Generations}
-use Rattle.gen_core.specs.Sound.{IsSound, is_in, is_active_in}
+use Rattle.gen_core.specs.Sound.{IsSound, is_in, is_active_in, is_flipped}
 use Rattle.gen_core.specs.State.{caller_at, proc_at}
 use Rattle.gen_core.specs.declared.event.GenEvent.{GenEvent}
 use Rattle.gen_core.specs.declared.state.GenProc.{GenProc}
@@ -104,3 +104,11 @@ entered_so_far s p sound lt =
 pub rises_by : (s : Generations) (e : GenEvent) → is_possible s e ≡ true → (p : ℕ)
     → (proc_at s p).generation ≤ (proc_at (effect s e) p).generation
 rises_by s e possible p = rw possible at (no_generation_falls (e ∷ []) s p)
+
+-- a grace flips a processor once
+pub will_flip_once : (role : Option ℕ) (grace : GraceAt) (p : ℕ) → will_flip role grace p ≤ 1
+will_flip_once None grace p = omega arith
+will_flip_once (Some holder) grace p = by_test (is_flipped grace p) where
+  by_test : (b : Bool) → cond b 0 1 ≤ 1
+  by_test true = omega arith
+  by_test false = le_refl 1

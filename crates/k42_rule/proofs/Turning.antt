@@ -1,5 +1,5 @@
 -- An event of generations, as a step of one pass.
-use Rattle.std.proofs.Common.{◌≡◌, ◌≢◌, ℕ, ◌<◌, ◌≤◌, Bool, true, false, List, [], ◌∷◌, Option, Some, None, length, get_or, set, sym, refl, ap, ◌∙◌, subst, arith, length-set, get_or-set_other}
+use Rattle.std.proofs.Common.{◌≡◌, ◌≢◌, ℕ, ◌<◌, ◌≤◌, Bool, true, false, List, [], ◌∷◌, Option, Some, None, length, get_or, set, sym, refl, ap, ◌∙◌, subst, arith, le_refl, length-set, get_or-set_other}
 use Rattle.std.specs.List.{slice_get, slice_index}
 use Rattle.std.specs.Option.{unwrap_or}
 use Rattle.std.proofs.lemmas.List.{set-get_or}
@@ -37,6 +37,7 @@ use Rattle.k42_rule.specs.Generations.{Counts, AreGenerations, KnowsGenerations}
 use Rattle.k42_rule.specs.Parts.{IsPart}
 use Rattle.k42_rule.specs.Phases.{KnowsSwap, KnowsRows, KnowsPhases}
 use Rattle.k42_rule.specs.Trace.{KnowsTrace}
+use Rattle.k42_rule.specs.Views.{hears}
 use Rattle.k42_rule.specs.Rule.{Beside, NamesRows, KnowsPass, Shows, Rule}
 use Rattle.k42_rule.specs.declared.view.PassView.{PassView}
 use Rattle.k42_rule.specs.declared.view.Row.{Row}
@@ -216,25 +217,30 @@ module _ {L : Type 0} (s : Joined L) (g : Generations) (visitors : List Visitor)
     before = is.before;
   }
 
+-- a pass that hears a word knows what it knew
+pub known_heard : {L P : Type 0} (tag_of : L → ℕ) (s : Joined L) (beside : Beside P) (id : ℕ) (x : PassView P) (heard : ℕ) → KnowsPass tag_of s beside id x
+    → KnowsPass tag_of s beside id (hears heard x)
+known_heard tag_of s beside id x heard knows =
+    own_goes s s.phases.turns s.phases.callers x x.turn x.visitor x.activities x.graces x.base x.rows x.granted x.swept heard tag_of beside beside.counts id knows
+    (record {
+      many = refl;
+      rises = λ p. le_refl (proc_at s.phases.turns p).generation;
+      generations = record { turn = knows.generations.turn; activities = knows.generations.activities; graces = knows.generations.graces; base = knows.generations.base };
+      visitor_is = knows.phases.visitor;
+      place = refl;
+      swap = same_swap x.visitor.swap;
+      proc = refl;
+      names = knows.names;
+      rows_known = record { old = knows.phases.rows.old; granted = knows.phases.rows.granted; swept = knows.phases.rows.swept; spans = knows.phases.rows.spans };
+    })
+
 -- what is read of two lists at a place where they have the same
 pub same_at : {A : Type 0} (xs ys : List A) (i : ℕ) (d : A) → slice_get ys i ≡ slice_get xs i → get_or ys i d ≡ get_or xs i d
 same_at xs ys i d same = sym (unwrap_or-slice_get ys i d) ∙ ap (λ x. unwrap_or x d) same ∙ unwrap_or-slice_get xs i d
 
--- the pass hears the word that it found
-abbrev pub heard_by : {P : Type 0} → ℕ → PassView P → PassView P
-heard_by found x = record x { heard = found }
-
-module _ {S L P : Type 0} (F : Layouts S L P) (laws : AreLaws F) (declared : List L)
+module _ {S L P : Type 0} (F : Layouts S L P) (declared : List L)
     (table : State (Slot P) (View P)) (r : Rule F declared table) (id : ℕ) (v : PassView P)
     (at : get_elem? table.views id ≡ some (Crew (v ∷ []))) where
-  few_cells : length r.state.turns.cells ≤ 256
-  few_cells = let many = r.sound.cells.locks.many.cells in let few = r.shows.few_objects in omega (arith, many, few)
-
-  few_entries : EachPlace (λ o (k : Object). length k.entries ≤ 8) r.state.phases.objects
-  few_entries o k here =
-      let long = (r.sound.phases.in_scene.objects o k here).many_entries in
-      let few = r.sound.phases.in_scene.in_course.limits.few_procs in omega (arith, long, few)
-
   -- a step that leaves the state as it was, and the word that it found
   pub stayed : (i : ℕ) (w : PassView P) → KnowsPass F.tag_of r.state r.beside id w
       → (after : Rule F declared (with_pass table (set table.words i (get_or table.words i 0)) table.homes id w)) × (after.state ≡ r.state)
@@ -255,6 +261,17 @@ module _ {S L P : Type 0} (F : Layouts S L P) (laws : AreLaws F) (declared : Lis
       })
       r.parts
       mine)
+
+module _ {S L P : Type 0} (F : Layouts S L P) (laws : AreLaws F) (declared : List L)
+    (table : State (Slot P) (View P)) (r : Rule F declared table) (id : ℕ) (v : PassView P)
+    (at : get_elem? table.views id ≡ some (Crew (v ∷ []))) where
+  few_cells : length r.state.turns.cells ≤ 256
+  few_cells = let many = r.sound.cells.locks.many.cells in let few = r.shows.few_objects in omega (arith, many, few)
+
+  few_entries : EachPlace (λ o (k : Object). length k.entries ≤ 8) r.state.phases.objects
+  few_entries o k here =
+      let long = (r.sound.phases.in_scene.objects o k here).many_entries in
+      let few = r.sound.phases.in_scene.in_course.limits.few_procs in omega (arith, long, few)
 
   module _ (event : phases.Event) (g : Generations) (x : Visitor) (counts : Counts) where
     abbrev pub visitors_after : List Visitor

@@ -1,6 +1,6 @@
 -- The steps of a grace, for one pass: where each may be taken, and what the pass knows after it.
 use Rattle.std.specs.Prelude.{◌≡◌, ◌≢◌, ◌⊎◌, ℕ, ◌+◌, ◌-◌, ◌*◌, ◌%◌, ◌<◌, ◌≤◌, ◌^◌, ◌==◌, if◌then◌else◌, Bool, true, ⊤, List, [], Option, Some, None, drop, length, replicate, slice_index, slice_set, unwrap_or}
-use Rattle.k42_limits.specs.declared.TheConstants.{CALLERS, PROCESSORS, LAST_INCARNATION}
+use Rattle.k42_limits.specs.declared.TheConstants.{CALLERS, OBJECTS, PROCESSORS, LAST_INCARNATION}
 use Rattle.k42_places.specs.Places.{EachPlace}
 use Rattle.gen_core.specs.Events.{is_free, is_idle, is_flipping, is_looking, place_of, role_taken, role_given, after_flip, after_look, caller_passed}
 use Rattle.gen_core.specs.Plain.{Caller}
@@ -48,8 +48,9 @@ FitsGrace Quiet procs = (0 < procs) × (procs ≤ PROCESSORS)
 pub record RoleFound {P : Type 0} (v : PassView P) (found : ℕ) : Type 0 where
   pub another : found ≢ v.number + 1
   pub small : found ≤ CALLERS
-  -- a grace may begin, and what it notes of rows fits its field
+  -- a grace may begin, and what it notes fits its fields
   pub fits : FitsGrace (Flipping 0) (length v.turn.waits)
+  pub notes : length v.visitor.noted ≤ OBJECTS
   pub rows : EachPlace (λ place row. row.incarnation < LAST_INCARNATION) v.rows
 
 -- it is about to flip the first processor
