@@ -5,6 +5,8 @@ pub mod Begun
 pub mod Entering
 pub mod Leaving
 pub mod Moves
+pub mod Notings
+pub mod Roles
 pub mod AtTables
 pub mod Fields
 pub mod Looking
