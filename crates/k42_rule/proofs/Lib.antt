@@ -7,6 +7,8 @@ pub mod Leaving
 pub mod Moves
 pub mod Notings
 pub mod Roles
+pub mod Holding
+pub mod Asking
 pub mod AtTables
 pub mod Fields
 pub mod Looking
