@@ -5,6 +5,10 @@ pub mod Begun
 pub mod Entering
 pub mod Leaving
 pub mod Moves
+pub mod Notings
+pub mod Roles
+pub mod Holding
+pub mod Asking
 pub mod AtTables
 pub mod Fields
 pub mod Looking
@@ -12,9 +16,11 @@ pub mod Installing
 pub mod Knocking
 pub mod CellsApart
 pub mod CellsMoved
+pub mod CellsTouched
 pub mod CellsSteps
 pub mod CellsEvents
 pub mod CellsAllowed
+pub mod PartLaws
 pub mod CellsDrawn
 pub mod Beginning
 pub mod Staging

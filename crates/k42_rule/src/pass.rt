@@ -40,17 +40,18 @@ pub struct Walker<P: Drop> {
     pub(crate) layout: Option<u32>,
     pub(crate) handed: Option<u32>,
     pub(crate) rows: Vec<Row>,
-    pub(crate) granted: u32,
+    pub(crate) granted: usize,
 }
 
 pub type Pass<L> = Walker<<L as Layout>::Part>;
 
 impl<P: Drop> Model for Walker<P> {
-    ghost use Rattle.std.specs.Prelude.{ℕ, ◌-◌, ◌≡◌, ◌<◌, ◌≤◌, length, vec_capacity};
+    ghost use Rattle.std.specs.Prelude.{ℕ, ◌+◌, ◌-◌, ◌^◌, ◌≡◌, ◌<◌, ◌≤◌, length, vec_capacity};
     ghost use Rattle.std.specs.Option.{unwrap_or};
     ghost use Rattle.k42_limits.specs.declared.TheConstants.{LAST_INCARNATION};
     ghost use Rattle.phase_core.specs.Stages.{object_of, row_of, object_named};
     ghost use Rattle.k42_stamp.specs.Lists.{IsListOf};
+    ghost use Rattle.k42_rule.specs.Gracing.{FitsGrace};
     ghost use Rattle.k42_rule.specs.Seen.{PassSeen, Mirrors};
     ghost use Rattle.k42_rule.specs.Swapping.{next_entry};
     ghost use Rattle.k42_rule.specs.Values.{layout_in, incarnation_in};
@@ -87,7 +88,9 @@ impl<P: Drop> Model for Walker<P> {
         × (object_named p.swap < 16) × (unwrap_or (next_entry p.swap) 0 < 8) × (length p.waits.items ≤ 8)
         × (incarnation_in (word_begun p.last) ≤ LAST_INCARNATION) × (layout_in (word_begun p.last) ≤ 2)
         × (row_of p.place ≤ LAST_INCARNATION)
-        × (p.granted ≤ length p.rows.items) × IsListOf p.number p.entries.items };
+        × (p.granted ≤ length p.rows.items)
+        × FitsGrace p.grace (length p.waits.items) × (unwrap_or p.base 0 + 1 < 2 ^ 32) × (unwrap_or p.coming 0 < 2 ^ 32)
+        × IsListOf p.number p.entries.items };
 }
 
 impl<P: Drop> Walker<P> {
