@@ -22,4 +22,5 @@ pub mod Drawing
 pub mod Plan
 pub mod Starting
 pub mod Dealing
+pub mod Queueing
 pub mod Laws

@@ -5,9 +5,11 @@ mod board;
 mod cell;
 mod finish;
 mod generating;
+mod queueing;
 mod laws;
 mod pass;
 mod plays;
+mod retired;
 mod slot_plays;
 mod slots;
 mod start;
@@ -25,10 +27,12 @@ mod words;
 
 pub use cell::{Cell, Content};
 pub use generating::{enter_step, leave_step};
+pub use queueing::{Rows, pop_row, push_row};
 pub use laws::{
     freed_rows_stay_freed, rows_have_one_name, rows_inside_are_present, shown_states_are_safe,
 };
 pub use pass::{Pass, Walker};
+pub use retired::{Carried, Retired, Slip};
 pub use swap_begins::begin_step;
 pub use swapping::{block_step, clear_step, entry_step, move_step, turn_over};
 pub use sys::{Sys, Unfinished};
