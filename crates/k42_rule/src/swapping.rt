@@ -170,14 +170,9 @@ pub fn turn_over<L: Layout>(sys: &Sys<L>, pass: &mut Pass<L>, layout: u32) -> u6
 {
     let object = object_at(&pass.swap);
     let before = begun_word(&pass.last) / 268_435_456 % 4;
-    let amount = 4_294_967_296 + 268_435_456 * u64::from(layout) + 33_554_432 - 268_435_456 * before;
-    let found = turn_word(
-        &sys.board,
-        &mut pass.seat,
-        object as usize,
-        layout,
-        amount,
-    );
+    let amount = 4_294_967_296 + 268_435_456 * u64::from(layout) + 33_554_432
+        - 268_435_456 * before;
+    let found = turn_word(&sys.board, &mut pass.seat, object as usize, layout, amount);
     pass.swap = SwapAt::Opening(object, 0);
     pass.turned = true;
     pass.handed = None;
