@@ -22,3 +22,4 @@ pub mod Drawing
 pub mod Plan
 pub mod Starting
 pub mod Dealing
+pub mod Laws

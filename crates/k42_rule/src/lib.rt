@@ -3,6 +3,7 @@
 
 mod board;
 mod cell;
+mod finish;
 mod generating;
 mod laws;
 mod pass;
@@ -11,6 +12,9 @@ mod slot_plays;
 mod slots;
 mod start;
 mod swap_begins;
+mod swap_plays;
+mod swap_words;
+mod swapping;
 mod sys;
 mod table_plays;
 mod table_words;
@@ -21,10 +25,13 @@ mod words;
 
 pub use cell::{Cell, Content};
 pub use generating::{enter_step, leave_step};
-pub use laws::shown_states_are_safe;
+pub use laws::{
+    freed_rows_stay_freed, rows_have_one_name, rows_inside_are_present, shown_states_are_safe,
+};
 pub use pass::{Pass, Walker};
 pub use swap_begins::begin_step;
-pub use sys::Sys;
+pub use swapping::{block_step, clear_step, entry_step, move_step, turn_over};
+pub use sys::{Sys, Unfinished};
 pub use tabling::{end_call, install_step, knock_step, look_up_step, root_step, step_out};
 pub use taking::{lock, put, take, unlock};
-pub use view::{LastBegin, Row};
+pub use view::{Inside, LastBegin, Row};
