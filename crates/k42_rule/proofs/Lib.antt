@@ -21,6 +21,7 @@ pub mod CellsSteps
 pub mod CellsEvents
 pub mod CellsAllowed
 pub mod PartLaws
+pub mod PartsDue
 pub mod CellsDrawn
 pub mod Beginning
 pub mod Staging
