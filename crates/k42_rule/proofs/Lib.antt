@@ -7,6 +7,10 @@ pub mod Leaving
 pub mod Moves
 pub mod Notings
 pub mod Roles
+pub mod Holding
+pub mod Asking
+pub mod Looks
+pub mod Flips
 pub mod AtTables
 pub mod Fields
 pub mod Looking

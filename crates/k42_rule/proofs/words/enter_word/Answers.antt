@@ -1,3 +1,6 @@
+use Rattle.k42_rule.proofs.Flips.{flip_moves}
+use Rattle.k42_rule.proofs.Looks.{look_moves}
+use Rattle.k42_rule.proofs.Asking.{ask_stays}
 use Rattle.k42_rule.proofs.Roles.{role_moves}
 use Rattle.k42_rule.proofs.Notings.{numbers_noted}
 use Rattle.std.proofs.Common.{ℕ, ◌+◌, ◌*◌, refl, arith}
