@@ -23,11 +23,16 @@ pub mod CellsEvents
 pub mod CellsAllowed
 pub mod CellsDrawn
 pub mod Beginning
+pub mod Staging
 pub mod EntryTurns
+pub mod Blocking
+pub mod MovingOver
+pub mod TurningOver
+pub mod Clearing
+pub mod WordExamples
 pub mod FirstParts
 pub mod Opening
 pub mod Replaced
 pub mod Dealing
 pub mod Starting
 pub mod Plans
-pub mod Visiting

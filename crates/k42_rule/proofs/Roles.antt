@@ -200,6 +200,24 @@ module _ {S L P : Type 0} (F : Layouts S L P) (laws : AreLaws F) (declared : Lis
           (old_fits r.state.phases r.sound.phases row (knows.phases.rows.old place row here)))
           is
 
+  granted_row : (place : ℕ) (row : Row) → slice_get v.rows place ≡ Some row → IsGranted (notes_due v) row
+  granted_row place row e = by_test (is_of (named_by v.visitor.swap) row.object) refl where
+    old : IsOld r.state.phases row
+    old = knows.phases.rows.old place row e
+
+    at_o : note_at (notes_due v) row.object ≡ due_note v row.object
+    at_o = due_at row.object (old_there r.state.phases r.sound.phases row old)
+
+    by_test : (b : Bool) → is_of (named_by v.visitor.swap) row.object ≡ b → IsGranted (notes_due v) row
+    by_test true test = record {
+      number = incarnation_in (word_begun v.last);
+      known = at_o ∙ rw test refl;
+      above = let is = own_is row.object (is_of_named (named_by v.visitor.swap) row.object test) in let below = old.0 in omega (arith, is, below);
+    }
+    by_test false test =
+        let after = rows_below v.rows row.object place row e refl in
+        record { number = after.0; known = at_o ∙ rw test after.1; above = after.2 }
+
   own_noted : notes_own r.state.phases notes (visitor_at r.state.phases c).swap ≡ true
   own_noted = by_swap (visitor_at r.state.phases c).swap refl where
     by_swap : (swap : SwapAt) → (visitor_at r.state.phases c).swap ≡ swap → notes_own r.state.phases notes swap ≡ true
@@ -290,24 +308,6 @@ module _ {S L P : Type 0} (F : Layouts S L P) (laws : AreLaws F) (declared : Lis
           r.shows.generations.begun;
     }
 
-    granted_row : (place : ℕ) (row : Row) → slice_get v.rows place ≡ Some row → IsGranted (notes_due v) row
-    granted_row place row e = by_test (is_of (named_by v.visitor.swap) row.object) refl where
-      old : IsOld r.state.phases row
-      old = knows.phases.rows.old place row e
-
-      at_o : note_at (notes_due v) row.object ≡ due_note v row.object
-      at_o = due_at row.object (old_there r.state.phases r.sound.phases row old)
-
-      by_test : (b : Bool) → is_of (named_by v.visitor.swap) row.object ≡ b → IsGranted (notes_due v) row
-      by_test true test = record {
-        number = incarnation_in (word_begun v.last);
-        known = at_o ∙ rw test refl;
-        above = let is = own_is row.object (is_of_named (named_by v.visitor.swap) row.object test) in let below = old.0 in omega (arith, is, below);
-      }
-      by_test false test =
-          let after = rows_below v.rows row.object place row e refl in
-          record { number = after.0; known = at_o ∙ rw test after.1; above = after.2 }
-
     pass_after : KnowsPass F.tag_of (state_after F laws declared table r id v at (TakeRoleWith c notes) g y counts) (with_counts r.beside counts) id w
     pass_after =
         own_goes r.state g (visitors_after F laws declared table r id v at (TakeRoleWith c notes) g y counts) v
@@ -371,14 +371,12 @@ module _ {S L P : Type 0} (F : Layouts S L P) (laws : AreLaws F) (declared : Lis
         let held : s.role ≡ Some c = by_role s.role refl same in
         (one_holder s sound).under_way c held (from_is_idle x.grace (and_parts (is_idle x.grace) _ free).0);
     small = small_value s.role refl;
-    fits = (
-      (let some = some_procs r.state.phases r.sound.phases in let long = waits_many in omega (arith, some, long)),
-      (let few = procs_few in let long = waits_many in omega (arith, few, long)),
-    );
+    procs = let some_ = some_procs r.state.phases r.sound.phases in let long = waits_many in omega (arith, some_, long);
     notes =
         let long = many in let made = made_length (due_note v) 0 (length v.visitor.noted) in let few = r.shows.few_objects in
         omega (arith, long, made, few);
     rows = λ place row e. old_small r.state.phases r.sound.phases row (knows.phases.rows.old place row e);
+    granted = granted_row;
   } where
     waits_many : length v.turn.waits ≡ length s.procs
     waits_many = ap (λ (z : Caller). length z.waits) (sym turn) ∙ length-waits s c sound there

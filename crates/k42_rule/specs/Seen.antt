@@ -1,5 +1,5 @@
 -- Systems and passes, as contracts see them.
-use Rattle.std.specs.Prelude.{◌≡◌, ℕ, ◌&&◌, Bool, List, [], ◌∷◌, Option, None, is_none}
+use Rattle.std.specs.Prelude.{◌≡◌, ℕ, ◌+◌, ◌&&◌, Bool, List, [], ◌∷◌, Option, None, is_none, length}
 use Rattle.atomic_table.specs.Seated.{TableId}
 use Rattle.gen_core.specs.Events as graces
 use Rattle.gen_core.specs.Plain as gens
@@ -91,6 +91,13 @@ pub record IsSamePass {P : Type 0} (old new : PassSeen P) : Type 0 where
   pub seat : new.seat ≡ old.seat
   pub room : new.room ≡ old.room
   pub row_room : new.row_room ≡ old.row_room
+
+-- it has the same seat, and the same room for entries; for rows it has room as before, less what they need that are new
+pub record HasSameRoom {P : Type 0} (old new : PassSeen P) : Type 0 where
+  pub table : new.table ≡ old.table
+  pub seat : new.seat ≡ old.seat
+  pub room : new.room ≡ old.room
+  pub row_room : new.row_room + length new.view.rows ≡ old.row_room + length old.view.rows
 
 -- no activity, no grace and no swap is under way
 abbrev pub is_at_rest : {P : Type 0} → PassView P → Bool

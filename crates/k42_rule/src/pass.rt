@@ -39,12 +39,15 @@ pub struct Walker<P: Drop> {
 pub type Pass<L> = Walker<<L as Layout>::Part>;
 
 impl<P: Drop> Model for Walker<P> {
-    ghost use Rattle.std.specs.Prelude.{ℕ, ◌+◌, ◌-◌, ◌^◌, ◌≡◌, ◌<◌, length, vec_capacity};
+    ghost use Rattle.std.specs.Prelude.{ℕ, ◌+◌, ◌-◌, ◌^◌, ◌≡◌, ◌<◌, ◌≤◌, length, vec_capacity};
     ghost use Rattle.std.specs.Option.{unwrap_or};
-    ghost use Rattle.phase_core.specs.Stages.{object_of};
+    ghost use Rattle.k42_limits.specs.declared.TheConstants.{LAST_INCARNATION};
+    ghost use Rattle.phase_core.specs.Stages.{object_of, row_of, object_named};
     ghost use Rattle.k42_rule.specs.Gracing.{FitsGrace};
     ghost use Rattle.k42_rule.specs.Seen.{PassSeen, Mirrors};
-    ghost use Rattle.k42_rule.specs.Views.{pass_in};
+    ghost use Rattle.k42_rule.specs.Swapping.{next_entry};
+    ghost use Rattle.k42_rule.specs.Values.{layout_in, incarnation_in};
+    ghost use Rattle.k42_rule.specs.Views.{pass_in, word_begun};
 
     ghost Value = { PassSeen P };
 
@@ -73,8 +76,12 @@ impl<P: Drop> Model for Walker<P> {
       handed = p.handed;
       rows = p.rows.items;
       granted = p.granted;
-    }) × (p.home < 8) × (object_of p.place < 16) × (unwrap_or p.layout 0 < 4)
-        × FitsGrace p.grace (length p.waits.items) × (unwrap_or p.base 0 + 1 < 2 ^ 32) × (unwrap_or p.coming 0 < 2 ^ 32) };
+    }) × (p.home < 8) × (object_of p.place < 16) × (unwrap_or p.layout 0 ≤ 2)
+        × (object_named p.swap < 16) × (unwrap_or (next_entry p.swap) 0 < 8) × (length p.waits.items ≤ 8)
+        × (incarnation_in (word_begun p.last) ≤ LAST_INCARNATION) × (layout_in (word_begun p.last) ≤ 2)
+        × (row_of p.place ≤ LAST_INCARNATION)
+        × (p.granted ≤ length p.rows.items)
+        × FitsGrace p.grace p.base (length p.waits.items) × (unwrap_or p.base 0 + 1 < 2 ^ 32) × (unwrap_or p.coming 0 < 2 ^ 32) };
 }
 
 impl<P: Drop> Walker<P> {
@@ -152,6 +159,20 @@ impl<P: Drop> Walker<P> {
         ensures { result ≡ note_at self.now.view.visitor.noted object }
     {
         self.noted[object as usize]
+    }
+
+    /// How far its swap is.
+    pub fn swap(&self) -> SwapAt
+        ensures { result ≡ self.now.view.visitor.swap }
+    {
+        self.swap
+    }
+
+    /// Whether it has turned over the object that it swaps.
+    pub fn has_turned(&self) -> bool
+        ensures { result ≡ self.now.view.turned }
+    {
+        self.turned
     }
 
     /// Whether it has no activity, no grace and no swap under way.
