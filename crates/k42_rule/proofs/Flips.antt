@@ -6,7 +6,7 @@ use Rattle.std.proofs.lemmas.Bool.{ltb-true, le-ltb, lt-ltb}
 use Rattle.std.proofs.lemmas.Option.{slice_get_within, slice_get-get_or, same_Some}
 use mathlib.Core.Option.{some}
 use lib.ListN.{get_elem?}
-use Rattle.atomic_table.specs.Table.{State}
+use Rattle.atomic_table.specs.Table.{State, Step, Allows}
 use Rattle.k42_places.specs.Places.{EachPlace}
 use Rattle.k42_places.proofs.EachPlaces.{EachPlace-set_else}
 use Rattle.k42_places.proofs.Written.{at_set}
@@ -33,7 +33,9 @@ use Rattle.k42_joined.specs.Possible.{IsPossible}
 use Rattle.k42_rule.specs.Cells.{Slot}
 use Rattle.k42_rule.specs.Generations.{IsProcessorShown, AreGenerations, will_flip, grace_of}
 use Rattle.k42_rule.specs.Gracing.{MayFlip, flip_word, flipped_view, turn_flipped, entries_in}
-use Rattle.k42_rule.specs.Rule.{KnowsPass, Rule}
+use Rattle.k42_rule.specs.Rule.{KnowsPass, Rule, Ruled}
+use Rattle.k42_rule.specs.Seen.{IsSeatOf}
+use Rattle.k42_rule.specs.Steps.{Seated, Tells}
 use Rattle.k42_rule.specs.Values.{generation_value}
 use Rattle.k42_rule.specs.Words.{generation_word, exits_word, role_word, many_words}
 use Rattle.k42_rule.specs.declared.view.PassView.{PassView}
@@ -42,7 +44,7 @@ use Rattle.k42_rule.specs.declared.view.View.TheVariants.{Crew}
 use Rattle.k42_rule.proofs.Apart.{IsOfGenerations, of_processor}
 use Rattle.k42_rule.proofs.Begun.{processor_stays, begun_goes, flips_of, rises_by}
 use Rattle.k42_rule.proofs.Holding.{knows, sound, there, turn, procs_few, waits_many, in_step, base_is, role, alone, busy_test, ltb_same}
-use Rattle.k42_rule.proofs.Moves.{Moves}
+use Rattle.k42_rule.proofs.Moves.{Moves, seat_allowed}
 use Rattle.k42_rule.proofs.OnePass.{with_pass}
 use Rattle.k42_rule.proofs.Turning.{IsTurn, turned, visitors_after, state_after, with_counts, own_goes, rows_kept, same_swap}
 
@@ -263,3 +265,10 @@ module _ {S L P : Type 0} (F : Layouts S L P) (laws : AreLaws F) (declared : Lis
 pub flip_moves : {S L P : Type 0} (F : Layouts S L P) → AreLaws F → (declared : List L) (id p : ℕ) (v : PassView P) → MayFlip p v
     → Moves F declared (AtPhases (Turn (Flip v.number))) (generation_word p) (λ word. flip_word v) flipped_view id v
 flip_moves F laws declared id p v may = record { from = λ table r at. flips_on F laws declared table r id v at p may }
+
+pub flip_allowed : {S L P : Type 0} (F : Layouts S L P) → AreLaws F → (declared : List L) (id callers p : ℕ) (v : PassView P) (me : Seated P) → IsSeatOf me v
+    → MayFlip p v → (word : ℕ) → word ≡ flip_word v → (slots : ℕ) (step : Step (Slot P))
+    → Allows (Ruled F declared callers) slots id me (generation_word p) (λ n. word) (Tells flipped_view step me)
+flip_allowed F laws declared id callers p v me is may word same slots step =
+    subst (λ (z : ℕ). Allows (Ruled F declared callers) slots id me (generation_word p) (λ n. z) (Tells flipped_view step me)) (sym same)
+    (seat_allowed (flip_moves F laws declared id p v may) me is slots step)

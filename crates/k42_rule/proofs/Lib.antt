@@ -11,6 +11,7 @@ pub mod Holding
 pub mod Asking
 pub mod Looks
 pub mod Flips
+pub mod Gives
 pub mod AtTables
 pub mod Fields
 pub mod Looking

@@ -4,7 +4,10 @@
 mod board;
 mod cell;
 mod generating;
+mod grace_words;
+mod gracing;
 mod laws;
+mod noting;
 mod pass;
 mod plays;
 mod slot_plays;
@@ -24,6 +27,7 @@ mod words;
 
 pub use cell::{Cell, Content};
 pub use generating::{enter_step, leave_step};
+pub use gracing::{flip, generation_step, give_role, look, take_role};
 pub use laws::shown_states_are_safe;
 pub use pass::{Pass, Walker};
 pub use swap_begins::begin_step;

@@ -1,3 +1,4 @@
+use Rattle.k42_rule.proofs.Gives.{give_moves}
 use Rattle.k42_rule.proofs.Flips.{flip_moves}
 use Rattle.k42_rule.proofs.Looks.{look_moves}
 use Rattle.k42_rule.proofs.Asking.{ask_stays}
