@@ -9,6 +9,9 @@ pub mod Notings
 pub mod Roles
 pub mod Holding
 pub mod Asking
+pub mod Looks
+pub mod Flips
+pub mod Gives
 pub mod AtTables
 pub mod Fields
 pub mod Looking

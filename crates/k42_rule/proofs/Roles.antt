@@ -7,7 +7,8 @@ use Rattle.std.proofs.lemmas.Bool.{and_parts, lt-ltb, eq-eqb, eqb-true, ne_eqb, 
 use Rattle.std.proofs.lemmas.Option.{slice_get_within, slice_get-get_or, same_Some}
 use mathlib.Core.Option.{some}
 use lib.ListN.{get_elem?}
-use Rattle.atomic_table.specs.Table.{State}
+use prog.Atomic.{either}
+use Rattle.atomic_table.specs.Table.{State, Step, Allows}
 use Rattle.std.proofs.Math.Seq.{take-length}
 use Rattle.std.proofs.lemmas.List.{get_or_past}
 use Rattle.k42_limits.specs.declared.TheConstants.{LAST_INCARNATION}
@@ -48,7 +49,9 @@ use Rattle.k42_rule.specs.Generations.{Counts, MOST, IsProcessorShown, AreGenera
 use Rattle.k42_rule.specs.Gracing.{MayTakeRole, role_view, RoleFound}
 use Rattle.k42_rule.specs.Noting.{after_rows, is_of, due_note, notes_due, pairs_from}
 use Rattle.k42_rule.specs.Phases.{IsOld, IsGranted, KnowsRows, KnowsSwap}
-use Rattle.k42_rule.specs.Rule.{Beside, KnowsPass, Rule}
+use Rattle.k42_rule.specs.Rule.{Beside, KnowsPass, Rule, Ruled}
+use Rattle.k42_rule.specs.Seen.{IsSeatOf}
+use Rattle.k42_rule.specs.Steps.{Seated, TellsWith}
 use Rattle.k42_rule.specs.Values.{holder_value, incarnation_in}
 use Rattle.k42_rule.specs.Views.{hears, word_begun}
 use Rattle.k42_rule.specs.Words.{generation_word, exits_word, role_word, many_words}
@@ -58,7 +61,7 @@ use Rattle.k42_rule.specs.declared.view.View.{View}
 use Rattle.k42_rule.specs.declared.view.View.TheVariants.{Crew}
 use Rattle.k42_rule.proofs.Apart.{of_role}
 use Rattle.k42_rule.proofs.Begun.{few_begun, one_more, processor_stays, begun_goes, flips_of, will_flip_once}
-use Rattle.k42_rule.proofs.Moves.{Moves, Finds}
+use Rattle.k42_rule.proofs.Moves.{Moves, Finds, seat_allowed_with}
 use Rattle.k42_rule.proofs.Notings.{note_there, noted_of, numbers_noted, named_once, fitting, pairs_there, made_length, made_note, rows_fit, rows_below, all_from}
 use Rattle.k42_rule.proofs.OnePass.{with_pass, known}
 use Rattle.k42_rule.proofs.Turning.{IsTurn, turned, visitors_after, state_after, with_counts, own_goes, draining_swap, known_heard, stayed}
@@ -200,6 +203,24 @@ module _ {S L P : Type 0} (F : Layouts S L P) (laws : AreLaws F) (declared : Lis
           (old_fits r.state.phases r.sound.phases row (knows.phases.rows.old place row here)))
           is
 
+  granted_row : (place : ℕ) (row : Row) → slice_get v.rows place ≡ Some row → IsGranted (notes_due v) row
+  granted_row place row e = by_test (is_of (named_by v.visitor.swap) row.object) refl where
+    old : IsOld r.state.phases row
+    old = knows.phases.rows.old place row e
+
+    at_o : note_at (notes_due v) row.object ≡ due_note v row.object
+    at_o = due_at row.object (old_there r.state.phases r.sound.phases row old)
+
+    by_test : (b : Bool) → is_of (named_by v.visitor.swap) row.object ≡ b → IsGranted (notes_due v) row
+    by_test true test = record {
+      number = incarnation_in (word_begun v.last);
+      known = at_o ∙ rw test refl;
+      above = let is = own_is row.object (is_of_named (named_by v.visitor.swap) row.object test) in let below = old.0 in omega (arith, is, below);
+    }
+    by_test false test =
+        let after = rows_below v.rows row.object place row e refl in
+        record { number = after.0; known = at_o ∙ rw test after.1; above = after.2 }
+
   own_noted : notes_own r.state.phases notes (visitor_at r.state.phases c).swap ≡ true
   own_noted = by_swap (visitor_at r.state.phases c).swap refl where
     by_swap : (swap : SwapAt) → (visitor_at r.state.phases c).swap ≡ swap → notes_own r.state.phases notes swap ≡ true
@@ -290,24 +311,6 @@ module _ {S L P : Type 0} (F : Layouts S L P) (laws : AreLaws F) (declared : Lis
           r.shows.generations.begun;
     }
 
-    granted_row : (place : ℕ) (row : Row) → slice_get v.rows place ≡ Some row → IsGranted (notes_due v) row
-    granted_row place row e = by_test (is_of (named_by v.visitor.swap) row.object) refl where
-      old : IsOld r.state.phases row
-      old = knows.phases.rows.old place row e
-
-      at_o : note_at (notes_due v) row.object ≡ due_note v row.object
-      at_o = due_at row.object (old_there r.state.phases r.sound.phases row old)
-
-      by_test : (b : Bool) → is_of (named_by v.visitor.swap) row.object ≡ b → IsGranted (notes_due v) row
-      by_test true test = record {
-        number = incarnation_in (word_begun v.last);
-        known = at_o ∙ rw test refl;
-        above = let is = own_is row.object (is_of_named (named_by v.visitor.swap) row.object test) in let below = old.0 in omega (arith, is, below);
-      }
-      by_test false test =
-          let after = rows_below v.rows row.object place row e refl in
-          record { number = after.0; known = at_o ∙ rw test after.1; above = after.2 }
-
     pass_after : KnowsPass F.tag_of (state_after F laws declared table r id v at (TakeRoleWith c notes) g y counts) (with_counts r.beside counts) id w
     pass_after =
         own_goes r.state g (visitors_after F laws declared table r id v at (TakeRoleWith c notes) g y counts) v
@@ -371,14 +374,12 @@ module _ {S L P : Type 0} (F : Layouts S L P) (laws : AreLaws F) (declared : Lis
         let held : s.role ≡ Some c = by_role s.role refl same in
         (one_holder s sound).under_way c held (from_is_idle x.grace (and_parts (is_idle x.grace) _ free).0);
     small = small_value s.role refl;
-    fits = (
-      (let some = some_procs r.state.phases r.sound.phases in let long = waits_many in omega (arith, some, long)),
-      (let few = procs_few in let long = waits_many in omega (arith, few, long)),
-    );
+    procs = let some_ = some_procs r.state.phases r.sound.phases in let long = waits_many in omega (arith, some_, long);
     notes =
         let long = many in let made = made_length (due_note v) 0 (length v.visitor.noted) in let few = r.shows.few_objects in
         omega (arith, long, made, few);
     rows = λ place row e. old_small r.state.phases r.sound.phases row (knows.phases.rows.old place row e);
+    granted = granted_row;
   } where
     waits_many : length v.turn.waits ≡ length s.procs
     waits_many = ap (λ (z : Caller). length z.waits) (sym turn) ∙ length-waits s c sound there
@@ -404,3 +405,15 @@ role_moves F laws declared id v may = record { from = λ table r at. takes_or_no
 pub role_finds : {S L P : Type 0} (F : Layouts S L P) → AreLaws F → (declared : List L) (id : ℕ) (v : PassView P) → MayTakeRole v
     → Finds F declared role_word RoleFound id v
 role_finds F laws declared id v may table r at = role_found F laws declared table r id v at may
+
+either_is : (b : Bool) (new word : ℕ) → either b new word ≡ cond b new word
+either_is true new word = refl
+either_is false new word = refl
+
+pub role_allowed : {S L P : Type 0} (F : Layouts S L P) → AreLaws F → (declared : List L) (id callers : ℕ) (v : PassView P) (me : Seated P) → IsSeatOf me v
+    → MayTakeRole v → (number : ℕ) → v.number ≡ number → (slots : ℕ) (step : Step (Slot P))
+    → Allows (Ruled F declared callers) slots id me role_word (λ n. either (eqb n 0) (number + 1) n) (TellsWith role_view RoleFound step me)
+role_allowed F laws declared id callers v me is may number same slots step =
+    subst (λ (f : ℕ → ℕ). Allows (Ruled F declared callers) slots id me role_word f (TellsWith role_view RoleFound step me))
+    (λ k word. (ap (λ (c : ℕ). cond (eqb word 0) (c + 1) word) same ∙ sym (either_is (eqb word 0) (number + 1) word)) k)
+    (seat_allowed_with (role_moves F laws declared id v may) RoleFound (role_finds F laws declared id v may) me is slots step)

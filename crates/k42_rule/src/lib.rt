@@ -5,7 +5,10 @@ mod board;
 mod cell;
 mod finish;
 mod generating;
+mod grace_words;
+mod gracing;
 mod laws;
+mod noting;
 mod pass;
 mod plays;
 mod slot_plays;
@@ -28,6 +31,7 @@ pub use generating::{enter_step, leave_step};
 pub use laws::{
     freed_rows_stay_freed, rows_have_one_name, rows_inside_are_present, shown_states_are_safe,
 };
+pub use gracing::{flip, generation_step, give_role, look, take_role};
 pub use pass::{Pass, Walker};
 pub use swap_begins::begin_step;
 pub use swapping::{block_step, clear_step, entry_step, move_step, turn_over};
