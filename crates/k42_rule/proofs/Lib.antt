@@ -16,6 +16,8 @@ pub mod CellsSteps
 pub mod CellsEvents
 pub mod CellsAllowed
 pub mod CellsDrawn
+pub mod Drawers
+pub mod DrawnAlone
 pub mod Beginning
 pub mod EntryTurns
 pub mod FirstParts

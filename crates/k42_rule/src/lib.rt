@@ -3,12 +3,16 @@
 
 mod board;
 mod cell;
+mod draw_plays;
+mod draw_words;
+mod drawing;
 mod generating;
 mod laws;
 mod pass;
 mod plays;
 mod slot_plays;
 mod slots;
+mod stamps;
 mod start;
 mod swap_begins;
 mod sys;
@@ -20,6 +24,7 @@ mod view;
 mod words;
 
 pub use cell::{Cell, Content};
+pub use drawing::draw_alone;
 pub use generating::{enter_step, leave_step};
 pub use laws::shown_states_are_safe;
 pub use pass::{Pass, Walker};

@@ -39,9 +39,11 @@ pub struct Walker<P: Drop> {
 pub type Pass<L> = Walker<<L as Layout>::Part>;
 
 impl<P: Drop> Model for Walker<P> {
-    ghost use Rattle.std.specs.Prelude.{ℕ, ◌-◌, ◌≡◌, ◌<◌, length, vec_capacity};
+    ghost use Rattle.std.specs.Prelude.{ℕ, ◌-◌, ◌≡◌, ◌<◌, ◌≤◌, length, vec_capacity};
     ghost use Rattle.std.specs.Option.{unwrap_or};
     ghost use Rattle.phase_core.specs.Stages.{object_of};
+    ghost use Rattle.turn_core.specs.Stamps.{last_stamp};
+    ghost use Rattle.k42_rule.specs.Seats.{LAST_STAMP};
     ghost use Rattle.k42_rule.specs.Seen.{PassSeen, Mirrors};
     ghost use Rattle.k42_rule.specs.Views.{pass_in};
 
@@ -72,7 +74,8 @@ impl<P: Drop> Model for Walker<P> {
       handed = p.handed;
       rows = p.rows.items;
       granted = p.granted;
-    }) × (p.home < 8) × (object_of p.place < 16) × (unwrap_or p.layout 0 < 4) };
+    }) × (p.home < 8) × (object_of p.place < 16) × (unwrap_or p.layout 0 < 4)
+        × (last_stamp p.entries.items ≤ LAST_STAMP) };
 }
 
 impl<P: Drop> Walker<P> {
