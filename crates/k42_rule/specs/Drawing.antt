@@ -137,7 +137,7 @@ pub record IsTold {P : Type 0} (notes : List (Note P)) (old new : Content P) : T
   pub held : IsHeld notes new
 
 abbrev pub AreTold : {P : Type 0} → List (Note P) → List (Content P) → List (Content P) → Type 0
-AreTold notes old new = (length new ≡ length old) × EachPair (IsTold notes) old new
+AreTold notes old new = (length new ≡ length old) × EachPair (λ place x y. IsTold notes x y) old new
 
 -- the pass after a draw
 
