@@ -1,5 +1,5 @@
 -- A pass that draws an entry: what it knows after it, that its stamps are small, and what the step owes to the table.
-use Rattle.std.proofs.Common.{◌≡◌, ◌≢◌, ℕ, ◌+◌, ◌-◌, ◌*◌, ◌^◌, ◌<◌, ◌≤◌, Bool, true, false, List, [], ◌∷◌, ◌++◌, Option, Some, None, length, get_or, set, sym, refl, ap, ◌∙◌, subst, ⊎_elim, arith, length-set}
+use Rattle.std.proofs.Common.{◌≡◌, ◌≢◌, ℕ, ◌+◌, ◌-◌, ◌*◌, ◌^◌, ◌<◌, ◌≤◌, Bool, true, false, List, [], ◌∷◌, ◌++◌, Option, Some, None, length, get_or, set, sym, refl, ap, ◌∙◌, subst, ⊎_elim, arith, length-set, zero, suc}
 use Rattle.std.specs.List.{slice_get, slice_index}
 use Rattle.std.proofs.lemmas.Bool.{eq-eqb}
 use Rattle.std.proofs.lemmas.Option.{slice_get-get_or}
@@ -162,14 +162,14 @@ module _ {S L P : Type 0} {F : Layouts S L P} {declared : List L} {event : Event
       (sym same) (seat_allowed_with moves (λ v found. HasSmallStamp (becomes v)) finds_small me is slots step)
 
   -- what the step has told
-  pub draw_told : (said : PassView P → PassView P) → said ≡ becomes → (me after : Seated P) → IsSeatOf me v → (step : Step (Slot P)) (found : ℕ)
-      → TellsWith (λ found. said) (λ v found. HasSmallStamp (said v)) step me found after → IsSeatOf after (becomes v) × HasSmallStamp (becomes v)
-  draw_told said same me after is step found told = (
+  pub draw_told : (said : PassView P → PassView P) → said ≡ becomes → (me seated : Seated P) → IsSeatOf me v → (step : Step (Slot P)) (found : ℕ)
+      → TellsWith (λ found. said) (λ v found. HasSmallStamp (said v)) step me found seated → IsSeatOf seated (becomes v) × HasSmallStamp (becomes v)
+  draw_told said same me seated is step found told = (
     told.0 ∙ (λ i. (on_pass (same i) (is i).0, (is i).1)),
     subst (λ (z : PassView P). HasSmallStamp z) (λ i. same i (pass_in (is i).0)) told.1,
   )
 
-  pub draw_is : (said : PassView P → PassView P) → said ≡ becomes → (me after : Seated P) → IsSeatOf me v → (step : Step (Slot P)) (found : ℕ)
-      → TellsWith (λ found. said) (λ v found. HasSmallStamp (said v)) step me found after → (word_found : ℕ) → StepIs F declared event word (λ n. n) id v word_found (pass_in after.0)
-  draw_is said same me after is step found told word_found =
-      subst (StepIs F declared event word (λ n. n) id v word_found) (sym (ap (λ (m : Seated P). pass_in m.0) (draw_told said same me after is step found told).0)) (moves_is moves word_found)
+  pub draw_is : (said : PassView P → PassView P) → said ≡ becomes → (me seated : Seated P) → IsSeatOf me v → (step : Step (Slot P)) (found : ℕ)
+      → TellsWith (λ found. said) (λ v found. HasSmallStamp (said v)) step me found seated → (word_found : ℕ) → StepIs F declared event word (λ n. n) id v word_found (pass_in seated.0)
+  draw_is said same me seated is step found told word_found =
+      subst (StepIs F declared event word (λ n. n) id v word_found) (sym (ap (λ (m : Seated P). pass_in m.0) (draw_told said same me seated is step found told).0)) (moves_is moves word_found)

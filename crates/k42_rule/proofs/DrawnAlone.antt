@@ -70,8 +70,8 @@ gives_one : (swap : SwapAt) (turned : Bool) (k : Object) → turned ≡ is_turne
 gives_one (Reopening o p) turned k is e = record { named = refl; kept = is; given = eq-eqb o o refl }
 gives_one (Opened o) turned k is e =
     let not_turned : turned ≡ false = not-true turned e in
-    let open : k.complete ≡ false = sym is ∙ not_turned in
-    record { named = refl; kept = not_turned; given = let same = eq-eqb o o refl in rw (same, open) refl }
+    let unturned : k.complete ≡ false = sym is ∙ not_turned in
+    record { named = refl; kept = not_turned; given = let same = eq-eqb o o refl in rw (same, unturned) refl }
 gives_one Idle turned k is e = absurd (cc)
 gives_one (Refused o) turned k is e = absurd (cc)
 gives_one (Begun o) turned k is e = absurd (cc)
@@ -139,7 +139,7 @@ module _ {S L P : Type 0} (F : Layouts S L P) (laws : AreLaws F) (declared : Lis
 
   beside : (told : Answer) → IsAnswerAlone v told → IsBeside told
   beside (Busy number) is = beside_busy number is
-  beside (Abandoned number) is = beside_given_up number is.0 is.1.0 is.1.1
+  beside (Abandoned number) is = beside_given_up number is.0 is.1 is.2
   beside (Replied reply) is = absurd is
   beside (Swapped number) is = absurd is
   beside Spent is = absurd is

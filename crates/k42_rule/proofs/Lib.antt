@@ -12,6 +12,7 @@ pub mod Installing
 pub mod Knocking
 pub mod CellsApart
 pub mod CellsMoved
+pub mod CellsTouched
 pub mod CellsSteps
 pub mod CellsEvents
 pub mod CellsAllowed

@@ -11,7 +11,8 @@ use Rattle.k42_joined.specs.Plain.{Joined}
 use Rattle.k42_joined.specs.Possible.{IsPossible}
 use Rattle.k42_joined.specs.Sound.{IsSound}
 use Rattle.k42_joined.specs.State.{many_callers}
-use Rattle.phase_core.proofs.Alone.{only_its_caller}
+use Rattle.phase_core.proofs.Alone.{only_who}
+use Rattle.phase_core.proofs.Reached.{same_callers, turn_there}
 use Rattle.k42_rule.specs.Cells.{Slot}
 use Rattle.k42_rule.specs.Rule.{Rule, Ruled}
 use Rattle.k42_rule.specs.Seen.{IsSeatOf}
@@ -25,7 +26,7 @@ use Rattle.k42_rule.proofs.OnePass.{with_pass}
 -- an event makes no caller
 pub callers_on : {S L P : Type 0} (F : Layouts S L P) (declared : List L) (s : Joined L) → IsSound F declared s → (event : Event L)
     → IsPossible F declared s event → many_callers (effect s event) ≡ many_callers s
-callers_on F declared s sound (AtPhases event) possible = (only_its_caller s.phases event sound.phases possible.caller).many_callers
+callers_on F declared s sound (AtPhases event) possible = (only_who s.phases event (same_callers s.phases sound.phases) (turn_there s.phases sound.phases _ possible.caller)).many_callers
 callers_on F declared s sound (AtCells event) possible = refl
 callers_on F declared s sound (HandWith c from onto layout e) possible = refl
 
@@ -55,7 +56,7 @@ module _ {S L P : Type 0} {F : Layouts S L P} {declared : List L} {event : Event
       let after = moves.from table r.rule at in
       record {
         rule = after.0;
-        many = ap many_callers after.1.0 ∙ callers_on F declared r.rule.state r.rule.sound event after.1.1 ∙ r.many;
+        many = ap many_callers after.1 ∙ callers_on F declared r.rule.state r.rule.sound event after.2 ∙ r.many;
       }
 
   moves_allowed : (callers slots : ℕ) (step : Step (Slot P))

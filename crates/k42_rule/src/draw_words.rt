@@ -27,7 +27,7 @@ pub(crate) fn alone_word<L: Layout, K: Said<L::Part>>(
     requires next { entry.now ≡ entry_alone (pass_in seat.old.me.0) entry.now.act entry.now.answer }
     ensures ours { (seat.new.table_id ≡ seat.old.table_id) × (seat.new.id ≡ seat.old.id) }
     ensures told { IsSeatOf seat.new.me (alone_view entry.now (pass_in seat.old.me.0)) × HasSmallStamp (alone_view entry.now (pass_in seat.old.me.0)) }
-    ensures event { (found : ℕ) → StepIs (layouts_on L.object L.tag_of L.ways L.whole L.serves L.admitted L.act_of board.now.shared.key.procs board.now.shared.key.callers.items) board.now.shared.key.layouts.items (AtCells (TurnEvent.Alone (pass_in seat.old.me.0).number entry.now)) role_word (λ word. word) seat.old.id (pass_in seat.old.me.0) found (pass_in seat.new.me.0) }
+    ensures event { (found : ℕ) → StepIs (layouts_on L.object L.tag_of L.ways L.whole L.serves L.admitted L.act_of board.now.shared.key.procs board.now.shared.key.callers.items) board.now.shared.key.layouts.items (AtCells (TurnEvent.Alone (pass_in seat.old.me.0).number (entry_alone (pass_in seat.old.me.0) entry.now.act entry.now.answer))) role_word (λ word. word) seat.old.id (pass_in seat.old.me.0) found (pass_in seat.new.me.0) }
 {
     board.shared.load::<Draw<K>>(seat, 1040);
 }

@@ -25,12 +25,11 @@ pub returns-clause-told : goal.returns-clause-told
 returns-clause-told g c =
     let slots : ℕ = c.args.board.now.shared.table_id.slots in let v = pass_in c.args.seat.now.me.0 in
     rw c.requires.next
-    (draw_told (alone_moves _ c.requires.laws _ _ v c.args.entry.now.act c.args.entry.now.answer c.requires.may) _ (c.requires.says ∙ ap alone_view c.requires.next)
+    (draw_told (alone_moves _ c.requires.laws c.args.board.now.shared.key.layouts.items c.args.seat.now.id v c.args.entry.now.act c.args.entry.now.answer c.requires.may) _ (c.requires.says ∙ ap alone_view c.requires.next)
     c.args.seat.now.me c.load.new.seat.me c.requires.seated (step slots role_word 0 0 none) c.load.result c.load.ensures.2)
 
 pub returns-clause-event : goal.returns-clause-event
 returns-clause-event g c =
     let slots : ℕ = c.args.board.now.shared.table_id.slots in let v = pass_in c.args.seat.now.me.0 in
-    rw c.requires.next
     (draw_is (alone_moves _ c.requires.laws _ _ v c.args.entry.now.act c.args.entry.now.answer c.requires.may) _ (c.requires.says ∙ ap alone_view c.requires.next)
     c.args.seat.now.me c.load.new.seat.me c.requires.seated (step slots role_word 0 0 none) c.load.result c.load.ensures.2)
