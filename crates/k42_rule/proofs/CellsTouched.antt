@@ -1,5 +1,5 @@
 -- Who touches a cell by its view may touch it in every state that the table shows.
-use Rattle.std.proofs.Common.{◌≡◌, ◌≢◌, ◌⊎◌, ℕ, ◌+◌, ◌-◌, ◌*◌, ◌/◌, ◌%◌, ◌<◌, ◌≤◌, Bool, true, false, ◌||◌, cond, eqb, leb, ltb, List, [], ◌∷◌, Option, Some, None, length, refl, sym, ap, ◌∙◌, subst, inl, inr, ⊎_elim, arith}
+use Rattle.std.proofs.Common.{◌≡◌, ◌≢◌, ◌⊎◌, ℕ, zero, suc, ◌+◌, ◌-◌, ◌*◌, ◌/◌, ◌%◌, ◌<◌, ◌≤◌, Bool, true, false, ◌||◌, cond, eqb, leb, ltb, List, [], ◌∷◌, Option, Some, None, length, refl, sym, ap, ◌∙◌, subst, inl, inr, ⊎_elim, arith}
 use Rattle.std.proofs.lemmas.Bool.{and_parts, eqb-true, eq-eqb, leb-true, ltb-true, or_left}
 use Rattle.std.proofs.lemmas.Bool.Decides.{nat_tests}
 use mathlib.Core.Option.{some}
@@ -57,7 +57,12 @@ moving_named : (swap : SwapAt) (o : ℕ) → is_moving swap o ≡ true → swap 
 moving_named (Moved q) o is = ap Moved (eqb-true q o is)
 moving_named swap o is = absurd (cc)
 
--- a row whose rows are freed was not handed on
+span_within : (spans : List (ℕ × ℕ)) (o : ℕ) → (span_at spans o).0 < (span_at spans o).1 → o < length spans
+span_within [] o lt = absurd (omega (arith, lt))
+span_within (span ∷ spans) zero lt = omega arith
+span_within (span ∷ spans) (suc o) lt = let rest = span_within spans o lt in omega (arith, rest)
+
+-- an object of which rows were freed has not been handed on since
 module _ (s : Phases) (sound : phases.IsSound s) (o : ℕ) (named : o < length s.objects) where
   settled_by : (c : ℕ) → c < length s.callers → (visitor_at s c).swap ≡ Moved o → (sound.scene.looks o).settled ≡ true
   settled_by c there at =
@@ -175,9 +180,11 @@ module _ {S L P : Type 0} (F : Layouts S L P) (laws : AreLaws F) (declared : Lis
     last = let one = (knows.phases.rows.spans o some_rows).one in let end = (knows.phases.rows.spans o some_rows).last in omega (arith, low, high, one, end)
 
     named : o < many_objects s
-    named = is_there o where
-      is_there : (q : ℕ) → q < many_objects s
-      is_there q = ?
+    named =
+        let many = (visitor_known s.phases r.sound.phases c knows.there).frees_alone.many_freeing in
+        let all = r.sound.phases.in_scene.many_objects in
+        let own : length (visitor_at s.phases c).freeing ≡ length v.visitor.freeing = ap (λ x. length x.freeing) visitor in
+        let there = span_within v.visitor.freeing o some_rows in omega (arith, many, all, own, there)
 
     unhanded : is_handed s o ≡ false
     unhanded = go (is_handed s o) refl where
