@@ -27,7 +27,7 @@ use Rattle.k42_joined.specs.Plain.{Kept, Joined}
 use Rattle.k42_joined.specs.State.{kept_of, is_handed}
 use Rattle.k42_joined.specs.Swapping.{may_turn_over}
 use Rattle.k42_rule.specs.Cells.{Slot, Contents, KnowsCells}
-use Rattle.k42_rule.specs.Drawing.{HasSmallStamp}
+use Rattle.k42_rule.specs.Drawing.{HasSmallStamp, untold_view}
 use Rattle.k42_rule.specs.Generations.{Counts, MOST, KnowsGenerations}
 use Rattle.k42_rule.specs.Phases.{KnowsPhases}
 use Rattle.k42_rule.specs.Rule.{Beside, KnowsPass, Rule, Ruled}
@@ -110,6 +110,42 @@ module _ {L P : Type 0} (tag_of : L → ℕ) (s : Joined L) (turns : Turns) (han
           (at_push v.taker.mine entry place other e);
     };
   }
+
+-- which cells do not tell of an entry yet is nothing that a pass knows
+pub untold_known : {L P : Type 0} (tag_of : L → ℕ) (s : Joined L) (beside : Beside P) (id : ℕ) (v : PassView P) → KnowsPass tag_of s beside id v → (cells : List ℕ)
+    → KnowsPass tag_of s beside id (untold_view cells v)
+untold_known tag_of s beside id v k cells = record {
+  there = k.there;
+  seat = k.seat;
+  names = k.names;
+  generations = record { turn = k.generations.turn; activities = k.generations.activities; graces = k.generations.graces; base = k.generations.base };
+  phases = record {
+    visitor = k.phases.visitor;
+    layout = k.phases.layout;
+    learned = k.phases.learned;
+    swap = record {
+      turned = k.phases.swap.turned;
+      layout_begun = k.phases.swap.layout_begun;
+      begun = k.phases.swap.begun;
+      next = k.phases.swap.next;
+    };
+    rows = record {
+      old = k.phases.rows.old;
+      granted = k.phases.rows.granted;
+      swept = k.phases.rows.swept;
+      spans = k.phases.rows.spans;
+    };
+  };
+  cells = record { taker = k.cells.taker; notes = k.cells.notes; noted = k.cells.noted; out = k.cells.out; only = k.cells.only };
+  trace = record {
+    kept = k.trace.kept;
+    found = k.trace.found;
+    over = k.trace.over;
+    handed = k.trace.handed;
+    unhanded = k.trace.unhanded;
+    times = k.trace.times;
+  };
+}
 
 -- the entry is the caller's next
 pub is_next_of : (s : Turns) (c : ℕ) (cells : List ℕ) (entry : Entry) → entry.caller ≡ c → entry.index ≡ length (caller_at s c).mine → entry.stamp ≡ next_stamp s c cells

@@ -19,6 +19,7 @@ pub mod CellsAllowed
 pub mod CellsDrawn
 pub mod Drawers
 pub mod DrawnAlone
+pub mod CellsTold
 pub mod Beginning
 pub mod EntryTurns
 pub mod FirstParts

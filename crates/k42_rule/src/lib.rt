@@ -10,6 +10,7 @@ mod generating;
 mod laws;
 mod pass;
 mod plays;
+mod receipts;
 mod slot_plays;
 mod slots;
 mod stamps;
