@@ -20,6 +20,8 @@ pub mod CellsDrawn
 pub mod Drawers
 pub mod DrawnAlone
 pub mod CellsTold
+pub mod Noted
+pub mod DrawnParts
 pub mod Beginning
 pub mod EntryTurns
 pub mod FirstParts
