@@ -18,7 +18,7 @@ use Rattle.turn_core.specs.Names.{names, names_once}
 use Rattle.turn_core.specs.Plain.{Cell, Caller, Turns}
 use Rattle.turn_core.specs.State.{cell_at, caller_at, fresh_cell, fresh_caller, change_caller, change_cells}
 use Rattle.turn_core.specs.declared.event.TurnEvent.TheVariants.{Draw}
-use Rattle.turn_core.proofs.Changed.{callers-change_cells, at_changed}
+use Rattle.turn_core.proofs.Changed.{callers-change_cells, length-change_cells, at_changed}
 use Rattle.k42_stamp.specs.Laws.{AreLaws}
 use Rattle.k42_stamp.specs.Layouts.{Layouts}
 use Rattle.k42_joined.specs.Effects.{effect, kept_drawn}
@@ -93,6 +93,9 @@ module _ {S L P : Type 0} (F : Layouts S L P) (laws : AreLaws F) (declared : Lis
 
   k : KnowsPass F.tag_of s r.beside id v
   k = known F declared table r id v at
+
+  pub drawn_long : length t.cells ≡ length s.turns.cells
+  drawn_long = length-change_cells (cell_told entry) (change_caller (caller_drawn entry) s.turns c) cells
 
   -- what a draw at cells that it has taken asks
   pub record IsDraw : Type 0 where

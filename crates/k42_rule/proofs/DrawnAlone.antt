@@ -56,7 +56,7 @@ begun_some : (last : Option LastBegin) (o : ℕ) → begun_of last ≡ Some o �
 begun_some None o e = absurd (cc)
 begun_some (Some begin) o e = cc
 
-begun_found : (last : Option LastBegin) (answer : Answer) → answer_in (word_begun last) ≡ Some answer → begun_of last ≡ Some (object_begun last)
+pub begun_found : (last : Option LastBegin) (answer : Answer) → answer_in (word_begun last) ≡ Some answer → begun_of last ≡ Some (object_begun last)
 begun_found None answer e = absurd (cc)
 begun_found (Some begin) answer e = refl
 

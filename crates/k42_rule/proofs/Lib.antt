@@ -22,6 +22,8 @@ pub mod DrawnAlone
 pub mod CellsTold
 pub mod Noted
 pub mod DrawnParts
+pub mod DrawnAt
+pub mod DrawnMark
 pub mod Beginning
 pub mod EntryTurns
 pub mod FirstParts

@@ -4,8 +4,9 @@ use Rattle.k42_places.specs.Places.{EachPlace, EachPair}
 use Rattle.k42_kinds.specs.Histories.{is_call}
 use Rattle.k42_kinds.specs.Rows.{Ways, cells_of, made_from, part_at}
 use Rattle.k42_kinds.specs.declared.entry.Act.{Act}
+use Rattle.k42_kinds.specs.declared.entry.Act.TheVariants.{Call}
 use Rattle.k42_kinds.specs.declared.entry.Answer.{Answer}
-use Rattle.k42_kinds.specs.declared.entry.Answer.TheVariants.{Swapped, Busy, Abandoned}
+use Rattle.k42_kinds.specs.declared.entry.Answer.TheVariants.{Replied, Swapped, Busy, Abandoned}
 use Rattle.k42_kinds.specs.declared.entry.Entry.{Entry}
 use Rattle.k42_kinds.specs.declared.entry.Reach.{Reach}
 use Rattle.k42_kinds.specs.declared.entry.Reach.TheVariants.{One, All}
@@ -186,6 +187,14 @@ handed_view from onto entry tag fresh v = record v {
 abbrev pub untold_view : {P : Type 0} → List ℕ → PassView P → PassView P
 untold_view cells v = record v { untold = cells }
 
+-- the pass that draws an entry at these cells, and once their seats tell of it
+abbrev pub draws_at : {P : Type 0} → List (Content P) → Entry → PassView P → PassView P
+draws_at contents entry v =
+    untold_view (numbers_of contents) (drawn_view (numbers_of contents) entry (part_in contents) v)
+
+abbrev pub drawn_at : {P : Type 0} → List (Content P) → Entry → PassView P → PassView P
+drawn_at contents entry v = untold_view [] (drawn_view (numbers_of contents) entry (part_in contents) v)
+
 -- the stamp of its last entry is not above the number of entries that may be drawn
 abbrev pub HasSmallStamp : {P : Type 0} → PassView P → Type 0
 HasSmallStamp v = last_stamp v.taker.mine ≤ LAST_STAMP
@@ -255,6 +264,10 @@ module _ {S L P : Type 0} (F : Layouts S L P) (declared : List L) where
     pub stepped :
         IsStepped layout v.notes object row contents op ((F.ways_of layout).reach F.procs op v.turn.proc) reply
     pub few : length v.taker.mine < MOST
+
+  abbrev pub MayDrawAs : List (Content P) → Act → Answer → PassView P → Type 0
+  MayDrawAs contents (Call op) (Replied reply) v = MayDrawCall contents op reply v
+  MayDrawAs contents act answer v = ⊥
 
   -- the parts that are due in the row which the pass moves
   abbrev pub parts_moved : L → PassView P → ℕ → List P
