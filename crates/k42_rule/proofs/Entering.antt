@@ -18,7 +18,11 @@ use Rattle.gen_core.specs.State.{caller_at, proc_at, fresh_proc}
 use Rattle.gen_core.specs.declared.event.GenEvent.TheVariants.{Enter}
 use Rattle.gen_core.specs.declared.state.GenProc.{GenProc}
 use Rattle.gen_core.specs.declared.state.GraceAt.{GraceAt}
-use Rattle.gen_core.proofs.Alone.{only_caller}
+use Rattle.gen_core.specs.Events as gens
+use Rattle.gen_core.specs.Sound as gen
+use Rattle.phase_core.specs.State.{visitor_at}
+use Rattle.phase_core.proofs.Reached.{turn_there}
+use Rattle.std.specs.Prelude.{◌&&◌, ◌==◌}
 use Rattle.gen_core.proofs.Ranges.{home_there, few_procs}
 use Rattle.phase_core.specs.Event.{Turn}
 use Rattle.phase_core.specs.Stages as swaps
@@ -38,10 +42,10 @@ use Rattle.k42_rule.specs.declared.view.PassView.{PassView}
 use Rattle.k42_rule.specs.declared.view.View.{View}
 use Rattle.k42_rule.specs.declared.view.View.TheVariants.{Crew}
 use Rattle.k42_rule.proofs.Apart.{IsOfGenerations, of_processor}
-use Rattle.k42_rule.proofs.Begun.{few_begun, one_more, processor_stays, grace_stays}
+use Rattle.k42_rule.proofs.Begun.{few_begun, one_more, processor_stays, begun_goes, flips_same, entered_so_far, rises_by}
 use Rattle.k42_rule.proofs.Moves.{Moves}
 use Rattle.k42_rule.proofs.OnePass.{with_pass, known}
-use Rattle.k42_rule.proofs.Turning.{IsTurn, turned, gens_after, visitors_after, state_after, with_counts, turn_there'}
+use Rattle.k42_rule.proofs.Turning.{IsTurn, turned, visitors_after, state_after, with_counts, own_goes, rows_kept, same_swap}
 
 module _ {S L P : Type 0} (F : Layouts S L P) (laws : AreLaws F) (declared : List L)
     (table : State (Slot P) (View P)) (r : Rule F declared table) (id : ℕ) (v : PassView P)
@@ -61,14 +65,17 @@ module _ {S L P : Type 0} (F : Layouts S L P) (laws : AreLaws F) (declared : Lis
   abbrev k : GenProc
   k = home_of s c
 
+  sound : gen.IsSound s
+  sound = turns_sound r.state.phases r.sound.phases
+
   there : c < length s.callers
-  there = turn_there' F laws declared table r id v at (Enter c) refl
+  there = turn_there r.state.phases r.sound.phases c knows.there
 
   p_there : x.proc < length s.procs
-  p_there = home_there s c (turns_sound r.state.phases r.sound.phases) there
+  p_there = home_there s c sound there
 
   p_few : x.proc < 8
-  p_few = let few = few_procs s c (turns_sound r.state.phases r.sound.phases) there in let lt = p_there in omega (arith, few, lt)
+  p_few = let few = few_procs s c sound there in let lt = p_there in omega (arith, few, lt)
 
   at_p : slice_get s.procs x.proc ≡ Some k
   at_p = slice_get-get_or s.procs x.proc fresh_proc p_there
@@ -89,7 +96,7 @@ module _ {S L P : Type 0} (F : Layouts S L P) (laws : AreLaws F) (declared : Lis
   counts = record r.beside.counts { activities = set r.beside.counts.activities c (v.activities + 1) }
 
   abbrev g : Generations
-  g = gens_after F laws declared table r id v at (Enter c) refl
+  g = gens.effect s (Enter c)
 
   begun : sum r.beside.counts.activities ≤ 16 * 2 ^ 20
   begun =
@@ -97,7 +104,9 @@ module _ {S L P : Type 0} (F : Layouts S L P) (laws : AreLaws F) (declared : Lis
       (let long = r.sound.phases.in_scene.in_course.many_callers in let few = r.sound.phases.in_scene.in_course.limits.few_callers in omega (arith, long, few)) r.shows.generations.activities
 
   entered_few : k.entered ≤ 16 * 2 ^ 20
-  entered_few = let is = (r.shows.generations.begun x.proc k at_p).entered in let most = begun in omega (arith, is, most)
+  entered_few =
+      let is = (r.shows.generations.begun x.proc k at_p).entered in let most = begun in
+      let among = entered_so_far s x.proc sound p_there in omega (arith, is, most, among)
 
   turn : x ≡ v.turn
   turn = knows.generations.turn
@@ -108,16 +117,20 @@ module _ {S L P : Type 0} (F : Layouts S L P) (laws : AreLaws F) (declared : Lis
   more : sum counts.activities ≡ sum r.beside.counts.activities + 1
   more = one_more r.beside.counts.activities c v.activities c_begun knows.generations.activities
 
+  can : gens.is_possible s (Enter c) ≡ true
+  can =
+      let free : is_free x ≡ true = ap is_free turn ∙ may.free in
+      let room : ltb k.entered (2 ^ 32 - 1) ≡ true = lt-ltb k.entered (2 ^ 32 - 1) (let few = entered_few in omega (arith, few)) in
+      rw (free, room) refl
+
   may_enter : IsPossible F declared r.state (AtPhases (Turn (Enter c)))
   may_enter = record {
     caller = knows.there;
     may = record {
       objects = tt;
       core =
-          let free : is_free x ≡ true = ap is_free turn ∙ may.free in
-          let idle = ap (λ z. swaps.is_idle z.swap) knows.phases.visitor ∙ may.no_swap in
-          let room : ltb k.entered (2 ^ 32 - 1) ≡ true = lt-ltb k.entered (2 ^ 32 - 1) (let few = entered_few in omega (arith, few)) in
-          rw (free, room, idle) refl;
+          let idle : swaps.is_idle (visitor_at r.state.phases c).swap ≡ true = ap (λ z. swaps.is_idle z.swap) knows.phases.visitor ∙ may.no_swap in
+          rw (can, idle) refl;
       beside = refl;
     };
   }
@@ -133,13 +146,16 @@ module _ {S L P : Type 0} (F : Layouts S L P) (laws : AreLaws F) (declared : Lis
       (λ old. (l, old.1, refl))
       (at_set s.procs x.proc p (proc_entered k) l e)
 
-  turn_is : IsTurn F laws declared table r id v at (Enter c) refl counts
+  turn_is : IsTurn F laws declared table r id v at (Turn (Enter c)) g (visitor_at r.state.phases c) counts
   turn_is = record {
     possible = may_enter;
+    effect_is = refl;
+    many_procs_same = length-set s.procs x.proc (proc_entered k);
+    turns = λ d not. get_or-set_other s.callers c d (caller_entered x k) _ not;
     activities = λ d not. get_or-set_other r.beside.counts.activities c d (v.activities + 1) 0 not;
     graces = λ d not. refl;
     base = λ d p l not busy e. generations_same p l e;
-    rises = λ p. get_or-set_related (λ (y z : GenProc). y.generation ≤ z.generation) (λ y. le_refl y.generation) s.procs x.proc p (proc_entered k) fresh_proc (le_refl k.generation);
+    rises = rises_by s (Enter c) can;
   }
 
   word : new ≡ generation_value (proc_entered k)
@@ -169,57 +185,48 @@ module _ {S L P : Type 0} (F : Layouts S L P) (laws : AreLaws F) (declared : Lis
       few = r.shows.generations.graces.few;
     };
     begun =
-        EachPlace-set_else (IsProcessorBegun s r.beside.counts) (IsProcessorBegun g counts) s.procs x.proc (proc_entered k)
-        r.shows.generations.begun
-        (begun_after x.proc k (r.shows.generations.begun x.proc k at_p) (proc_entered k) refl (le_refl (k.entered + 1)))
-        (λ q l not e is. begun_after q l is l refl (omega arith));
+        begun_goes s (Enter c) g r.beside.counts counts sound there can refl
+        (λ p. let most = by_one (gens.is_possible s (Enter c) && (x.proc == p)) in let is = more in omega (arith, most, is))
+        0 (omega arith) (flips_same s g refl graces generations_same) r.shows.generations.begun;
   } where
-    begun_after : (q : ℕ) (l : GenProc) → IsProcessorBegun s r.beside.counts q l → (l' : GenProc) → l'.generation ≡ l.generation
-        → l'.entered ≤ l.entered + 1 → IsProcessorBegun g counts q l'
-    begun_after q l is l' same most = record {
-      entered = let old = is.entered in let sum' = more in omega (arith, old, sum', most);
-      flipped = rw (same, grace_stays s g graces s.role) is.flipped;
-    }
+    by_one : (b : Bool) → cond b 1 0 ≤ 1
+    by_one true = le_refl 1
+    by_one false = omega arith
 
-  pass_after : KnowsPass F.tag_of (state_after F laws declared table r id v at (Enter c) refl) (with_counts r.beside counts) id (entered_view found v)
-  pass_after = record {
-    there = rw (length-set r.state.phases.callers c _) knows.there;
-    seat = knows.seat;
-    generations = record {
-      turn =
-          get_or-set_same s.callers c (caller_entered x k) _ there
-          ∙ (λ j. record (turn j) { active = Some (active j) });
-      activities = get_or-set_same r.beside.counts.activities c (v.activities + 1) 0 c_begun;
-      graces = knows.generations.graces;
-      base = λ b e busy. absurd (let idle = (and_parts (is_idle v.turn.grace) _ may.free).0 in cc);
-    };
-    phases = record {
-      visitor = get_or-set_same r.state.phases.callers c _ _ knows.there ∙ knows.phases.visitor;
-      layout = knows.phases.layout;
-      learned = knows.phases.learned;
-      begun = knows.phases.begun;
-      rows = knows.phases.rows;
-      granted = knows.phases.granted;
-    };
-    cells = record { taker = knows.cells.taker; notes = knows.cells.notes; noted = knows.cells.noted; out = knows.cells.out; only = knows.cells.only };
-    trace = record {
-      kept = knows.trace.kept;
-      found = knows.trace.found;
-      handed = knows.trace.handed;
-      unhanded = knows.trace.unhanded;
-      few = knows.trace.few;
-      times = λ place entry e generation is.
-          let old = knows.trace.times place entry e generation is in let rise = turn_is.rises v.turn.proc in omega (arith, old, rise);
-    };
-  } where
-    active : k.generation ≡ generation_in found
-    active = let is = shown.generation in let few = entered_few in omega (arith, is, few)
+  pass_after : KnowsPass F.tag_of (state_after F laws declared table r id v at (Turn (Enter c)) g (visitor_at r.state.phases c) counts) (with_counts r.beside counts) id (entered_view found v)
+  pass_after =
+      own_goes r.state g (visitors_after F laws declared table r id v at (Turn (Enter c)) g (visitor_at r.state.phases c) counts) v
+      (record v.turn { active = Some (generation_in found) }) v.visitor (v.activities + 1) v.graces v.base v.rows v.granted v.swept found
+      F.tag_of r.beside counts id knows
+      (record {
+        many = length-set r.state.phases.callers c _;
+        rises = turn_is.rises;
+        generations = record {
+          turn =
+              get_or-set_same s.callers c (caller_entered x k) _ there
+              ∙ (λ j. record (turn j) { active = Some (active j) });
+          activities = get_or-set_same r.beside.counts.activities c (v.activities + 1) 0 c_begun;
+          graces = knows.generations.graces;
+          base = λ b e busy. absurd (let idle = (and_parts (is_idle v.turn.grace) _ may.free).0 in cc);
+        };
+        visitor_is = get_or-set_same r.state.phases.callers c _ _ knows.there ∙ knows.phases.visitor;
+        place = refl;
+        swap = same_swap v.visitor.swap;
+        proc = refl;
+        names = knows.names;
+        rows_known =
+            rows_kept r.state g [] v (record v.turn { active = Some (generation_in found) }) v.visitor (v.activities + 1) v.graces v.base v.rows v.granted v.swept found
+            refl refl refl refl refl knows.phases.rows;
+      })
+    where
+      active : k.generation ≡ generation_in found
+      active = let is = shown.generation in let few = entered_few in omega (arith, is, few)
 
   -- the rule after the step, and its state
   pub enters : (after : Rule F declared (with_pass table (set table.words i new) table.homes id (entered_view found v)))
-      × (after.state ≡ effect r.state (AtPhases (Turn (Enter c))))
+      × (after.state ≡ effect r.state (AtPhases (Turn (Enter c)))) × IsPossible F declared r.state (AtPhases (Turn (Enter c)))
   enters =
-      turned F laws declared table r id v at (Enter c) refl counts turn_is i new (entered_view found v)
+      turned F laws declared table r id v at (Turn (Enter c)) g (visitor_at r.state.phases c) counts turn_is i new (entered_view found v)
       (subst (λ z. IsOfGenerations z) (omega arith) (of_processor x.proc 0 p_few (omega arith))) generations_after pass_after
 
 pub enter_moves : {S L P : Type 0} (F : Layouts S L P) → AreLaws F → (declared : List L) (id home : ℕ) (v : PassView P) → MayEnter v → v.turn.proc ≡ home
@@ -227,7 +234,7 @@ pub enter_moves : {S L P : Type 0} (F : Layouts S L P) → AreLaws F → (declar
 enter_moves {S} {L} {P} F laws declared id home v may same = record {
   from = λ table r at.
       subst (λ i. (after : Rule F declared (with_pass table (set table.words i ((get_or table.words i 0 + 1) % 2 ^ 64)) table.homes id (entered_view (get_or table.words i 0) v)))
-      × (after.state ≡ effect r.state (AtPhases (Turn (Enter v.number)))))
+      × (after.state ≡ effect r.state (AtPhases (Turn (Enter v.number)))) × IsPossible F declared r.state (AtPhases (Turn (Enter v.number))))
       (ap (λ (z : Caller). generation_word z.proc) (known F declared table r id v at).generations.turn ∙ ap generation_word same)
       (enters F laws declared table r id v at may);
 }

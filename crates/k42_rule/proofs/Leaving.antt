@@ -19,7 +19,9 @@ use Rattle.gen_core.specs.State.{caller_at, proc_at, fresh_proc}
 use Rattle.gen_core.specs.declared.event.GenEvent.TheVariants.{Leave}
 use Rattle.gen_core.specs.declared.state.GenProc.{GenProc}
 use Rattle.gen_core.specs.declared.state.GraceAt.{GraceAt}
-use Rattle.gen_core.proofs.Alone.{only_caller}
+use Rattle.gen_core.specs.Events as gens
+use Rattle.gen_core.specs.Sound as gen
+use Rattle.phase_core.proofs.Reached.{turn_there}
 use Rattle.gen_core.proofs.Ranges.{home_there, few_procs}
 use Rattle.phase_core.specs.Event.{Turn}
 use Rattle.phase_core.specs.Plain.{Visitor}
@@ -41,10 +43,10 @@ use Rattle.k42_rule.specs.declared.view.PassView.{PassView}
 use Rattle.k42_rule.specs.declared.view.View.{View}
 use Rattle.k42_rule.specs.declared.view.View.TheVariants.{Crew}
 use Rattle.k42_rule.proofs.Apart.{IsOfGenerations, of_processor}
-use Rattle.k42_rule.proofs.Begun.{few_begun, one_more, processor_stays, grace_stays}
+use Rattle.k42_rule.proofs.Begun.{processor_stays, begun_goes, flips_same, rises_by}
 use Rattle.k42_rule.proofs.Moves.{Moves}
 use Rattle.k42_rule.proofs.OnePass.{with_pass, known}
-use Rattle.k42_rule.proofs.Turning.{IsTurn, turned, gens_after, visitors_after, state_after, with_counts, turn_there'}
+use Rattle.k42_rule.proofs.Turning.{IsTurn, turned, visitors_after, state_after, with_counts, own_goes, rows_kept, same_swap}
 
 -- the word of an exit, by parity
 abbrev exits_at : ℕ → Bool → ℕ
@@ -109,14 +111,17 @@ module _ {S L P : Type 0} (F : Layouts S L P) (laws : AreLaws F) (declared : Lis
   abbrev k : GenProc
   k = home_of s c
 
+  sound : gen.IsSound s
+  sound = turns_sound r.state.phases r.sound.phases
+
   there : c < length s.callers
-  there = turn_there' F laws declared table r id v at (Leave c) refl
+  there = turn_there r.state.phases r.sound.phases c knows.there
 
   p_there : x.proc < length s.procs
-  p_there = home_there s c (turns_sound r.state.phases r.sound.phases) there
+  p_there = home_there s c sound there
 
   p_few : x.proc < 8
-  p_few = let few = few_procs s c (turns_sound r.state.phases r.sound.phases) there in let lt = p_there in omega (arith, few, lt)
+  p_few = let few = few_procs s c sound there in let lt = p_there in omega (arith, few, lt)
 
   at_p : slice_get s.procs x.proc ≡ Some k
   at_p = slice_get-get_or s.procs x.proc fresh_proc p_there
@@ -148,9 +153,12 @@ module _ {S L P : Type 0} (F : Layouts S L P) (laws : AreLaws F) (declared : Lis
   left_is : proc_left k x.active ≡ k'
   left_is = ap (proc_left k) active
 
-  -- the generations after it
+  -- the generations and the visitor after it
   abbrev g : Generations
-  g = gens_after F laws declared table r id v at (Leave c) refl
+  g = gens.effect s (Leave c)
+
+  abbrev y : Visitor
+  y = record (visitor_at r.state.phases c) { read = [] }
 
   procs_are : g.procs ≡ set s.procs x.proc k'
   procs_are = ap (set s.procs x.proc) left_is
@@ -164,14 +172,17 @@ module _ {S L P : Type 0} (F : Layouts S L P) (laws : AreLaws F) (declared : Lis
   more : new ≡ exits_of k even + 1
   more = let room = exits_room in let is = found_is in omega (arith, room, is)
 
+  can : gens.is_possible s (Leave c) ≡ true
+  can =
+      let room : ltb (exits_of k even) (2 ^ 64 - 1) ≡ true = lt-ltb (exits_of k even) (2 ^ 64 - 1) (let less = exits_room in omega (arith, less)) in
+      ap (λ z. can_leave z k) active ∙ room
+
   may_leave : IsPossible F declared r.state (AtPhases (Turn (Leave c)))
   may_leave = record {
     caller = knows.there;
     may = record {
       objects = tt;
       core =
-          let room : ltb (exits_of k even) (2 ^ 64 - 1) ≡ true = lt-ltb (exits_of k even) (2 ^ 64 - 1) (let less = exits_room in omega (arith, less)) in
-          let can : can_leave x.active k ≡ true = ap (λ z. can_leave z k) active ∙ room in
           let out : swaps.is_out (visitor_at r.state.phases c).place ≡ true = ap (λ z. swaps.is_out z.place) knows.phases.visitor ∙ may.out in
           rw (can, out) refl;
       beside = refl;
@@ -189,16 +200,16 @@ module _ {S L P : Type 0} (F : Layouts S L P) (laws : AreLaws F) (declared : Lis
       (λ old. (l, old.1, refl))
       (at_set s.procs x.proc p k' l (ap (λ z. slice_get z p) (sym procs_are) ∙ e))
 
-  turn_is : IsTurn F laws declared table r id v at (Leave c) refl r.beside.counts
+  turn_is : IsTurn F laws declared table r id v at (Turn (Leave c)) g y r.beside.counts
   turn_is = record {
     possible = may_leave;
+    effect_is = refl;
+    many_procs_same = length-set s.procs x.proc _;
+    turns = λ d not. get_or-set_other s.callers c d (caller_left x) _ not;
     activities = λ d not. refl;
     graces = λ d not. refl;
     base = λ d p l not busy e. generations_same p l e;
-    rises = λ p.
-        subst (λ (z : List GenProc). (proc_at s p).generation ≤ (get_or z p fresh_proc).generation) (sym procs_are)
-        (get_or-set_related (λ (y z : GenProc). y.generation ≤ z.generation) (λ y. le_refl y.generation) s.procs x.proc p k' fresh_proc
-        (let same = same_generation k even in omega (arith, same)));
+    rises = rises_by s (Leave c) can;
   }
 
   words_after : EachPlace (IsProcessorShown (set table.words i new)) g.procs
@@ -222,56 +233,41 @@ module _ {S L P : Type 0} (F : Layouts S L P) (laws : AreLaws F) (declared : Lis
       few = r.shows.generations.graces.few;
     };
     begun =
-        subst (λ (z : List GenProc). EachPlace (IsProcessorBegun g r.beside.counts) z) (sym procs_are)
-        (EachPlace-set_else (IsProcessorBegun s r.beside.counts) (IsProcessorBegun g r.beside.counts) s.procs x.proc k'
-        r.shows.generations.begun
-        (begun_after x.proc k (r.shows.generations.begun x.proc k at_p) k' (same_generation k even) (same_entered k even))
-        (λ q l not e is. begun_after q l is l refl refl));
-  } where
-    begun_after : (q : ℕ) (l : GenProc) → IsProcessorBegun s r.beside.counts q l → (l' : GenProc) → l'.generation ≡ l.generation
-        → l'.entered ≡ l.entered → IsProcessorBegun g r.beside.counts q l'
-    begun_after q l is l' same most = record {
-      entered = rw most is.entered;
-      flipped = rw (same, grace_stays s g graces s.role) is.flipped;
-    }
-
-  pass_after : KnowsPass F.tag_of (state_after F laws declared table r id v at (Leave c) refl) (with_counts r.beside r.beside.counts) id (left_view found v)
-  pass_after = record {
-    there = rw (length-set r.state.phases.callers c _) knows.there;
-    seat = knows.seat;
-    generations = record {
-      turn = get_or-set_same s.callers c (caller_left x) _ there ∙ ap caller_left turn;
-      activities = knows.generations.activities;
-      graces = knows.generations.graces;
-      base = λ b e busy p l here.
-          let old = generations_same p l here in
-          old.2 ∙ knows.generations.base b e busy p old.0 old.1;
-    };
-    phases = record {
-      visitor = get_or-set_same r.state.phases.callers c _ _ knows.there ∙ ap (λ (z : Visitor). record z { read = [] }) knows.phases.visitor;
-      layout = knows.phases.layout;
-      learned = knows.phases.learned;
-      begun = knows.phases.begun;
-      rows = knows.phases.rows;
-      granted = knows.phases.granted;
-    };
-    cells = record { taker = knows.cells.taker; notes = knows.cells.notes; noted = knows.cells.noted; out = knows.cells.out; only = knows.cells.only };
-    trace = record {
-      kept = knows.trace.kept;
-      found = knows.trace.found;
-      handed = knows.trace.handed;
-      unhanded = knows.trace.unhanded;
-      few = knows.trace.few;
-      times = λ place entry e generation is.
-          let old = knows.trace.times place entry e generation is in let rise = turn_is.rises v.turn.proc in omega (arith, old, rise);
-    };
+        begun_goes s (Leave c) g r.beside.counts r.beside.counts sound there can refl (λ p. omega arith)
+        0 (omega arith) (flips_same s g refl graces generations_same) r.shows.generations.begun;
   }
+
+  pass_after : KnowsPass F.tag_of (state_after F laws declared table r id v at (Turn (Leave c)) g y r.beside.counts) (with_counts r.beside r.beside.counts) id (left_view found v)
+  pass_after =
+      own_goes r.state g (visitors_after F laws declared table r id v at (Turn (Leave c)) g y r.beside.counts) v
+      (record v.turn { active = None }) (record v.visitor { read = [] }) v.activities v.graces v.base v.rows v.granted v.swept found
+      F.tag_of r.beside r.beside.counts id knows
+      (record {
+        many = length-set r.state.phases.callers c _;
+        rises = turn_is.rises;
+        generations = record {
+          turn = get_or-set_same s.callers c (caller_left x) _ there ∙ ap caller_left turn;
+          activities = knows.generations.activities;
+          graces = knows.generations.graces;
+          base = λ b e busy p l here.
+              let old = generations_same p l here in
+              old.2 ∙ knows.generations.base b e busy p old.0 old.1;
+        };
+        visitor_is = get_or-set_same r.state.phases.callers c _ _ knows.there ∙ ap (λ (z : Visitor). record z { read = [] }) knows.phases.visitor;
+        place = refl;
+        swap = same_swap v.visitor.swap;
+        proc = refl;
+        names = knows.names;
+        rows_known =
+            rows_kept r.state g [] v (record v.turn { active = None }) (record v.visitor { read = [] }) v.activities v.graces v.base v.rows v.granted v.swept found
+            refl refl refl refl refl knows.phases.rows;
+      })
 
   -- the rule after the step, and its state
   pub leaves : (after : Rule F declared (with_pass table (set table.words i new) table.homes id (left_view found v)))
-      × (after.state ≡ effect r.state (AtPhases (Turn (Leave c))))
+      × (after.state ≡ effect r.state (AtPhases (Turn (Leave c)))) × IsPossible F declared r.state (AtPhases (Turn (Leave c)))
   leaves =
-      turned F laws declared table r id v at (Leave c) refl r.beside.counts turn_is i new (left_view found v)
+      turned F laws declared table r id v at (Turn (Leave c)) g y r.beside.counts turn_is i new (left_view found v)
       (exits_of_generations x.proc even p_few) generations_after pass_after
 
 parity_is : (a : ℕ) → a % 2 ≡ cond (is_even a) 0 1
@@ -285,7 +281,7 @@ pub leave_moves : {S L P : Type 0} (F : Layouts S L P) → AreLaws F → (declar
 leave_moves {S} {L} {P} F laws declared id home generation v may same = record {
   from = λ table r at.
       subst (λ i. (after : Rule F declared (with_pass table (set table.words i ((get_or table.words i 0 + 1) % 2 ^ 64)) table.homes id (left_view (get_or table.words i 0) v)))
-      × (after.state ≡ effect r.state (AtPhases (Turn (Leave v.number)))))
+      × (after.state ≡ effect r.state (AtPhases (Turn (Leave v.number)))) × IsPossible F declared r.state (AtPhases (Turn (Leave v.number))))
       (ap (λ (z : Caller). exits_at z.proc (is_even generation)) (known F declared table r id v at).generations.turn ∙ ap (λ p. exits_at p (is_even generation)) same
       ∙ ap (λ (b : ℕ). exits_word home b) (sym (parity_is generation)))
       (leaves F laws declared table r id v at generation may);

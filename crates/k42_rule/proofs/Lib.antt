@@ -5,6 +5,10 @@ pub mod Begun
 pub mod Entering
 pub mod Leaving
 pub mod Moves
+pub mod Notings
+pub mod Roles
+pub mod Holding
+pub mod Asking
 pub mod AtTables
 pub mod Fields
 pub mod Looking
@@ -16,6 +20,7 @@ pub mod CellsTouched
 pub mod CellsSteps
 pub mod CellsEvents
 pub mod CellsAllowed
+pub mod PartLaws
 pub mod CellsDrawn
 pub mod Drawers
 pub mod DrawnAlone

@@ -26,7 +26,8 @@ use Rattle.k42_rule.proofs.OnePass.{with_pass}
 -- an event makes no caller
 pub callers_on : {S L P : Type 0} (F : Layouts S L P) (declared : List L) (s : Joined L) → IsSound F declared s → (event : Event L)
     → IsPossible F declared s event → many_callers (effect s event) ≡ many_callers s
-callers_on F declared s sound (AtPhases event) possible = (only_who s.phases event (same_callers s.phases sound.phases) (turn_there s.phases sound.phases _ possible.caller)).many_callers
+callers_on F declared s sound (AtPhases event) possible =
+    (only_who s.phases event (same_callers s.phases sound.phases) (turn_there s.phases sound.phases _ possible.caller)).many_callers
 callers_on F declared s sound (AtCells event) possible = refl
 callers_on F declared s sound (HandWith c from onto layout e) possible = refl
 

@@ -24,6 +24,11 @@ abbrev pub freed_view : {P : Type 0} → ℕ → ℕ → PassView P → PassView
 freed_view o found v =
     hears found (record v { visitor = visitor_freed v.visitor o found (number_noted v o); swept = o ∷ v.swept })
 
+-- the object of its word
+abbrev pub freed_object : ℕ → ℕ
+freed_object word = (word - 784) / 16
+
 -- the mark is short of the noted number by one row at most
-abbrev pub MarkFound : {P : Type 0} → ℕ → PassView P → ℕ → Type 0
-MarkFound o v found = found < number_noted v o → found + 1 ≡ number_noted v o
+pub record MarkFound {P : Type 0} (o : ℕ) (v : PassView P) (found : ℕ) : Type 0 where
+  pub short : found < number_noted v o → found + 1 ≡ number_noted v o
+  pub there : o < length v.visitor.freeing

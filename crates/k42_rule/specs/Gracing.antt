@@ -1,12 +1,13 @@
 -- The steps of a grace, for one pass: where each may be taken, and what the pass knows after it.
-use Rattle.std.specs.Prelude.{◌≡◌, ◌≢◌, ◌⊎◌, ℕ, ◌+◌, ◌*◌, ◌%◌, ◌<◌, ◌≤◌, ◌^◌, ◌==◌, if◌then◌else◌, Bool, true, List, [], Option, Some, None, drop, length, replicate, slice_index, slice_set, unwrap_or}
-use Rattle.k42_limits.specs.declared.TheConstants.{CALLERS}
+use Rattle.std.specs.Prelude.{◌≡◌, ◌≢◌, ◌⊎◌, ℕ, ◌+◌, ◌-◌, ◌*◌, ◌%◌, ◌<◌, ◌≤◌, ◌^◌, ◌==◌, if◌then◌else◌, Bool, true, ⊤, List, [], Option, Some, None, drop, length, replicate, slice_index, slice_set, unwrap_or}
+use Rattle.k42_limits.specs.declared.TheConstants.{CALLERS, OBJECTS, PROCESSORS, LAST_INCARNATION}
+use Rattle.k42_places.specs.Places.{EachPlace}
 use Rattle.gen_core.specs.Events.{is_free, is_idle, is_flipping, is_looking, place_of, role_taken, role_given, after_flip, after_look, caller_passed}
 use Rattle.gen_core.specs.Plain.{Caller}
 use Rattle.gen_core.specs.declared.event.GenEvent.{GenEvent}
 use Rattle.gen_core.specs.declared.event.GenEvent.TheVariants.{LookAhead, Look}
 use Rattle.gen_core.specs.declared.state.GraceAt.{GraceAt}
-use Rattle.gen_core.specs.declared.state.GraceAt.TheVariants.{Flipping, Looking, Quiet}
+use Rattle.gen_core.specs.declared.state.GraceAt.TheVariants.{Idle, Flipping, Looking, Quiet}
 use Rattle.phase_core.specs.Effects.{drained_at, role_taken_with}
 use Rattle.phase_core.specs.Stages.{may_take}
 use Rattle.phase_core.specs.declared.caller.SwapAt.TheVariants.{Drained}
@@ -14,6 +15,7 @@ use Rattle.turn_core.specs.Names.{names}
 use Rattle.k42_joined.specs.Swapping.{holds_none}
 use Rattle.k42_rule.specs.Generations.{MOST}
 use Rattle.k42_rule.specs.Noting.{notes_due}
+use Rattle.k42_rule.specs.Seen.{PassSeen}
 use Rattle.k42_rule.specs.Values.{generation_in}
 use Rattle.k42_rule.specs.Views.{hears}
 use Rattle.k42_rule.specs.declared.view.PassView.{PassView}
@@ -35,10 +37,21 @@ role_view found v = hears found (if found == 0 then record v {
   swept = [];
 } else v)
 
+-- while a grace is under way, the processor that it comes to next is one of so many, which are few
+abbrev pub FitsGrace : GraceAt → ℕ → Type 0
+FitsGrace Idle procs = ⊤
+FitsGrace (Flipping p) procs = (p < procs) × (procs ≤ PROCESSORS)
+FitsGrace (Looking p) procs = (p < procs) × (procs ≤ PROCESSORS)
+FitsGrace Quiet procs = (0 < procs) × (procs ≤ PROCESSORS)
+
 -- the word found is that of nobody, or of another caller
 pub record RoleFound {P : Type 0} (v : PassView P) (found : ℕ) : Type 0 where
   pub another : found ≢ v.number + 1
   pub small : found ≤ CALLERS
+  -- a grace may begin, and what it notes fits its fields
+  pub fits : FitsGrace (Flipping 0) (length v.turn.waits)
+  pub notes : length v.visitor.noted ≤ OBJECTS
+  pub rows : EachPlace (λ place row. row.incarnation < LAST_INCARNATION) v.rows
 
 -- it is about to flip the first processor
 abbrev pub MayAskGeneration : {P : Type 0} → PassView P → Type 0
@@ -130,3 +143,10 @@ given_view v = record v {
   rows = drop v.granted v.rows;
   granted = 0;
 }
+
+-- it has the same seat, and the room of the rows that it no longer has
+pub record HasGiven {P : Type 0} (old new : PassSeen P) : Type 0 where
+  pub table : new.table ≡ old.table
+  pub seat : new.seat ≡ old.seat
+  pub room : new.room ≡ old.room
+  pub row_room : new.row_room ≡ old.row_room + (length old.view.rows - length new.view.rows)

@@ -3,8 +3,10 @@
 use Rattle.std.specs.Prelude.{ℕ, ◌+◌, ◌==◌, if◌then◌else◌, Bool, false, List, [], ◌∷◌, Option, Some, None, length, max, unwrap_or}
 use Rattle.k42_kinds.specs.Rows.{made_from}
 use Rattle.phase_core.specs.Stages.{named_by}
+use Rattle.phase_core.specs.declared.caller.SwapAt.{SwapAt}
 use Rattle.k42_rule.specs.Values.{incarnation_in}
 use Rattle.k42_rule.specs.Views.{word_begun}
+use Rattle.k42_rule.specs.declared.view.LastBegin.{LastBegin}
 use Rattle.k42_rule.specs.declared.view.PassView.{PassView}
 use Rattle.k42_rule.specs.declared.view.Row.{Row}
 
@@ -17,9 +19,13 @@ abbrev pub is_of : Option ℕ → ℕ → Bool
 is_of None o = false
 is_of (Some q) o = q == o
 
+-- by the swap, the last Begin and the rows of a pass
+abbrev pub due_of : SwapAt → Option LastBegin → List Row → ℕ → Option ℕ
+due_of swap last rows o =
+    if is_of (named_by swap) o then Some (incarnation_in (word_begun last)) else after_rows rows o
+
 abbrev pub due_note : {P : Type 0} → PassView P → ℕ → Option ℕ
-due_note v o =
-    if is_of (named_by v.visitor.swap) o then Some (incarnation_in (word_begun v.last)) else after_rows v.rows o
+due_note v o = due_of v.visitor.swap v.last v.rows o
 
 -- for each object
 abbrev pub notes_due : {P : Type 0} → PassView P → List (Option ℕ)

@@ -33,16 +33,17 @@ pub struct Walker<P: Drop> {
     pub(crate) layout: Option<u32>,
     pub(crate) handed: Option<u32>,
     pub(crate) rows: Vec<Row>,
-    pub(crate) granted: u32,
+    pub(crate) granted: usize,
 }
 
 pub type Pass<L> = Walker<<L as Layout>::Part>;
 
 impl<P: Drop> Model for Walker<P> {
-    ghost use Rattle.std.specs.Prelude.{ℕ, ◌-◌, ◌≡◌, ◌<◌, ◌≤◌, length, vec_capacity};
+    ghost use Rattle.std.specs.Prelude.{ℕ, ◌+◌, ◌-◌, ◌^◌, ◌≡◌, ◌<◌, ◌≤◌, length, vec_capacity};
     ghost use Rattle.std.specs.Option.{unwrap_or};
     ghost use Rattle.phase_core.specs.Stages.{object_of};
     ghost use Rattle.turn_core.specs.Stamps.{last_stamp};
+    ghost use Rattle.k42_rule.specs.Gracing.{FitsGrace};
     ghost use Rattle.k42_rule.specs.Seats.{LAST_STAMP};
     ghost use Rattle.k42_rule.specs.Seen.{PassSeen, Mirrors};
     ghost use Rattle.k42_rule.specs.Views.{pass_in};
@@ -75,6 +76,7 @@ impl<P: Drop> Model for Walker<P> {
       rows = p.rows.items;
       granted = p.granted;
     }) × (p.home < 8) × (object_of p.place < 16) × (unwrap_or p.layout 0 < 4)
+        × FitsGrace p.grace (length p.waits.items) × (unwrap_or p.base 0 + 1 < 2 ^ 32) × (unwrap_or p.coming 0 < 2 ^ 32)
         × (last_stamp p.entries.items ≤ LAST_STAMP) };
 }
 

@@ -21,6 +21,60 @@ impl<P: Drop> Play<Option<Content<P>>, View<P>> for Leave {
     ghost then = { Tells left_view };
 }
 
+pub(crate) struct TakeRole;
+
+impl<P: Drop> Play<Option<Content<P>>, View<P>> for TakeRole {
+    ghost use Rattle.k42_rule.specs.Steps.{TellsWith};
+    ghost use Rattle.k42_rule.specs.Gracing.{role_view, RoleFound};
+
+    ghost then = { TellsWith role_view RoleFound };
+}
+
+pub(crate) struct AskGeneration;
+
+impl<P: Drop> Play<Option<Content<P>>, View<P>> for AskGeneration {
+    ghost use Rattle.k42_rule.specs.Steps.{TellsWith};
+    ghost use Rattle.k42_rule.specs.Gracing.{asked_view, GenerationFound};
+
+    ghost then = { TellsWith asked_view GenerationFound };
+}
+
+pub(crate) struct Look;
+
+impl<P: Drop> Play<Option<Content<P>>, View<P>> for Look {
+    ghost use Rattle.k42_rule.specs.Steps.{TellsWith};
+    ghost use Rattle.k42_rule.specs.Gracing.{looked_view, ExitsFound};
+
+    ghost then = { TellsWith looked_view ExitsFound };
+}
+
+pub(crate) struct Flip;
+
+impl<P: Drop> Play<Option<Content<P>>, View<P>> for Flip {
+    ghost use Rattle.k42_rule.specs.Steps.{Tells};
+    ghost use Rattle.k42_rule.specs.Gracing.{flipped_view};
+
+    ghost then = { Tells flipped_view };
+}
+
+pub(crate) struct GiveRole;
+
+impl<P: Drop> Play<Option<Content<P>>, View<P>> for GiveRole {
+    ghost use Rattle.k42_rule.specs.Steps.{Tells};
+    ghost use Rattle.k42_rule.specs.Gracing.{given_view};
+
+    ghost then = { Tells (λ stored v. given_view v) };
+}
+
+pub(crate) struct Free;
+
+impl<P: Drop> Play<Option<Content<P>>, View<P>> for Free {
+    ghost use Rattle.k42_rule.specs.Steps.{TellsWith};
+    ghost use Rattle.k42_rule.specs.Freeing.{freed_object, freed_view, MarkFound};
+
+    ghost then = { λ step. TellsWith (freed_view (freed_object step.word)) (MarkFound (freed_object step.word)) step };
+}
+
 pub(crate) struct Deal;
 
 impl<P> Split<View<P>> for Deal {

@@ -1,3 +1,5 @@
+use Rattle.k42_rule.proofs.Roles.{role_moves}
+use Rattle.k42_rule.proofs.Notings.{numbers_noted}
 use Rattle.std.proofs.Common.{ℕ, ◌+◌, ◌*◌, refl, arith}
 use mathlib.Core.Option.{none}
 use Rattle.atomic_table.specs.Table.{step}
