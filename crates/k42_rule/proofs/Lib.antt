@@ -26,6 +26,13 @@ pub mod CellsAllowed
 pub mod PartLaws
 pub mod PartsDue
 pub mod CellsDrawn
+pub mod Drawers
+pub mod DrawnAlone
+pub mod CellsTold
+pub mod Noted
+pub mod DrawnParts
+pub mod DrawnAt
+pub mod DrawnMark
 pub mod Beginning
 pub mod Staging
 pub mod EntryTurns

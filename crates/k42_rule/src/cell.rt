@@ -51,4 +51,16 @@ impl<P: Drop> Content<P> {
     {
         self.part = Some(part);
     }
+
+    /// Is told of the last entry that was drawn at it.
+    pub(crate) fn tell(&mut self, badge: Badge<View<P>>, closed: bool, last: u64)
+        requires { IsTold closed last badge.views }
+        ensures number { self.new.number ≡ self.old.number }
+        ensures part { self.new.part ≡ self.old.part }
+        ensures told { self.new.badge.views ≡ badge.views }
+    {
+        self.badge = badge;
+        self.closed = closed;
+        self.last = last;
+    }
 }

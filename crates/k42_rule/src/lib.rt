@@ -4,6 +4,9 @@
 mod board;
 mod cell;
 mod finish;
+mod draw_plays;
+mod draw_words;
+mod drawing;
 mod generating;
 mod grace_words;
 mod gracing;
@@ -11,8 +14,10 @@ mod laws;
 mod noting;
 mod pass;
 mod plays;
+mod receipts;
 mod slot_plays;
 mod slots;
+mod stamps;
 mod start;
 mod swap_begins;
 mod swap_plays;
@@ -27,6 +32,7 @@ mod view;
 mod words;
 
 pub use cell::{Cell, Content};
+pub use drawing::draw_alone;
 pub use generating::{enter_step, leave_step};
 pub use laws::{
     freed_rows_stay_freed, rows_have_one_name, rows_inside_are_present, shown_states_are_safe,

@@ -52,6 +52,7 @@ impl<P: Drop> Model for Walker<P> {
     ghost use Rattle.phase_core.specs.Stages.{object_of, row_of, object_named};
     ghost use Rattle.k42_stamp.specs.Lists.{IsListOf};
     ghost use Rattle.k42_rule.specs.Gracing.{FitsGrace};
+    ghost use Rattle.k42_rule.specs.Seats.{LAST_STAMP};
     ghost use Rattle.k42_rule.specs.Seen.{PassSeen, Mirrors};
     ghost use Rattle.k42_rule.specs.Swapping.{next_entry};
     ghost use Rattle.k42_rule.specs.Values.{layout_in, incarnation_in};
@@ -90,7 +91,8 @@ impl<P: Drop> Model for Walker<P> {
         × (row_of p.place ≤ LAST_INCARNATION)
         × (p.granted ≤ length p.rows.items)
         × FitsGrace p.grace p.base (length p.waits.items) × (unwrap_or p.base 0 + 1 < 2 ^ 32) × (unwrap_or p.coming 0 < 2 ^ 32)
-        × IsListOf p.number p.entries.items };
+        × IsListOf p.number p.entries.items
+        × (last_stamp p.entries.items ≤ LAST_STAMP) };
 }
 
 impl<P: Drop> Walker<P> {
