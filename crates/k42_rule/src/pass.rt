@@ -50,6 +50,7 @@ impl<P: Drop> Model for Walker<P> {
     ghost use Rattle.std.specs.Option.{unwrap_or};
     ghost use Rattle.k42_limits.specs.declared.TheConstants.{LAST_INCARNATION};
     ghost use Rattle.phase_core.specs.Stages.{object_of, row_of, object_named};
+    ghost use Rattle.turn_core.specs.Stamps.{last_stamp};
     ghost use Rattle.k42_stamp.specs.Lists.{IsListOf};
     ghost use Rattle.k42_rule.specs.Gracing.{FitsGrace};
     ghost use Rattle.k42_rule.specs.Seats.{LAST_STAMP};
