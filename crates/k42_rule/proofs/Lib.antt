@@ -22,6 +22,7 @@ pub mod CellsEvents
 pub mod CellsAllowed
 pub mod PartLaws
 pub mod PartsDue
+pub mod PutBack
 pub mod CellsDrawn
 pub mod Beginning
 pub mod Staging
