@@ -25,6 +25,7 @@ pub mod CellsEvents
 pub mod CellsAllowed
 pub mod PartLaws
 pub mod PartsDue
+pub mod PutBack
 pub mod CellsDrawn
 pub mod Drawers
 pub mod DrawnAlone

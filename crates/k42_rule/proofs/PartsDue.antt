@@ -4,24 +4,30 @@ use Rattle.std.specs.List.{slice_get}
 use Rattle.std.specs.Option.{unwrap_or}
 use Rattle.std.proofs.lemmas.Bool.{eqb-true, eq-eqb}
 use Rattle.std.proofs.lemmas.Option.{same_Some}
-use Rattle.k42_kinds.specs.Rows.{Ways, cells_of, made_from, part_at}
+use Rattle.std.specs.Prelude.{IsTrue}
+use Rattle.k42_kinds.specs.declared.operation.Op.{Op}
+use Rattle.k42_kinds.specs.declared.entry.Reach.TheVariants.{One}
+use Rattle.k42_kinds.specs.LayoutLaws.{Agree, IsReached}
+use Rattle.k42_kinds.specs.Rows.{Ways, cells_of, made_from, part_at, IsWithin}
 use Rattle.turn_core.specs.Names.{names}
 use Rattle.k42_stamp.specs.Laws.{AreLaws}
 use Rattle.k42_stamp.specs.Layouts.{Layouts}
 use Rattle.k42_joined.specs.Numbers.{cell_of}
 use Rattle.k42_rule.specs.Cells.{cells_noted}
-use Rattle.k42_rule.specs.Drawing.{part_noted, part_due, parts_due}
+use Rattle.k42_rule.specs.Drawing.{part_noted, history_noted, closed_noted, part_due, parts_due}
 use Rattle.k42_rule.specs.Parts.{HasDue}
 use Rattle.k42_rule.specs.Taking.{IsRowNoted}
 use Rattle.k42_rule.specs.declared.view.Note.{Note}
 
--- the first note of a cell, which tells its part
+-- the first note of a cell, which tells its part and its history
 pub record IsFirstNote {P : Type 0} (notes : List (Note P)) (n : ℕ) : Type 0 where
   pub place : ℕ
   pub note : Note P
   pub there : slice_get notes place ≡ Some note
   pub named : note.cell ≡ n
   pub part : part_noted notes n ≡ note.part
+  pub history : history_noted notes n ≡ note.history
+  pub closed : closed_noted notes n ≡ note.closed
 
 pub first_note : {P : Type 0} (notes : List (Note P)) (n : ℕ) → names (cells_noted notes) n ≡ true → IsFirstNote notes n
 first_note [] n e = absurd (cc)
@@ -34,6 +40,8 @@ first_note (note ∷ notes) n e = go (eqb note.cell n) refl e (first_note notes 
     there = refl;
     named = eqb-true note.cell n same;
     part = ap (λ b. cond b note.part (part_noted notes n)) same;
+    history = ap (λ b. cond b note.history (history_noted notes n)) same;
+    closed = ap (λ b. cond b note.closed (closed_noted notes n)) same;
   }
   go false apart e rest' =
       let rest = rest' e in
@@ -43,6 +51,8 @@ first_note (note ∷ notes) n e = go (eqb note.cell n) refl e (first_note notes 
         there = rest.there;
         named = rest.named;
         part = ap (λ b. cond b note.part (part_noted notes n)) apart ∙ rest.part;
+        history = ap (λ b. cond b note.history (history_noted notes n)) apart ∙ rest.history;
+        closed = ap (λ b. cond b note.closed (closed_noted notes n)) apart ∙ rest.closed;
       }
 
 -- what is due of a place that the row has
@@ -92,3 +102,52 @@ module _ {S L P : Type 0} (F : Layouts S L P) (laws : AreLaws F) (declared : Lis
   row_parts inside noted =
       made_of (part_due (F.ways_of is.layout) F.procs notes o i) 0 (cells_of tag F.procs) is.row many_parts
       (λ p lt. row_part p (inside p lt) lt (noted p lt) ∙ ap (λ k. Some (part_due (F.ways_of is.layout) F.procs notes o i k)) (omega arith))
+
+-- what a call needs to know of parts: its layout keeps the object as that of the row does
+module _ {S L P : Type 0} (F : Layouts S L P) (laws : AreLaws F) (declared : List L) (notes : List (Note P)) (o i : ℕ) (declaration layout : L)
+    (declares : slice_get declared o ≡ Some declaration) (kind : F.object_of layout ≡ F.object_of declaration)
+    (is : IsRowNoted F declared notes o i (F.tag_of layout))
+    (agrees : (l m : L) → F.object_of l ≡ F.object_of m → F.tag_of l ≡ F.tag_of m
+    → Agree (F.ways_of l) (F.ways_of m) (F.Whole l) (F.Whole m) (F.Serves l) (F.Serves m)) where
+  pub agree : Agree (F.ways_of is.layout) (F.ways_of layout) (F.Whole is.layout) (F.Whole layout) (F.Serves is.layout) (F.Serves layout)
+  agree =
+      agrees is.layout layout (is.same ∙ ap F.object_of (same_Some is.declaration declaration (sym is.declares ∙ declares)) ∙ sym kind) is.tagged
+
+  few_cells : (p : ℕ) → p < cells_of (F.tag_of layout) F.procs → p < F.procs
+  few_cells p = go (eqb (F.tag_of layout) 1) where
+    go : (b : Bool) → p < cond b F.procs 1 → p < F.procs
+    go true lt = lt
+    go false lt = let some = laws.some in omega (arith, lt, some)
+
+  -- the part that is due is that of a whole row at its place
+  pub part_of_row : (p : ℕ) → p < cells_of (F.tag_of layout) F.procs → names (cells_noted notes) (cell_of o i p) ≡ true
+      → part_at is.row p ≡ Some (part_due (F.ways_of layout) F.procs notes o i p)
+  part_of_row p lt noted =
+      subst (λ (ways : Ways S P). part_at is.row p ≡ Some (part_due ways F.procs notes o i p)) agree.ways
+      (row_part F laws declared notes o i (F.tag_of layout) is p (few_cells p lt) lt noted)
+
+  pub part_reached : (op : Op) (proc p : ℕ) → proc < F.procs → IsTrue ((F.object_of layout).takes op) → (F.ways_of layout).reach F.procs op proc ≡ One p
+      → names (cells_noted notes) (cell_of o i p) ≡ true → IsReached (F.ways_of layout) (F.Whole layout) (part_due (F.ways_of layout) F.procs notes o i p) op
+  part_reached op proc p there takes reach noted =
+      let known : F.tag_of layout ≤ 2 = subst (λ t. t ≤ 2) is.tagged is.known in
+      let lt : p < cells_of (F.tag_of layout) F.procs =
+      subst (λ r. IsWithin (cells_of (F.tag_of layout) F.procs) r) reach (laws.reaches layout proc op known there takes) in
+      record {
+        procs = F.procs;
+        proc = proc;
+        parts = is.row;
+        cell = p;
+        known = there;
+        whole = agree.whole F.procs is.row is.whole;
+        needed = reach;
+        there = part_of_row p lt noted;
+      }
+
+  -- the parts that are due of a row whose cells are all noted are a whole row
+  pub parts_whole : ((p : ℕ) → p < cells_of (F.tag_of layout) F.procs → names (cells_noted notes) (cell_of o i p) ≡ true)
+      → F.Whole layout F.procs (parts_due (F.ways_of layout) F.procs notes o i (F.tag_of layout))
+  parts_whole noted =
+      subst (F.Whole layout F.procs)
+      (sym (row_parts F laws declared notes o i (F.tag_of layout) is few_cells noted)
+      ∙ ap (λ (ways : Ways S P). parts_due ways F.procs notes o i (F.tag_of layout)) agree.ways)
+      (agree.whole F.procs is.row is.whole)
