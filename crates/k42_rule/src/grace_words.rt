@@ -1,5 +1,5 @@
 //! The steps of a grace on the words of the table, for a seat alone.
-ghost use Rattle.std.specs.Prelude.{◌≡◌, ℕ, ◌<◌, ◌+◌, ◌==◌, if◌then◌else◌, [], ◌∷◌, take};
+ghost use Rattle.std.specs.Prelude.{◌≡◌, ℕ, ◌<◌, ◌+◌, ◌^◌, ◌==◌, if◌then◌else◌, [], ◌∷◌, take};
 ghost use Rattle.k42_places.specs.Places.{EachPlace};
 ghost use Rattle.gen_core.specs.declared.event.GenEvent.TheVariants as GenEvent;
 ghost use Rattle.phase_core.specs.Event as phases;
@@ -19,10 +19,10 @@ use crate::board::{Board, Place};
 use crate::plays::{AskGeneration, Flip, GiveRole, Look, TakeRole};
 use k42_kinds::Layout;
 
-pub(crate) fn take_role_word<L: Layout>(board: &Board<L>, seat: &mut Place<L>, number: u32) -> u64
+pub(crate) fn take_role_word<L: Layout>(board: &Board<L>, seat: &mut Place<L>, number: u64) -> u64
     requires ours { (seat.old.table_id ≡ board.now.shared.table_id) × (board.now.shared.table_id.words ≡ many_words) }
     requires laws { AreLaws (layouts_on L.object L.tag_of L.ways L.whole L.serves L.admitted L.act_of board.now.shared.key.procs board.now.shared.key.callers.items) }
-    requires may { IsSeatOf seat.old.me (pass_in seat.old.me.0) × MayTakeRole (pass_in seat.old.me.0) × ((pass_in seat.old.me.0).number ≡ number) }
+    requires may { IsSeatOf seat.old.me (pass_in seat.old.me.0) × MayTakeRole (pass_in seat.old.me.0) × ((pass_in seat.old.me.0).number ≡ number) × (number < 2 ^ 32) }
     ensures ours { (seat.new.table_id ≡ seat.old.table_id) × (seat.new.id ≡ seat.old.id) }
     ensures told { IsSeatOf seat.new.me (role_view result (pass_in seat.old.me.0)) }
     ensures found { RoleFound (pass_in seat.old.me.0) result }
@@ -30,7 +30,7 @@ pub(crate) fn take_role_word<L: Layout>(board: &Board<L>, seat: &mut Place<L>, n
 {
     board
         .shared
-        .compare_exchange::<TakeRole>(seat, 1040, 0, u64::from(number) + 1)
+        .compare_exchange::<TakeRole>(seat, 1040, 0, number + 1)
 }
 
 pub(crate) fn generation_load<L: Layout>(board: &Board<L>, seat: &mut Place<L>) -> u64

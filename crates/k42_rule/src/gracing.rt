@@ -89,7 +89,7 @@ pub fn take_role<L: Layout>(sys: &Sys<L>, pass: &mut Pass<L>) -> u64
         role_word (λ word. if word == 0 then pass.old.view.number + 1 else word)
         pass.old.seat pass.old.view result pass.new.view }
 {
-    let found = take_role_word(&sys.board, &mut pass.seat, pass.number);
+    let found = take_role_word(&sys.board, &mut pass.seat, u64::from(pass.number));
     if found == 0 {
         note_all(
             pass.noted.as_mut_slice(),
