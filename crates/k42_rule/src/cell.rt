@@ -1,5 +1,5 @@
 //! A cell, with the seat that tells its history.
-ghost use Rattle.std.specs.Prelude.{◌≡◌, None, Some};
+ghost use Rattle.std.specs.Prelude.{◌≡◌, ◌<◌, None, Some};
 ghost use Rattle.k42_rule.specs.Seats.{IsTold};
 
 use crate::view::View;
@@ -17,6 +17,7 @@ pub struct Content<P: Drop> {
     pub(crate) last: u64,
     pub(crate) part: Option<P>,
     ghost told: { IsTold closed last badge.views },
+    ghost few: { number < 320 },
 }
 
 pub type Cell<L> = Content<<L as Layout>::Part>;

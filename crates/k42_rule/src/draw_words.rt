@@ -1,5 +1,5 @@
 //! The steps that draw entries, for a seat alone.
-ghost use Rattle.std.specs.Prelude.{◌≡◌, ℕ, ◌<◌, [], ◌∷◌};
+ghost use Rattle.std.specs.Prelude.{◌≡◌, ℕ, [], ◌∷◌};
 ghost use Rattle.turn_core.specs.declared.event.TurnEvent.TheVariants as TurnEvent;
 ghost use Rattle.k42_stamp.specs.Laws.{AreLaws};
 ghost use Rattle.k42_joined.specs.Event.{AtCells};
@@ -43,7 +43,6 @@ pub(crate) fn mark_word<L: Layout, K: Said<L::Part>>(
     requires laws { AreLaws (layouts_on L.object L.tag_of L.ways L.whole L.serves L.admitted L.act_of board.now.shared.key.procs board.now.shared.key.callers.items) }
     requires says { K.becomes ≡ draws_at (cell.now ∷ []) entry.now }
     requires seated { IsSeatOf seat.old.me (pass_in seat.old.me.0) }
-    requires few { cell.now.number < 256 }
     requires may { MayDrawMark cell.now entry.now.act entry.now.answer (pass_in seat.old.me.0) }
     requires next { entry.now ≡ entry_mark (pass_in seat.old.me.0) cell.now.number entry.now.act entry.now.answer }
     ensures ours { (seat.new.table_id ≡ seat.old.table_id) × (seat.new.id ≡ seat.old.id) }

@@ -32,7 +32,7 @@ mod view;
 mod words;
 
 pub use cell::{Cell, Content};
-pub use drawing::draw_alone;
+pub use drawing::{draw_alone, draw_mark};
 pub use generating::{enter_step, leave_step};
 pub use laws::{
     freed_rows_stay_freed, rows_have_one_name, rows_inside_are_present, shown_states_are_safe,
