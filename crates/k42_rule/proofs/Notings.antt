@@ -1,16 +1,19 @@
 -- What a pass notes as it takes the role, as notes of objects.
-use Rattle.std.proofs.Common.{◌≡◌, ◌≢◌, ℕ, zero, suc, ◌+◌, ◌<◌, ◌≤◌, ◌⊎◌, Bool, true, false, cond, eqb, ltb, leb, List, [], ◌∷◌, Option, Some, None, length, get_or, sym, refl, ap, ◌∙◌, inl, inr, ⊎_elim, le_refl, arith}
+use Rattle.std.proofs.Common.{◌≡◌, ◌≢◌, ℕ, zero, suc, ◌+◌, ◌<◌, ◌≤◌, ◌⊎◌, Bool, true, false, cond, eqb, ltb, leb, List, [], ◌∷◌, ◌++◌, Option, Some, None, length, get_or, set, drop, sym, refl, ap, ◌∙◌, inl, inr, ⊎_elim, le_refl, arith}
 use Rattle.std.specs.List.{slice_get, list_all, All, AllByRecursion, count_by}
 use Rattle.std.specs.Option.{unwrap_or}
 use Rattle.std.specs.Prelude.{max}
-use Rattle.std.proofs.Math.Nat.{le-max_left, le-max_right, max-eq_left, max-eq_right}
+use Rattle.std.proofs.Math.Seq.{set-append_seam}
+use Rattle.std.proofs.Math.Nat.{zero-add, le-max_left, le-max_right, max-eq_left, max-eq_right}
 use Rattle.std.proofs.lemmas.List.Sums.{sum_by-cons}
 use Rattle.std.proofs.lemmas.Bool.{eq-eqb, ne_eqb, eqb-true, leb-true, leb-false}
-use Rattle.std.proofs.lemmas.List.{same_lists}
+use Rattle.std.proofs.lemmas.List.{same_lists, append_assoc}
 use Rattle.std.proofs.lemmas.List.Elements.{All-from_recursion}
 use Rattle.std.proofs.lemmas.Option.{same_Some, slice_get_within, slice_get-get_or, get_or_from_slice_get}
 use Rattle.k42_kinds.specs.Rows.{made_from}
 use Rattle.k42_places.specs.Places.{EachPlace}
+use Rattle.k42_kinds.proofs.RowSteps.{made_from_push}
+use Rattle.k42_places.proofs.Rests.{drop_at}
 use Rattle.k42_places.proofs.Counts.{count_by_some, count_by_none}
 use Rattle.phase_core.specs.Notes.{note_of, numbers_of, times_named, name_each_once, fits_note, fit_notes}
 use Rattle.phase_core.specs.Plain.{Object}
@@ -186,3 +189,13 @@ rows_below (x ∷ rows) o place row e same = by_test (λ i here. rows_below rows
       let more : later.0 ≤ most = rw later.1 (le-max_right (x.incarnation + 1) later.0) in let lt = later.2 in omega (arith, more, lt))
   by_test rest (suc i) here false test =
       let later = rest i here in (later.0, rw test later.1, later.2)
+
+-- one more number is made
+pub made_more : (make : ℕ → Option ℕ) (noted : List (Option ℕ)) (o : ℕ) → o < length noted
+    → set (made_from make 0 o ++ drop o noted) o (make o) ≡ made_from make 0 (o + 1) ++ drop (o + 1) noted
+made_more make noted o within =
+    let here = drop_at noted o (get_or noted o None) (slice_get-get_or noted o None within) in
+    let put = set-append_seam (made_from make 0 o) (get_or noted o None) (drop (o + 1) noted) (make o) in
+    let more : made_from make 0 (o + 1) ≡ made_from make 0 o ++ make o ∷ [] =
+    made_from_push make 0 o ∙ ap (λ q. made_from make 0 o ++ make q ∷ []) (zero-add o) in
+    rw (here, more) (rw (made_length make 0 o) at put ∙ sym (append_assoc (made_from make 0 o) (make o ∷ []) (drop (o + 1) noted)))

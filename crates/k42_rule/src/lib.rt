@@ -3,6 +3,7 @@
 
 mod board;
 mod cell;
+mod freeing;
 mod generating;
 mod grace_words;
 mod gracing;
@@ -26,6 +27,7 @@ mod view;
 mod words;
 
 pub use cell::{Cell, Content};
+pub use freeing::free;
 pub use generating::{enter_step, leave_step};
 pub use gracing::{flip, generation_step, give_role, look, take_role};
 pub use laws::shown_states_are_safe;

@@ -1,9 +1,3 @@
-use Rattle.k42_rule.proofs.Gives.{give_moves}
-use Rattle.k42_rule.proofs.Flips.{flip_moves}
-use Rattle.k42_rule.proofs.Looks.{look_moves}
-use Rattle.k42_rule.proofs.Asking.{ask_stays}
-use Rattle.k42_rule.proofs.Roles.{role_moves}
-use Rattle.k42_rule.proofs.Notings.{numbers_noted}
 use Rattle.std.proofs.Common.{ℕ, ◌+◌, ◌*◌, refl, arith}
 use mathlib.Core.Option.{none}
 use Rattle.atomic_table.specs.Table.{step}
