@@ -170,18 +170,25 @@ module _ {S L P : Type 0} (F : Layouts S L P) (laws : AreLaws F) (declared : Lis
   flips : EachPlace (λ q l. (old : GenProc) × (slice_get s.procs q ≡ Some old) × (flips_of g q l ≤ flips_of s q old + 0)) g.procs
   flips q l e =
       ⊎_elim
-      (λ is. (k, ap (slice_get s.procs) is.0 ∙ at_p,
-      let after = now q in let before = was q in
-      let done : is_flipped (after_flip p n) q ≡ true = ap (is_flipped (after_flip p n)) is.0 ∙ flipped-after_flip_here p n p_there in
-      let still : ltb q p ≡ false = ap (λ (m : ℕ). ltb m p) is.0 ∙ ltb_same p in
-      let more : l.generation ≡ k.generation + 1 = ap (λ (z : GenProc). z.generation) (sym is.1) in
-      let none : will_flip g.role (grace_of g g.role) q ≡ 0 = after ∙ ap (λ (b : Bool). cond b 0 1) done in
-      let one : will_flip s.role (grace_of s s.role) q ≡ 1 = before ∙ ap (λ (b : Bool). cond b 0 1) still in
-      omega (arith, none, one, more)))
-      (λ old. (l, old.1, let after = now q in let before = was q in
-      let same : is_flipped (after_flip p n) q ≡ ltb q p = flipped-after_flip_else p n p_there q (slice_get_within s.procs q l old.1) old.0 in
-      let equal : will_flip g.role (grace_of g g.role) q ≡ will_flip s.role (grace_of s s.role) q = after ∙ ap (λ (b : Bool). cond b 0 1) same ∙ sym before in
-      omega (arith, equal)))
+      (λ is. (
+        k,
+        ap (slice_get s.procs) is.0 ∙ at_p,
+        let after = now q in let before = was q in
+            let done : is_flipped (after_flip p n) q ≡ true = ap (is_flipped (after_flip p n)) is.0 ∙ flipped-after_flip_here p n p_there in
+            let still : ltb q p ≡ false = ap (λ (m : ℕ). ltb m p) is.0 ∙ ltb_same p in
+            let more : l.generation ≡ k.generation + 1 = ap (λ (z : GenProc). z.generation) (sym is.1) in
+            let none : will_flip g.role (grace_of g g.role) q ≡ 0 = after ∙ ap (λ (b : Bool). cond b 0 1) done in
+            let one : will_flip s.role (grace_of s s.role) q ≡ 1 = before ∙ ap (λ (b : Bool). cond b 0 1) still in
+            omega (arith, none, one, more),
+      ))
+      (λ old. (
+        l,
+        old.1,
+        let after = now q in let before = was q in
+            let same : is_flipped (after_flip p n) q ≡ ltb q p = flipped-after_flip_else p n p_there q (slice_get_within s.procs q l old.1) old.0 in
+            let equal : will_flip g.role (grace_of g g.role) q ≡ will_flip s.role (grace_of s s.role) q = after ∙ ap (λ (b : Bool). cond b 0 1) same ∙ sym before in
+            omega (arith, equal),
+      ))
       (at_set s.procs p q k' l e)
     where
       held : s.role ≡ Some c
@@ -267,8 +274,8 @@ pub flip_moves : {S L P : Type 0} (F : Layouts S L P) → AreLaws F → (declare
 flip_moves F laws declared id p v may = record { from = λ table r at. flips_on F laws declared table r id v at p may }
 
 pub flip_allowed : {S L P : Type 0} (F : Layouts S L P) → AreLaws F → (declared : List L) (id callers p : ℕ) (v : PassView P) (me : Seated P) → IsSeatOf me v
-    → MayFlip p v → (word : ℕ) → word ≡ flip_word v → (slots : ℕ) (step : Step (Slot P))
-    → Allows (Ruled F declared callers) slots id me (generation_word p) (λ n. word) (Tells flipped_view step me)
-flip_allowed F laws declared id callers p v me is may word same slots step =
+    → MayFlip p v → (stored : ℕ) → stored ≡ flip_word v → (slots : ℕ) (step : Step (Slot P))
+    → Allows (Ruled F declared callers) slots id me (generation_word p) (λ n. stored) (Tells flipped_view step me)
+flip_allowed F laws declared id callers p v me is may stored same slots step =
     subst (λ (z : ℕ). Allows (Ruled F declared callers) slots id me (generation_word p) (λ n. z) (Tells flipped_view step me)) (sym same)
     (seat_allowed (flip_moves F laws declared id p v may) me is slots step)

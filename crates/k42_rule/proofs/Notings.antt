@@ -154,19 +154,19 @@ pub rows_fit : (k : Object) (o : ℕ) (rows : List Row) (n : ℕ)
 rows_fit k o [] n each e = absurd (cc)
 rows_fit k o (row ∷ rows) n each e =
     by_test (λ m here. rows_fit k o rows m (λ i x at. each (suc i) x at) here) (eqb row.object o) refl e where
-  Fits : Type 0
-  Fits = (m : ℕ) → after_rows rows o ≡ Some m → fits_note k m ≡ true
+      Fits : Type 0
+      Fits = (m : ℕ) → after_rows rows o ≡ Some m → fits_note k m ≡ true
 
-  newest : Fits → row.object ≡ o → (found : Option ℕ) → after_rows rows o ≡ found → fits_note k (max (row.incarnation + 1) (unwrap_or found 0)) ≡ true
-  newest rest same None here = rw (max-eq_left {n = row.incarnation + 1} {m = 0} (omega arith)) (each 0 row refl same)
-  newest rest same (Some m) here = fits_max k (row.incarnation + 1) m (each 0 row refl same) (rest m here)
+      newest : Fits → row.object ≡ o → (found : Option ℕ) → after_rows rows o ≡ found → fits_note k (max (row.incarnation + 1) (unwrap_or found 0)) ≡ true
+      newest rest same None here = rw (max-eq_left {n = row.incarnation + 1} {m = 0} (omega arith)) (each 0 row refl same)
+      newest rest same (Some m) here = fits_max k (row.incarnation + 1) m (each 0 row refl same) (rest m here)
 
-  by_test : Fits → (b : Bool) → eqb row.object o ≡ b
-      → cond b (Some (max (row.incarnation + 1) (unwrap_or (after_rows rows o) 0))) (after_rows rows o) ≡ Some n → fits_note k n ≡ true
-  by_test rest true same is =
-      rw (← same_Some (max (row.incarnation + 1) (unwrap_or (after_rows rows o) 0)) n is)
-      (newest rest (eqb-true row.object o same) (after_rows rows o) refl)
-  by_test rest false not is = rest n is
+      by_test : Fits → (b : Bool) → eqb row.object o ≡ b
+          → cond b (Some (max (row.incarnation + 1) (unwrap_or (after_rows rows o) 0))) (after_rows rows o) ≡ Some n → fits_note k n ≡ true
+      by_test rest true same is =
+          rw (← same_Some (max (row.incarnation + 1) (unwrap_or (after_rows rows o) 0)) n is)
+          (newest rest (eqb-true row.object o same) (after_rows rows o) refl)
+      by_test rest false not is = rest n is
 
 -- and is above each row of the object
 pub rows_below : (rows : List Row) (o place : ℕ) (row : Row) → slice_get rows place ≡ Some row → row.object ≡ o
@@ -184,9 +184,11 @@ rows_below (x ∷ rows) o place row e same = by_test (λ i here. rows_below rows
   by_test rest zero here false test =
       absurd (let is : x.object ≡ o = ap (λ (z : Row). z.object) (same_Some x row here) ∙ same in let yes = eq-eqb x.object o is in cc)
   by_test rest (suc i) here true test =
-      let later = rest i here in
-      (most, rw test refl,
-      let more : later.0 ≤ most = rw later.1 (le-max_right (x.incarnation + 1) later.0) in let lt = later.2 in omega (arith, more, lt))
+      let later = rest i here in (
+        most,
+        rw test refl,
+        let more : later.0 ≤ most = rw later.1 (le-max_right (x.incarnation + 1) later.0) in let lt = later.2 in omega (arith, more, lt),
+      )
   by_test rest (suc i) here false test =
       let later = rest i here in (later.0, rw test later.1, later.2)
 

@@ -108,5 +108,7 @@ pub(crate) fn free_word<L: Layout>(
     ensures found { MarkFound object (pass_in seat.old.me.0) result }
     ensures event { StepIs (layouts_on L.object L.tag_of L.ways L.whole L.serves L.admitted L.act_of board.now.shared.key.procs board.now.shared.key.callers.items) board.now.shared.key.layouts.items (AtPhases (phases.Free (pass_in seat.old.me.0).number object)) (freed_word object) (λ word. max word (number_noted (pass_in seat.old.me.0) object)) seat.old.id (pass_in seat.old.me.0) result (pass_in seat.new.me.0) }
 {
-    board.shared.fetch_max::<Free>(seat, 784 + 16 * object, number)
+    board
+        .shared
+        .fetch_max::<Free>(seat, 784 + 16 * object, number)
 }
