@@ -1,6 +1,6 @@
 -- Freeing the noted rows of an object is allowed to a quiet pass.
-use Rattle.std.proofs.Common.{◌≡◌, ◌≢◌, ℕ, ◌+◌, ◌-◌, ◌*◌, ◌/◌, ◌^◌, ◌<◌, ◌≤◌, Bool, true, false, cond, eqb, ltb, List, [], ◌∷◌, Option, Some, None, length, get_or, set, sym, refl, ap, ◌∙◌, subst, arith, le_refl, length-set, get_or-set_same, get_or-set_other}
-use Rattle.std.specs.List.{slice_get, slice_index}
+use Rattle.std.proofs.Common.{◌≡◌, ◌≢◌, ℕ, ◌+◌, ◌<◌, ◌≤◌, Bool, true, false, cond, eqb, ltb, List, [], ◌∷◌, Option, Some, length, get_or, set, sym, refl, ap, ◌∙◌, subst, arith, le_refl, length-set, get_or-set_same, get_or-set_other}
+use Rattle.std.specs.List.{slice_get}
 use Rattle.std.specs.Option.{unwrap_or}
 use Rattle.std.specs.Prelude.{max, ◌||◌}
 use Rattle.std.proofs.Math.Nat.{max-eq_left, max-eq_right}
@@ -12,7 +12,6 @@ use native.Mathlib.Decide.{ℕ_discrete}
 use Rattle.atomic_table.specs.Table.{State, Step, Allows}
 use Rattle.k42_places.specs.Places.{EachPlace}
 use Rattle.k42_places.proofs.EachPlaces.{EachPlace-set_else}
-use Rattle.gen_core.specs.Events as turns
 use Rattle.gen_core.specs.Plain.{Caller}
 use Rattle.gen_core.specs.State.{caller_at, proc_at}
 use Rattle.gen_core.specs.declared.state.GraceAt.TheVariants as graces
@@ -28,18 +27,17 @@ use Rattle.k42_joined.specs.Event.{AtPhases}
 use Rattle.k42_joined.specs.Plain.{Joined}
 use Rattle.k42_joined.specs.Possible.{IsPossible}
 use Rattle.k42_rule.specs.Cells.{Slot}
-use Rattle.k42_rule.specs.Freeing.{MayFree, number_noted, visitor_freed, freed_view, freed_object, MarkFound}
+use Rattle.k42_rule.specs.Freeing.{MayFree, number_noted, freed_view, freed_object, MarkFound}
 use Rattle.k42_rule.specs.Phases.{IsObjectShown, AreObjects, IsLastFreed, KnowsRows}
 use Rattle.k42_rule.specs.Rule.{KnowsPass, Rule, Ruled}
 use Rattle.k42_rule.specs.Seen.{IsSeatOf}
-use Rattle.k42_rule.specs.Steps.{Seated, Tells, TellsWith}
-use Rattle.k42_rule.specs.Values.{object_value, local_value}
-use Rattle.k42_rule.specs.Views.{hears, pass_in}
-use Rattle.k42_rule.specs.Words.{generation_word, exits_word, role_word, lock_word, local_word, object_word, freed_word, many_words}
+use Rattle.k42_rule.specs.Steps.{Seated, TellsWith}
+use Rattle.k42_rule.specs.Views.{hears}
+use Rattle.k42_rule.specs.Words.{local_word, object_word, freed_word, many_words}
 use Rattle.k42_rule.specs.declared.view.PassView.{PassView}
 use Rattle.k42_rule.specs.declared.view.View.{View}
 use Rattle.k42_rule.specs.declared.view.View.TheVariants.{Crew}
-use Rattle.k42_rule.proofs.AtTables.{visited, Steps, IsSameRow, AreSameRows, rows_same, same_visit, same_left, same_on, swap_stays, rows_stay, trace_stays, visits, written_shows, few_entries, IsOfTables}
+use Rattle.k42_rule.proofs.AtTables.{visited, Steps, AreSameRows, rows_same, same_visit, same_left, same_on, swap_stays, rows_stay, trace_stays, visits, written_shows, few_entries, IsOfTables}
 use Rattle.k42_rule.proofs.Holding.{role}
 use Rattle.k42_rule.proofs.Moves.{Moves, Finds, seat_allowed_with}
 use Rattle.k42_rule.proofs.Notings.{note_there}

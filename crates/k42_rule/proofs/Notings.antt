@@ -1,6 +1,6 @@
 -- What a pass notes as it takes the role, as notes of objects.
-use Rattle.std.proofs.Common.{◌≡◌, ◌≢◌, ℕ, zero, suc, ◌+◌, ◌<◌, ◌≤◌, ◌⊎◌, Bool, true, false, cond, eqb, ltb, leb, List, [], ◌∷◌, ◌++◌, Option, Some, None, length, get_or, set, drop, sym, refl, ap, ◌∙◌, inl, inr, ⊎_elim, le_refl, arith}
-use Rattle.std.specs.List.{slice_get, list_all, All, AllByRecursion, count_by}
+use Rattle.std.proofs.Common.{◌≡◌, ℕ, zero, suc, ◌+◌, ◌<◌, ◌≤◌, Bool, true, false, cond, eqb, leb, List, [], ◌∷◌, ◌++◌, Option, Some, None, length, get_or, set, drop, sym, refl, ap, ◌∙◌, arith}
+use Rattle.std.specs.List.{slice_get, list_all, All, AllByRecursion}
 use Rattle.std.specs.Option.{unwrap_or}
 use Rattle.std.specs.Prelude.{max}
 use Rattle.std.proofs.Math.Seq.{set-append_seam}
@@ -9,7 +9,7 @@ use Rattle.std.proofs.lemmas.List.Sums.{sum_by-cons}
 use Rattle.std.proofs.lemmas.Bool.{eq-eqb, ne_eqb, eqb-true, leb-true, leb-false}
 use Rattle.std.proofs.lemmas.List.{same_lists, append_assoc}
 use Rattle.std.proofs.lemmas.List.Elements.{All-from_recursion}
-use Rattle.std.proofs.lemmas.Option.{same_Some, slice_get_within, slice_get-get_or, get_or_from_slice_get}
+use Rattle.std.proofs.lemmas.Option.{same_Some, slice_get-get_or, get_or_from_slice_get}
 use Rattle.k42_kinds.specs.Rows.{made_from}
 use Rattle.k42_places.specs.Places.{EachPlace}
 use Rattle.k42_kinds.proofs.RowSteps.{made_from_push}

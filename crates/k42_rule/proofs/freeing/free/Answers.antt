@@ -1,4 +1,3 @@
-use Rattle.std.proofs.Common.{rules, ◌≡◌}
 use Rattle.k42_rule.proofs.freeing.free.Goals as goal
 
 pub returns-then-found-from-clause-event : goal.returns-then-found-from-clause-event

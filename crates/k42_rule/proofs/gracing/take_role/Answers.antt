@@ -1,4 +1,3 @@
-use Rattle.std.proofs.Common.{rules, ◌≡◌}
 use Rattle.k42_rule.proofs.gracing.take_role.Goals as goal
 
 pub returns-then-found-eq0-clause-event : goal.returns-then-found-eq0-clause-event
