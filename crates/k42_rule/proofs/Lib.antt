@@ -12,6 +12,7 @@ pub mod Asking
 pub mod Looks
 pub mod Flips
 pub mod Gives
+pub mod Frees
 pub mod AtTables
 pub mod Fields
 pub mod Looking

@@ -1,8 +1,8 @@
 -- The steps of a grace, for one pass: where each may be taken, and what the pass knows after it.
-use Rattle.std.specs.Prelude.{◌≡◌, ◌≢◌, ◌⊎◌, ℕ, ◌+◌, ◌-◌, ◌*◌, ◌%◌, ◌<◌, ◌≤◌, ◌^◌, ◌==◌, if◌then◌else◌, Bool, true, ⊤, List, [], Option, Some, None, drop, is_some, length, replicate, take, slice_index, slice_set, unwrap_or}
+use Rattle.std.specs.Prelude.{◌≡◌, ◌≢◌, ◌⊎◌, ℕ, ◌+◌, ◌*◌, ◌%◌, ◌<◌, ◌≤◌, ◌^◌, ◌==◌, if◌then◌else◌, true, ⊤, [], Option, Some, None, drop, is_some, length, replicate, take, slice_index, slice_set, unwrap_or}
 use Rattle.k42_limits.specs.declared.TheConstants.{CALLERS, OBJECTS, LAST_INCARNATION}
 use Rattle.k42_places.specs.Places.{EachPlace}
-use Rattle.gen_core.specs.Events.{is_free, is_idle, is_flipping, is_looking, place_of, role_taken, role_given, after_flip, after_look, caller_passed}
+use Rattle.gen_core.specs.Events.{is_free, is_flipping, is_looking, place_of, role_taken, role_given, after_flip, caller_passed}
 use Rattle.gen_core.specs.Plain.{Caller}
 use Rattle.gen_core.specs.declared.event.GenEvent.{GenEvent}
 use Rattle.gen_core.specs.declared.event.GenEvent.TheVariants.{LookAhead, Look}

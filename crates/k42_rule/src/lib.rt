@@ -7,6 +7,7 @@ mod finish;
 mod draw_plays;
 mod draw_words;
 mod drawing;
+mod freeing;
 mod generating;
 mod grace_words;
 mod gracing;
@@ -33,6 +34,7 @@ mod words;
 
 pub use cell::{Cell, Content};
 pub use drawing::{draw_alone, draw_mark};
+pub use freeing::free;
 pub use generating::{enter_step, leave_step};
 pub use laws::{
     freed_rows_stay_freed, rows_have_one_name, rows_inside_are_present, shown_states_are_safe,
