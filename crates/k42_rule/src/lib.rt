@@ -25,7 +25,7 @@ mod view;
 mod words;
 
 pub use cell::{Cell, Content};
-pub use drawing::{draw_alone, draw_mark};
+pub use drawing::{draw_alone, draw_call, draw_mark};
 pub use generating::{enter_step, leave_step};
 pub use laws::shown_states_are_safe;
 pub use pass::{Pass, Walker};
