@@ -3,7 +3,7 @@ ghost use Rattle.std.specs.Prelude.{◌≡◌, ℕ, ◌<◌, [], ◌∷◌};
 ghost use Rattle.turn_core.specs.declared.event.TurnEvent.TheVariants as TurnEvent;
 ghost use Rattle.k42_joined.specs.Drawing.{first_cell};
 ghost use Rattle.k42_joined.specs.Event.{AtCells};
-ghost use Rattle.k42_rule.specs.Drawing.{MayDrawAlone, MayDrawMark, MayDrawAs, IsDrawer, IsTold, AreTold, entry_alone, entry_mark, entry_call, numbers_of, alone_view, drawn_at, untold_view, number_told, stamp_next};
+ghost use Rattle.k42_rule.specs.Drawing.{AgreeOn, MayDrawAlone, MayDrawMark, MayDrawAs, IsDrawer, IsTold, AreTold, entry_alone, entry_mark, entry_call, numbers_of, alone_view, drawn_at, untold_view, number_told, stamp_next};
 ghost use Rattle.k42_rule.specs.Plan.{layouts_on};
 ghost use Rattle.k42_rule.specs.Seen.{IsOf};
 ghost use Rattle.k42_rule.specs.Steps.{StepIs};
@@ -127,6 +127,50 @@ pub fn draw_mark<L: Layout>(
     stamp
 }
 
+/// Draws a call at cells that stand side by side.
+fn draw_at<L: Layout>(
+    sys: &Sys<L>,
+    pass: &mut Pass<L>,
+    cells: &mut [Cell<L>],
+    act: Act,
+    answer: Answer,
+) -> u64
+    requires ours { IsOf sys.now pass.old }
+    requires agree { AgreeOn (layouts_on L.object L.tag_of L.ways L.whole L.serves L.admitted L.act_of sys.now.procs sys.now.callers) }
+    requires room { 0 < pass.old.room }
+    requires may { MayDrawAs
+        (layouts_on L.object L.tag_of L.ways L.whole L.serves L.admitted L.act_of sys.now.procs sys.now.callers)
+        sys.now.layouts cells.old act answer pass.old.view }
+    ensures stamp { result ≡ stamp_next pass.old.view (numbers_of cells.old) }
+    ensures same { IsDrawer pass.old pass.new }
+    ensures knows { pass.new.view ≡ drawn_at cells.old (entry_call pass.old.view (numbers_of cells.old) act answer) pass.old.view }
+    ensures told { AreTold pass.new.view.notes cells.old cells.new }
+    ensures event { (found : ℕ) → StepIs
+        (layouts_on L.object L.tag_of L.ways L.whole L.serves L.admitted L.act_of sys.now.procs sys.now.callers)
+        sys.now.layouts
+        (AtCells (TurnEvent.Draw pass.old.view.number (numbers_of cells.old) (entry_call pass.old.view (numbers_of cells.old) act answer)))
+        (lock_word (first_cell (numbers_of cells.old))) (λ word. word)
+        pass.old.seat pass.old.view found (untold_view (numbers_of cells.old) pass.new.view) }
+{
+    let stamp = stamp_after(pass.entries.as_slice(), last_at(cells));
+    let entry = Entry {
+        stamp,
+        caller: pass.number,
+        index: pass.entries.len() as u32,
+        object: object_in(&pass.place),
+        incarnation: row_in(&pass.place),
+        cell: first_of(cells),
+        act,
+        answer,
+        proc: pass.home,
+        generation: pass.active,
+    };
+    call_word::<L, Brand>(&sys.board, &mut pass.seat, cells, &entry);
+    tell_all(&sys.board, &mut pass.seat, cells, 0, false, stamp);
+    pass.entries.push_reserved(entry);
+    stamp
+}
+
 /// Draws a call that was stepped, at the cells that its layout names.
 pub fn draw_call<L: Layout>(
     sys: &Sys<L>,
@@ -151,21 +195,5 @@ pub fn draw_call<L: Layout>(
         (lock_word (first_cell (numbers_of cells.old.items))) (λ word. word)
         pass.old.seat pass.old.view found (untold_view (numbers_of cells.old.items) pass.new.view) }
 {
-    let stamp = stamp_after(pass.entries.as_slice(), last_at(cells.as_slice()));
-    let entry = Entry {
-        stamp,
-        caller: pass.number,
-        index: pass.entries.len() as u32,
-        object: object_in(&pass.place),
-        incarnation: row_in(&pass.place),
-        cell: first_of(cells.as_slice()),
-        act,
-        answer,
-        proc: pass.home,
-        generation: pass.active,
-    };
-    call_word::<L, Brand>(&sys.board, &mut pass.seat, cells.as_slice(), &entry);
-    tell_all(&sys.board, &mut pass.seat, cells.as_mut_slice(), 0, false, stamp);
-    pass.entries.push_reserved(entry);
-    stamp
+    draw_at(sys, pass, cells.as_mut_slice(), act, answer)
 }
