@@ -35,6 +35,8 @@ pub mod Noted
 pub mod DrawnParts
 pub mod DrawnAt
 pub mod DrawnMark
+pub mod RowCells
+pub mod DrawnCall
 pub mod Beginning
 pub mod Staging
 pub mod EntryTurns

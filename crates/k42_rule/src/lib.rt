@@ -33,7 +33,7 @@ mod view;
 mod words;
 
 pub use cell::{Cell, Content};
-pub use drawing::{draw_alone, draw_mark};
+pub use drawing::{draw_alone, draw_call, draw_mark};
 pub use freeing::free;
 pub use generating::{enter_step, leave_step};
 pub use laws::{
