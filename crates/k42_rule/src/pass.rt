@@ -4,6 +4,7 @@ ghost use Rattle.k42_limits.specs.declared.TheConstants.{LAST_INCARNATION};
 ghost use Rattle.k42_stamp.specs.Lists.{IsListOf};
 ghost use Rattle.phase_core.specs.Stages.{named_by};
 ghost use Rattle.phase_core.specs.State.{note_at};
+ghost use Rattle.k42_rule.specs.Gracing.{FitsGrace};
 ghost use Rattle.k42_rule.specs.Phases.{is_served};
 ghost use Rattle.k42_rule.specs.Seen.{IsRoomier, inside_in, is_at_rest};
 ghost use Rattle.k42_rule.specs.Values.{layout_in, incarnation_in};
@@ -53,9 +54,11 @@ impl<P: Drop> Model for Walker<P> {
     ghost use Rattle.std.specs.Option.{unwrap_or};
     ghost use Rattle.k42_limits.specs.declared.TheConstants.{LAST_INCARNATION};
     ghost use Rattle.phase_core.specs.Stages.{object_of, row_of, object_named};
+    ghost use Rattle.turn_core.specs.Stamps.{last_stamp};
     ghost use Rattle.k42_stamp.specs.Lists.{IsListOf};
     ghost use Rattle.k42_rule.specs.Gracing.{FitsGrace};
     ghost use Rattle.k42_rule.specs.Queueing.{IsTied};
+    ghost use Rattle.k42_rule.specs.Seats.{LAST_STAMP};
     ghost use Rattle.k42_rule.specs.Seen.{PassSeen, Mirrors};
     ghost use Rattle.k42_rule.specs.Swapping.{next_entry};
     ghost use Rattle.k42_rule.specs.Values.{layout_in, incarnation_in};
@@ -96,8 +99,9 @@ impl<P: Drop> Model for Walker<P> {
         × (incarnation_in (word_begun p.last) ≤ LAST_INCARNATION) × (layout_in (word_begun p.last) ≤ 2)
         × (row_of p.place ≤ LAST_INCARNATION)
         × (p.granted ≤ length p.rows.items)
-        × FitsGrace p.grace (length p.waits.items) × (unwrap_or p.base 0 + 1 < 2 ^ 32) × (unwrap_or p.coming 0 < 2 ^ 32)
-        × IsListOf p.number p.entries.items 
+        × FitsGrace p.grace p.base (length p.waits.items) × (unwrap_or p.base 0 + 1 < 2 ^ 32) × (unwrap_or p.coming 0 < 2 ^ 32)
+        × IsListOf p.number p.entries.items
+        × (last_stamp p.entries.items ≤ LAST_STAMP)
         × (p.post.me.hand ≡ None) × (p.post.me.spare ≡ None) × IsTied p.seat.table_id p.post.me.view.client };
 }
 
@@ -130,7 +134,8 @@ impl<P: Drop> Walker<P> {
 
     /// How far its grace is.
     pub fn grace(&self) -> GraceAt
-        ensures { result ≡ self.now.view.turn.grace }
+        ensures is { result ≡ self.now.view.turn.grace }
+        ensures fits { FitsGrace self.now.view.turn.grace self.now.view.base (length self.now.view.turn.waits) }
     {
         self.grace
     }
