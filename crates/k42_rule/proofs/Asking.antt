@@ -1,19 +1,21 @@
 -- Asking for the generation of the processors is allowed to a pass that is about to flip the first.
-use Rattle.std.proofs.Common.{◌≡◌, ℕ, ◌+◌, ◌*◌, ◌/◌, ◌^◌, ◌<◌, Bool, List, [], ◌∷◌, Option, Some, None, get_or, set, sym, refl, ap, ◌∙◌, arith, le_refl}
+use Rattle.std.proofs.Common.{◌≡◌, ◌≢◌, ℕ, false, ltb, List, [], ◌∷◌, Some, get_or, set, sym, refl, ap, ◌∙◌, arith, le_refl}
 use Rattle.std.specs.List.{slice_get}
+use Rattle.std.proofs.lemmas.Bool.{le-ltb}
 use Rattle.std.proofs.lemmas.Option.{slice_get-get_or, same_Some}
 use mathlib.Core.Option.{some}
 use lib.ListN.{get_elem?}
 use Rattle.atomic_table.specs.Table.{State}
 use Rattle.gen_core.specs.Sound.{generation_of, is_flipped}
-use Rattle.gen_core.specs.State.{caller_at, proc_at, fresh_proc}
+use Rattle.gen_core.specs.State.{proc_at, fresh_proc}
 use Rattle.gen_core.specs.declared.state.GenProc.{GenProc}
-use Rattle.gen_core.specs.declared.state.GraceAt.TheVariants.{Flipping}
+use Rattle.gen_core.specs.declared.state.GraceAt.{GraceAt}
+use Rattle.gen_core.specs.declared.state.GraceAt.TheVariants.{Idle}
 use Rattle.gen_core.proofs.Ranges.{next_fits}
 use Rattle.k42_stamp.specs.Layouts.{Layouts}
 use Rattle.k42_rule.specs.Cells.{Slot}
 use Rattle.k42_rule.specs.Gracing.{MayAskGeneration, asked_view, GenerationFound}
-use Rattle.k42_rule.specs.Rule.{KnowsPass, Rule}
+use Rattle.k42_rule.specs.Rule.{Rule}
 use Rattle.k42_rule.specs.Values.{generation_in}
 use Rattle.k42_rule.specs.Words.{generation_word}
 use Rattle.k42_rule.specs.declared.view.PassView.{PassView}
@@ -45,10 +47,14 @@ module _ {S L P : Type 0} (F : Layouts S L P) (declared : List L)
   asked_base : (b : ℕ) → Some (generation_in found) ≡ Some b → (p : ℕ) (l : GenProc) → slice_get (s F declared table r id v at).procs p ≡ Some l
       → l.generation ≡ generation_of b (is_flipped v.turn.grace p)
   asked_base b is p l e =
-      let busy = λ idle. absurd (let grace = may in cc) in
+      let busy : v.turn.grace ≢ Idle = λ idle. absurd (let grace = may in cc) in
       let first = in_step F declared table r id v at busy 0 k at_first in
       let here = in_step F declared table r id v at busy p l e in
-      rw may (let same = same_Some (generation_in found) b is in rw may at here ∙ sym (rw may at first) ∙ sym asked ∙ same)
+      let base : ℕ = (sound F declared table r id v at).course.base in
+      let at_first_flip = λ (q : ℕ). ap (λ (grace : GraceAt). generation_of base (is_flipped grace q)) may in
+      let same : base ≡ b = sym (first ∙ at_first_flip 0) ∙ sym asked ∙ same_Some (generation_in found) b is in
+      let none : ltb p 0 ≡ false = le-ltb p 0 (omega arith) in
+      here ∙ at_first_flip p ∙ ap (generation_of base) none ∙ same ∙ ap (generation_of b) (sym none) ∙ ap (λ (grace : GraceAt). generation_of b (is_flipped grace p)) (sym may)
 
   pub asks : (after : Rule F declared (with_pass table (set table.words (generation_word 0) found) table.homes id (asked_view found v)))
       × (after.state ≡ r.state)

@@ -1,21 +1,24 @@
 -- An event of one caller at the tables, as a step of one pass.
-use Rattle.std.proofs.Common.{◌≡◌, ◌≢◌, ℕ, ◌+◌, ◌*◌, ◌/◌, ◌%◌, ◌<◌, ◌≤◌, Bool, true, false, List, [], ◌∷◌, Option, Some, None, length, get_or, set, sym, refl, ap, ◌∙◌, subst, arith, length-set, get_or-set_same, get_or-set_other}
+use Rattle.std.proofs.Common.{◌≡◌, ◌≢◌, ℕ, ◌+◌, ◌*◌, ◌/◌, ◌%◌, ◌<◌, ◌≤◌, Bool, true, false, List, [], ◌∷◌, Option, Some, None, length, get_or, set, sym, refl, ap, ◌∙◌, subst, arith, le_refl, take, length-set, get_or-set_same, get_or-set_other}
 use Rattle.std.specs.List.{slice_get, slice_index}
 use mathlib.Core.Option.{some}
 use lib.ListN.{get_elem?}
 use Rattle.atomic_table.specs.Table.{State}
 use Rattle.k42_places.specs.Places.{EachPlace}
 use Rattle.phase_core.specs.Event.{Event, caller_of}
-use Rattle.phase_core.specs.Plain.{Object, Visitor}
+use Rattle.phase_core.specs.Plain.{Object, Visitor, Phases}
 use Rattle.phase_core.specs.Stages.{IsInside, named_by, is_moved, object_named}
-use Rattle.phase_core.specs.State.{object_at, visitor_at, fresh_object, fresh_visitor, put_entry}
+use Rattle.phase_core.specs.State.{object_at, visitor_at, note_at, span_at, fresh_object, fresh_visitor, put_entry}
 use Rattle.phase_core.specs.declared.caller.SwapAt.{SwapAt}
-use Rattle.phase_core.specs.declared.caller.SwapAt.TheVariants.{Opened}
+use Rattle.phase_core.specs.declared.caller.SwapAt.TheVariants.{Moved, Opened}
 use Rattle.k42_stamp.specs.Laws.{AreLaws}
 use Rattle.k42_stamp.specs.Layouts.{Layouts}
 use Rattle.k42_joined.specs.Answers.{is_turned}
 use Rattle.k42_joined.specs.Effects.{effect}
+use Rattle.k42_joined.specs.Event as joined
 use Rattle.k42_joined.specs.Event.{AtPhases}
+use Rattle.k42_joined.specs.Found.{tells_over}
+use Rattle.k42_kinds.specs.declared.entry.Answer.{Answer}
 use Rattle.k42_joined.specs.Numbers.{object_of}
 use Rattle.k42_joined.specs.Plain.{Kept, Joined}
 use Rattle.k42_joined.specs.Possible.{IsPossible}
@@ -35,11 +38,12 @@ use native.Mathlib.Decide.{ℕ_discrete}
 use Rattle.std.proofs.lemmas.Option.{slice_get_within}
 use mathlib.Core.Option as maybe
 use Rattle.k42_rule.specs.Parts.{IsPart}
-use Rattle.k42_rule.specs.Phases.{IsObjectShown, AreObjects, IsOld, KnowsPhases, is_served}
-use Rattle.k42_rule.specs.Rule.{Beside, KnowsPass, Shows, Rule}
+use Rattle.k42_rule.specs.Phases.{IsObjectShown, AreObjects, IsOld, IsGranted, IsLastFreed, KnowsSwap, KnowsRows, KnowsPhases, is_served}
+use Rattle.k42_rule.specs.Rule.{Beside, NamesRows, KnowsPass, Shows, Rule}
 use Rattle.k42_rule.specs.Tabling.{went}
 use Rattle.k42_rule.specs.Trace.{KnowsTrace}
-use Rattle.k42_rule.specs.Values.{layout_in, incarnation_in, local_value, object_value}
+use Rattle.k42_rule.specs.Values.{local_value, object_value}
+use Rattle.k42_rule.specs.Views.{object_begun}
 use Rattle.k42_rule.specs.declared.view.LastBegin.{LastBegin}
 use Rattle.phase_core.specs.declared.caller.Place.{Place}
 use Rattle.k42_rule.specs.declared.view.PassView.{PassView}
@@ -53,19 +57,80 @@ abbrev pub visited : {L : Type 0} → Joined L → List Object → List Visitor 
 visited s objects visitors kept =
     record s { phases = record s.phases { objects = objects; callers = visitors }; kept = kept }
 
--- the object is in the same row
+-- the rule stands in this table, in the state of the event, which was possible
+abbrev pub Steps : {S L P : Type 0} → Layouts S L P → List L → Joined L → joined.Event L → State (Slot P) (View P) → Type 0
+Steps F declared s event table = (after : Rule F declared table) × (after.state ≡ effect s event) × IsPossible F declared s event
+
+-- a table shows no names
+pub shows_naming : {L P : Type 0} (s : Joined L) (beside : Beside P) (naming : Row → ℕ) (table : State (Slot P) (View P)) → Shows s beside table
+    → Shows s (record beside { row_seat = naming }) table
+shows_naming s beside naming table shows = record {
+  many_words = shows.many_words;
+  many_slots = shows.many_slots;
+  few_objects = shows.few_objects;
+  few_entries = shows.few_entries;
+  generations = shows.generations;
+  objects = shows.objects;
+  cells = shows.cells;
+}
+
+-- the object is in the same row, of which no more is kept than was
 pub record IsSameRow (k l : Object) : Type 0 where
   pub layout : l.layout ≡ k.layout
   pub incarnation : l.incarnation ≡ k.incarnation
   pub complete : l.complete ≡ k.complete
-  pub freed : l.freed ≡ k.freed
+  pub freed : k.freed ≤ l.freed
 
 pub same_row : (k : Object) → IsSameRow k k
-same_row k = record { layout = refl; incarnation = refl; complete = refl; freed = refl }
+same_row k = record { layout = refl; incarnation = refl; complete = refl; freed = le_refl k.freed }
 
-turned_same : (swap : SwapAt) (k l : Object) → l.complete ≡ k.complete → is_turned swap l ≡ is_turned swap k
-turned_same (Opened o) k l same = same
-turned_same swap k l same = refl
+-- what is true of rows that were handed on, and freed, stays
+pub record GoesOn {L : Type 0} (s t : Joined L) : Type 0 where
+  pub old : (row : Row) → IsOld s.phases row → IsOld t.phases row
+  pub freed : (o : ℕ) → (object_at s.phases o).freed ≤ (object_at t.phases o).freed
+
+-- what a pass knows of the objects that it names stays
+pub record IsLeft {L P : Type 0} (s t : Joined L) (x : PassView P) : Type 0 where
+  pub place :
+      (o i : ℕ) → IsInside x.visitor.place o i → (object_at t.phases o).layout ≡ (object_at s.phases o).layout
+  pub swap : (o : ℕ) → named_by x.visitor.swap ≡ Some o → IsSameRow (object_at s.phases o) (object_at t.phases o)
+  pub spans :
+      (o : ℕ) → (span_at x.visitor.freeing o).0 < (span_at x.visitor.freeing o).1
+      → (object_at t.phases o).incarnation ≡ (object_at s.phases o).incarnation
+  pub over :
+      (answer : Answer) → x.found ≡ Some answer → tells_over answer ≡ true
+      → (object_at t.phases (object_begun x.last)).incarnation ≡ (object_at s.phases (object_begun x.last)).incarnation
+
+turned_stays : {L : Type 0} (s t : Joined L) (swap : SwapAt)
+    → ((o : ℕ) → named_by swap ≡ Some o → IsSameRow (object_at s.phases o) (object_at t.phases o))
+    → is_turned swap (object_at t.phases (object_named swap)) ≡ is_turned swap (object_at s.phases (object_named swap))
+turned_stays s t (Opened o) same = (same o refl).complete
+turned_stays s t swap same = refl
+
+pub moved_names : (swap : SwapAt) → is_moved swap ≡ true → named_by swap ≡ Some (object_named swap)
+moved_names (Moved o) e = refl
+moved_names swap e = absurd (cc)
+
+-- what a pass knows of its swap and of rows stays
+module _ {L P : Type 0} (s t : Joined L) (x : PassView P) where
+  pub swap_stays : ((o : ℕ) → named_by x.visitor.swap ≡ Some o → IsSameRow (object_at s.phases o) (object_at t.phases o))
+      → KnowsSwap s.phases x → KnowsSwap t.phases x
+  swap_stays same knows = record {
+    turned = knows.turned ∙ sym (turned_stays s t x.visitor.swap same);
+    layout_begun = λ o named not. knows.layout_begun o named not ∙ sym (same o named).layout;
+    begun = λ o named not. knows.begun o named not ∙ sym (same o named).incarnation;
+    next = λ o named is. knows.next o named is ∙ sym (same o named).incarnation;
+  }
+
+  pub rows_stay : GoesOn s t
+      → ((o : ℕ) → (span_at x.visitor.freeing o).0 < (span_at x.visitor.freeing o).1 → (object_at t.phases o).incarnation ≡ (object_at s.phases o).incarnation)
+      → KnowsRows s.phases x → KnowsRows t.phases x
+  rows_stay on same knows = record {
+    old = λ place row e. on.old row (knows.old place row e);
+    granted = knows.granted;
+    swept = λ o n named is. let was = knows.swept o n named is in let more = on.freed o in omega (arith, was, more);
+    spans = λ o some. let was = knows.spans o some in record { one = was.one; last = was.last ∙ sym (same o some) };
+  }
 
 module _ {L : Type 0} (s : Joined L) (objects : List Object) (visitors : List Visitor) (kept : List Kept) where
   abbrev pub t : Joined L
@@ -75,79 +140,129 @@ module _ {L : Type 0} (s : Joined L) (objects : List Object) (visitors : List Vi
     pub many : length objects ≡ length s.phases.objects
     pub each : (o : ℕ) → IsSameRow (object_at s.phases o) (object_at t.phases o)
 
+  -- where no object goes to another row, all that is known stays
   module _ (rows : AreSameRows) where
-    pub old_stays : (row : Row) → IsOld s.phases row → IsOld t.phases row
+    old_stays : (row : Row) → IsOld s.phases row → IsOld t.phases row
     old_stays row old =
         let same = rows.each row.object in
         (rw same.incarnation old.0, λ done. rw same.incarnation (old.1 (sym same.complete ∙ done)))
 
-    -- what a pass knows of its swap and its rows
-    pub record Goes {P : Type 0} (x : PassView P) : Type 0 where
-      pub begun :
-          (o : ℕ) (begin : LastBegin) → named_by x.visitor.swap ≡ Some o → x.last ≡ Some begin
-          → is_turned x.visitor.swap (object_at t.phases o) ≡ false
-          → (layout_in begin.word ≡ (object_at t.phases o).layout) × (incarnation_in begin.word ≡ (object_at t.phases o).incarnation)
-      pub held_rows : EachPlace (λ place row. IsOld t.phases row) x.rows
+    pub same_on : GoesOn s t
+    same_on = record { old = old_stays; freed = λ o. (rows.each o).freed }
 
-    pub phases_but : {P : Type 0} (x : PassView P) → KnowsPhases s.phases x → Goes x
-    phases_but x knows = record {
-      begun = λ o begin named is not.
-          let same = rows.each o in
-          let old = knows.begun o begin named is (sym (turned_same x.visitor.swap (object_at s.phases o) (object_at t.phases o) same.complete) ∙ not) in
-          (old.0 ∙ sym same.layout, old.1 ∙ sym same.incarnation);
-      held_rows = λ place row e. old_stays row (knows.rows place row e);
+    pub same_left : {P : Type 0} (x : PassView P) → IsLeft s t x
+    same_left x = record {
+      place = λ o i inside. (rows.each o).layout;
+      swap = λ o named. rows.each o;
+      spans = λ o some. (rows.each o).incarnation;
+      over = λ answer e tells. (rows.each (object_begun x.last)).incarnation;
     }
 
-    pub phases_stay : {P : Type 0} (x : PassView P) → visitor_at t.phases x.number ≡ visitor_at s.phases x.number
-        → KnowsPhases s.phases x → KnowsPhases t.phases x
-    phases_stay x other knows =
-        let goes = phases_but x knows in
-        record {
-          visitor = other ∙ knows.visitor;
-          layout = λ l o i e inside. (rows.each o).layout ∙ knows.layout l o i e inside;
-          learned = knows.learned;
-          begun = goes.begun;
-          rows = goes.held_rows;
-          granted = knows.granted;
-        }
+  -- a pass that does nothing
+  module _ {P : Type 0} (x : PassView P) (left : IsLeft s t x) where
+    handed_same : is_moved x.visitor.swap ≡ true → is_handed t (object_named x.visitor.swap) ≡ is_handed s (object_named x.visitor.swap)
+    handed_same moved = rw (left.swap (object_named x.visitor.swap) (moved_names x.visitor.swap moved)).incarnation refl
 
-    handed_same : (o : ℕ) → is_handed t o ≡ is_handed s o
-    handed_same o = rw (rows.each o).incarnation refl
-
-    pub trace_stays : {P : Type 0} (tag_of : L → ℕ) (x : PassView P) → kept_of t x.number ≡ kept_of s x.number
-        → KnowsTrace tag_of s x → KnowsTrace tag_of t x
-    trace_stays tag_of x same knows = record {
+    pub trace_stays : (tag_of : L → ℕ) → kept_of t x.number ≡ kept_of s x.number → KnowsTrace tag_of s x → KnowsTrace tag_of t x
+    trace_stays tag_of same knows = record {
       kept = same ∙ knows.kept;
       found = knows.found;
-      handed = λ tag e.
-          let old = knows.handed tag e in
-          (old.0, rw (handed_same (object_named x.visitor.swap)) old.1);
-      unhanded = λ e is. handed_same (object_named x.visitor.swap) ∙ knows.unhanded e is;
-      few = knows.few;
+      over = λ answer e tells. knows.over answer e tells ∙ sym (left.over answer e tells);
+      handed = λ tag e. let old = knows.handed tag e in (old.0, rw (handed_same old.0) old.1);
+      unhanded = λ e is. handed_same is ∙ knows.unhanded e is;
       times = knows.times;
     }
 
-    pub pass_stays : {P : Type 0} (tag_of : L → ℕ) (beside : Beside P) (j : ℕ) (x : PassView P) → length visitors ≡ length s.phases.callers
-        → visitor_at t.phases x.number ≡ visitor_at s.phases x.number → kept_of t x.number ≡ kept_of s x.number
-        → KnowsPass tag_of s beside j x → KnowsPass tag_of t beside j x
-    pass_stays tag_of beside j x many visitor same knows = record {
-      there = rw many knows.there;
-      seat = knows.seat;
-      generations = knows.generations;
-      phases = phases_stay x visitor knows.phases;
-      cells = knows.cells;
-      trace = trace_stays tag_of x same knows.trace;
+    phases_stay : GoesOn s t → visitor_at t.phases x.number ≡ visitor_at s.phases x.number → KnowsPhases s.phases x → KnowsPhases t.phases x
+    phases_stay on other knows = record {
+      visitor = other ∙ knows.visitor;
+      layout = λ l o i e inside. left.place o i inside ∙ knows.layout l o i e inside;
+      learned = knows.learned;
+      swap = swap_stays s t x left.swap knows.swap;
+      rows = rows_stay s t x on left.spans knows.rows;
     }
 
-    -- the parts that are due are as before
-    pub part_stays : {S P : Type 0} (F : Layouts S L P) (declared : List L) (n : ℕ) (part : Option P)
-        → IsPart F declared s n part → IsPart F declared t n part
-    part_stays F declared n part is = record {
-      due = λ declaration chain row declares of here kept.
-          is.due declaration chain row declares (record { fits = of.fits; layouts = of.layouts }) here
-          (let same = (rows.each (object_of n)).freed in omega (arith, kept, same));
-      before = is.before;
+    -- and where its rows keep their names
+    pub pass_stays : (tag_of : L → ℕ) (beside : Beside P) (naming : Row → ℕ) → ((row : Row) → IsOld s.phases row → naming row ≡ beside.row_seat row)
+        → GoesOn s t → (j : ℕ) → length visitors ≡ length s.phases.callers
+        → visitor_at t.phases x.number ≡ visitor_at s.phases x.number → kept_of t x.number ≡ kept_of s x.number
+        → KnowsPass tag_of s beside j x → KnowsPass tag_of t (record beside { row_seat = naming }) j x
+    pass_stays tag_of beside naming same_names on j many visitor same knows = record {
+      there = rw many knows.there;
+      seat = knows.seat;
+      names = record {
+        named = λ place row e. same_names row (knows.phases.rows.old place row e) ∙ knows.names.named place row e;
+        once = knows.names.once;
+      };
+      generations = knows.generations;
+      phases = phases_stay on visitor knows.phases;
+      cells = knows.cells;
+      trace = trace_stays tag_of same knows.trace;
     }
+
+  -- the parts that are due are as before
+  pub part_stays : {S P : Type 0} (F : Layouts S L P) (declared : List L) (on : GoesOn s t) (n : ℕ) (part : Option P)
+      → IsPart F declared s n part → IsPart F declared t n part
+  part_stays F declared on n part is = record {
+    due = λ declaration chain row declares of here kept.
+        is.due declaration chain row declares (record { fits = of.fits; layouts = of.layouts }) here
+        (let same = on.freed (object_of n) in omega (arith, kept, same));
+    before = is.before;
+  }
+
+-- the pass with this in place of what it knew of tables and swaps
+abbrev pub told :
+    {P : Type 0} → PassView P → Visitor → Option LastBegin → Option Answer → Bool → Bool → Option ℕ → Option ℕ → List Row → ℕ
+    → PassView P
+told v x last found abandoned turned layout handed rows heard = record v {
+  visitor = x;
+  last = last;
+  found = found;
+  abandoned = abandoned;
+  turned = turned;
+  layout = layout;
+  handed = handed;
+  rows = rows;
+  heard = heard;
+}
+
+-- The pass itself: what it knows of its activity and its cells stays.
+module _ {L P : Type 0} (tag_of : L → ℕ) (s : Joined L) (objects : List Object) (visitors : List Visitor) (kept : List Kept)
+    (beside : Beside P) (id : ℕ) (v : PassView P) (knows : KnowsPass tag_of s beside id v)
+    (x : Visitor) (last : Option LastBegin) (found : Option Answer) (abandoned turned : Bool) (layout handed : Option ℕ)
+    (rows : List Row) (heard : ℕ) where
+  abbrev own : PassView P
+  own = told v x last found abandoned turned layout handed rows heard
+
+  pub own_after : (naming : Row → ℕ) → length visitors ≡ length s.phases.callers → NamesRows (record beside { row_seat = naming }) id rows
+      → KnowsPhases (visited s objects visitors kept).phases own → KnowsTrace tag_of (visited s objects visitors kept) own
+      → KnowsPass tag_of (visited s objects visitors kept) (record beside { row_seat = naming }) id own
+  own_after naming many names phases trace = record {
+    there = rw many knows.there;
+    seat = knows.seat;
+    names = names;
+    generations = record {
+      turn = knows.generations.turn;
+      activities = knows.generations.activities;
+      graces = knows.generations.graces;
+      base = knows.generations.base;
+    };
+    phases = phases;
+    cells = record { taker = knows.cells.taker; notes = knows.cells.notes; noted = knows.cells.noted; out = knows.cells.out; only = knows.cells.only };
+    trace = trace;
+  }
+
+  -- of rows it knows as much, and of those that are new too
+  pub rows_told : (p : Phases) → x.noted ≡ v.visitor.noted → x.freeing ≡ v.visitor.freeing → take v.granted rows ≡ take v.granted v.rows
+      → EachPlace (λ place row. IsOld p row) rows → KnowsRows p v → KnowsRows p own
+  rows_told p noted freeing granted old was = record {
+    old = old;
+    granted = subst (λ (z : List (Option ℕ) × List Row). EachPlace (λ place row. IsGranted z.0 row) z.1) (λ j. (sym noted j, sym granted j)) was.granted;
+    swept = λ o n named is. was.swept o n named (ap (λ z. note_at z o) (sym noted) ∙ is);
+    spans =
+        subst (λ (z : List (ℕ × ℕ)). (o : ℕ) → (span_at z o).0 < (span_at z o).1 → IsLastFreed (span_at z o) (object_at p o)) (sym freeing)
+        was.spans;
+  }
 
 module _ {S L P : Type 0} (F : Layouts S L P) (laws : AreLaws F) (declared : List L)
     (table : State (Slot P) (View P)) (r : Rule F declared table) (id : ℕ) (v : PassView P)
@@ -166,87 +281,103 @@ module _ {S L P : Type 0} (F : Layouts S L P) (laws : AreLaws F) (declared : Lis
   pub record IsVisit : Type 0 where
     pub possible : IsPossible F declared r.state (AtPhases e)
     pub effect_is : state_after ≡ effect r.state (AtPhases e)
-    pub rows : AreSameRows r.state objects visitors_after kept
+    pub on : GoesOn r.state state_after
+    pub left : (j : ℕ) (y : PassView P) → y.number ≢ v.number → KnowsPass F.tag_of r.state r.beside j y → IsLeft r.state state_after y
     pub kept_else : (d : ℕ) → d ≢ v.number → kept_of state_after d ≡ kept_of r.state d
+
+  pub same_visit : IsPossible F declared r.state (AtPhases e) → state_after ≡ effect r.state (AtPhases e)
+      → AreSameRows r.state objects visitors_after kept → ((d : ℕ) → d ≢ v.number → kept_of state_after d ≡ kept_of r.state d) → IsVisit
+  same_visit possible is rows kept_else = record {
+    possible = possible;
+    effect_is = is;
+    on = same_on r.state objects visitors_after kept rows;
+    left = λ j y not was. same_left r.state objects visitors_after kept rows y;
+    kept_else = kept_else;
+  }
 
   pub visitor_is : visitor_at state_after.phases v.number ≡ x
   visitor_is = get_or-set_same r.state.phases.callers v.number x fresh_visitor knows.there
 
-  pub there_after : v.number < length visitors_after
-  there_after = rw (length-set r.state.phases.callers v.number x) knows.there
+  pub many_after : length visitors_after ≡ length r.state.phases.callers
+  many_after = length-set r.state.phases.callers v.number x
 
-  module _ (visit : IsVisit) where
-    leaves : LeavesOthers F declared table r id v at state_after r.beside
+  module _ (visit : IsVisit) (naming : Row → ℕ) (same_names : (row : Row) → IsOld r.state.phases row → naming row ≡ r.beside.row_seat row) where
+    abbrev pub beside_after : Beside P
+    beside_after = record r.beside { row_seat = naming }
+
+    leaves : LeavesOthers F declared table r id v at state_after beside_after
     leaves = record {
-      passes = λ j y not is.
-          pass_stays r.state objects visitors_after kept visit.rows F.tag_of r.beside j y (length-set r.state.phases.callers v.number x)
-          (get_or-set_other r.state.phases.callers v.number y.number x fresh_visitor not) (visit.kept_else y.number not) is;
-      rows = λ row old. old_stays r.state objects visitors_after kept visit.rows row old;
-      row_seats = λ row. refl;
+      passes = λ j y not was.
+          pass_stays r.state objects visitors_after kept y (visit.left j y not was) F.tag_of r.beside naming same_names visit.on j many_after
+          (get_or-set_other r.state.phases.callers v.number y.number x fresh_visitor not) (visit.kept_else y.number not) was;
+      named = λ j row not old is. (visit.on.old row old, same_names row old ∙ is);
     }
 
     sound : IsSound F declared state_after
     sound = subst (λ z. IsSound F declared z) (sym visit.effect_is) (joined_keeps F laws declared r.state r.sound (AtPhases e) visit.possible)
 
     -- the pass moved by the event
-    pub visits : (words : List ℕ) (w : PassView P)
-        → Shows state_after r.beside (with_pass table words table.homes id w) → KnowsPass F.tag_of state_after r.beside id w
-        → (after : Rule F declared (with_pass table words table.homes id w)) × (after.state ≡ effect r.state (AtPhases e))
-    visits words w shows mine =
-        let after = moved F declared table r id v at state_after r.beside words table.homes w leaves sound shows
-        (λ n lt. part_stays r.state objects visitors_after kept visit.rows F declared n (r.beside.contents.part n) (r.parts n lt))
+    pub visits_naming : (words : List ℕ) (w : PassView P)
+        → Shows state_after r.beside (with_pass table words table.homes id w) → KnowsPass F.tag_of state_after beside_after id w
+        → Steps F declared r.state (AtPhases e) (with_pass table words table.homes id w)
+    visits_naming words w shows mine =
+        let after = moved F declared table r id v at state_after beside_after words table.homes w leaves sound
+        (shows_naming state_after r.beside naming (with_pass table words table.homes id w) shows)
+        (λ n lt. part_stays r.state objects visitors_after kept F declared visit.on n (r.beside.contents.part n) (r.parts n lt))
         mine
-        in (after.0, after.1 ∙ visit.effect_is)
+        in (after.0, after.1 ∙ visit.effect_is, visit.possible)
+
+  pub visits : IsVisit → (words : List ℕ) (w : PassView P)
+      → Shows state_after r.beside (with_pass table words table.homes id w) → KnowsPass F.tag_of state_after r.beside id w
+      → Steps F declared r.state (AtPhases e) (with_pass table words table.homes id w)
+  visits visit words w shows mine = visits_naming visit r.beside.row_seat (λ row old. refl) words w shows mine
 
 -- a pass that goes on in its call
 module _ {S L P : Type 0} (F : Layouts S L P) (laws : AreLaws F) (declared : List L)
     (table : State (Slot P) (View P)) (r : Rule F declared table) (id : ℕ) (v : PassView P)
     (at : get_elem? table.views id ≡ some (Crew (v ∷ [])))
-    (objects : List Object) (place : Place) (read : List (ℕ × ℕ)) (layout : Option ℕ) where
+    (objects : List Object) (place : Place) (read : List (ℕ × ℕ)) (layout : Option ℕ) (heard : ℕ) where
   abbrev pub visitor_gone : Visitor
   visitor_gone = record v.visitor { place = place; read = read }
 
+  abbrev visitors_gone : List Visitor
+  visitors_gone = set r.state.phases.callers v.number visitor_gone
+
   abbrev pub state_gone : Joined L
-  state_gone = visited r.state objects (set r.state.phases.callers v.number visitor_gone) r.state.kept
+  state_gone = visited r.state objects visitors_gone r.state.kept
 
   -- what it learns is so
   pub record HasLearned : Type 0 where
     pub layout_is : (l o i : ℕ) → layout ≡ Some l → IsInside place o i → (object_at state_gone.phases o).layout ≡ l
     pub learned : is_served place ≡ true → layout ≢ None
 
-  pub goes : (rows : AreSameRows r.state objects (set r.state.phases.callers v.number visitor_gone) r.state.kept) → HasLearned
-      → KnowsPass F.tag_of state_gone r.beside id (went v visitor_gone layout)
-  goes rows told =
+  pub goes : (rows : AreSameRows r.state objects visitors_gone r.state.kept) → HasLearned
+      → KnowsPass F.tag_of state_gone r.beside id (went heard v visitor_gone layout)
+  goes rows learns =
       let before = known F declared table r id v at in
-      let phases = phases_but r.state objects (set r.state.phases.callers v.number visitor_gone) r.state.kept rows v before.phases in
-      let trace = trace_stays r.state objects (set r.state.phases.callers v.number visitor_gone) r.state.kept rows F.tag_of v refl before.trace in
-      record {
-        there = rw (length-set r.state.phases.callers v.number visitor_gone) before.there;
-        seat = before.seat;
-        generations = record {
-          turn = before.generations.turn;
-          activities = before.generations.activities;
-          graces = before.generations.graces;
-          base = before.generations.base;
-        };
-        phases = record {
-          visitor = get_or-set_same r.state.phases.callers v.number visitor_gone fresh_visitor before.there;
-          layout = told.layout_is;
-          learned = told.learned;
-          begun = phases.begun;
-          rows = phases.held_rows;
-          granted = before.phases.granted;
-        };
-        cells = record { taker = before.cells.taker; notes = before.cells.notes; noted = before.cells.noted; out = before.cells.out; only = before.cells.only };
-        trace = record {
-          kept = trace.kept;
-          found = trace.found;
-          handed = trace.handed;
-          unhanded = trace.unhanded;
-          few = trace.few;
-          times = trace.times;
-        };
-      }
+      let left = same_left r.state objects visitors_gone r.state.kept rows v in
+      let on = same_on r.state objects visitors_gone r.state.kept rows in
+      let swap = swap_stays r.state state_gone v left.swap before.phases.swap in
+      let old = rows_stay r.state state_gone v on left.spans before.phases.rows in
+      let trace = trace_stays r.state objects visitors_gone r.state.kept v left F.tag_of refl before.trace in
+      own_after F.tag_of r.state objects visitors_gone r.state.kept r.beside id v before
+      visitor_gone v.last v.found v.abandoned v.turned layout v.handed v.rows heard
+      r.beside.row_seat (length-set r.state.phases.callers v.number visitor_gone) before.names
+      (record {
+        visitor = get_or-set_same r.state.phases.callers v.number visitor_gone fresh_visitor before.there;
+        layout = learns.layout_is;
+        learned = learns.learned;
+        swap = record { turned = swap.turned; layout_begun = swap.layout_begun; begun = swap.begun; next = swap.next };
+        rows = record { old = old.old; granted = old.granted; swept = old.swept; spans = old.spans };
+      })
+      (record {
+        kept = trace.kept;
+        found = trace.found;
+        over = trace.over;
+        handed = trace.handed;
+        unhanded = trace.unhanded;
+        times = trace.times;
+      })
 
 -- words of objects and entries are none of generations or locks
 pub record IsOfTables (i : ℕ) : Type 0 where
@@ -375,6 +506,7 @@ module _ {S L P : Type 0} (F : Layouts S L P) (laws : AreLaws F) (declared : Lis
     many_words = length-set table.words i new ∙ r.shows.many_words;
     many_slots = r.shows.many_slots;
     few_objects = rw many r.shows.few_objects;
+    few_entries = r.shows.few_entries;
     generations =
         generations_as_before table.words i new r.state.phases.turns r.beside.counts apart
         (let long = r.sound.phases.in_scene.in_course.many_procs in let few = r.sound.phases.in_scene.in_course.limits.few_procs in omega (arith, long, few))

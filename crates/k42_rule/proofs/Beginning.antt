@@ -1,5 +1,5 @@
 -- Beginning a swap.
-use Rattle.std.proofs.Common.{length-set, get_or-set_same, get_or-set_other, ◌≡◌, ◌≢◌, ℕ, ◌+◌, ◌-◌, ◌*◌, ◌/◌, ◌%◌, ◌^◌, ◌<◌, ◌≤◌, Bool, true, false, cond, eqb, List, [], ◌∷◌, Option, Some, None, length, get_or, set, sym, refl, ap, ◌∙◌, subst, arith}
+use Rattle.std.proofs.Common.{length-set, get_or-set_same, get_or-set_other, ◌≡◌, ◌≢◌, ℕ, ◌+◌, ◌-◌, ◌*◌, ◌/◌, ◌%◌, ◌^◌, ◌<◌, ◌≤◌, Bool, true, false, cond, eqb, List, [], ◌∷◌, Option, Some, None, length, get_or, set, sym, refl, ap, ◌∙◌, subst, arith, le_refl}
 use Rattle.std.specs.Prelude.{◌&&◌}
 use Rattle.std.specs.List.{slice_get, slice_index}
 use Rattle.std.specs.Option.{is_some, unwrap_or}
@@ -14,7 +14,7 @@ use Rattle.gen_core.specs.State.{caller_at}
 use Rattle.phase_core.specs.Effects.{at_stage, begun_as, is_over}
 use Rattle.phase_core.specs.Event.{Begin}
 use Rattle.phase_core.specs.Plain.{Object, Visitor, Phases}
-use Rattle.phase_core.specs.Stages.{IsInside, is_idle, named_by, is_moved}
+use Rattle.phase_core.specs.Stages.{IsInside, is_idle, named_by, object_named, is_moved}
 use Rattle.phase_core.specs.State.{object_at, visitor_at, entry_at, proc_of, put_object, put_visitor, with_row, fresh_object}
 use Rattle.phase_core.specs.declared.caller.Place.TheVariants.{Out, Missed, Direct, AtMediator, Tracked, Blocked}
 use Rattle.phase_core.specs.declared.caller.Place.{Place}
@@ -30,21 +30,21 @@ use Rattle.k42_joined.specs.State.{held}
 use Rattle.k42_joined.specs.Swapping.{holds_none}
 use Rattle.turn_core.specs.Plain as turns
 use Rattle.k42_rule.specs.Cells.{Slot}
-use Rattle.k42_rule.specs.Phases.{is_served}
-use Rattle.k42_rule.specs.Rule.{KnowsPass, Rule}
+use Rattle.k42_rule.specs.Phases.{is_served, KnowsSwap, KnowsRows}
+use Rattle.k42_rule.specs.Rule.{KnowsPass, Rule, Ruled}
 use Rattle.k42_rule.specs.Seen.{IsSeatOf}
 use Rattle.k42_rule.specs.Views.{pass_in}
-use Rattle.k42_rule.specs.Steps.{Seated, Tells}
-use Rattle.k42_rule.specs.Tabling.{word_object, MayBegin, is_over_in, stage_begun, begun_view}
+use Rattle.k42_rule.specs.Steps.{Seated, Tells, TellsWith}
+use Rattle.k42_rule.specs.Tabling.{ObjectFound, word_object, MayBegin, is_over_in, stage_begun, begun_view}
 use Rattle.k42_rule.specs.Values.{object_value, layout_in, incarnation_in, has_bit, answer_in}
 use Rattle.k42_rule.specs.Words.{object_word}
 use Rattle.k42_rule.specs.declared.view.PassView.{PassView}
 use Rattle.k42_rule.specs.declared.view.View.{View}
 use Rattle.k42_rule.specs.declared.view.View.TheVariants.{Crew}
-use Rattle.k42_rule.proofs.AtTables.{visited, IsSameRow, AreSameRows, IsVisit, visits, goes, of_object, object_written, rows_same, few_entries, written_shows}
+use Rattle.k42_rule.proofs.AtTables.{visited, Steps, AreSameRows, same_on, same_left, same_visit, visits, rows_stay, own_after, rows_told, of_object, object_written, rows_same, few_entries, written_shows}
 use Rattle.k42_rule.proofs.Fields.{IsRead, object_fits, swap_set}
 use Rattle.k42_rule.proofs.Looking.{object_shown, object_is_read}
-use Rattle.k42_rule.proofs.Knocking.{word_object_is}
+use Rattle.k42_rule.proofs.Knocking.{word_object_is, object_finds}
 use Rattle.std.specs.Int.RustNames.{bit_or}
 use Rattle.k42_joined.specs.Plain.{Kept}
 use Rattle.k42_joined.specs.State.{kept_of, keep, nothing_kept}
@@ -54,8 +54,7 @@ use Rattle.k42_rule.specs.declared.view.LastBegin.{LastBegin}
 use Rattle.gen_core.specs.Events.{is_free}
 use Rattle.phase_core.specs.declared.caller.SwapAt.{SwapAt}
 use Rattle.phase_core.specs.declared.caller.SwapAt.TheVariants.{Idle}
-use Rattle.k42_rule.proofs.AtTables.{phases_but, trace_stays}
-use Rattle.k42_rule.proofs.Moves.{Moves, seat_allowed}
+use Rattle.k42_rule.proofs.Moves.{Moves, seat_allowed_with}
 use Rattle.k42_rule.proofs.OnePass.{with_pass, known}
 
 idle_is : (swap : SwapAt) → is_idle swap ≡ true → swap ≡ Idle
@@ -69,6 +68,10 @@ begun_names o q false e = same_Some o q e
 begun_unmoved : (o : ℕ) (over : Bool) → is_moved (begun_as o over) ≡ false
 begun_unmoved o true = refl
 begun_unmoved o false = refl
+
+begun_unturned : (o : ℕ) (over : Bool) (l : Object) → is_turned (begun_as o over) l ≡ false
+begun_unturned o true l = refl
+begun_unturned o false l = refl
 
 module _ {S L P : Type 0} (F : Layouts S L P) (laws : AreLaws F) (declared : List L)
     (table : State (Slot P) (View P)) (r : Rule F declared table) (id : ℕ) (v : PassView P)
@@ -156,72 +159,88 @@ module _ {S L P : Type 0} (F : Layouts S L P) (laws : AreLaws F) (declared : Lis
   }
 
   rows : AreSameRows r.state objects (set s.callers c x) kept
-  rows = rows_same r.state o k' (set s.callers c x) kept there (record { layout = refl; incarnation = refl; complete = refl; freed = refl })
+  rows = rows_same r.state o k' (set s.callers c x) kept there (record { layout = refl; incarnation = refl; complete = refl; freed = le_refl k.freed })
 
   c_kept : c < length r.state.kept
   c_kept = let many = r.sound.cells.locks.many.kept in let lt = knows.there in omega (arith, many, lt)
 
   -- what becomes of its place and its swap
-  abbrev Stays : Visitor → Type 0
-  Stays y =
-      (y.place ≡ v.visitor.place) × (y.noted ≡ v.visitor.noted) × ((q : ℕ) → named_by y.swap ≡ Some q → o ≡ q) × (is_moved y.swap ≡ false)
+  pub record IsBegun (y : Visitor) : Type 0 where
+    pub place : y.place ≡ v.visitor.place
+    pub noted : y.noted ≡ v.visitor.noted
+    pub freeing : y.freeing ≡ v.visitor.freeing
+    pub named : (q : ℕ) → named_by y.swap ≡ Some q → o ≡ q
+    pub unmoved : is_moved y.swap ≡ false
+    pub unturned : (l : Object) → is_turned y.swap l ≡ false
 
-  stays : (b : Bool) → Stays (cond b v.visitor (at_stage v.visitor (begun_as o (is_over_in found))))
-  stays true = (
-    refl,
-    refl,
-    λ q named. absurd (let none : named_by v.visitor.swap ≡ None = ap named_by swap_is in cc),
-    ap is_moved swap_is,
-  )
-  stays false = (refl, refl, λ q named. begun_names o q (is_over_in found) named, begun_unmoved o (is_over_in found))
+  begun_is : (b : Bool) → IsBegun (cond b v.visitor (at_stage v.visitor (begun_as o (is_over_in found))))
+  begun_is true = record {
+    place = refl;
+    noted = refl;
+    freeing = refl;
+    named = λ q named. absurd (let none : named_by v.visitor.swap ≡ None = ap named_by swap_is in cc);
+    unmoved = ap is_moved swap_is;
+    unturned = λ l. ap (λ z. is_turned z l) swap_is;
+  }
+  begun_is false = record {
+    place = refl;
+    noted = refl;
+    freeing = refl;
+    named = λ q named. begun_names o q (is_over_in found) named;
+    unmoved = begun_unmoved o (is_over_in found);
+    unturned = λ l. begun_unturned o (is_over_in found) l;
+  }
 
-  stays_x : Stays x
-  stays_x = stays (has_bit found 24)
+  x_is : IsBegun x
+  x_is = begun_is (has_bit found 24)
+
+  -- it had turned nothing over
+  unturned_before : v.turned ≡ false
+  unturned_before = knows.phases.swap.turned ∙ ap (λ z. is_turned z (object_at s (object_named v.visitor.swap))) swap_is
+
+  knows_swap : KnowsSwap after.phases (begun_view o found v)
+  knows_swap = record {
+    turned = unturned_before ∙ sym (x_is.unturned (object_at after.phases (object_named x.swap)));
+    layout_begun = λ q named not. is_read.layout ∙ ap (λ z. (object_at s z).layout) (x_is.named q named) ∙ sym (rows.each q).layout;
+    begun = λ q named not. is_read.incarnation ∙ ap (λ z. (object_at s z).incarnation) (x_is.named q named) ∙ sym (rows.each q).incarnation;
+    next = λ q named is. absurd (let not = unturned_before in cc);
+  }
+
+  knows_rows : KnowsRows after.phases (begun_view o found v)
+  knows_rows =
+      let old = rows_stay r.state after v (same_on r.state objects (set s.callers c x) kept rows)
+      (same_left r.state objects (set s.callers c x) kept rows v).spans knows.phases.rows in
+      rows_told F.tag_of r.state objects (set s.callers c x) kept r.beside id v knows
+      x (Some (record { object = o; word = found })) (answer_in found) v.abandoned v.turned v.layout v.handed v.rows found
+      after.phases x_is.noted x_is.freeing refl old.old old
 
   pass_after : KnowsPass F.tag_of after r.beside id (begun_view o found v)
   pass_after =
-      let phases = phases_but r.state objects (set s.callers c x) kept rows v knows.phases in
-      record {
-        there = rw (length-set s.callers c x) knows.there;
-        seat = knows.seat;
-        generations = record {
-          turn = knows.generations.turn;
-          activities = knows.generations.activities;
-          graces = knows.generations.graces;
-          base = knows.generations.base;
-        };
-        phases = record {
-          visitor = get_or-set_same s.callers c x _ knows.there;
-          layout = λ l q i e inside.
-              (rows.each q).layout ∙ knows.phases.layout l q i e (subst (λ z. IsInside z q i) stays_x.0 inside);
-          learned = λ served. knows.phases.learned (subst (λ z. is_served z ≡ true) stays_x.0 served);
-          begun = λ q begin named is not.
-              let same = same_Some (record { object = o; word = found }) begin is in
-              let here = stays_x.2 q named in (
-                ap (λ (z : LastBegin). layout_in z.word) (sym same) ∙ is_read.layout ∙ ap (λ z. (object_at s z).layout) here ∙ sym (rows.each q).layout,
-                ap (λ (z : LastBegin). incarnation_in z.word) (sym same) ∙ is_read.incarnation ∙ ap (λ z. (object_at s z).incarnation) here ∙ sym (rows.each q).incarnation,
-              );
-          rows = phases.held_rows;
-          granted = rw stays_x.1 knows.phases.granted;
-        };
-        cells = record { taker = knows.cells.taker; notes = knows.cells.notes; noted = knows.cells.noted; out = knows.cells.out; only = knows.cells.only };
-        trace = record {
-          kept =
-              get_or-set_same r.state.kept c kept' nothing_kept c_kept
-              ∙ (λ j. record { begun = Some o; found = sym answer_is j; abandoned = (ap (λ (z : Kept). z.abandoned) knows.trace.kept) j });
-          found = λ answer begin e is. ap (λ (z : LastBegin). answer_in z.word) (sym (same_Some (record { object = o; word = found }) begin is)) ∙ e;
-          handed = λ tag e. absurd (let old = (knows.trace.handed tag e).0 in let not : is_moved v.visitor.swap ≡ false = ap is_moved swap_is in cc);
-          unhanded = λ e is. absurd (let not = stays_x.3 in cc);
-          few = knows.trace.few;
-          times = knows.trace.times;
-        };
-      }
+      own_after F.tag_of r.state objects (set s.callers c x) kept r.beside id v knows
+      x (Some (record { object = o; word = found })) (answer_in found) v.abandoned v.turned v.layout v.handed v.rows found
+      r.beside.row_seat (length-set s.callers c x) knows.names
+      (record {
+        visitor = get_or-set_same s.callers c x _ knows.there;
+        layout = λ l q i e inside. (rows.each q).layout ∙ knows.phases.layout l q i e (subst (λ z. IsInside z q i) x_is.place inside);
+        learned = λ served. knows.phases.learned (subst (λ z. is_served z ≡ true) x_is.place served);
+        swap = knows_swap;
+        rows = knows_rows;
+      })
+      (record {
+        kept =
+            get_or-set_same r.state.kept c kept' nothing_kept c_kept
+            ∙ (λ j. record { begun = Some o; found = sym answer_is j; abandoned = (ap (λ (z : Kept). z.abandoned) knows.trace.kept) j });
+        found = λ answer e. e;
+        over = λ answer e tells. is_read.incarnation ∙ sym (rows.each o).incarnation;
+        handed = λ tag e. absurd (let old = (knows.trace.handed tag e).0 in let not : is_moved v.visitor.swap ≡ false = ap is_moved swap_is in cc);
+        unhanded = λ e is. absurd (let not = x_is.unmoved in cc);
+        times = knows.trace.times;
+      })
 
-  pub begins : (after : Rule F declared (with_pass table (set table.words (object_word o) (bit_or found 16777216)) table.homes id (begun_view o found v)))
-      × (after.state ≡ effect r.state (AtPhases (Begin c o)))
+  pub begins : Steps F declared r.state (AtPhases (Begin c o)) (with_pass table (set table.words (object_word o) (bit_or found 16777216)) table.homes id (begun_view o found v))
   begins =
       visits F laws declared table r id v at (Begin c o) objects kept x
-      (record { possible = possible; effect_is = effect_is; rows = rows; kept_else = λ d not. get_or-set_other r.state.kept c d kept' nothing_kept not })
+      (same_visit F laws declared table r id v at (Begin c o) objects kept x possible effect_is rows (λ d not. get_or-set_other r.state.kept c d kept' nothing_kept not))
       (set table.words (object_word o) (bit_or found 16777216)) (begun_view o found v)
       (written_shows F laws declared table r id v at objects x kept (object_word o) (bit_or found 16777216) (begun_view o found v)
       (of_object o few) rows.many
@@ -236,12 +255,12 @@ begin_moves F laws declared id o v may = record { from = λ table r at. begins F
 
 module _ {S L P : Type 0} (F : Layouts S L P) (laws : AreLaws F) (declared : List L) (id o : ℕ)
     (me : Seated P) (is : IsSeatOf me (pass_in me.0)) (may : MayBegin (length declared) o (pass_in me.0)) where
-  pub begin_allowed : (slots : ℕ) (step : Step (Slot P))
-      → Allows (Rule F declared) slots id me (object_word o) (λ n. bit_or n 16777216) (Tells (begun_view (word_object (object_word o))) step me)
-  begin_allowed slots step =
-      subst (λ q. Allows (Rule F declared) slots id me (object_word o) (λ n. bit_or n 16777216) (Tells (begun_view q) step me)) (sym (word_object_is o))
-      (seat_allowed (begin_moves F laws declared id o (pass_in me.0) may) me is slots step)
+  pub begin_allowed : {callers : ℕ} (slots : ℕ) (step : Step (Slot P))
+      → Allows (Ruled F declared callers) slots id me (object_word o) (λ n. bit_or n 16777216) (TellsWith (begun_view (word_object (object_word o))) ObjectFound step me)
+  begin_allowed {callers} slots step =
+      subst (λ q. Allows (Ruled F declared callers) slots id me (object_word o) (λ n. bit_or n 16777216) (TellsWith (begun_view q) ObjectFound step me)) (sym (word_object_is o))
+      (seat_allowed_with (begin_moves F laws declared id o (pass_in me.0) may) ObjectFound (object_finds F laws declared id o (pass_in me.0) may.there) me is slots step)
 
-  pub begin_told : (step : Step (Slot P)) (found : ℕ) (after : Seated P) → Tells (begun_view (word_object (object_word o))) step me found after
+  pub begin_told : (step : Step (Slot P)) (found : ℕ) (after : Seated P) → TellsWith (begun_view (word_object (object_word o))) ObjectFound step me found after
       → Tells (begun_view o) step me found after
-  begin_told step found after told = subst (λ q. Tells (begun_view q) step me found after) (word_object_is o) told
+  begin_told step found after told = subst (λ q. Tells (begun_view q) step me found after) (word_object_is o) told.0

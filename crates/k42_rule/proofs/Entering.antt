@@ -1,11 +1,9 @@
 -- Entering is allowed to an idle pass.
-use Rattle.std.proofs.Common.{◌≡◌, ◌≢◌, ℕ, ◌+◌, ◌-◌, ◌*◌, ◌/◌, ◌%◌, ◌^◌, ◌<◌, ◌≤◌, Bool, true, false, cond, ltb, List, [], ◌∷◌, Option, Some, None, length, get_or, set, sym, refl, ap, ◌∙◌, subst, ⊎_elim, arith, le_refl, length-set, get_or-set_same, get_or-set_other}
-use Rattle.std.specs.List.{slice_get, slice_index}
+use Rattle.std.proofs.Common.{◌≡◌, ℕ, ◌+◌, ◌-◌, ◌*◌, ◌%◌, ◌^◌, ◌<◌, ◌≤◌, Bool, true, false, cond, ltb, List, [], ◌∷◌, Some, None, length, get_or, set, sym, refl, ap, ◌∙◌, subst, ⊎_elim, arith, le_refl, length-set, get_or-set_same, get_or-set_other}
+use Rattle.std.specs.List.{slice_get}
 use Rattle.std.specs.Prelude.{sum}
-use Rattle.std.proofs.lemmas.Bool.Decides.{nat_tests}
 use Rattle.std.proofs.lemmas.Bool.{and_parts, lt-ltb}
-use Rattle.std.proofs.lemmas.Option.{slice_get_within, slice_get-get_or}
-use Rattle.std.proofs.lemmas.List.Sums.{sum_by-set, sum_by-le}
+use Rattle.std.proofs.lemmas.Option.{slice_get-get_or}
 use mathlib.Core.Option.{some}
 use lib.ListN.{get_elem?}
 use Rattle.atomic_table.specs.Table.{State}
@@ -17,10 +15,12 @@ use Rattle.gen_core.specs.Plain.{Generations, Caller}
 use Rattle.gen_core.specs.State.{caller_at, proc_at, fresh_proc}
 use Rattle.gen_core.specs.declared.event.GenEvent.TheVariants.{Enter}
 use Rattle.gen_core.specs.declared.state.GenProc.{GenProc}
-use Rattle.gen_core.specs.declared.state.GraceAt.{GraceAt}
 use Rattle.gen_core.specs.Events as gens
 use Rattle.gen_core.specs.Sound as gen
+use Rattle.gen_core.proofs.Stages.{from_is_none}
+use Rattle.phase_core.specs.Plain.{Visitor}
 use Rattle.phase_core.specs.State.{visitor_at}
+use Rattle.phase_core.proofs.InSound.{visitor_known}
 use Rattle.phase_core.proofs.Reached.{turn_there}
 use Rattle.std.specs.Prelude.{◌&&◌, ◌==◌}
 use Rattle.gen_core.proofs.Ranges.{home_there, few_procs}
@@ -33,17 +33,17 @@ use Rattle.k42_joined.specs.Effects.{effect}
 use Rattle.k42_joined.specs.Event.{AtPhases}
 use Rattle.k42_joined.specs.Possible.{IsPossible}
 use Rattle.k42_rule.specs.Cells.{Slot}
-use Rattle.k42_rule.specs.Generating.{MayEnter, entered_view}
-use Rattle.k42_rule.specs.Generations.{Counts, MOST, AreFew, IsProcessorShown, IsProcessorBegun, AreGenerations, KnowsGenerations, grace_of, will_flip}
-use Rattle.k42_rule.specs.Rule.{Beside, KnowsPass, Rule}
+use Rattle.k42_rule.specs.Generating.{MayEnter, entered_view, EnteredFound}
+use Rattle.k42_rule.specs.Generations.{Counts, MOST, IsProcessorShown, AreGenerations}
+use Rattle.k42_rule.specs.Rule.{KnowsPass, Rule}
 use Rattle.k42_rule.specs.Values.{generation_value, generation_in}
-use Rattle.k42_rule.specs.Words.{generation_word, exits_word, role_word, many_words}
+use Rattle.k42_rule.specs.Words.{generation_word, exits_word, role_word}
 use Rattle.k42_rule.specs.declared.view.PassView.{PassView}
 use Rattle.k42_rule.specs.declared.view.View.{View}
 use Rattle.k42_rule.specs.declared.view.View.TheVariants.{Crew}
 use Rattle.k42_rule.proofs.Apart.{IsOfGenerations, of_processor}
 use Rattle.k42_rule.proofs.Begun.{few_begun, one_more, processor_stays, begun_goes, flips_same, entered_so_far, rises_by}
-use Rattle.k42_rule.proofs.Moves.{Moves}
+use Rattle.k42_rule.proofs.Moves.{Moves, Finds}
 use Rattle.k42_rule.proofs.OnePass.{with_pass, known}
 use Rattle.k42_rule.proofs.Turning.{IsTurn, turned, visitors_after, state_after, with_counts, own_goes, rows_kept, same_swap}
 
@@ -193,6 +193,21 @@ module _ {S L P : Type 0} (F : Layouts S L P) (laws : AreLaws F) (declared : Lis
     by_one true = le_refl 1
     by_one false = omega arith
 
+  active : k.generation ≡ generation_in found
+  active = let is = shown.generation in let few = entered_few in omega (arith, is, few)
+
+  pub entered_found : EnteredFound v found
+  entered_found = record {
+    times = λ place entry e generation is.
+        let old = knows.trace.times place entry e generation is in
+        let here : (proc_at s v.turn.proc).generation ≡ generation_in found = ap (λ (z : Caller). (proc_at s z.proc).generation) (sym turn) ∙ active in
+        omega (arith, old, here);
+    out =
+        let inactive : x.active ≡ None = from_is_none x.active (and_parts (is_idle x.grace) _ (ap is_free turn ∙ may.free)).1 in
+        let rest = (visitor_known r.state.phases r.sound.phases c knows.there).at_rest inactive in
+        ap (λ (z : Visitor). swaps.is_out z.place) (sym knows.phases.visitor) ∙ ap swaps.is_out rest.0;
+  }
+
   pass_after : KnowsPass F.tag_of (state_after F laws declared table r id v at (Turn (Enter c)) g (visitor_at r.state.phases c) counts) (with_counts r.beside counts) id (entered_view found v)
   pass_after =
       own_goes r.state g (visitors_after F laws declared table r id v at (Turn (Enter c)) g (visitor_at r.state.phases c) counts) v
@@ -218,9 +233,6 @@ module _ {S L P : Type 0} (F : Layouts S L P) (laws : AreLaws F) (declared : Lis
             rows_kept r.state g [] v (record v.turn { active = Some (generation_in found) }) v.visitor (v.activities + 1) v.graces v.base v.rows v.granted v.swept found
             refl refl refl refl refl knows.phases.rows;
       })
-    where
-      active : k.generation ≡ generation_in found
-      active = let is = shown.generation in let few = entered_few in omega (arith, is, few)
 
   -- the rule after the step, and its state
   pub enters : (after : Rule F declared (with_pass table (set table.words i new) table.homes id (entered_view found v)))
@@ -238,3 +250,10 @@ enter_moves {S} {L} {P} F laws declared id home v may same = record {
       (ap (λ (z : Caller). generation_word z.proc) (known F declared table r id v at).generations.turn ∙ ap generation_word same)
       (enters F laws declared table r id v at may);
 }
+
+pub enter_finds : {S L P : Type 0} (F : Layouts S L P) → AreLaws F → (declared : List L) (id home : ℕ) (v : PassView P) → MayEnter v → v.turn.proc ≡ home
+    → Finds F declared (generation_word home) EnteredFound id v
+enter_finds F laws declared id home v may same table r at =
+    subst (λ i. EnteredFound v (get_or table.words i 0))
+    (ap (λ (z : Caller). generation_word z.proc) (known F declared table r id v at).generations.turn ∙ ap generation_word same)
+    (entered_found F laws declared table r id v at may)

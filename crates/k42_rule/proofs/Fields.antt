@@ -7,11 +7,12 @@ use Rattle.std.proofs.lemmas.Nat.Bits.{bit_at_lowest, bit_at-suc}
 use Rattle.std.proofs.Math.Nat.{pow-suc}
 use Rattle.std.specs.Int.{bit_at}
 use Rattle.std.specs.Prelude.{max}
-use Rattle.std.specs.Int.RustNames.{bit_or}
-use lib.Bits.{or_step, or_zero_r}
+use Rattle.std.specs.Int.RustNames.{bit_or, bit_and}
+use lib.Bits.{or_step, or_zero_r, and_mask, and_block}
 use Rattle.std.proofs.lemmas.List.Sums.{count_by-le-length}
 use Rattle.std.proofs.lemmas.Option.{slice_get-get_or}
-use Rattle.phase_core.specs.Effects.{root_of, counted_in, counted_out}
+use Rattle.k42_limits.specs.declared.TheConstants.{LAST_INCARNATION}
+use Rattle.phase_core.specs.Effects.{root_of, counted_in, counted_out, unblocked, cleared}
 use Rattle.phase_core.specs.Objects.{IsMediator, IsOpen, IsEntry, IsObject, counts_at}
 use Rattle.phase_core.specs.Outlooks.{is_mediated, behind}
 use Rattle.phase_core.specs.Plain.{Object, Phases}
@@ -35,7 +36,7 @@ bit_is false = refl
 pub record Fits (k : Object) : Type 0 where
   pub count : k.count ≤ 16
   pub layout : k.layout ≤ 2
-  pub incarnation : k.incarnation ≤ 2 ^ 20
+  pub incarnation : k.incarnation ≤ LAST_INCARNATION
 
 pub record IsRead (k : Object) (word : ℕ) : Type 0 where
   pub count : count_in word ≡ k.count
@@ -125,6 +126,14 @@ swap_set k word fits is =
           let none : bit k.swap ≡ 0 = ap bit e in
           or_clear 24 word (omega (arith, is, none, b, c, d, n, l)) ∙ omega (arith, is, none)
 
+pub block_set : (k : Object) (word : ℕ) → Fits k → k.block ≡ false → word ≡ object_value k → bit_or word 33554432 ≡ object_value (record k { block = true })
+block_set k word fits e is =
+    let a : bit k.swap ≤ 1 = bit_small k.swap in
+    let c : bit k.moving ≤ 1 = bit_small k.moving in
+    let d : bit k.complete ≤ 1 = bit_small k.complete in
+    let none : bit k.block ≡ 0 = ap bit e in let n = fits.count in let l = fits.layout in
+    or_clear 25 word (omega (arith, is, none, a, c, d, n, l)) ∙ omega (arith, is, none)
+
 -- the fields of an entry have room in its word
 pub record EntryFits (e : LocalEntry) : Type 0 where
   pub tag : e.tag ≤ 2
@@ -145,14 +154,17 @@ root_small layout p few = by_test (eqb layout 1) where
   by_test false = omega arith
 
 -- what an entry tells
-pub record IsEntryOf (layout : ℕ) (e : LocalEntry) : Type 0 where
+pub record IsEntryOf (layout p : ℕ) (e : LocalEntry) : Type 0 where
   pub fits : EntryFits e
   pub direct : e.tag ≡ 1 → e.layout ≡ layout
+  pub root : e.tag ≡ 1 → e.cell ≡ root_of e.layout p
   pub empty : e.tag ≡ 0 → (e.layout ≡ 0) × (e.cell ≡ 0)
+  pub last : e.incarnation ≤ LAST_INCARNATION
 
-pub entry_of : (stage : SwapAt) (incarnation layout p : ℕ) (e : LocalEntry) → layout ≤ 2 → p < 8 → IsEntry stage incarnation layout p e → IsEntryOf layout e
-entry_of stage incarnation layout p e few small is = by_test (is_mediated stage p) is where
-  by_test : (b : Bool) → MatchBool b (IsMediator incarnation (behind stage) e) (IsOpen incarnation layout p e) → IsEntryOf layout e
+pub entry_of : (stage : SwapAt) (incarnation layout p : ℕ) (e : LocalEntry) → layout ≤ 2 → p < 8 → incarnation ≤ LAST_INCARNATION → IsEntry stage incarnation layout p e
+    → IsEntryOf layout p e
+entry_of stage incarnation layout p e few small most is = by_test (is_mediated stage p) is where
+  by_test : (b : Bool) → MatchBool b (IsMediator incarnation (behind stage) e) (IsOpen incarnation layout p e) → IsEntryOf layout p e
   by_test true m = record {
     fits = record {
       tag = let t = m.tag in omega (arith, t);
@@ -160,7 +172,9 @@ entry_of stage incarnation layout p e few small is = by_test (is_mediated stage 
       cell = let t = m.blank.1 in omega (arith, t);
     };
     direct = λ one. absurd (let t = m.tag in omega (arith, t, one));
+    root = λ one. absurd (let t = m.tag in omega (arith, t, one));
     empty = λ none. m.blank;
+    last = let t = m.number in omega (arith, t, most);
   }
   by_test false o =
       ⊎_elim
@@ -168,7 +182,9 @@ entry_of stage incarnation layout p e few small is = by_test (is_mediated stage 
       record {
         fits = record { tag = let t = none.0 in omega (arith, t); layout = let t = none.1 in omega (arith, t); cell = let t = none.2 in omega (arith, t) };
         direct = λ one. absurd (let t = none.0 in omega (arith, t, one));
+        root = λ one. absurd (let t = none.0 in omega (arith, t, one));
         empty = λ zero. (none.1, none.2);
+        last = let t = o.number in omega (arith, t, most);
       })
       (λ (some : (e.tag ≡ 1) × (e.layout ≡ layout) × (e.cell ≡ root_of layout p)).
       record {
@@ -178,7 +194,9 @@ entry_of stage incarnation layout p e few small is = by_test (is_mediated stage 
           cell = let t = some.2 in let lt = root_small layout p small in omega (arith, t, lt);
         };
         direct = λ one. some.1;
+        root = λ one. some.2 ∙ ap (λ z. root_of z p) (sym some.1);
         empty = λ zero. absurd (let t = some.0 in omega (arith, t, zero));
+        last = let t = o.number in omega (arith, t, most);
       })
       o.tagged
 
@@ -191,14 +209,93 @@ module _ (s : Phases) (sound : IsSound s) (o : ℕ) (there : o < length s.object
         let many = sound.in_scene.many_callers in let callers = sound.in_scene.in_course.limits.few_callers in
         omega (arith, counted, few, many, callers);
     layout = (object_known s sound o there).bits_follow.layout;
-    incarnation = let last = (object_known s sound o there).bits_follow.last in omega (arith, last);
+    incarnation = (object_known s sound o there).bits_follow.last;
   }
 
-  pub entry_known : (p : ℕ) → p < length s.turns.procs → IsEntryOf (object_at s o).layout (entry_at (object_at s o) p)
+  pub entry_known : (p : ℕ) → p < length s.turns.procs → IsEntryOf (object_at s o).layout p (entry_at (object_at s o) p)
   entry_known p at =
       let look = sound.scene.looks o in let k = object_at s o in
       let many = sound.in_scene.in_course.many_procs in let few = sound.in_scene.in_course.limits.few_procs in
       let long = (object_known s sound o there).many_entries in
       entry_of look.stage look.incarnation k.layout p (entry_at k p) object_fits.layout (omega (arith, many, few, at))
+      (subst (λ i. i ≤ LAST_INCARNATION) (object_known s sound o there).bits_follow.incarnation object_fits.incarnation)
       ((object_known s sound o there).entries_follow p (entry_at k p)
       (slice_get-get_or k.entries p (empty_entry 0) (omega (arith, many, long, at))))
+
+-- what is left of an object's word under a mask
+
+outer_bits : (a b c d : Bool) → bit_and (bit a + 2 * bit b + 4 * bit c + 8 * bit d) 9 ≡ bit a + 8 * bit d
+outer_bits true true true true = refl
+outer_bits true true true false = refl
+outer_bits true true false true = refl
+outer_bits true true false false = refl
+outer_bits true false true true = refl
+outer_bits true false true false = refl
+outer_bits true false false true = refl
+outer_bits true false false false = refl
+outer_bits false true true true = refl
+outer_bits false true true false = refl
+outer_bits false true false true = refl
+outer_bits false true false false = refl
+outer_bits false false true true = refl
+outer_bits false false true false = refl
+outer_bits false false false true = refl
+outer_bits false false false false = refl
+
+inner_bits : (a b c d : Bool) → bit_and (bit a + 2 * bit b + 4 * bit c + 8 * bit d) 6 ≡ 2 * bit b + 4 * bit c
+inner_bits true true true true = refl
+inner_bits true true true false = refl
+inner_bits true true false true = refl
+inner_bits true true false false = refl
+inner_bits true false true true = refl
+inner_bits true false true false = refl
+inner_bits true false false true = refl
+inner_bits true false false false = refl
+inner_bits false true true true = refl
+inner_bits false true true false = refl
+inner_bits false true false true = refl
+inner_bits false true false false = refl
+inner_bits false false true true = refl
+inner_bits false false true false = refl
+inner_bits false false false true = refl
+inner_bits false false false false = refl
+
+-- under all ones but for four bits
+masked : (high bits count m : ℕ) → high < 2 ^ 36 → count < 2 ^ 24 → bits < 16 → m < 16
+    → bit_and (high * 2 ^ 28 + (bits * 2 ^ 24 + count)) ((2 ^ 36 - 1) * 2 ^ 28 + (m * 2 ^ 24 + (2 ^ 24 - 1))) ≡ high * 2 ^ 28 + (bit_and bits m * 2 ^ 24 + count)
+masked high bits count m far few small less =
+    and_block 28 high (2 ^ 36 - 1) (bits * 2 ^ 24 + count) (m * 2 ^ 24 + (2 ^ 24 - 1)) (omega (arith, few, small)) (omega (arith, less))
+    ∙ ap (λ (z : ℕ × ℕ). z.0 * 2 ^ 28 + z.1) (λ j. (top j, low j)) where
+      top : bit_and high (2 ^ 36 - 1) ≡ high
+      top = and_mask high 36 ∙ omega (arith, far)
+
+      low : bit_and (bits * 2 ^ 24 + count) (m * 2 ^ 24 + (2 ^ 24 - 1)) ≡ bit_and bits m * 2 ^ 24 + count
+      low =
+          and_block 24 bits m count (2 ^ 24 - 1) few (omega arith)
+          ∙ ap (λ z. bit_and bits m * 2 ^ 24 + z) (and_mask count 24 ∙ omega (arith, few))
+
+pub unblocked_value : (k : Object) (word : ℕ) → Fits k → word ≡ object_value k → bit_and word (2 ^ 64 - 1 - 2 ^ 25 - 2 ^ 26) ≡ object_value (unblocked k)
+unblocked_value k word fits is =
+    let a : bit k.swap ≤ 1 = bit_small k.swap in
+    let b : bit k.block ≤ 1 = bit_small k.block in
+    let c : bit k.moving ≤ 1 = bit_small k.moving in
+    let d : bit k.complete ≤ 1 = bit_small k.complete in
+    let n = fits.count in let l = fits.layout in let i = fits.incarnation in
+    let apart : word ≡ (k.layout + 16 * k.incarnation) * 2 ^ 28 + (bits_value k * 2 ^ 24 + k.count) = omega (arith, is) in
+    let left = masked (k.layout + 16 * k.incarnation) (bits_value k) k.count 9 (omega (arith, l, i)) (omega (arith, n)) (omega (arith, a, b, c, d)) (omega arith) in
+    let bits = outer_bits k.swap k.block k.moving k.complete in
+    ap (λ z. bit_and z (2 ^ 64 - 1 - 2 ^ 25 - 2 ^ 26)) apart ∙ left
+    ∙ ap (λ z. (k.layout + 16 * k.incarnation) * 2 ^ 28 + (z * 2 ^ 24 + k.count)) bits ∙ omega arith
+
+pub cleared_value : (k : Object) (word : ℕ) → Fits k → word ≡ object_value k → bit_and word (2 ^ 64 - 1 - 2 ^ 24 - 2 ^ 27) ≡ object_value (cleared k)
+cleared_value k word fits is =
+    let a : bit k.swap ≤ 1 = bit_small k.swap in
+    let b : bit k.block ≤ 1 = bit_small k.block in
+    let c : bit k.moving ≤ 1 = bit_small k.moving in
+    let d : bit k.complete ≤ 1 = bit_small k.complete in
+    let n = fits.count in let l = fits.layout in let i = fits.incarnation in
+    let apart : word ≡ (k.layout + 16 * k.incarnation) * 2 ^ 28 + (bits_value k * 2 ^ 24 + k.count) = omega (arith, is) in
+    let left = masked (k.layout + 16 * k.incarnation) (bits_value k) k.count 6 (omega (arith, l, i)) (omega (arith, n)) (omega (arith, a, b, c, d)) (omega arith) in
+    let bits = inner_bits k.swap k.block k.moving k.complete in
+    ap (λ z. bit_and z (2 ^ 64 - 1 - 2 ^ 24 - 2 ^ 27)) apart ∙ left
+    ∙ ap (λ z. (k.layout + 16 * k.incarnation) * 2 ^ 28 + (z * 2 ^ 24 + k.count)) bits ∙ omega arith

@@ -1,7 +1,6 @@
 -- What is so while a pass has a grace under way.
-use Rattle.std.proofs.Common.{◌≡◌, ◌≢◌, ℕ, ◌+◌, ◌*◌, ◌/◌, ◌^◌, ◌<◌, ◌≤◌, Bool, true, false, List, [], ◌∷◌, Option, Some, None, length, get_or, set, sym, refl, ap, ◌∙◌, arith, length-set}
-use Rattle.std.specs.List.{slice_get}
-use Rattle.std.proofs.lemmas.Bool.{ltb-true, ltb-false}
+use Rattle.std.proofs.Common.{◌≡◌, ◌≢◌, ℕ, ◌<◌, ◌≤◌, Bool, true, false, List, [], ◌∷◌, Some, length, sym, refl, ap, subst, ◌∙◌, arith, le_refl}
+use Rattle.std.proofs.lemmas.Bool.{ltb-true, ltb-false, le-ltb}
 use Rattle.std.proofs.lemmas.List.{get_or_past}
 use Rattle.std.proofs.lemmas.Option.{slice_get-get_or, same_Some}
 use mathlib.Core.Option.{some}
@@ -14,7 +13,6 @@ use Rattle.gen_core.specs.Plain.{Generations, Caller}
 use Rattle.gen_core.specs.Sound as gen
 use Rattle.gen_core.specs.Sound.{IsHolder, is_flipped, generation_of}
 use Rattle.gen_core.specs.State.{caller_at, proc_at, fresh_proc}
-use Rattle.gen_core.specs.declared.state.GenProc.{GenProc}
 use Rattle.gen_core.specs.declared.state.GraceAt.{GraceAt}
 use Rattle.gen_core.specs.declared.state.GraceAt.TheVariants as graces
 use Rattle.gen_core.proofs.Courses.{at_caller}
@@ -25,9 +23,7 @@ use Rattle.phase_core.proofs.Ranges.{turns_sound, some_procs}
 use Rattle.phase_core.proofs.Reached.{turn_there}
 use Rattle.k42_stamp.specs.Layouts.{Layouts}
 use Rattle.k42_rule.specs.Cells.{Slot}
-use Rattle.k42_rule.specs.Generations.{Counts, IsProcessorShown, AreGenerations, IsProcessorBegun}
 use Rattle.k42_rule.specs.Rule.{KnowsPass, Rule}
-use Rattle.k42_rule.specs.Words.{generation_word, exits_word, role_word}
 use Rattle.k42_rule.specs.declared.view.PassView.{PassView}
 use Rattle.k42_rule.specs.declared.view.View.{View}
 use Rattle.k42_rule.specs.declared.view.View.TheVariants.{Crew}
@@ -37,6 +33,13 @@ use Rattle.k42_rule.proofs.OnePass.{known}
 base_told : (a b : ℕ) (next : Bool) → generation_of a next ≡ generation_of b next → a ≡ b
 base_told a b true e = omega (arith, e)
 base_told a b false e = e
+
+pub busy_test : (grace : GraceAt) → grace ≢ graces.Idle → is_idle grace ≡ false
+busy_test graces.Idle busy = absurd (busy refl)
+busy_test grace busy = refl
+
+pub ltb_same : (p : ℕ) → ltb p p ≡ false
+ltb_same p = le-ltb p p (le_refl p)
 
 module _ {S L P : Type 0} (F : Layouts S L P) (declared : List L)
     (table : State (Slot P) (View P)) (r : Rule F declared table) (id : ℕ) (v : PassView P)
@@ -91,7 +94,8 @@ module _ {S L P : Type 0} (F : Layouts S L P) (declared : List L)
 
     -- the generations of the processors, by how far the grace is
     pub in_step : EachPlace (λ p k. k.generation ≡ generation_of sound.course.base (is_flipped v.turn.grace p)) s.procs
-    in_step p k e = rw (← stage) (sound.in_course.generations_in_step p k e)
+    in_step p k e =
+        subst (λ (grace : GraceAt). k.generation ≡ generation_of sound.course.base (is_flipped grace p)) stage (sound.in_course.generations_in_step p k e)
 
     -- and what it has asked is where they began
     pub base_is : (b : ℕ) → v.base ≡ Some b → is_idle v.turn.grace ≡ false → b ≡ sound.course.base

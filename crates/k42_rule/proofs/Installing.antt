@@ -1,5 +1,5 @@
 -- Installing a direct entry.
-use Rattle.std.proofs.Common.{◌≡◌, ◌≢◌, ℕ, ◌+◌, ◌-◌, ◌*◌, ◌/◌, ◌%◌, ◌^◌, ◌<◌, ◌≤◌, Bool, true, false, cond, eqb, List, [], ◌∷◌, Option, Some, None, length, get_or, set, sym, refl, ap, ◌∙◌, subst, arith}
+use Rattle.std.proofs.Common.{◌≡◌, ◌≢◌, ℕ, ◌+◌, ◌-◌, ◌*◌, ◌/◌, ◌%◌, ◌^◌, ◌<◌, ◌≤◌, Bool, true, false, cond, eqb, List, [], ◌∷◌, Option, Some, None, length, get_or, set, sym, refl, ap, ◌∙◌, subst, arith, le_refl}
 use Rattle.std.specs.Prelude.{◌&&◌}
 use Rattle.std.specs.List.{slice_get, slice_index}
 use Rattle.std.specs.Option.{is_some, unwrap_or}
@@ -29,7 +29,7 @@ use Rattle.k42_joined.specs.Swapping.{holds_none}
 use Rattle.turn_core.specs.Plain as turns
 use Rattle.k42_rule.specs.Cells.{Slot}
 use Rattle.k42_rule.specs.Phases.{is_served}
-use Rattle.k42_rule.specs.Rule.{KnowsPass, Rule}
+use Rattle.k42_rule.specs.Rule.{KnowsPass, Rule, Ruled}
 use Rattle.k42_rule.specs.Seen.{IsSeatOf}
 use Rattle.k42_rule.specs.Views.{pass_in}
 use Rattle.k42_rule.specs.Steps.{Seated, Tells}
@@ -39,21 +39,21 @@ use Rattle.k42_rule.specs.Words.{local_word}
 use Rattle.k42_rule.specs.declared.view.PassView.{PassView}
 use Rattle.k42_rule.specs.declared.view.View.{View}
 use Rattle.k42_rule.specs.declared.view.View.TheVariants.{Crew}
-use Rattle.k42_rule.proofs.AtTables.{visited, same_row, AreSameRows, IsVisit, visits, goes, of_entry, entry_written, rows_same, few_entries, written_shows}
+use Rattle.k42_rule.proofs.AtTables.{visited, Steps, AreSameRows, same_visit, visits, goes, of_entry, entry_written, rows_same, few_entries, written_shows}
 use Rattle.k42_rule.proofs.Fields.{IsEntryOf}
 use Rattle.k42_rule.proofs.Looking.{missed_is, place_is, reads, entry_at_home, home_there', object_is}
 use Rattle.k42_rule.proofs.Moves.{Moves, seat_allowed}
 use Rattle.k42_rule.proofs.OnePass.{with_pass, known}
 
-both_or_none : (a b : Bool) → (a ≡ true → b ≡ true) → (b ≡ true → a ≡ true) → a ≡ b
+pub both_or_none : (a b : Bool) → (a ≡ true → b ≡ true) → (b ≡ true → a ≡ true) → a ≡ b
 both_or_none true b f g = sym (f refl)
 both_or_none false true f g = absurd (let e = g refl in cc)
 both_or_none false false f g = refl
 
 -- the word is that of an empty entry just where the entry is empty
-empty_shown : (layout i found : ℕ) (e : LocalEntry) → IsEntryOf layout e → found ≡ local_value e
+empty_shown : (layout p i found : ℕ) (e : LocalEntry) → IsEntryOf layout p e → found ≡ local_value e
     → eqb found (local_value (empty_entry i)) ≡ is_empty_at e i
-empty_shown layout i found e is shown =
+empty_shown layout p i found e is shown =
     let t = is.fits.tag in let l = is.fits.layout in let c = is.fits.cell in
     both_or_none (eqb found (local_value (empty_entry i))) (is_empty_at e i)
     (λ same.
@@ -119,7 +119,7 @@ module _ {S L P : Type 0} (F : Layouts S L P) (laws : AreLaws F) (declared : Lis
   layout_is : k.layout ≡ l
   layout_is = learned v.layout refl may.rooted
 
-  entry_is : IsEntryOf k.layout (entry_at k p) × (found ≡ local_value (entry_at k p))
+  entry_is : IsEntryOf k.layout p (entry_at k p) × (found ≡ local_value (entry_at k p))
   entry_is = entry_at_home F laws declared table r id v at o there
 
   -- the event, where the entry is empty and where it is not
@@ -132,7 +132,7 @@ module _ {S L P : Type 0} (F : Layouts S L P) (laws : AreLaws F) (declared : Lis
 
   test_is : eqb found (empty_before v) ≡ is_empty_at (entry_at k (proc_of s c)) (row_of (visitor_at s c).place)
   test_is =
-      empty_shown k.layout i found (entry_at k p) entry_is.0 entry_is.1
+      empty_shown k.layout p i found (entry_at k p) entry_is.0 entry_is.1
       ∙ ap (λ (z : ℕ × Visitor). is_empty_at (entry_at k z.0) (row_of z.1.place)) (λ j. (sym home j, sym knows.phases.visitor j)) where
         home : proc_of s c ≡ p
         home = ap (λ z. z.proc) knows.generations.turn
@@ -155,9 +155,8 @@ module _ {S L P : Type 0} (F : Layouts S L P) (laws : AreLaws F) (declared : Lis
 
   abbrev Goal : Bool → Type 0
   Goal b =
-      (after : Rule F declared (with_pass table (set table.words (local_word p o) (cond b (direct_after v) found)) table.homes id
-      (cond b (went v (at_place v.visitor (Direct o i)) v.layout) (went v (at_place v.visitor Out) None))))
-      × (after.state ≡ effect r.state (AtPhases (Install c o)))
+      Steps F declared r.state (AtPhases (Install c o)) (with_pass table (set table.words (local_word p o) (cond b (direct_after v) found)) table.homes id
+      (cond b (went found v (at_place v.visitor (Direct o i)) v.layout) (went found v (at_place v.visitor Out) None)))
 
   abbrev x : Visitor
   x = at_place v.visitor (Direct o i)
@@ -166,21 +165,21 @@ module _ {S L P : Type 0} (F : Layouts S L P) (laws : AreLaws F) (declared : Lis
   objects = set s.objects o (put_entry k p d)
 
   rows : AreSameRows r.state objects (set s.callers c x) r.state.kept
-  rows = rows_same r.state o (put_entry k p d) (set s.callers c x) r.state.kept there (record { layout = refl; incarnation = refl; complete = refl; freed = refl })
+  rows = rows_same r.state o (put_entry k p d) (set s.callers c x) r.state.kept there (record { layout = refl; incarnation = refl; complete = refl; freed = le_refl k.freed })
 
   by_test : (b : Bool) → effect r.state (AtPhases (Install c o)) ≡ inst b v.visitor p l → Goal b
   by_test false is =
-      reads F laws declared table r id v at (Install c o) Out v.visitor.read None possible (sym is)
+      reads F laws declared table r id v at (Install c o) Out v.visitor.read None found possible (sym is)
       (λ m q j told inside. absurd inside) (λ served none. absurd (cc)) (local_word p o)
   by_test true is =
       visits F laws declared table r id v at (Install c o) objects r.state.kept x
-      (record { possible = possible; effect_is = sym is; rows = rows; kept_else = λ e not. refl })
-      (set table.words (local_word p o) (direct_after v)) (went v x v.layout)
-      (written_shows F laws declared table r id v at objects x r.state.kept (local_word p o) (direct_after v) (went v x v.layout)
+      (same_visit F laws declared table r id v at (Install c o) objects r.state.kept x possible (sym is) rows (λ e not. refl))
+      (set table.words (local_word p o) (direct_after v)) (went found v x v.layout)
+      (written_shows F laws declared table r id v at objects x r.state.kept (local_word p o) (direct_after v) (went found v x v.layout)
       (of_entry p o p_few few) rows.many
       (entry_written table.words s.objects o p k d (direct_after v) r.shows.many_words r.shows.few_objects
       (few_entries F laws declared table r id v at) p_few few (slice_get-get_or s.objects o fresh_object there) refl r.shows.objects))
-      (goes F laws declared table r id v at objects (Direct o i) v.visitor.read v.layout rows
+      (goes F laws declared table r id v at objects (Direct o i) v.visitor.read v.layout found rows
       (record {
         layout_is = λ m q j told inside. (rows.each q).layout ∙ ap (λ z. (object_at s z).layout) (sym inside.0) ∙ layout_is ∙ ap (λ z. unwrap_or z 0) told;
         learned = λ served none. absurd (let has = may.rooted in cc);
@@ -201,10 +200,10 @@ module _ {S L P : Type 0} (F : Layouts S L P) (laws : AreLaws F) (declared : Lis
     (me : Seated P) (is : IsSeatOf me (pass_in me.0)) (may : MayInstall (length declared) o cell (pass_in me.0))
     (same : (pass_in me.0).turn.proc ≡ home) (old new : ℕ)
     (words : (old ≡ empty_before (pass_in me.0)) × (new ≡ direct_after (pass_in me.0))) where
-  pub install_allowed : (slots : ℕ) (step : Step (Slot P))
-      → Allows (Rule F declared) slots id me (local_word home o) (λ n. either (eqb n old) new n) (Tells (installed_view (entry_object (local_word home o))) step me)
-  install_allowed slots step =
-      subst (λ (z : ℕ × ℕ × ℕ). Allows (Rule F declared) slots id me (local_word home o) (λ n. either (eqb n z.0) z.1 n) (Tells (installed_view z.2) step me))
+  pub install_allowed : {callers : ℕ} (slots : ℕ) (step : Step (Slot P))
+      → Allows (Ruled F declared callers) slots id me (local_word home o) (λ n. either (eqb n old) new n) (Tells (installed_view (entry_object (local_word home o))) step me)
+  install_allowed {callers} slots step =
+      subst (λ (z : ℕ × ℕ × ℕ). Allows (Ruled F declared callers) slots id me (local_word home o) (λ n. either (eqb n z.0) z.1 n) (Tells (installed_view z.2) step me))
       (λ j. (sym words.0 j, sym words.1 j, sym (object_is home o few) j))
       (seat_allowed (install_moves F laws declared id home o cell (pass_in me.0) may same) me is slots step)
 

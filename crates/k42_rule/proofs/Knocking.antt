@@ -1,5 +1,5 @@
 -- Knocking at a mediator, and stepping out of it.
-use Rattle.std.proofs.Common.{◌≡◌, ◌≢◌, ℕ, ◌+◌, ◌-◌, ◌*◌, ◌/◌, ◌%◌, ◌^◌, ◌<◌, ◌≤◌, Bool, true, false, cond, eqb, List, [], ◌∷◌, Option, Some, None, length, get_or, set, sym, refl, ap, ◌∙◌, subst, arith}
+use Rattle.std.proofs.Common.{◌≡◌, ◌≢◌, ℕ, ◌+◌, ◌-◌, ◌*◌, ◌/◌, ◌%◌, ◌^◌, ◌<◌, ◌≤◌, Bool, true, false, cond, eqb, List, [], ◌∷◌, Option, Some, None, length, get_or, set, sym, refl, ap, ◌∙◌, subst, arith, le_refl}
 use Rattle.std.specs.Prelude.{◌&&◌}
 use Rattle.std.specs.List.{slice_get, slice_index}
 use Rattle.std.specs.Option.{is_some, unwrap_or}
@@ -31,20 +31,20 @@ use Rattle.k42_joined.specs.Swapping.{holds_none}
 use Rattle.turn_core.specs.Plain as turns
 use Rattle.k42_rule.specs.Cells.{Slot}
 use Rattle.k42_rule.specs.Phases.{is_served}
-use Rattle.k42_rule.specs.Rule.{KnowsPass, Rule}
+use Rattle.k42_rule.specs.Rule.{KnowsPass, Rule, Ruled}
 use Rattle.k42_rule.specs.Seen.{IsSeatOf}
 use Rattle.k42_rule.specs.Views.{pass_in}
-use Rattle.k42_rule.specs.Steps.{Seated, Tells}
-use Rattle.k42_rule.specs.Tabling.{went, word_object, MayKnock, knocked_view, MayStepOut, ended_view}
+use Rattle.k42_rule.specs.Steps.{Seated, Tells, TellsWith}
+use Rattle.k42_rule.specs.Tabling.{went, ObjectFound, word_object, MayKnock, knocked_view, MayStepOut, ended_view}
 use Rattle.k42_rule.specs.Values.{object_value, layout_in, incarnation_in, has_bit}
 use Rattle.k42_rule.specs.Words.{object_word}
 use Rattle.k42_rule.specs.declared.view.PassView.{PassView}
 use Rattle.k42_rule.specs.declared.view.View.{View}
 use Rattle.k42_rule.specs.declared.view.View.TheVariants.{Crew}
-use Rattle.k42_rule.proofs.AtTables.{visited, IsSameRow, AreSameRows, IsVisit, visits, goes, of_object, object_written, rows_same, few_entries, written_shows}
+use Rattle.k42_rule.proofs.AtTables.{visited, Steps, IsSameRow, AreSameRows, same_visit, visits, goes, of_object, object_written, rows_same, few_entries, written_shows}
 use Rattle.k42_rule.proofs.Fields.{IsRead, object_fits, counted_more, counted_less}
-use Rattle.k42_rule.proofs.Looking.{place_is, object_shown, object_is_read}
-use Rattle.k42_rule.proofs.Moves.{Moves, seat_allowed}
+use Rattle.k42_rule.proofs.Looking.{place_is, object_shown, object_is_read, object_seen}
+use Rattle.k42_rule.proofs.Moves.{Moves, Finds, seat_allowed_with}
 use Rattle.k42_rule.proofs.OnePass.{with_pass, known}
 
 module _ {S L P : Type 0} (F : Layouts S L P) (laws : AreLaws F) (declared : List L)
@@ -60,7 +60,7 @@ module _ {S L P : Type 0} (F : Layouts S L P) (laws : AreLaws F) (declared : Lis
   knows = known F declared table r id v at
 
   -- a pass that goes on in its call as it writes an object's word
-  module _ (o : ℕ) (there : o < length s.objects) (e : Event) (k : Object) (place : Place) (read : List (ℕ × ℕ)) (layout : Option ℕ) where
+  module _ (o : ℕ) (there : o < length s.objects) (e : Event) (k : Object) (place : Place) (read : List (ℕ × ℕ)) (layout : Option ℕ) (heard : ℕ) where
     few : o < 16
     few = let lt = there in let few' = r.shows.few_objects in omega (arith, lt, few')
 
@@ -70,23 +70,22 @@ module _ {S L P : Type 0} (F : Layouts S L P) (laws : AreLaws F) (declared : Lis
     abbrev objects : List Object
     objects = set s.objects o k
 
-    pub counts : (new : ℕ) → IsSameRow (object_at s o) k → k.entries ≡ (object_at s o).entries → new ≡ object_value k
+    pub counts : (new : ℕ) → IsSameRow (object_at s o) k → k.freed ≡ (object_at s o).freed → k.entries ≡ (object_at s o).entries → new ≡ object_value k
         → IsPossible F declared r.state (AtPhases e)
         → visited r.state objects (set s.callers c x) r.state.kept ≡ effect r.state (AtPhases e)
         → ((l q i : ℕ) → layout ≡ Some l → IsInside place q i → (object_at s q).layout ≡ l)
         → (is_served place ≡ true → layout ≢ None)
-        → (after : Rule F declared (with_pass table (set table.words (object_word o) new) table.homes id (went v x layout)))
-        × (after.state ≡ effect r.state (AtPhases e))
-    counts new same entries value possible is told learned =
+        → Steps F declared r.state (AtPhases e) (with_pass table (set table.words (object_word o) new) table.homes id (went heard v x layout))
+    counts new same freed entries value possible is told learned =
         let rows = rows_same r.state o k (set s.callers c x) r.state.kept there same in
         visits F laws declared table r id v at e objects r.state.kept x
-        (record { possible = possible; effect_is = is; rows = rows; kept_else = λ d not. refl })
-        (set table.words (object_word o) new) (went v x layout)
-        (written_shows F laws declared table r id v at objects x r.state.kept (object_word o) new (went v x layout)
+        (same_visit F laws declared table r id v at e objects r.state.kept x possible is rows (λ d not. refl))
+        (set table.words (object_word o) new) (went heard v x layout)
+        (written_shows F laws declared table r id v at objects x r.state.kept (object_word o) new (went heard v x layout)
         (of_object o few) rows.many
         (object_written table.words s.objects o (object_at s o) k new r.shows.many_words r.shows.few_objects
-        (few_entries F laws declared table r id v at) few (slice_get-get_or s.objects o fresh_object there) entries same.freed value r.shows.objects))
-        (goes F laws declared table r id v at objects place read layout rows
+        (few_entries F laws declared table r id v at) few (slice_get-get_or s.objects o fresh_object there) entries freed value r.shows.objects))
+        (goes F laws declared table r id v at objects place read layout heard rows
         (record { layout_is = λ l q i t inside. (rows.each q).layout ∙ told l q i t inside; learned = learned }))
 
   module _ (o : ℕ) (may : MayKnock (length declared) o v) where
@@ -117,23 +116,22 @@ module _ {S L P : Type 0} (F : Layouts S L P) (laws : AreLaws F) (declared : Lis
 
     abbrev Goal : Bool → Type 0
     Goal b =
-        (after : Rule F declared (with_pass table (set table.words (object_word o) ((found + 1) % 2 ^ 64)) table.homes id
-        (went v (knocked v.visitor o (incarnation_in found) b) (cond b None (Some (layout_in found))))))
-        × (after.state ≡ effect r.state (AtPhases (Knock c o)))
+        Steps F declared r.state (AtPhases (Knock c o)) (with_pass table (set table.words (object_word o) ((found + 1) % 2 ^ 64)) table.homes id
+        (went found v (knocked v.visitor o (incarnation_in found) b) (cond b None (Some (layout_in found)))))
 
     value : (found + 1) % 2 ^ 64 ≡ object_value (counted_in k)
     value = counted_more k found (object_fits s r.sound.phases o o_there) (object_shown F laws declared table r id v at o o_there)
 
     same : IsSameRow k (counted_in k)
-    same = record { layout = refl; incarnation = refl; complete = refl; freed = refl }
+    same = record { layout = refl; incarnation = refl; complete = refl; freed = le_refl k.freed }
 
     by_block : (b : Bool) → effect r.state (AtPhases (Knock c o)) ≡ knocks b v.visitor (incarnation_in found) → Goal b
     by_block true is =
-        counts o o_there (Knock c o) (counted_in k) (Blocked o) v.visitor.read None ((found + 1) % 2 ^ 64) same refl value possible (sym is)
+        counts o o_there (Knock c o) (counted_in k) (Blocked o) v.visitor.read None found ((found + 1) % 2 ^ 64) same refl refl value possible (sym is)
         (λ l q i told inside. absurd inside) (λ served none. absurd (cc))
     by_block false is =
-        counts o o_there (Knock c o) (counted_in k) (Tracked o (incarnation_in found)) (with_row v.visitor.read o (incarnation_in found)) (Some (layout_in found))
-        ((found + 1) % 2 ^ 64) same refl value possible (sym is)
+        counts o o_there (Knock c o) (counted_in k) (Tracked o (incarnation_in found)) (with_row v.visitor.read o (incarnation_in found)) (Some (layout_in found)) found
+        ((found + 1) % 2 ^ 64) same refl refl value possible (sym is)
         (λ l q i told inside. ap (λ z. (object_at s z).layout) (sym inside.0) ∙ sym is_read.layout ∙ same_Some (layout_in found) l told)
         (λ served none. cc)
 
@@ -161,11 +159,10 @@ module _ {S L P : Type 0} (F : Layouts S L P) (laws : AreLaws F) (declared : Lis
     counted : (here < length s.objects) × (1 ≤ (object_at s here).count)
     counted = counted_there v.visitor.place (place_is F laws declared table r id v at) may.counted
 
-    pub steps_out : (after : Rule F declared (with_pass table (set table.words (object_word here) ((seen + (2 ^ 64 - 1)) % 2 ^ 64)) table.homes id (ended_view seen v)))
-        × (after.state ≡ effect r.state (AtPhases (StepOut c)))
+    pub steps_out : Steps F declared r.state (AtPhases (StepOut c)) (with_pass table (set table.words (object_word here) ((seen + (2 ^ 64 - 1)) % 2 ^ 64)) table.homes id (ended_view seen v))
     steps_out =
-        counts here counted.0 (StepOut c) (counted_out (object_at s here)) Out v.visitor.read None ((seen + (2 ^ 64 - 1)) % 2 ^ 64)
-        (record { layout = refl; incarnation = refl; complete = refl; freed = refl }) refl
+        counts here counted.0 (StepOut c) (counted_out (object_at s here)) Out v.visitor.read None seen ((seen + (2 ^ 64 - 1)) % 2 ^ 64)
+        (record { layout = refl; incarnation = refl; complete = refl; freed = le_refl (object_at s here).freed }) refl refl
         (counted_less (object_at s here) seen (object_fits s r.sound.phases here counted.0) counted.1 (object_shown F laws declared table r id v at here counted.0))
         (record {
           caller = knows.there;
@@ -192,14 +189,20 @@ step_out_moves F laws declared id o v may same =
 pub word_object_is : (o : ℕ) → word_object (object_word o) ≡ o
 word_object_is o = omega arith
 
+-- what is found of an object
+pub object_finds : {S L P : Type 0} (F : Layouts S L P) → AreLaws F → (declared : List L) (id o : ℕ) (v : PassView P) → o < length declared
+    → Finds F declared (object_word o) ObjectFound id v
+object_finds F laws declared id o v lt table r at =
+    object_seen F laws declared table r id v at o (let many = r.sound.cells.rows.objects in omega (arith, many, lt))
+
 module _ {S L P : Type 0} (F : Layouts S L P) (laws : AreLaws F) (declared : List L) (id o : ℕ)
     (me : Seated P) (is : IsSeatOf me (pass_in me.0)) (may : MayKnock (length declared) o (pass_in me.0)) where
-  pub knock_allowed : (slots : ℕ) (step : Step (Slot P))
-      → Allows (Rule F declared) slots id me (object_word o) (λ n. (n + 1) % 2 ^ 64) (Tells (knocked_view (word_object (object_word o))) step me)
-  knock_allowed slots step =
-      subst (λ q. Allows (Rule F declared) slots id me (object_word o) (λ n. (n + 1) % 2 ^ 64) (Tells (knocked_view q) step me)) (sym (word_object_is o))
-      (seat_allowed (knock_moves F laws declared id o (pass_in me.0) may) me is slots step)
+  pub knock_allowed : {callers : ℕ} (slots : ℕ) (step : Step (Slot P))
+      → Allows (Ruled F declared callers) slots id me (object_word o) (λ n. (n + 1) % 2 ^ 64) (TellsWith (knocked_view (word_object (object_word o))) ObjectFound step me)
+  knock_allowed {callers} slots step =
+      subst (λ q. Allows (Ruled F declared callers) slots id me (object_word o) (λ n. (n + 1) % 2 ^ 64) (TellsWith (knocked_view q) ObjectFound step me)) (sym (word_object_is o))
+      (seat_allowed_with (knock_moves F laws declared id o (pass_in me.0) may) ObjectFound (object_finds F laws declared id o (pass_in me.0) may.there) me is slots step)
 
-  pub knock_told : (step : Step (Slot P)) (found : ℕ) (after : Seated P) → Tells (knocked_view (word_object (object_word o))) step me found after
+  pub knock_told : (step : Step (Slot P)) (found : ℕ) (after : Seated P) → TellsWith (knocked_view (word_object (object_word o))) ObjectFound step me found after
       → Tells (knocked_view o) step me found after
-  knock_told step found after told = subst (λ q. Tells (knocked_view q) step me found after) (word_object_is o) told
+  knock_told step found after told = subst (λ q. Tells (knocked_view q) step me found after) (word_object_is o) told.0

@@ -12,16 +12,16 @@ use Rattle.gen_core.specs.Plain.{Caller}
 use Rattle.gen_core.specs.State.{caller_at}
 use Rattle.gen_core.proofs.Ranges.{home_there}
 use Rattle.phase_core.specs.Callers.{IsAtPlace}
-use Rattle.phase_core.specs.Effects.{at_place, looked_up, place_found}
+use Rattle.phase_core.specs.Effects.{root_of, at_place, looked_up, place_found}
 use Rattle.phase_core.specs.Event.{Event, RootLoad, LookUp, EndCall}
 use Rattle.phase_core.specs.Plain.{Object, Visitor, Phases}
 use Rattle.phase_core.specs.Sound.{IsSound}
-use Rattle.phase_core.specs.Stages.{IsInside, is_missed, is_out, is_uncounted}
+use Rattle.phase_core.specs.Stages.{IsInside, is_missed, is_out, is_uncounted, row_of}
 use Rattle.phase_core.specs.State.{object_at, visitor_at, entry_at, fresh_object, fresh_visitor, empty_entry, with_row}
 use Rattle.phase_core.specs.declared.caller.Place.{Place}
 use Rattle.phase_core.specs.declared.caller.Place.TheVariants.{Out, Missed, Direct, AtMediator}
 use Rattle.phase_core.specs.declared.object.LocalEntry.{LocalEntry}
-use Rattle.phase_core.proofs.InSound.{visitor_known}
+use Rattle.phase_core.proofs.InSound.{visitor_known, inside_is_present}
 use Rattle.phase_core.proofs.Ranges.{turns_sound, entry_there}
 use Rattle.phase_core.proofs.Reached.{turn_there}
 use Rattle.turn_core.specs.Plain as turns
@@ -36,20 +36,21 @@ use Rattle.k42_joined.specs.State.{many_objects, held}
 use Rattle.k42_joined.specs.Swapping.{holds_none}
 use Rattle.k42_rule.specs.Cells.{Slot}
 use Rattle.k42_rule.specs.Phases.{is_served}
-use Rattle.k42_rule.specs.Rule.{Beside, KnowsPass, Shows, Rule}
+use Rattle.k42_limits.specs.declared.TheConstants.{LAST_INCARNATION}
+use Rattle.k42_rule.specs.Rule.{Beside, KnowsPass, Shows, Rule, Ruled}
 use Rattle.k42_rule.specs.Seen.{IsSeatOf}
 use Rattle.k42_rule.specs.Views.{pass_in}
-use Rattle.k42_rule.specs.Steps.{Seated, Tells}
-use Rattle.k42_rule.specs.Tabling.{went, entry_in, entry_object, layout_told, MayLookUp, looked_up_view, MayLoadRoot, rooted_view, MayEndCall, ended_view}
-use Rattle.k42_rule.specs.Values.{layout_in, local_value, object_value}
+use Rattle.k42_rule.specs.Steps.{Seated, Tells, TellsWith}
+use Rattle.k42_rule.specs.Tabling.{went, EntryFound, ObjectFound, RootFound, entry_in, entry_object, layout_told, MayLookUp, looked_up_view, MayLoadRoot, rooted_view, MayEndCall, ended_view}
+use Rattle.k42_rule.specs.Values.{layout_in, incarnation_in, local_value, object_value}
 use Rattle.k42_rule.specs.Words.{object_word, local_word}
 use Rattle.k42_rule.specs.declared.view.PassView.{PassView}
 use Rattle.k42_rule.specs.declared.view.View.{View}
 use Rattle.k42_rule.specs.declared.view.View.TheVariants.{Crew}
 use Rattle.k42_rule.proofs.Fields.{IsEntryOf, IsRead, object_fits, object_read, entry_known, entry_read}
-use Rattle.k42_rule.proofs.Moves.{Moves, seat_allowed}
+use Rattle.k42_rule.proofs.Moves.{Moves, Finds, seat_allowed_with}
 use Rattle.k42_rule.proofs.OnePass.{with_pass, known}
-use Rattle.k42_rule.proofs.AtTables.{visited, same_row, AreSameRows, IsVisit, visits, HasLearned, goes}
+use Rattle.k42_rule.proofs.AtTables.{visited, Steps, same_row, AreSameRows, same_visit, visits, HasLearned, goes}
 
 pub missed_is : (place : Place) (o : ℕ) → is_missed place o ≡ true → (i : ℕ) × (place ≡ Missed o i)
 missed_is (Missed q i) o e = (i, ap (λ z. Missed z i) (eqb-true q o e))
@@ -73,7 +74,7 @@ served_told tag o i layout served = by_tests (eqb tag 0) (eqb tag 1) served wher
 module _ {S L P : Type 0} (F : Layouts S L P) (laws : AreLaws F) (declared : List L)
     (table : State (Slot P) (View P)) (r : Rule F declared table) (id : ℕ) (v : PassView P)
     (at : get_elem? table.views id ≡ some (Crew (v ∷ [])))
-    (e : Event) (place : Place) (read : List (ℕ × ℕ)) (layout : Option ℕ) where
+    (e : Event) (place : Place) (read : List (ℕ × ℕ)) (layout : Option ℕ) (heard : ℕ) where
   abbrev objects : List Object
   objects = r.state.phases.objects
 
@@ -89,23 +90,23 @@ module _ {S L P : Type 0} (F : Layouts S L P) (laws : AreLaws F) (declared : Lis
   pub reads : IsPossible F declared r.state (AtPhases e) → after_reading ≡ effect r.state (AtPhases e)
       → ((l o i : ℕ) → layout ≡ Some l → IsInside place o i → (object_at r.state.phases o).layout ≡ l)
       → (is_served place ≡ true → layout ≢ None) → (i : ℕ)
-      → (after : Rule F declared (with_pass table (set table.words i (get_or table.words i 0)) table.homes id (went v gone layout)))
-      × (after.state ≡ effect r.state (AtPhases e))
+      → Steps F declared r.state (AtPhases e) (with_pass table (set table.words i (get_or table.words i 0)) table.homes id (went heard v gone layout))
   reads possible is told learned i =
-      subst (λ words. (after : Rule F declared (with_pass table words table.homes id (went v gone layout))) × (after.state ≡ effect r.state (AtPhases e)))
+      subst (λ words. Steps F declared r.state (AtPhases e) (with_pass table words table.homes id (went heard v gone layout)))
       (sym (set-get_or table.words i 0))
       (visits F laws declared table r id v at e objects r.state.kept gone
-      (record { possible = possible; effect_is = is; rows = same_rows; kept_else = λ d not. refl })
-      table.words (went v gone layout)
+      (same_visit F laws declared table r id v at e objects r.state.kept gone possible is same_rows (λ d not. refl))
+      table.words (went heard v gone layout)
       (record {
         many_words = r.shows.many_words;
         many_slots = r.shows.many_slots;
         few_objects = r.shows.few_objects;
+        few_entries = r.shows.few_entries;
         generations = r.shows.generations;
         objects = r.shows.objects;
         cells = r.shows.cells;
       })
-      (goes F laws declared table r id v at objects place read layout same_rows (record { layout_is = told; learned = learned })))
+      (goes F laws declared table r id v at objects place read layout heard same_rows (record { layout_is = told; learned = learned })))
 
 module _ {S L P : Type 0} (F : Layouts S L P) (laws : AreLaws F) (declared : List L)
     (table : State (Slot P) (View P)) (r : Rule F declared table) (id : ℕ) (v : PassView P)
@@ -139,6 +140,14 @@ module _ {S L P : Type 0} (F : Layouts S L P) (laws : AreLaws F) (declared : Lis
   object_is_read o there =
       object_read (object_at s o) (get_or table.words (object_word o) 0) (object_fits s r.sound.phases o there) (object_shown o there)
 
+  pub object_seen : (o : ℕ) → o < length s.objects → ObjectFound v (get_or table.words (object_word o) 0)
+  object_seen o there =
+      let is = object_is_read o there in let fits = object_fits s r.sound.phases o there in
+      record {
+        layout = let same = is.layout in let most = fits.layout in omega (arith, same, most);
+        last = let same = is.incarnation in let most = fits.incarnation in omega (arith, same, most);
+      }
+
   word_there : (o : ℕ) → o < length s.objects → layout_in (get_or table.words (object_word o) 0) ≡ (object_at s o).layout
   word_there o there = (object_is_read o there).layout
 
@@ -147,10 +156,9 @@ module _ {S L P : Type 0} (F : Layouts S L P) (laws : AreLaws F) (declared : Lis
     abbrev found : ℕ
     found = get_or table.words (object_word o) 0
 
-    pub roots : (after : Rule F declared (with_pass table (set table.words (object_word o) found) table.homes id (rooted_view found v)))
-        × (after.state ≡ effect r.state (AtPhases (RootLoad v.number o)))
+    pub roots : Steps F declared r.state (AtPhases (RootLoad v.number o)) (with_pass table (set table.words (object_word o) found) table.homes id (rooted_view found v))
     roots =
-        reads F laws declared table r id v at (RootLoad v.number o) v.visitor.place v.visitor.read (Some (layout_in found))
+        reads F laws declared table r id v at (RootLoad v.number o) v.visitor.place v.visitor.read (Some (layout_in found)) found
         (record {
           caller = knows.there;
           may = record { objects = missed_there o may.missed; core = rw place_is may.missed; beside = refl };
@@ -166,16 +174,26 @@ module _ {S L P : Type 0} (F : Layouts S L P) (laws : AreLaws F) (declared : Lis
               let here : IsInside (Missed o is.0) q i = subst (λ z. IsInside z q i) is.1 inside in
               ap (λ z. (object_at s z).layout) (sym here.0) ∙ sym (word_there o (missed_there o may.missed)) ∙ same_Some (layout_in found) l told
 
+    pub root_seen : RootFound v found
+    root_seen = record {
+      word = object_seen o (missed_there o may.missed);
+      row =
+          let is = missed_is v.visitor.place o may.missed in
+          let inside : IsInside (visitor_at s v.number).place o is.0 = subst (λ z. IsInside z o is.0) (sym (place_is ∙ is.1)) (refl, refl) in
+          (object_is_read o (missed_there o may.missed)).incarnation
+          ∙ sym (inside_is_present s r.sound.phases v.number o is.0 knows.there inside).1
+          ∙ ap row_of (sym is.1);
+    }
+
   -- the end of a call
   module _ (may : MayEndCall v) where
     pub holds_no_cell : holds_none (held r.state v.number) ≡ true
     holds_no_cell = ap (λ (z : turns.Caller). holds_none z.held) knows.cells.taker ∙ may.free
 
     pub ends : (i : ℕ)
-        → (after : Rule F declared (with_pass table (set table.words i (get_or table.words i 0)) table.homes id (ended_view (get_or table.words i 0) v)))
-        × (after.state ≡ effect r.state (AtPhases (EndCall v.number)))
+        → Steps F declared r.state (AtPhases (EndCall v.number)) (with_pass table (set table.words i (get_or table.words i 0)) table.homes id (ended_view (get_or table.words i 0) v))
     ends i =
-        reads F laws declared table r id v at (EndCall v.number) Out v.visitor.read None
+        reads F laws declared table r id v at (EndCall v.number) Out v.visitor.read None (get_or table.words i 0)
         (record {
           caller = knows.there;
           may = record { objects = tt; core = rw place_is may.uncounted; beside = holds_no_cell };
@@ -196,7 +214,7 @@ module _ {S L P : Type 0} (F : Layouts S L P) (laws : AreLaws F) (declared : Lis
 
   -- the entry of its own processor
   pub entry_at_home : (o : ℕ) → o < length s.objects
-      → IsEntryOf (object_at s o).layout (entry_at (object_at s o) v.turn.proc)
+      → IsEntryOf (object_at s o).layout v.turn.proc (entry_at (object_at s o) v.turn.proc)
       × (get_or table.words (local_word v.turn.proc o) 0 ≡ local_value (entry_at (object_at s o) v.turn.proc))
   entry_at_home o there = (
     entry_known s r.sound.phases o there v.turn.proc home_there',
@@ -219,10 +237,9 @@ module _ {S L P : Type 0} (F : Layouts S L P) (laws : AreLaws F) (declared : Lis
     entry_is : e ≡ entry_at (object_at s o) v.turn.proc
     entry_is = let known = entry_at_home o there in entry_read (entry_at (object_at s o) v.turn.proc) seen known.0.fits known.1
 
-    pub looks : (after : Rule F declared (with_pass table (set table.words (local_word v.turn.proc o) seen) table.homes id (looked_up_view o seen v)))
-        × (after.state ≡ effect r.state (AtPhases (LookUp v.number o)))
+    pub looks : Steps F declared r.state (AtPhases (LookUp v.number o)) (with_pass table (set table.words (local_word v.turn.proc o) seen) table.homes id (looked_up_view o seen v))
     looks =
-        reads F laws declared table r id v at (LookUp v.number o) (place_found e.tag o e.incarnation) (with_row v.visitor.read o e.incarnation) (layout_told e)
+        reads F laws declared table r id v at (LookUp v.number o) (place_found e.tag o e.incarnation) (with_row v.visitor.read o e.incarnation) (layout_told e) seen
         (record {
           caller = knows.there;
           may = record { objects = there; core = rw (ap (λ (z : Caller). is_some z.active) knows.generations.turn ∙ may.active, ap is_out place_is ∙ may.out) refl; beside = refl };
@@ -240,11 +257,25 @@ module _ {S L P : Type 0} (F : Layouts S L P) (laws : AreLaws F) (declared : Lis
               ∙ ap (λ (z : LocalEntry). z.layout) (sym entry_is) ∙ same_Some e.layout l told
           told_by false one l q same told = absurd (cc)
 
+    pub entry_seen : EntryFound v seen
+    entry_seen =
+        let known = (entry_at_home o there).0 in
+        record {
+          tag = subst (λ (z : LocalEntry). z.tag ≤ 2) (sym entry_is) known.fits.tag;
+          layout = subst (λ (z : LocalEntry). z.layout ≤ 2) (sym entry_is) known.fits.layout;
+          cell = subst (λ (z : LocalEntry). z.tag ≡ 1 → z.cell ≡ root_of z.layout v.turn.proc) (sym entry_is) known.root;
+          last = let same = ap (λ (z : LocalEntry). z.incarnation) entry_is in let most = known.last in omega (arith, same, most);
+        }
+
 -- as moves of the pass
 
 pub root_moves : {S L P : Type 0} (F : Layouts S L P) → AreLaws F → (declared : List L) (id o : ℕ) (v : PassView P) → MayLoadRoot (length declared) o v
     → Moves F declared (AtPhases (RootLoad v.number o)) (object_word o) (λ word. word) rooted_view id v
 root_moves F laws declared id o v may = record { from = λ table r at. roots F laws declared table r id v at o may }
+
+pub root_finds : {S L P : Type 0} (F : Layouts S L P) → AreLaws F → (declared : List L) (id o : ℕ) (v : PassView P) → MayLoadRoot (length declared) o v
+    → Finds F declared (object_word o) RootFound id v
+root_finds F laws declared id o v may table r at = root_seen F laws declared table r id v at o may
 
 pub end_moves : {S L P : Type 0} (F : Layouts S L P) → AreLaws F → (declared : List L) (id word : ℕ) (v : PassView P) → MayEndCall v
     → Moves F declared (AtPhases (EndCall v.number)) word (λ word. word) ended_view id v
@@ -261,15 +292,23 @@ look_moves F laws declared id home o v may same =
 pub object_is : (home o : ℕ) → o < 16 → entry_object (local_word home o) ≡ o
 object_is home o few = omega (arith, few)
 
+-- what it finds
+pub look_finds : {S L P : Type 0} (F : Layouts S L P) → AreLaws F → (declared : List L) (id home o : ℕ) (v : PassView P) → MayLookUp (length declared) o v
+    → v.turn.proc ≡ home → Finds F declared (local_word home o) EntryFound id v
+look_finds F laws declared id home o v may same =
+    subst (λ p. Finds F declared (local_word p o) EntryFound id v) same
+    (λ table r at. entry_seen F laws declared table r id v at o may)
+
 module _ {S L P : Type 0} (F : Layouts S L P) (laws : AreLaws F) (declared : List L) (id home o : ℕ) (few : o < 16)
     (me : Seated P) (is : IsSeatOf me (pass_in me.0)) (may : MayLookUp (length declared) o (pass_in me.0))
     (same : (pass_in me.0).turn.proc ≡ home) where
-  pub look_allowed : (slots : ℕ) (step : Step (Slot P))
-      → Allows (Rule F declared) slots id me (local_word home o) (λ n. n) (Tells (looked_up_view (entry_object (local_word home o))) step me)
-  look_allowed slots step =
-      subst (λ q. Allows (Rule F declared) slots id me (local_word home o) (λ n. n) (Tells (looked_up_view q) step me)) (sym (object_is home o few))
-      (seat_allowed (look_moves F laws declared id home o (pass_in me.0) may same) me is slots step)
+  pub look_allowed : {callers : ℕ} (slots : ℕ) (step : Step (Slot P))
+      → Allows (Ruled F declared callers) slots id me (local_word home o) (λ n. n) (TellsWith (looked_up_view (entry_object (local_word home o))) EntryFound step me)
+  look_allowed {callers} slots step =
+      subst (λ q. Allows (Ruled F declared callers) slots id me (local_word home o) (λ n. n) (TellsWith (looked_up_view q) EntryFound step me)) (sym (object_is home o few))
+      (seat_allowed_with (look_moves F laws declared id home o (pass_in me.0) may same) EntryFound
+      (look_finds F laws declared id home o (pass_in me.0) may same) me is slots step)
 
-  pub look_told : (step : Step (Slot P)) (found : ℕ) (after : Seated P) → Tells (looked_up_view (entry_object (local_word home o))) step me found after
+  pub look_told : (step : Step (Slot P)) (found : ℕ) (after : Seated P) → TellsWith (looked_up_view (entry_object (local_word home o))) EntryFound step me found after
       → Tells (looked_up_view o) step me found after
-  look_told step found after told = subst (λ q. Tells (looked_up_view q) step me found after) (object_is home o few) told
+  look_told step found after told = subst (λ q. Tells (looked_up_view q) step me found after) (object_is home o few) told.0

@@ -93,7 +93,7 @@ module _ {S L P : Type 0} (F : Layouts S L P) (laws : AreLaws F) (declared : Lis
     pub unhanded : is_handed s o ≡ false
     pub kept : (object s o).freed ≤ incarnation s o
 
-  inside_present : (o i : ℕ) → IsInside v.visitor.place o i → IsPresent o × (i ≡ incarnation s o)
+  pub inside_present : (o i : ℕ) → IsInside v.visitor.place o i → IsPresent o × (i ≡ incarnation s o)
   inside_present o i inside' =
       let inside : IsInside (visitor_at s.phases c).place o i = subst (λ (x : Visitor). IsInside x.place o i) (sym knows.phases.visitor) inside' in
       let named = inside_there s.phases r.sound.phases c o i knows.there inside in
@@ -113,14 +113,14 @@ module _ {S L P : Type 0} (F : Layouts S L P) (laws : AreLaws F) (declared : Lis
       go true e named inside = absurd (handed_alone F laws declared s r.sound c o i knows.there named e inside)
 
   -- what a pass knows of the object that it moves and has not handed on
-  record IsMoving (o : ℕ) : Type 0 where
-    present : IsPresent o
-    row : incarnation_in (word_begun v.last) ≡ incarnation s o
-    layout : (object s o).layout ≡ layout_in (word_begun v.last)
-    live : layout_in (word_begun v.last) ≤ 1
-    freed : (object s o).freed ≡ incarnation s o
+  pub record IsMoving (o : ℕ) : Type 0 where
+    pub present : IsPresent o
+    pub row : incarnation_in (word_begun v.last) ≡ incarnation s o
+    pub layout : (object s o).layout ≡ layout_in (word_begun v.last)
+    pub live : layout_in (word_begun v.last) ≤ 1
+    pub freed : (object s o).freed ≡ incarnation s o
 
-  moved_present : (o : ℕ) → v.visitor.swap ≡ Moved o → v.handed ≡ None → IsMoving o
+  pub moved_present : (o : ℕ) → v.visitor.swap ≡ Moved o → v.handed ≡ None → IsMoving o
   moved_present o swap unhanded' =
       let own : (visitor_at s.phases c).swap ≡ Moved o = ap (λ (x : Visitor). x.swap) knows.phases.visitor ∙ swap in
       let ready = moved_is_ready s.phases r.sound.phases c o knows.there own in
@@ -154,11 +154,11 @@ module _ {S L P : Type 0} (F : Layouts S L P) (laws : AreLaws F) (declared : Lis
         ahead
 
     -- the row of any chain that fits is the present one, with the object's tag
-    record IsRowNow (declaration : L) (chain : Chain L P) : Type 0 where
-      many : length chain.past ≡ incarnation s o
-      tagged : F.tag_of chain.row.layout ≡ (object s o).layout
+    pub record IsRowNow (declaration : L) (chain : Chain L P) : Type 0 where
+      pub many : length chain.past ≡ incarnation s o
+      pub tagged : F.tag_of chain.row.layout ≡ (object s o).layout
 
-    row_now : (declaration : L) (chain : Chain L P) → slice_get declared o ≡ Some declaration → AreRowsOf F declaration s o chain → IsRowNow declaration chain
+    pub row_now : (declaration : L) (chain : Chain L P) → slice_get declared o ≡ Some declaration → AreRowsOf F declaration s o chain → IsRowNow declaration chain
     row_now declaration chain declares rows = record { many = long ∙ hands_are; tagged = tagged chain.row.layout newest } where
       same : declaration ≡ at_o.declaration
       same = same_Some declaration at_o.declaration (sym declares ∙ at_o.declares)
@@ -195,7 +195,7 @@ module _ {S L P : Type 0} (F : Layouts S L P) (laws : AreLaws F) (declared : Lis
           let number : cell_of o (incarnation s o) p < many_objects s * 16 = cell_there (many_objects s) o (incarnation s o) p named few in
           omega (arith, many, number, here)
 
-      has_due : (declaration : L) (chain : Chain L P) → slice_get declared o ≡ Some declaration → AreRowsOf F declaration s o chain
+      pub has_due : (declaration : L) (chain : Chain L P) → slice_get declared o ≡ Some declaration → AreRowsOf F declaration s o chain
           → HasDue (F.ways_of chain.row.layout) F.procs p (r.beside.contents.part n) (part_at (parts_of F chain.row) p)
       has_due declaration chain declares rows =
           let now = row_now declaration chain declares rows in

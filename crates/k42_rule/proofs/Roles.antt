@@ -1,23 +1,22 @@
 -- Taking the role is allowed to an idle pass, with what is due to be noted.
-use Rattle.std.proofs.Common.{◌≡◌, ◌≢◌, ℕ, zero, suc, ◌+◌, ◌-◌, ◌*◌, ◌^◌, ◌<◌, ◌≤◌, ◌⊎◌, Bool, true, false, cond, eqb, ltb, List, [], ◌∷◌, Option, Some, None, length, get_or, set, take, sym, refl, ap, ◌∙◌, subst, ⊎_elim, arith, le_refl, length-set, get_or-set_same, get_or-set_other}
-use Rattle.std.specs.List.{slice_get, slice_index}
-use Rattle.std.specs.Option.{unwrap_or}
-use Rattle.std.specs.Prelude.{sum, ◌&&◌}
+use Rattle.std.proofs.Common.{◌≡◌, ℕ, ◌+◌, ◌-◌, ◌*◌, ◌^◌, ◌<◌, ◌≤◌, Bool, true, false, cond, eqb, ltb, List, [], ◌∷◌, Option, Some, None, length, get_or, set, sym, refl, ap, ◌∙◌, subst, arith, le_refl, length-set, get_or-set_same, get_or-set_other}
+use Rattle.std.specs.List.{slice_get}
+use Rattle.std.specs.Prelude.{sum}
 use Rattle.std.proofs.lemmas.Bool.{and_parts, lt-ltb, eq-eqb, eqb-true, ne_eqb, le-leb, ltb-true, ltb-false}
-use Rattle.std.proofs.lemmas.Option.{slice_get_within, slice_get-get_or, same_Some}
+use Rattle.std.proofs.lemmas.Option.{slice_get_within, same_Some}
 use mathlib.Core.Option.{some}
 use lib.ListN.{get_elem?}
-use Rattle.atomic_table.specs.Table.{State}
+use prog.Atomic.{either}
+use Rattle.atomic_table.specs.Table.{State, Step, Allows}
 use Rattle.std.proofs.Math.Seq.{take-length}
 use Rattle.std.proofs.lemmas.List.{get_or_past}
 use Rattle.k42_limits.specs.declared.TheConstants.{LAST_INCARNATION}
-use Rattle.k42_places.specs.Places.{EachPlace}
 use Rattle.k42_places.proofs.EachPlaces.{EachPlace-set}
 use Rattle.gen_core.specs.Events as gens
 use Rattle.gen_core.specs.Events.{is_free, is_idle, role_taken}
 use Rattle.gen_core.specs.Plain.{Generations, Caller}
 use Rattle.gen_core.specs.Sound as gen
-use Rattle.gen_core.specs.State.{caller_at, proc_at, fresh_proc}
+use Rattle.gen_core.specs.State.{caller_at, proc_at}
 use Rattle.gen_core.specs.declared.event.GenEvent.TheVariants.{TakeRole}
 use Rattle.gen_core.specs.declared.state.GenProc.{GenProc}
 use Rattle.gen_core.proofs.Stages.{from_is_idle}
@@ -25,9 +24,8 @@ use Rattle.gen_core.proofs.Ranges.{few_procs, length-waits}
 use Rattle.gen_core.proofs.Reached.{one_holder, role_there}
 use Rattle.phase_core.specs.Effects.{role_taken_with}
 use Rattle.phase_core.specs.Event.{TakeRoleWith}
-use Rattle.phase_core.specs.Events as swaps
 use Rattle.phase_core.specs.Events.{taken_with}
-use Rattle.phase_core.specs.Notes.{note_of, numbers_of, fits_note, notes_own, is_note}
+use Rattle.phase_core.specs.Notes.{numbers_of, fits_note, notes_own}
 use Rattle.phase_core.specs.Plain.{Object, Visitor, Phases}
 use Rattle.phase_core.specs.Sound as phases
 use Rattle.phase_core.specs.Stages.{may_take, named_by}
@@ -41,24 +39,25 @@ use Rattle.k42_stamp.specs.Laws.{AreLaws}
 use Rattle.k42_stamp.specs.Layouts.{Layouts}
 use Rattle.k42_joined.specs.Effects.{effect}
 use Rattle.k42_joined.specs.Event.{AtPhases}
-use Rattle.k42_joined.specs.Plain.{Joined}
 use Rattle.k42_joined.specs.Possible.{IsPossible}
 use Rattle.k42_rule.specs.Cells.{Slot}
-use Rattle.k42_rule.specs.Generations.{Counts, MOST, IsProcessorShown, AreGenerations, will_flip, grace_of}
+use Rattle.k42_rule.specs.Generations.{Counts, MOST, AreGenerations, grace_of}
 use Rattle.k42_rule.specs.Gracing.{MayTakeRole, role_view, RoleFound}
 use Rattle.k42_rule.specs.Noting.{after_rows, is_of, due_note, notes_due, pairs_from}
-use Rattle.k42_rule.specs.Phases.{IsOld, IsGranted, KnowsRows, KnowsSwap}
-use Rattle.k42_rule.specs.Rule.{Beside, KnowsPass, Rule}
+use Rattle.k42_rule.specs.Phases.{IsOld, IsGranted}
+use Rattle.k42_rule.specs.Rule.{KnowsPass, Rule, Ruled}
+use Rattle.k42_rule.specs.Seen.{IsSeatOf}
+use Rattle.k42_rule.specs.Steps.{Seated, TellsWith}
 use Rattle.k42_rule.specs.Values.{holder_value, incarnation_in}
 use Rattle.k42_rule.specs.Views.{hears, word_begun}
-use Rattle.k42_rule.specs.Words.{generation_word, exits_word, role_word, many_words}
+use Rattle.k42_rule.specs.Words.{role_word}
 use Rattle.k42_rule.specs.declared.view.PassView.{PassView}
 use Rattle.k42_rule.specs.declared.view.Row.{Row}
 use Rattle.k42_rule.specs.declared.view.View.{View}
 use Rattle.k42_rule.specs.declared.view.View.TheVariants.{Crew}
 use Rattle.k42_rule.proofs.Apart.{of_role}
-use Rattle.k42_rule.proofs.Begun.{few_begun, one_more, processor_stays, begun_goes, flips_of, will_flip_once}
-use Rattle.k42_rule.proofs.Moves.{Moves, Finds}
+use Rattle.k42_rule.proofs.Begun.{few_begun, one_more, processor_stays, begun_goes, will_flip_once}
+use Rattle.k42_rule.proofs.Moves.{Moves, Finds, seat_allowed_with}
 use Rattle.k42_rule.proofs.Notings.{note_there, noted_of, numbers_noted, named_once, fitting, pairs_there, made_length, made_note, rows_fit, rows_below, all_from}
 use Rattle.k42_rule.proofs.OnePass.{with_pass, known}
 use Rattle.k42_rule.proofs.Turning.{IsTurn, turned, visitors_after, state_after, with_counts, own_goes, draining_swap, known_heard, stayed}
@@ -200,6 +199,24 @@ module _ {S L P : Type 0} (F : Layouts S L P) (laws : AreLaws F) (declared : Lis
           (old_fits r.state.phases r.sound.phases row (knows.phases.rows.old place row here)))
           is
 
+  granted_row : (place : ℕ) (row : Row) → slice_get v.rows place ≡ Some row → IsGranted (notes_due v) row
+  granted_row place row e = by_test (is_of (named_by v.visitor.swap) row.object) refl where
+    old : IsOld r.state.phases row
+    old = knows.phases.rows.old place row e
+
+    at_o : note_at (notes_due v) row.object ≡ due_note v row.object
+    at_o = due_at row.object (old_there r.state.phases r.sound.phases row old)
+
+    by_test : (b : Bool) → is_of (named_by v.visitor.swap) row.object ≡ b → IsGranted (notes_due v) row
+    by_test true test = record {
+      number = incarnation_in (word_begun v.last);
+      known = at_o ∙ rw test refl;
+      above = let is = own_is row.object (is_of_named (named_by v.visitor.swap) row.object test) in let below = old.0 in omega (arith, is, below);
+    }
+    by_test false test =
+        let after = rows_below v.rows row.object place row e refl in
+        record { number = after.0; known = at_o ∙ rw test after.1; above = after.2 }
+
   own_noted : notes_own r.state.phases notes (visitor_at r.state.phases c).swap ≡ true
   own_noted = by_swap (visitor_at r.state.phases c).swap refl where
     by_swap : (swap : SwapAt) → (visitor_at r.state.phases c).swap ≡ swap → notes_own r.state.phases notes swap ≡ true
@@ -290,24 +307,6 @@ module _ {S L P : Type 0} (F : Layouts S L P) (laws : AreLaws F) (declared : Lis
           r.shows.generations.begun;
     }
 
-    granted_row : (place : ℕ) (row : Row) → slice_get v.rows place ≡ Some row → IsGranted (notes_due v) row
-    granted_row place row e = by_test (is_of (named_by v.visitor.swap) row.object) refl where
-      old : IsOld r.state.phases row
-      old = knows.phases.rows.old place row e
-
-      at_o : note_at (notes_due v) row.object ≡ due_note v row.object
-      at_o = due_at row.object (old_there r.state.phases r.sound.phases row old)
-
-      by_test : (b : Bool) → is_of (named_by v.visitor.swap) row.object ≡ b → IsGranted (notes_due v) row
-      by_test true test = record {
-        number = incarnation_in (word_begun v.last);
-        known = at_o ∙ rw test refl;
-        above = let is = own_is row.object (is_of_named (named_by v.visitor.swap) row.object test) in let below = old.0 in omega (arith, is, below);
-      }
-      by_test false test =
-          let after = rows_below v.rows row.object place row e refl in
-          record { number = after.0; known = at_o ∙ rw test after.1; above = after.2 }
-
     pass_after : KnowsPass F.tag_of (state_after F laws declared table r id v at (TakeRoleWith c notes) g y counts) (with_counts r.beside counts) id w
     pass_after =
         own_goes r.state g (visitors_after F laws declared table r id v at (TakeRoleWith c notes) g y counts) v
@@ -371,14 +370,12 @@ module _ {S L P : Type 0} (F : Layouts S L P) (laws : AreLaws F) (declared : Lis
         let held : s.role ≡ Some c = by_role s.role refl same in
         (one_holder s sound).under_way c held (from_is_idle x.grace (and_parts (is_idle x.grace) _ free).0);
     small = small_value s.role refl;
-    fits = (
-      (let some = some_procs r.state.phases r.sound.phases in let long = waits_many in omega (arith, some, long)),
-      (let few = procs_few in let long = waits_many in omega (arith, few, long)),
-    );
+    procs = let some_ = some_procs r.state.phases r.sound.phases in let long = waits_many in omega (arith, some_, long);
     notes =
         let long = many in let made = made_length (due_note v) 0 (length v.visitor.noted) in let few = r.shows.few_objects in
         omega (arith, long, made, few);
     rows = λ place row e. old_small r.state.phases r.sound.phases row (knows.phases.rows.old place row e);
+    granted = granted_row;
   } where
     waits_many : length v.turn.waits ≡ length s.procs
     waits_many = ap (λ (z : Caller). length z.waits) (sym turn) ∙ length-waits s c sound there
@@ -404,3 +401,15 @@ role_moves F laws declared id v may = record { from = λ table r at. takes_or_no
 pub role_finds : {S L P : Type 0} (F : Layouts S L P) → AreLaws F → (declared : List L) (id : ℕ) (v : PassView P) → MayTakeRole v
     → Finds F declared role_word RoleFound id v
 role_finds F laws declared id v may table r at = role_found F laws declared table r id v at may
+
+either_is : (b : Bool) (new word : ℕ) → either b new word ≡ cond b new word
+either_is true new word = refl
+either_is false new word = refl
+
+pub role_allowed : {S L P : Type 0} (F : Layouts S L P) → AreLaws F → (declared : List L) (id callers : ℕ) (v : PassView P) (me : Seated P) → IsSeatOf me v
+    → MayTakeRole v → (number : ℕ) → v.number ≡ number → (slots : ℕ) (step : Step (Slot P))
+    → Allows (Ruled F declared callers) slots id me role_word (λ n. either (eqb n 0) (number + 1) n) (TellsWith role_view RoleFound step me)
+role_allowed F laws declared id callers v me is may number same slots step =
+    subst (λ (f : ℕ → ℕ). Allows (Ruled F declared callers) slots id me role_word f (TellsWith role_view RoleFound step me))
+    (λ k word. (ap (λ (c : ℕ). cond (eqb word 0) (c + 1) word) same ∙ sym (either_is (eqb word 0) (number + 1) word)) k)
+    (seat_allowed_with (role_moves F laws declared id v may) RoleFound (role_finds F laws declared id v may) me is slots step)

@@ -1,6 +1,7 @@
 -- The steps of generations, for one pass: where each may be taken, and what the pass knows after it.
-use Rattle.std.specs.Prelude.{◌≡◌, ℕ, ◌+◌, ◌<◌, true, [], Some, None}
+use Rattle.std.specs.Prelude.{◌≡◌, ℕ, ◌+◌, ◌<◌, ◌≤◌, true, [], Some, None}
 use Rattle.std.specs.Option.{unwrap_or}
+use Rattle.k42_places.specs.Places.{EachPlace}
 use Rattle.gen_core.specs.Events.{is_free}
 use Rattle.phase_core.specs.Stages.{is_idle, is_out}
 use Rattle.k42_rule.specs.Generations.{MOST}
@@ -17,6 +18,14 @@ pub record MayEnter {P : Type 0} (v : PassView P) : Type 0 where
 abbrev pub entered_view : {P : Type 0} → ℕ → PassView P → PassView P
 entered_view found v =
     hears found (record v { turn = record v.turn { active = Some (generation_in found) }; activities = v.activities + 1 })
+
+-- no entry of it is of a later generation than the one found; and it is inside no call
+pub record EnteredFound {P : Type 0} (v : PassView P) (found : ℕ) : Type 0 where
+  pub times :
+      EachPlace
+      (λ place entry. (generation : ℕ) → entry.generation ≡ Some generation → generation ≤ generation_in found)
+      v.taker.mine
+  pub out : is_out v.visitor.place ≡ true
 
 -- it has an activity, of this generation, and is inside no call
 pub record MayLeave {P : Type 0} (generation : ℕ) (v : PassView P) : Type 0 where

@@ -1,8 +1,8 @@
 -- The steps of a grace, for one pass: where each may be taken, and what the pass knows after it.
-use Rattle.std.specs.Prelude.{◌≡◌, ◌≢◌, ◌⊎◌, ℕ, ◌+◌, ◌-◌, ◌*◌, ◌%◌, ◌<◌, ◌≤◌, ◌^◌, ◌==◌, if◌then◌else◌, Bool, true, ⊤, List, [], Option, Some, None, drop, length, replicate, slice_index, slice_set, unwrap_or}
-use Rattle.k42_limits.specs.declared.TheConstants.{CALLERS, OBJECTS, PROCESSORS, LAST_INCARNATION}
+use Rattle.std.specs.Prelude.{◌≡◌, ◌≢◌, ◌⊎◌, ℕ, ◌+◌, ◌*◌, ◌%◌, ◌<◌, ◌≤◌, ◌^◌, ◌==◌, if◌then◌else◌, true, ⊤, [], Option, Some, None, drop, is_some, length, replicate, take, slice_index, slice_set, unwrap_or}
+use Rattle.k42_limits.specs.declared.TheConstants.{CALLERS, OBJECTS, LAST_INCARNATION}
 use Rattle.k42_places.specs.Places.{EachPlace}
-use Rattle.gen_core.specs.Events.{is_free, is_idle, is_flipping, is_looking, place_of, role_taken, role_given, after_flip, after_look, caller_passed}
+use Rattle.gen_core.specs.Events.{is_free, is_flipping, is_looking, place_of, role_taken, role_given, after_flip, caller_passed}
 use Rattle.gen_core.specs.Plain.{Caller}
 use Rattle.gen_core.specs.declared.event.GenEvent.{GenEvent}
 use Rattle.gen_core.specs.declared.event.GenEvent.TheVariants.{LookAhead, Look}
@@ -15,6 +15,7 @@ use Rattle.turn_core.specs.Names.{names}
 use Rattle.k42_joined.specs.Swapping.{holds_none}
 use Rattle.k42_rule.specs.Generations.{MOST}
 use Rattle.k42_rule.specs.Noting.{notes_due}
+use Rattle.k42_rule.specs.Phases.{IsGranted}
 use Rattle.k42_rule.specs.Seen.{PassSeen}
 use Rattle.k42_rule.specs.Values.{generation_in}
 use Rattle.k42_rule.specs.Views.{hears}
@@ -37,21 +38,24 @@ role_view found v = hears found (if found == 0 then record v {
   swept = [];
 } else v)
 
--- while a grace is under way, the processor that it comes to next is one of so many, which are few
-abbrev pub FitsGrace : GraceAt → ℕ → Type 0
-FitsGrace Idle procs = ⊤
-FitsGrace (Flipping p) procs = (p < procs) × (procs ≤ PROCESSORS)
-FitsGrace (Looking p) procs = (p < procs) × (procs ≤ PROCESSORS)
-FitsGrace Quiet procs = (0 < procs) × (procs ≤ PROCESSORS)
+-- While a grace is under way, the processor that it comes to next is one of so many; it has asked for the generation
+-- before it flips a second one.
+abbrev pub FitsGrace : GraceAt → Option ℕ → ℕ → Type 0
+FitsGrace Idle base procs = ⊤
+FitsGrace (Flipping p) base procs = (p < procs) × (0 < p → is_some base ≡ true)
+FitsGrace (Looking p) base procs = (p < procs) × (is_some base ≡ true)
+FitsGrace Quiet base procs = is_some base ≡ true
 
 -- the word found is that of nobody, or of another caller
 pub record RoleFound {P : Type 0} (v : PassView P) (found : ℕ) : Type 0 where
   pub another : found ≢ v.number + 1
   pub small : found ≤ CALLERS
   -- a grace may begin, and what it notes fits its fields
-  pub fits : FitsGrace (Flipping 0) (length v.turn.waits)
+  pub procs : 0 < length v.turn.waits
   pub notes : length v.visitor.noted ≤ OBJECTS
   pub rows : EachPlace (λ place row. row.incarnation < LAST_INCARNATION) v.rows
+  -- what is noted then is above the rows that it holds
+  pub granted : EachPlace (λ place row. IsGranted (notes_due v) row) v.rows
 
 -- it is about to flip the first processor
 abbrev pub MayAskGeneration : {P : Type 0} → PassView P → Type 0
@@ -144,9 +148,13 @@ given_view v = record v {
   granted = 0;
 }
 
--- it has the same seat, and the room of the rows that it no longer has
+-- its grace has noted more than the rows that are taken from it
+abbrev pub RowsGiven : {P : Type 0} → PassView P → ℕ → Type 0
+RowsGiven v stored = EachPlace (λ place row. IsGranted v.visitor.noted row) (take v.granted v.rows)
+
+-- it has the same seat, and the room of these rows
 pub record HasGiven {P : Type 0} (old new : PassSeen P) : Type 0 where
   pub table : new.table ≡ old.table
   pub seat : new.seat ≡ old.seat
   pub room : new.room ≡ old.room
-  pub row_room : new.row_room ≡ old.row_room + (length old.view.rows - length new.view.rows)
+  pub row_room : new.row_room ≡ old.row_room + old.view.granted

@@ -114,8 +114,12 @@ abbrev pub clear_event : ℕ → SwapAt → Event
 clear_event c swap = if is_moved swap then Unblock c else Clear c
 
 -- BLOCK and MOVE are cleared where it gives up, else SWAP and COMPLETE
+
+abbrev pub kept_bits : SwapAt → ℕ
+kept_bits swap = if is_moved swap then 2 ^ 64 - 1 - 2 ^ 25 - 2 ^ 26 else 2 ^ 64 - 1 - 2 ^ 24 - 2 ^ 27
+
 abbrev pub clears : SwapAt → ℕ → ℕ
-clears swap word = bit_and word (if is_moved swap then 2 ^ 64 - 1 - 2 ^ 25 - 2 ^ 26 else 2 ^ 64 - 1 - 2 ^ 24 - 2 ^ 27)
+clears swap word = bit_and word (kept_bits swap)
 
 -- the row that it has handed on and turned over
 abbrev pub rows_ended : {P : Type 0} → PassView P → List Row

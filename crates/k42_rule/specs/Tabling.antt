@@ -1,5 +1,5 @@
 -- The steps on tables, for one pass: where each may be taken, and what the pass knows after it.
-use Rattle.std.specs.Prelude.{◌≡◌, ℕ, ◌-◌, ◌*◌, ◌/◌, ◌%◌, ◌<◌, ◌^◌, ◌==◌, ◌||◌, Bool, true, if◌then◌else◌, List, Option, Some, None, is_some, unwrap_or}
+use Rattle.std.specs.Prelude.{◌≡◌, ℕ, ◌-◌, ◌*◌, ◌/◌, ◌%◌, ◌<◌, ◌≤◌, ◌^◌, ◌==◌, ◌||◌, Bool, true, if◌then◌else◌, List, Option, Some, None, is_some, unwrap_or}
 use Rattle.k42_limits.specs.declared.TheConstants.{LAST_INCARNATION}
 use Rattle.gen_core.specs.Events.{is_free}
 use Rattle.phase_core.specs.Effects.{root_of, at_place, looked_up, direct_entry, knocked, at_stage, begun_as}
@@ -29,6 +29,23 @@ entry_in word = record {
 -- the object of the word of an entry
 abbrev pub entry_object : ℕ → ℕ
 entry_object word = word % 64 - 32
+
+-- what is so of each word of an entry: a direct one leads where the root of its layout does
+pub record EntryFound {P : Type 0} (v : PassView P) (found : ℕ) : Type 0 where
+  pub tag : (entry_in found).tag ≤ 2
+  pub layout : (entry_in found).layout ≤ 2
+  pub cell : (entry_in found).tag ≡ 1 → (entry_in found).cell ≡ root_of (entry_in found).layout v.turn.proc
+  pub last : incarnation_in found ≤ LAST_INCARNATION
+
+-- and of each word of an object
+pub record ObjectFound {P : Type 0} (v : PassView P) (found : ℕ) : Type 0 where
+  pub layout : layout_in found ≤ 2
+  pub last : incarnation_in found ≤ LAST_INCARNATION
+
+-- and of the word of an object that the pass has missed: it is still in that row
+pub record RootFound {P : Type 0} (v : PassView P) (found : ℕ) : Type 0 where
+  pub word : ObjectFound v found
+  pub row : incarnation_in found ≡ row_of v.visitor.place
 
 -- a direct entry tells its row's layout
 abbrev pub layout_told : LocalEntry → Option ℕ

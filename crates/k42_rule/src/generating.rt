@@ -3,7 +3,7 @@ ghost use Rattle.std.specs.Prelude.{◌≡◌, ◌+◌, ◌%◌, ◌^◌};
 ghost use Rattle.gen_core.specs.declared.event.GenEvent.TheVariants as GenEvent;
 ghost use Rattle.phase_core.specs.Event.{Turn};
 ghost use Rattle.k42_joined.specs.Event.{AtPhases};
-ghost use Rattle.k42_rule.specs.Generating.{MayEnter, entered_view, CanLeave, active_in, left_view};
+ghost use Rattle.k42_rule.specs.Generating.{MayEnter, entered_view, EnteredFound, CanLeave, active_in, left_view};
 ghost use Rattle.k42_rule.specs.Plan.{layouts_on};
 ghost use Rattle.k42_rule.specs.Seen.{IsOf, IsSamePass};
 ghost use Rattle.k42_rule.specs.Steps.{StepIs};
@@ -20,6 +20,7 @@ pub fn enter_step<L: Layout>(sys: &Sys<L>, pass: &mut Pass<L>) -> u64
     requires may { MayEnter pass.old.view }
     ensures same { IsSamePass pass.old pass.new }
     ensures knows { pass.new.view ≡ entered_view result pass.old.view }
+    ensures found { EnteredFound pass.old.view result }
     ensures event { StepIs
         (layouts_on L.object L.tag_of L.ways L.whole L.serves L.admitted L.act_of sys.now.procs sys.now.callers)
         sys.now.layouts (AtPhases (Turn (GenEvent.Enter pass.old.view.number)))

@@ -3,19 +3,29 @@
 
 mod board;
 mod cell;
+mod finish;
 mod draw_plays;
 mod draw_words;
 mod drawing;
+mod freeing;
 mod generating;
+mod grace_words;
+mod gracing;
+mod queueing;
 mod laws;
+mod noting;
 mod pass;
 mod plays;
 mod receipts;
+mod retired;
 mod slot_plays;
 mod slots;
 mod stamps;
 mod start;
 mod swap_begins;
+mod swap_plays;
+mod swap_words;
+mod swapping;
 mod sys;
 mod table_plays;
 mod table_words;
@@ -26,11 +36,18 @@ mod words;
 
 pub use cell::{Cell, Content};
 pub use drawing::{draw_alone, draw_call, draw_mark};
+pub use freeing::free;
 pub use generating::{enter_step, leave_step};
-pub use laws::shown_states_are_safe;
+pub use queueing::{Rows, pop_row, push_row};
+pub use laws::{
+    freed_rows_stay_freed, rows_have_one_name, rows_inside_are_present, shown_states_are_safe,
+};
+pub use gracing::{flip, generation_step, give_role, look, take_role};
 pub use pass::{Pass, Walker};
+pub use retired::{Carried, Retired, Slip};
 pub use swap_begins::begin_step;
-pub use sys::Sys;
+pub use swapping::{block_step, clear_step, entry_step, move_step, turn_over};
+pub use sys::{Sys, Unfinished};
 pub use tabling::{end_call, install_step, knock_step, look_up_step, root_step, step_out};
 pub use taking::{lock, put, take, unlock};
-pub use view::{LastBegin, Row};
+pub use view::{Inside, LastBegin, Row};

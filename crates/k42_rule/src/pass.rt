@@ -1,19 +1,30 @@
 //! A pass: what one caller steps with.
-ghost use Rattle.std.specs.Prelude.{◌≡◌, ◌<◌, length, is_some};
+ghost use Rattle.std.specs.Prelude.{◌≡◌, ◌<◌, ◌≤◌, true, Some, length, slice_index, is_some, OnOk};
+ghost use Rattle.k42_limits.specs.declared.TheConstants.{LAST_INCARNATION};
+ghost use Rattle.k42_stamp.specs.Lists.{IsListOf};
+ghost use Rattle.phase_core.specs.Stages.{named_by};
 ghost use Rattle.phase_core.specs.State.{note_at};
-ghost use Rattle.k42_rule.specs.Seen.{is_at_rest};
+ghost use Rattle.k42_rule.specs.Gracing.{FitsGrace};
+ghost use Rattle.k42_rule.specs.Phases.{is_served};
+ghost use Rattle.k42_rule.specs.Seen.{IsRoomier, inside_in, is_at_rest};
+ghost use Rattle.k42_rule.specs.Values.{layout_in, incarnation_in};
+ghost use Rattle.k42_rule.specs.Views.{word_begun};
 
 use crate::cell::Content;
-use crate::view::{LastBegin, Row, View};
+use crate::retired::{Carried, Slip};
+use crate::view::{Inside, LastBegin, Row, View};
 use atomic_table::Seat;
+use crossbeam_queue::SegPass;
 use gen_core::GraceAt;
 use k42_kinds::{Entry, Layout};
+use k42_memory::Memory;
 use phase_core::{Place, SwapAt};
 use std::marker::Model;
 
 #[derive(Drop)]
 pub struct Walker<P: Drop> {
     pub(crate) seat: Seat<Option<Content<P>>, View<P>>,
+    pub(crate) post: SegPass<Slip<P>, Carried>,
     pub(crate) number: u32,
     pub(crate) home: u32,
     pub(crate) active: Option<u32>,
@@ -39,14 +50,19 @@ pub struct Walker<P: Drop> {
 pub type Pass<L> = Walker<<L as Layout>::Part>;
 
 impl<P: Drop> Model for Walker<P> {
-    ghost use Rattle.std.specs.Prelude.{ℕ, ◌+◌, ◌-◌, ◌^◌, ◌≡◌, ◌<◌, ◌≤◌, length, vec_capacity};
+    ghost use Rattle.std.specs.Prelude.{ℕ, ◌+◌, ◌-◌, ◌^◌, ◌≡◌, ◌<◌, ◌≤◌, None, length, vec_capacity};
     ghost use Rattle.std.specs.Option.{unwrap_or};
-    ghost use Rattle.phase_core.specs.Stages.{object_of};
+    ghost use Rattle.k42_limits.specs.declared.TheConstants.{LAST_INCARNATION};
+    ghost use Rattle.phase_core.specs.Stages.{object_of, row_of, object_named};
     ghost use Rattle.turn_core.specs.Stamps.{last_stamp};
+    ghost use Rattle.k42_stamp.specs.Lists.{IsListOf};
     ghost use Rattle.k42_rule.specs.Gracing.{FitsGrace};
+    ghost use Rattle.k42_rule.specs.Queueing.{IsTied};
     ghost use Rattle.k42_rule.specs.Seats.{LAST_STAMP};
     ghost use Rattle.k42_rule.specs.Seen.{PassSeen, Mirrors};
-    ghost use Rattle.k42_rule.specs.Views.{pass_in};
+    ghost use Rattle.k42_rule.specs.Swapping.{next_entry};
+    ghost use Rattle.k42_rule.specs.Values.{layout_in, incarnation_in};
+    ghost use Rattle.k42_rule.specs.Views.{pass_in, word_begun};
 
     ghost Value = { PassSeen P };
 
@@ -56,6 +72,9 @@ impl<P: Drop> Model for Walker<P> {
       view = pass_in p.seat.me.0;
       room = vec_capacity p.entries - length p.entries.items;
       row_room = vec_capacity p.rows - length p.rows.items;
+      queue = record { web = p.post.web; heap = p.post.heap };
+      pushed = p.post.me.view.client.pushed;
+      popped = p.post.me.view.client.popped;
     } };
 
     ghost invariant = { λ p. Mirrors p.seat.me (record {
@@ -75,9 +94,15 @@ impl<P: Drop> Model for Walker<P> {
       handed = p.handed;
       rows = p.rows.items;
       granted = p.granted;
-    }) × (p.home < 8) × (object_of p.place < 16) × (unwrap_or p.layout 0 < 4)
-        × FitsGrace p.grace (length p.waits.items) × (unwrap_or p.base 0 + 1 < 2 ^ 32) × (unwrap_or p.coming 0 < 2 ^ 32)
-        × (last_stamp p.entries.items ≤ LAST_STAMP) };
+    }) × (p.home < 8) × (object_of p.place < 16) × (unwrap_or p.layout 0 ≤ 2)
+        × (object_named p.swap < 16) × (unwrap_or (next_entry p.swap) 0 < 8) × (length p.waits.items ≤ 8)
+        × (incarnation_in (word_begun p.last) ≤ LAST_INCARNATION) × (layout_in (word_begun p.last) ≤ 2)
+        × (row_of p.place ≤ LAST_INCARNATION)
+        × (p.granted ≤ length p.rows.items)
+        × FitsGrace p.grace p.base (length p.waits.items) × (unwrap_or p.base 0 + 1 < 2 ^ 32) × (unwrap_or p.coming 0 < 2 ^ 32)
+        × IsListOf p.number p.entries.items
+        × (last_stamp p.entries.items ≤ LAST_STAMP)
+        × (p.post.me.hand ≡ None) × (p.post.me.spare ≡ None) × IsTied p.seat.table_id p.post.me.view.client };
 }
 
 impl<P: Drop> Walker<P> {
@@ -107,9 +132,40 @@ impl<P: Drop> Walker<P> {
         self.active
     }
 
+    /// How far its grace is.
+    pub fn grace(&self) -> GraceAt
+        ensures is { result ≡ self.now.view.turn.grace }
+        ensures fits { FitsGrace self.now.view.turn.grace self.now.view.base (length self.now.view.turn.waits) }
+    {
+        self.grace
+    }
+
+    /// How many entries of the former generation on the processor its grace waits for.
+    pub fn waits(&self, proc: u32) -> u32
+        requires { proc < length self.now.view.turn.waits }
+        ensures { result ≡ slice_index self.now.view.turn.waits proc }
+    {
+        self.waits[proc as usize]
+    }
+
+    /// The generation that its grace found.
+    pub fn base(&self) -> Option<u32>
+        ensures { result ≡ self.now.view.base }
+    {
+        self.base
+    }
+
+    /// What it has learned of the exits to come on the processor that its grace flips next.
+    pub fn coming(&self) -> Option<u64>
+        ensures { result ≡ self.now.view.turn.coming }
+    {
+        self.coming
+    }
+
     /// Its entries, the oldest first.
     pub fn entries(&self) -> &[Entry]
-        ensures { result.now ≡ self.now.view.taker.mine }
+        ensures are { result.now ≡ self.now.view.taker.mine }
+        ensures listed { IsListOf self.now.view.number self.now.view.taker.mine }
     {
         self.entries.as_slice()
     }
@@ -130,7 +186,8 @@ impl<P: Drop> Walker<P> {
 
     /// The object of its last Begin, and the word that this found.
     pub fn last_begin(&self) -> Option<LastBegin>
-        ensures { result ≡ self.now.view.last }
+        ensures is { result ≡ self.now.view.last }
+        ensures bound { incarnation_in (word_begun self.now.view.last) ≤ LAST_INCARNATION }
     {
         self.last
     }
@@ -157,10 +214,79 @@ impl<P: Drop> Walker<P> {
         self.noted[object as usize]
     }
 
+    /// How far its swap is.
+    pub fn swap(&self) -> SwapAt
+        ensures { result ≡ self.now.view.visitor.swap }
+    {
+        self.swap
+    }
+
+    /// Whether it has turned over the object that it swaps.
+    pub fn has_turned(&self) -> bool
+        ensures { result ≡ self.now.view.turned }
+    {
+        self.turned
+    }
+
     /// Whether it has no activity, no grace and no swap under way.
     pub fn is_idle(&self) -> bool
         ensures { result ≡ is_at_rest self.now.view }
     {
         self.active.is_none() && self.grace == GraceAt::Idle && self.swap == SwapAt::Idle
+    }
+
+    /// The row that its call is inside.
+    pub fn inside(&self) -> Inside
+        requires { is_served self.now.view.visitor.place ≡ true }
+        ensures is { result ≡ inside_in self.now.view }
+        ensures bounds { (result.object < 16) × (result.incarnation ≤ LAST_INCARNATION) × (result.layout ≤ 2) }
+    {
+        let layout = self.layout.unwrap_or(0);
+        match self.place {
+            Place::Direct(object, incarnation) => Inside {
+                object,
+                incarnation,
+                layout,
+                tracked: false,
+            },
+            Place::Tracked(object, incarnation) => Inside {
+                object,
+                incarnation,
+                layout,
+                tracked: true,
+            },
+            _ => unreachable!(),
+        }
+    }
+
+    /// The tag of the layout with which it has handed on a row, until it turns over.
+    pub fn handed_layout(&self) -> u32
+        requires { is_some self.now.view.handed ≡ true }
+        ensures { self.now.view.handed ≡ Some result }
+    {
+        let Some(tag) = self.handed else {
+            unreachable!()
+        };
+        tag
+    }
+
+    /// The tag of the layout that its last Begin found.
+    pub fn begun_layout(&self) -> u32
+        requires { is_some (named_by self.now.view.visitor.swap) ≡ true }
+        ensures is { result ≡ layout_in (word_begun self.now.view.last) }
+        ensures bound { result ≤ 2 }
+    {
+        let word = self.last.map_or(0, |begin| begin.word);
+        (word / 268_435_456 % 4) as u32
+    }
+
+    /// Makes room for one more entry and one more row. Where there is no memory it knows the same.
+    pub fn reserve(&mut self) -> Result<(), Memory>
+        ensures same { IsRoomier self.old self.new }
+        ensures ok { OnOk result ((1 ≤ self.new.room) × (1 ≤ self.new.row_room)) }
+    {
+        self.entries.reserve(1)?;
+        self.rows.reserve(1)?;
+        Ok(())
     }
 }

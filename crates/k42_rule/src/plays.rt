@@ -1,15 +1,15 @@
 //! What each step on the table tells its pass.
 use crate::cell::Content;
 use crate::view::View;
-use atomic_table::{Play, Split};
+use atomic_table::{Join, Play, Split};
 
 pub(crate) struct Enter;
 
 impl<P: Drop> Play<Option<Content<P>>, View<P>> for Enter {
-    ghost use Rattle.k42_rule.specs.Steps.{Tells};
-    ghost use Rattle.k42_rule.specs.Generating.{entered_view};
+    ghost use Rattle.k42_rule.specs.Steps.{TellsWith};
+    ghost use Rattle.k42_rule.specs.Generating.{entered_view, EnteredFound};
 
-    ghost then = { Tells entered_view };
+    ghost then = { TellsWith entered_view EnteredFound };
 }
 
 pub(crate) struct Leave;
@@ -60,10 +60,10 @@ impl<P: Drop> Play<Option<Content<P>>, View<P>> for Flip {
 pub(crate) struct GiveRole;
 
 impl<P: Drop> Play<Option<Content<P>>, View<P>> for GiveRole {
-    ghost use Rattle.k42_rule.specs.Steps.{Tells};
-    ghost use Rattle.k42_rule.specs.Gracing.{given_view};
+    ghost use Rattle.k42_rule.specs.Steps.{TellsWith};
+    ghost use Rattle.k42_rule.specs.Gracing.{given_view, RowsGiven};
 
-    ghost then = { Tells (λ stored v. given_view v) };
+    ghost then = { TellsWith (λ stored v. given_view v) RowsGiven };
 }
 
 pub(crate) struct Free;
@@ -83,4 +83,15 @@ impl<P> Split<View<P>> for Deal {
     ghost left = { dealer };
 
     ghost right = { dealt };
+}
+
+pub(crate) struct Gather;
+
+impl<P> Join<View<P>> for Gather {
+    ghost use Rattle.k42_rule.specs.Dealing.{both_crews};
+    ghost use Rattle.k42_rule.specs.declared.view.View.TheVariants.{Spent};
+
+    ghost both = { both_crews };
+
+    ghost spent = { Spent };
 }

@@ -6,7 +6,7 @@ ghost use Rattle.k42_joined.specs.Event.{AtPhases};
 ghost use Rattle.k42_rule.specs.Plan.{layouts_on};
 ghost use Rattle.k42_rule.specs.Seen.{IsOf, IsSamePass};
 ghost use Rattle.k42_rule.specs.Steps.{StepIs};
-ghost use Rattle.k42_rule.specs.Tabling.{MayBegin, is_over_in, begun_view};
+ghost use Rattle.k42_rule.specs.Tabling.{ObjectFound, MayBegin, is_over_in, begun_view};
 ghost use Rattle.k42_rule.specs.Values.{has_bit, layout_in, incarnation_in};
 ghost use Rattle.k42_rule.specs.Words.{object_word};
 
@@ -49,6 +49,7 @@ pub fn begin_step<L: Layout>(sys: &Sys<L>, pass: &mut Pass<L>, object: u32) -> u
     requires may { MayBegin (length sys.now.layouts) object pass.old.view }
     ensures same { IsSamePass pass.old pass.new }
     ensures knows { pass.new.view ≡ begun_view object result pass.old.view }
+    ensures found { ObjectFound pass.old.view result }
     ensures event { StepIs
         (layouts_on L.object L.tag_of L.ways L.whole L.serves L.admitted L.act_of sys.now.procs sys.now.callers)
         sys.now.layouts (AtPhases (phases.Begin pass.old.view.number object))

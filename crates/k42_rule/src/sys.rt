@@ -1,12 +1,16 @@
 //! A system.
-ghost use Rattle.std.specs.Prelude.{◌≡◌, ◌<◌, Some, length, slice_get, IfOk};
+ghost use Rattle.std.specs.Prelude.{◌≡◌, ◌<◌, Some, length, map, slice_get, vec_items, IfOk, IfErr};
+ghost use Rattle.k42_rule.specs.Finishing.{AreAtRest, AreLastLists, lists_in};
+ghost use Rattle.k42_rule.specs.Plan.{layouts_on};
 ghost use Rattle.k42_rule.specs.Starting.{IsStart, IsStarted};
 
 use crate::board::{Board, Setup};
-use crate::pass::Pass;
+use crate::finish::{close, gather};
+use crate::queueing::{Lane, Line, tie_root};
+use crate::pass::{Pass, Walker};
 use crate::start::{deal_all, first_slots, first_words};
 use atomic_table::Table;
-use k42_kinds::Layout;
+use k42_kinds::{Entry, Layout};
 use k42_memory::Memory;
 use std::alloc::Global;
 use std::marker::Model;
@@ -17,10 +21,18 @@ pub struct Sys<L: Layout> {
     /// The layouts with which the objects were started.
     layouts: Vec<L>,
     procs: u32,
+    pub(crate) lane: Lane<L::Part>,
+}
+
+/// There was no memory for the list of lists. The system and its passes are as they were.
+#[derive(Drop)]
+pub struct Unfinished<L: Layout> {
+    pub sys: Sys<L>,
+    pub passes: Vec<Pass<L>>,
 }
 
 impl<L: Layout> Model for Sys<L> {
-    ghost use Rattle.std.specs.Prelude.{◌≡◌, ◌≤◌, length};
+    ghost use Rattle.std.specs.Prelude.{◌≡◌, ◌<◌, ◌≤◌, length};
     ghost use Rattle.k42_stamp.specs.Laws.{AreLaws};
     ghost use Rattle.k42_rule.specs.Plan.{layouts_on};
     ghost use Rattle.k42_rule.specs.Seen.{SysSeen};
@@ -30,13 +42,15 @@ impl<L: Layout> Model for Sys<L> {
 
     ghost view = { λ s. record {
       table = s.board.shared.table_id;
+      queue = s.lane.line;
       procs = s.board.shared.key.procs;
       layouts = s.board.shared.key.layouts.items;
       callers = s.board.shared.key.callers.items;
     } };
 
     ghost invariant = { λ s. (s.board.shared.table_id.words ≡ many_words) × (s.board.shared.table_id.slots ≡ many_slots) × (s.layouts.items ≡ s.board.shared.key.layouts.items) × (s.procs ≡ s.board.shared.key.procs) × (length s.layouts.items ≤ 16)
-        × AreLaws (layouts_on L.object L.tag_of L.ways L.whole L.serves L.admitted L.act_of s.board.shared.key.procs s.board.shared.key.callers.items) };
+        × AreLaws (layouts_on L.object L.tag_of L.ways L.whole L.serves L.admitted L.act_of s.board.shared.key.procs s.board.shared.key.callers.items)
+        × (0 < length s.board.shared.key.callers.items) };
 }
 
 impl<L: Layout> Sys<L> {
@@ -50,6 +64,10 @@ impl<L: Layout> Sys<L> {
         requires { IsStart L.tag_of layouts.items procs callers.items }
         ensures { IfOk result (λ made. IsStarted layouts.items procs callers.items made.0 made.1.items) }
     {
+        let Ok((line, mut root)) = Line::<L::Part>::with_rule(alloc) else {
+            return Err(Memory);
+        };
+        let lane = Lane { line };
         let words = first_words(alloc, layouts.as_slice())?;
         let slots = first_slots(alloc)?;
         let setup = Setup {
@@ -61,10 +79,13 @@ impl<L: Layout> Sys<L> {
             return Err(Memory);
         };
         let objects = setup.layouts.len();
+        tie_root(&lane.line, &mut root, &seat);
         let passes = deal_all(
             alloc,
             &board,
             &mut seat,
+            &lane.line,
+            &mut root,
             procs,
             objects,
             setup.callers.as_slice(),
@@ -74,8 +95,35 @@ impl<L: Layout> Sys<L> {
             board,
             layouts,
             procs,
+            lane,
         };
         Ok((sys, passes))
+    }
+
+    /// The entries of each caller, the oldest first.
+    pub fn finish(
+        self,
+        alloc: Global,
+        mut passes: Vec<Pass<L>>,
+    ) -> Result<Vec<Vec<Entry>>, Unfinished<L>>
+        requires { AreAtRest self passes.items }
+        ensures lists { IfOk result (λ lists. map vec_items lists.items ≡ lists_in passes.items) }
+        ensures last { IfOk result (λ lists. AreLastLists
+            (layouts_on L.object L.tag_of L.ways L.whole L.serves L.admitted L.act_of self.procs self.callers)
+            self.layouts (length self.callers) (map vec_items lists.items)) }
+        ensures err { IfErr result (λ back. (back.sys ≡ self) × (back.passes.items ≡ passes.items)) }
+    {
+        let Ok(mut lists) = Vec::with_capacity(alloc, passes.len()) else {
+            return Err(Unfinished { sys: self, passes });
+        };
+        let Sys { board, .. } = self;
+        let Walker {
+            mut seat, entries, ..
+        } = passes.remove(0);
+        lists.push_reserved(entries);
+        gather(&board, &mut seat, &mut lists, passes);
+        close(board, seat);
+        Ok(lists)
     }
 
     pub fn procs(&self) -> u32

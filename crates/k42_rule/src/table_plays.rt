@@ -6,19 +6,19 @@ use atomic_table::Play;
 pub(crate) struct LookUp;
 
 impl<P: Drop> Play<Option<Content<P>>, View<P>> for LookUp {
-    ghost use Rattle.k42_rule.specs.Steps.{Tells};
-    ghost use Rattle.k42_rule.specs.Tabling.{entry_object, looked_up_view};
+    ghost use Rattle.k42_rule.specs.Steps.{TellsWith};
+    ghost use Rattle.k42_rule.specs.Tabling.{EntryFound, entry_object, looked_up_view};
 
-    ghost then = { λ step. Tells (looked_up_view (entry_object step.word)) step };
+    ghost then = { λ step. TellsWith (looked_up_view (entry_object step.word)) EntryFound step };
 }
 
 pub(crate) struct LoadRoot;
 
 impl<P: Drop> Play<Option<Content<P>>, View<P>> for LoadRoot {
-    ghost use Rattle.k42_rule.specs.Steps.{Tells};
-    ghost use Rattle.k42_rule.specs.Tabling.{rooted_view};
+    ghost use Rattle.k42_rule.specs.Steps.{TellsWith};
+    ghost use Rattle.k42_rule.specs.Tabling.{RootFound, rooted_view};
 
-    ghost then = { Tells rooted_view };
+    ghost then = { TellsWith rooted_view RootFound };
 }
 
 pub(crate) struct EndCall;
@@ -42,17 +42,17 @@ impl<P: Drop> Play<Option<Content<P>>, View<P>> for Install {
 pub(crate) struct Knock;
 
 impl<P: Drop> Play<Option<Content<P>>, View<P>> for Knock {
-    ghost use Rattle.k42_rule.specs.Steps.{Tells};
-    ghost use Rattle.k42_rule.specs.Tabling.{word_object, knocked_view};
+    ghost use Rattle.k42_rule.specs.Steps.{TellsWith};
+    ghost use Rattle.k42_rule.specs.Tabling.{ObjectFound, word_object, knocked_view};
 
-    ghost then = { λ step. Tells (knocked_view (word_object step.word)) step };
+    ghost then = { λ step. TellsWith (knocked_view (word_object step.word)) ObjectFound step };
 }
 
 pub(crate) struct Begin;
 
 impl<P: Drop> Play<Option<Content<P>>, View<P>> for Begin {
-    ghost use Rattle.k42_rule.specs.Steps.{Tells};
-    ghost use Rattle.k42_rule.specs.Tabling.{word_object, begun_view};
+    ghost use Rattle.k42_rule.specs.Steps.{TellsWith};
+    ghost use Rattle.k42_rule.specs.Tabling.{ObjectFound, word_object, begun_view};
 
-    ghost then = { λ step. Tells (begun_view (word_object step.word)) step };
+    ghost then = { λ step. TellsWith (begun_view (word_object step.word)) ObjectFound step };
 }

@@ -9,7 +9,7 @@ ghost use Rattle.k42_rule.specs.Plan.{layouts_on};
 ghost use Rattle.k42_rule.specs.Seen.{IsSeatOf};
 ghost use Rattle.k42_rule.specs.Views.{pass_in};
 ghost use Rattle.k42_rule.specs.Steps.{StepIs};
-ghost use Rattle.k42_rule.specs.Tabling.{entry_in, layout_told, MayLookUp, looked_up_view, MayLoadRoot, rooted_view, MayEndCall, ended_view, MayInstall, empty_before, direct_after, installs, installed_view, MayKnock, knocked_view, MayStepOut, MayBegin, begun_view};
+ghost use Rattle.k42_rule.specs.Tabling.{EntryFound, ObjectFound, RootFound, entry_in, layout_told, MayLookUp, looked_up_view, MayLoadRoot, rooted_view, MayEndCall, ended_view, MayInstall, empty_before, direct_after, installs, installed_view, MayKnock, knocked_view, MayStepOut, MayBegin, begun_view};
 ghost use Rattle.k42_rule.specs.Values.{layout_in};
 ghost use Rattle.k42_rule.specs.Words.{many_words, local_word, object_word};
 ghost use Rattle.k42_rule.specs.declared.view.View.TheVariants.{Crew};
@@ -30,6 +30,7 @@ pub(crate) fn look_up_word<L: Layout>(
     requires may { IsSeatOf seat.old.me (pass_in seat.old.me.0) × MayLookUp (length board.now.shared.key.layouts.items) object (pass_in seat.old.me.0) }
     ensures ours { (seat.new.table_id ≡ seat.old.table_id) × (seat.new.id ≡ seat.old.id) }
     ensures told { IsSeatOf seat.new.me (looked_up_view object result (pass_in seat.old.me.0)) }
+    ensures found { EntryFound (pass_in seat.old.me.0) result }
     ensures event { StepIs (layouts_on L.object L.tag_of L.ways L.whole L.serves L.admitted L.act_of board.now.shared.key.procs board.now.shared.key.callers.items) board.now.shared.key.layouts.items (AtPhases (phases.LookUp (pass_in seat.old.me.0).number object)) (local_word (pass_in seat.old.me.0).turn.proc object) (λ word. word) seat.old.id (pass_in seat.old.me.0) result (pass_in seat.new.me.0) }
 {
     board.shared.load::<LookUp>(seat, 32 + 64 * home + object)
@@ -42,6 +43,7 @@ pub(crate) fn root_word<L: Layout>(board: &Board<L>, seat: &mut Place<L>, object
     requires may { IsSeatOf seat.old.me (pass_in seat.old.me.0) × MayLoadRoot (length board.now.shared.key.layouts.items) object (pass_in seat.old.me.0) }
     ensures ours { (seat.new.table_id ≡ seat.old.table_id) × (seat.new.id ≡ seat.old.id) }
     ensures told { IsSeatOf seat.new.me (rooted_view result (pass_in seat.old.me.0)) }
+    ensures found { RootFound (pass_in seat.old.me.0) result }
     ensures event { StepIs (layouts_on L.object L.tag_of L.ways L.whole L.serves L.admitted L.act_of board.now.shared.key.procs board.now.shared.key.callers.items) board.now.shared.key.layouts.items (AtPhases (phases.RootLoad (pass_in seat.old.me.0).number object)) (object_word object) (λ word. word) seat.old.id (pass_in seat.old.me.0) result (pass_in seat.new.me.0) }
 {
     board.shared.load::<LoadRoot>(seat, 528 + 16 * object)
@@ -94,6 +96,7 @@ pub(crate) fn knock_word<L: Layout>(board: &Board<L>, seat: &mut Place<L>, objec
     requires may { IsSeatOf seat.old.me (pass_in seat.old.me.0) × MayKnock (length board.now.shared.key.layouts.items) object (pass_in seat.old.me.0) }
     ensures ours { (seat.new.table_id ≡ seat.old.table_id) × (seat.new.id ≡ seat.old.id) }
     ensures told { IsSeatOf seat.new.me (knocked_view object result (pass_in seat.old.me.0)) }
+    ensures found { ObjectFound (pass_in seat.old.me.0) result }
     ensures event { StepIs (layouts_on L.object L.tag_of L.ways L.whole L.serves L.admitted L.act_of board.now.shared.key.procs board.now.shared.key.callers.items) board.now.shared.key.layouts.items (AtPhases (phases.Knock (pass_in seat.old.me.0).number object)) (object_word object) (λ word. (word + 1) % 2 ^ 64) seat.old.id (pass_in seat.old.me.0) result (pass_in seat.new.me.0) }
 {
     board.shared.fetch_add::<Knock>(seat, 528 + 16 * object, 1)
@@ -120,6 +123,7 @@ pub(crate) fn begin_word<L: Layout>(board: &Board<L>, seat: &mut Place<L>, objec
     requires may { IsSeatOf seat.old.me (pass_in seat.old.me.0) × MayBegin (length board.now.shared.key.layouts.items) object (pass_in seat.old.me.0) }
     ensures ours { (seat.new.table_id ≡ seat.old.table_id) × (seat.new.id ≡ seat.old.id) }
     ensures told { IsSeatOf seat.new.me (begun_view object result (pass_in seat.old.me.0)) }
+    ensures found { ObjectFound (pass_in seat.old.me.0) result }
     ensures event { StepIs (layouts_on L.object L.tag_of L.ways L.whole L.serves L.admitted L.act_of board.now.shared.key.procs board.now.shared.key.callers.items) board.now.shared.key.layouts.items (AtPhases (phases.Begin (pass_in seat.old.me.0).number object)) (object_word object) (λ word. bit_or word 16777216) seat.old.id (pass_in seat.old.me.0) result (pass_in seat.new.me.0) }
 {
     board

@@ -8,7 +8,7 @@ ghost use Rattle.k42_joined.specs.Event.{AtPhases};
 ghost use Rattle.k42_rule.specs.Plan.{layouts_on};
 ghost use Rattle.k42_rule.specs.Seen.{IsOf, IsSamePass};
 ghost use Rattle.k42_rule.specs.Steps.{StepIs};
-ghost use Rattle.k42_rule.specs.Tabling.{entry_in, layout_told, MayLookUp, looked_up_view, MayLoadRoot, rooted_view, MayEndCall, ended_view, MayInstall, installs, installed_view, MayKnock, knocked_view, MayStepOut};
+ghost use Rattle.k42_rule.specs.Tabling.{EntryFound, ObjectFound, RootFound, entry_in, layout_told, MayLookUp, looked_up_view, MayLoadRoot, rooted_view, MayEndCall, ended_view, MayInstall, installs, installed_view, MayKnock, knocked_view, MayStepOut};
 ghost use Rattle.k42_rule.specs.Values.{layout_in, local_value, has_bit};
 ghost use Rattle.k42_rule.specs.Words.{local_word, object_word};
 
@@ -90,6 +90,7 @@ pub fn look_up_step<L: Layout>(sys: &Sys<L>, pass: &mut Pass<L>, object: u32) ->
     requires may { MayLookUp (length sys.now.layouts) object pass.old.view }
     ensures same { IsSamePass pass.old pass.new }
     ensures knows { pass.new.view ≡ looked_up_view object result pass.old.view }
+    ensures found { EntryFound pass.old.view result }
     ensures event { StepIs
         (layouts_on L.object L.tag_of L.ways L.whole L.serves L.admitted L.act_of sys.now.procs sys.now.callers)
         sys.now.layouts (AtPhases (phases.LookUp pass.old.view.number object))
@@ -109,6 +110,7 @@ pub fn root_step<L: Layout>(sys: &Sys<L>, pass: &mut Pass<L>, object: u32) -> u6
     requires may { MayLoadRoot (length sys.now.layouts) object pass.old.view }
     ensures same { IsSamePass pass.old pass.new }
     ensures knows { pass.new.view ≡ rooted_view result pass.old.view }
+    ensures found { RootFound pass.old.view result }
     ensures event { StepIs
         (layouts_on L.object L.tag_of L.ways L.whole L.serves L.admitted L.act_of sys.now.procs sys.now.callers)
         sys.now.layouts (AtPhases (phases.RootLoad pass.old.view.number object))
@@ -188,6 +190,7 @@ pub fn knock_step<L: Layout>(sys: &Sys<L>, pass: &mut Pass<L>, object: u32) -> u
     requires may { MayKnock (length sys.now.layouts) object pass.old.view }
     ensures same { IsSamePass pass.old pass.new }
     ensures knows { pass.new.view ≡ knocked_view object result pass.old.view }
+    ensures found { ObjectFound pass.old.view result }
     ensures event { StepIs
         (layouts_on L.object L.tag_of L.ways L.whole L.serves L.admitted L.act_of sys.now.procs sys.now.callers)
         sys.now.layouts (AtPhases (phases.Knock pass.old.view.number object))

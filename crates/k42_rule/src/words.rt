@@ -4,7 +4,7 @@ ghost use Rattle.gen_core.specs.declared.event.GenEvent.TheVariants as GenEvent;
 ghost use Rattle.phase_core.specs.Event.{Turn};
 ghost use Rattle.k42_stamp.specs.Laws.{AreLaws};
 ghost use Rattle.k42_joined.specs.Event.{AtPhases};
-ghost use Rattle.k42_rule.specs.Generating.{MayEnter, entered_view, MayLeave, active_in, left_view};
+ghost use Rattle.k42_rule.specs.Generating.{MayEnter, entered_view, EnteredFound, MayLeave, active_in, left_view};
 ghost use Rattle.k42_rule.specs.Plan.{layouts_on};
 ghost use Rattle.k42_rule.specs.Seen.{IsSeatOf};
 ghost use Rattle.k42_rule.specs.Views.{pass_in};
@@ -23,6 +23,7 @@ pub(crate) fn enter_word<L: Layout>(board: &Board<L>, seat: &mut Place<L>, home:
     requires may { IsSeatOf seat.old.me (pass_in seat.old.me.0) × MayEnter (pass_in seat.old.me.0) }
     ensures ours { (seat.new.table_id ≡ seat.old.table_id) × (seat.new.id ≡ seat.old.id) }
     ensures told { IsSeatOf seat.new.me (entered_view result (pass_in seat.old.me.0)) }
+    ensures found { EnteredFound (pass_in seat.old.me.0) result }
     ensures event { StepIs (layouts_on L.object L.tag_of L.ways L.whole L.serves L.admitted L.act_of board.now.shared.key.procs board.now.shared.key.callers.items) board.now.shared.key.layouts.items (AtPhases (Turn (GenEvent.Enter (pass_in seat.old.me.0).number))) (generation_word (pass_in seat.old.me.0).turn.proc) (λ word. (word + 1) % 2 ^ 64) seat.old.id (pass_in seat.old.me.0) result (pass_in seat.new.me.0) }
 {
     board.shared.fetch_add::<Enter>(seat, 16 + 64 * home, 1)

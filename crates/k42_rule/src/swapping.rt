@@ -1,0 +1,232 @@
+//! The steps of a swap.
+ghost use Rattle.std.specs.Prelude.{◌≡◌, ◌<◌, ◌≤◌, ◌+◌, ◌-◌, ◌*◌, ◌%◌, ◌^◌, true, [], ◌∷◌, ◌++◌, length, vec_len, vec_capacity, bit_or, if◌then◌else◌};
+ghost use Rattle.std.specs.Option.{unwrap_or};
+ghost use Rattle.k42_limits.specs.declared.TheConstants.{LAST_INCARNATION};
+ghost use Rattle.phase_core.specs.Effects.{after_interpose};
+ghost use Rattle.phase_core.specs.Event as phases;
+ghost use Rattle.phase_core.specs.Stages.{object_named, is_interposing, is_moved};
+ghost use Rattle.phase_core.specs.State.{empty_entry, mediator_entry};
+ghost use Rattle.k42_joined.specs.Event.{AtPhases};
+ghost use Rattle.k42_rule.specs.Plan.{layouts_on};
+ghost use Rattle.k42_rule.specs.Seen.{IsOf, IsSamePass, HasSameRoom};
+ghost use Rattle.k42_rule.specs.Steps.{StepIs};
+ghost use Rattle.k42_rule.specs.Swapping.{object_swapped, next_entry, after_entry, MayChangeEntry, entry_after, entry_event, changed_view, MayBlock, blocked_view, MayMove, moves, moved_view, CountFound, MayTurnOver, turn_amount, turned_view, MayClear, clear_event, kept_bits, clears, cleared_view};
+ghost use Rattle.k42_rule.specs.Values.{local_value, incarnation_in};
+ghost use Rattle.k42_rule.specs.Views.{word_begun};
+ghost use Rattle.k42_rule.specs.Words.{local_word, object_word};
+
+use crate::pass::Pass;
+use crate::swap_words::{block_word, change_entry_word, clear_word, move_word, turn_word};
+use crate::sys::Sys;
+use crate::view::{LastBegin, Row};
+use k42_kinds::Layout;
+use phase_core::SwapAt;
+
+/// The object that a swap names.
+fn object_at(swap: &SwapAt) -> u32
+    ensures { result ≡ object_named swap.now }
+{
+    match *swap {
+        SwapAt::Idle => 0,
+        SwapAt::Interposing(object, _)
+        | SwapAt::Opening(object, _)
+        | SwapAt::Reopening(object, _)
+        | SwapAt::Refused(object)
+        | SwapAt::Begun(object)
+        | SwapAt::Interposed(object)
+        | SwapAt::Draining(object)
+        | SwapAt::Drained(object)
+        | SwapAt::Blocking(object)
+        | SwapAt::Moved(object)
+        | SwapAt::Opened(object) => object,
+    }
+}
+
+/// The word that the last Begin found.
+fn begun_word(last: &Option<LastBegin>) -> u64
+    ensures { result ≡ word_begun last.now }
+{
+    match last {
+        Some(begin) => begin.word,
+        None => 0,
+    }
+}
+
+/// The stage after the entry of a processor was interposed.
+fn interposed_after(object: u32, proc: u32, procs: u32) -> SwapAt
+    requires { proc < 8 }
+    ensures { result ≡ after_interpose object proc procs }
+{
+    if proc + 1 < procs {
+        SwapAt::Interposing(object, proc + 1)
+    } else {
+        SwapAt::Interposed(object)
+    }
+}
+
+/// The stage after the next entry, of so many processors, was changed.
+fn stage_after(swap: &SwapAt, procs: u32) -> SwapAt
+    requires { unwrap_or (next_entry swap.now) 0 < 8 }
+    ensures { result ≡ after_entry procs swap.now }
+{
+    match *swap {
+        SwapAt::Begun(object) => interposed_after(object, 0, procs),
+        SwapAt::Interposing(object, proc) => interposed_after(object, proc, procs),
+        SwapAt::Opening(object, proc) if proc + 1 < procs => SwapAt::Opening(object, proc + 1),
+        SwapAt::Reopening(object, proc) if proc + 1 < procs => SwapAt::Reopening(object, proc + 1),
+        SwapAt::Opening(object, _) | SwapAt::Reopening(object, _) => SwapAt::Opened(object),
+        other => other,
+    }
+}
+
+/// The word of an entry that is changed at this stage.
+fn entry_word(swap: &SwapAt, incarnation: u64) -> u64
+    requires { incarnation ≤ 2 ^ 20 }
+    ensures { result ≡ local_value (if is_interposing swap.now then mediator_entry incarnation else empty_entry incarnation) }
+{
+    let tag = match *swap {
+        SwapAt::Begun(_) | SwapAt::Interposing(_, _) => 2,
+        _ => 0,
+    };
+    incarnation * 4_294_967_296 + tag
+}
+
+/// Changes the next entry of the object: to a mediator while it interposes, to an empty one while it opens.
+pub fn entry_step<L: Layout>(sys: &Sys<L>, pass: &mut Pass<L>, proc: u32) -> u64
+    requires ours { IsOf sys.now pass.old }
+    requires may { MayChangeEntry proc pass.old.view }
+    ensures same { IsSamePass pass.old pass.new }
+    ensures knows { pass.new.view ≡ changed_view result pass.old.view }
+    ensures event { StepIs
+        (layouts_on L.object L.tag_of L.ways L.whole L.serves L.admitted L.act_of sys.now.procs sys.now.callers)
+        sys.now.layouts (AtPhases (entry_event pass.old.view.number pass.old.view.visitor.swap))
+        (local_word proc (object_swapped pass.old.view)) (λ word. entry_after pass.old.view)
+        pass.old.seat pass.old.view result pass.new.view }
+{
+    let object = object_at(&pass.swap) as usize;
+    let begun = begun_word(&pass.last) >> 32;
+    let incarnation = if pass.turned { begun + 1 } else { begun };
+    let word = entry_word(&pass.swap, incarnation);
+    let found = change_entry_word(&sys.board, &mut pass.seat, proc as usize, object, word);
+    pass.swap = stage_after(&pass.swap, pass.waits.len() as u32);
+    found
+}
+
+/// Blocks the object, so that whoever knocks from now on is kept out.
+pub fn block_step<L: Layout>(sys: &Sys<L>, pass: &mut Pass<L>) -> u64
+    requires ours { IsOf sys.now pass.old }
+    requires may { MayBlock pass.old.view }
+    ensures same { IsSamePass pass.old pass.new }
+    ensures knows { pass.new.view ≡ blocked_view result pass.old.view }
+    ensures event { StepIs
+        (layouts_on L.object L.tag_of L.ways L.whole L.serves L.admitted L.act_of sys.now.procs sys.now.callers)
+        sys.now.layouts (AtPhases (phases.Block pass.old.view.number))
+        (object_word (object_swapped pass.old.view)) (λ word. bit_or word 33554432)
+        pass.old.seat pass.old.view result pass.new.view }
+{
+    let object = object_at(&pass.swap);
+    let found = block_word(&sys.board, &mut pass.seat, object as usize);
+    pass.swap = SwapAt::Blocking(object);
+    found
+}
+
+/// Begins to move the state of the object, where nobody is counted.
+pub fn move_step<L: Layout>(sys: &Sys<L>, pass: &mut Pass<L>) -> u64
+    requires ours { IsOf sys.now pass.old }
+    requires may { MayMove pass.old.view }
+    ensures same { IsSamePass pass.old pass.new }
+    ensures knows { pass.new.view ≡ moved_view result pass.old.view }
+    ensures found { CountFound pass.old.view result }
+    ensures event { StepIs
+        (layouts_on L.object L.tag_of L.ways L.whole L.serves L.admitted L.act_of sys.now.procs sys.now.callers)
+        sys.now.layouts (AtPhases (phases.Move pass.old.view.number))
+        (object_word (object_swapped pass.old.view)) (moves pass.old.view)
+        pass.old.seat pass.old.view result pass.new.view }
+{
+    let object = object_at(&pass.swap);
+    let begun = begun_word(&pass.last);
+    let old = 50_331_648
+        + begun / 268_435_456 % 4 * 268_435_456
+        + begun / 4_294_967_296 * 4_294_967_296;
+    let new = old + 67_108_864;
+    let found = move_word(&sys.board, &mut pass.seat, object as usize, old, new);
+    if found == old {
+        pass.swap = SwapAt::Moved(object);
+    }
+    found
+}
+
+/// Turns the object over, to the next incarnation and to the layout with which its row was handed on.
+pub fn turn_over<L: Layout>(sys: &Sys<L>, pass: &mut Pass<L>, layout: u32) -> u64
+    requires ours { IsOf sys.now pass.old }
+    requires may { MayTurnOver layout pass.old.view }
+    ensures same { IsSamePass pass.old pass.new }
+    ensures knows { pass.new.view ≡ turned_view result pass.old.view }
+    ensures event { StepIs
+        (layouts_on L.object L.tag_of L.ways L.whole L.serves L.admitted L.act_of sys.now.procs sys.now.callers)
+        sys.now.layouts (AtPhases (phases.TurnOver pass.old.view.number layout))
+        (object_word (object_swapped pass.old.view)) (λ word. (word + turn_amount layout pass.old.view) % 2 ^ 64)
+        pass.old.seat pass.old.view result pass.new.view }
+{
+    let object = object_at(&pass.swap);
+    let before = begun_word(&pass.last) / 268_435_456 % 4;
+    let amount = 4_294_967_296 + 268_435_456 * u64::from(layout) + 33_554_432
+        - 268_435_456 * before;
+    let found = turn_word(&sys.board, &mut pass.seat, object as usize, layout, amount);
+    pass.swap = SwapAt::Opening(object, 0);
+    pass.turned = true;
+    pass.handed = None;
+    found
+}
+
+/// Whether a swap moves its object.
+fn moves(swap: &SwapAt) -> bool
+    ensures { result ≡ is_moved swap.now }
+{
+    matches!(*swap, SwapAt::Moved(_))
+}
+
+/// Puts the row of an object that was turned over behind the others.
+fn keep_row(rows: &mut Vec<Row>, turned: bool, row: Row)
+    requires { turned ≡ true → vec_len rows.old < vec_capacity rows.old }
+    ensures items { rows.new.items ≡ (if turned then rows.old.items ++ row ∷ [] else rows.old.items) }
+    ensures capacity { vec_capacity rows.new ≡ vec_capacity rows.old }
+{
+    if turned {
+        rows.push_reserved(row);
+    }
+}
+
+/// Gives up what it moves and has not handed on, or ends the swap. The row that it has handed on and turned over is
+/// then one of the pass's rows.
+pub fn clear_step<L: Layout>(sys: &Sys<L>, pass: &mut Pass<L>) -> u64
+    requires ours { IsOf sys.now pass.old }
+    requires may { MayClear pass.old.view }
+    requires room { pass.old.view.turned ≡ true → 0 < pass.old.row_room }
+    ensures same { HasSameRoom pass.old pass.new }
+    ensures knows { pass.new.view ≡ cleared_view result pass.old.view }
+    ensures event { StepIs
+        (layouts_on L.object L.tag_of L.ways L.whole L.serves L.admitted L.act_of sys.now.procs sys.now.callers)
+        sys.now.layouts (AtPhases (clear_event pass.old.view.number pass.old.view.visitor.swap))
+        (object_word (object_swapped pass.old.view)) (clears pass.old.view.visitor.swap)
+        pass.old.seat pass.old.view result pass.new.view }
+{
+    let object = object_at(&pass.swap);
+    if moves(&pass.swap) {
+        let mask = u64::MAX - 33_554_432 - 67_108_864;
+        let found = clear_word(&sys.board, &mut pass.seat, object as usize, mask);
+        pass.swap = SwapAt::Reopening(object, 0);
+        return found;
+    }
+    let mask = u64::MAX - 16_777_216 - 134_217_728;
+    let found = clear_word(&sys.board, &mut pass.seat, object as usize, mask);
+    let incarnation = (begun_word(&pass.last) >> 32) as u32;
+    let row = Row {
+        object,
+        incarnation,
+    };
+    keep_row(&mut pass.rows, pass.turned, row);
+    pass.turned = false;
+    pass.swap = SwapAt::Idle;
+    found
+}
