@@ -37,6 +37,7 @@ pub mod DrawnAt
 pub mod DrawnMark
 pub mod RowCells
 pub mod DrawnCall
+pub mod Pushed
 pub mod Beginning
 pub mod Staging
 pub mod EntryTurns
