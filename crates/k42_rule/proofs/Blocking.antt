@@ -85,8 +85,10 @@ module _ {S L P : Type 0} (F : Layouts S L P) (laws : AreLaws F) (declared : Lis
     may = record {
       objects = tt;
       core =
-          rw (ap (λ (z : Caller). is_idle z.grace) knows.generations.turn ∙ may.idle,
-          ap is_drained (stage_is F laws declared table r id v at) ∙ may.drained)
+          rw (
+            ap (λ (z : Caller). is_idle z.grace) knows.generations.turn ∙ may.idle,
+            ap is_drained (stage_is F laws declared table r id v at) ∙ may.drained,
+          )
           refl;
       beside = refl;
     };

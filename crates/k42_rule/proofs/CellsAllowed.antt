@@ -27,12 +27,12 @@ use Rattle.k42_joined.specs.Numbers.{place_of}
 use Rattle.k42_joined.specs.Plain.{Joined}
 use Rattle.k42_joined.specs.Possible.{IsPossible, MayTouch}
 use Rattle.k42_joined.specs.Sound.{IsSound}
-use Rattle.k42_joined.specs.State.{many_procs, cell}
+use Rattle.k42_joined.specs.State.{many_procs, many_callers, cell}
 use Rattle.k42_joined.proofs.Kept.{joined_keeps}
 use Rattle.k42_rule.specs.Cells.{Slot, Contents, IsCell, IsCellShown, IsSlot, IsNoted, IsOut, KnowsCells, cells_noted}
 use Rattle.k42_rule.specs.Parts.{IsPart}
-use Rattle.k42_rule.specs.Rule.{Beside, KnowsPass, Shows, Rule}
-use Rattle.k42_rule.specs.Taking.{cell_at_lock, HoldsHome, MayLock, MayPut, IsWhole, Lifts, GivesBack, Reaches, Puts, given_view, noted, ActIs, locked_view, unlocked_view, reaching_view, lifted_view, taken_view, put_view, without}
+use Rattle.k42_rule.specs.Rule.{Beside, KnowsPass, Shows, Rule, Ruled}
+use Rattle.k42_rule.specs.Taking.{cell_at_lock, HoldsHome, MayLock, LockFound, MayPut, IsWhole, AreRowsNoted, Lifts, GivesBack, GivesBackKnown, Reaches, Puts, given_view, noted, ActIs, locked_view, unlocked_view, reaching_view, lifted_view, taken_view, put_view, without}
 use Rattle.k42_rule.specs.Words.{lock_word, slot_of, many_words, many_slots}
 use Rattle.k42_rule.specs.Values.{holder_value}
 use Rattle.k42_rule.specs.declared.cell.Content as code
@@ -41,13 +41,14 @@ use Rattle.k42_rule.specs.declared.view.PassView.{PassView}
 use Rattle.k42_rule.specs.declared.view.View.{View}
 use Rattle.k42_rule.specs.declared.view.View.TheVariants.{Crew}
 use Rattle.k42_rule.proofs.CellsApart.{written, written_here, written_else, each_first, first_noted, further_noted, note_of, is_noted, IsKept, each_without, still_noted, at_within, cell_of_lock}
-use Rattle.k42_rule.specs.Steps.{Seated, on_pass, Always, Tells, StepIs}
+use Rattle.k42_rule.specs.Steps.{Seated, on_pass, Always, Tells, TellsWith, StepIs}
 use Rattle.k42_rule.specs.Seen.{IsSeatOf}
 use Rattle.k42_rule.specs.Views.{pass_in}
-use Rattle.k42_rule.proofs.CellsEvents.{locks, unlocks, take_found, takes_away, gives_back, reach_found, reaches, puts, note_there}
+use Rattle.k42_rule.proofs.CellsEvents.{locks, lock_found, unlocks, may_take, may_put, take_found, takes_away, gives_back, reach_found, reaches, puts, note_there}
 use Rattle.k42_rule.proofs.CellsSteps.{free_word, held_word, some_one, stands, relock, take_move, slot_move, put_move, has_content, before}
-use Rattle.k42_rule.proofs.Moves.{Moves, seat_allowed, seat_is}
+use Rattle.k42_rule.proofs.Moves.{Moves, Finds, seat_allowed, seat_allowed_with, seat_is}
 use Rattle.k42_rule.proofs.OnePass.{with_pass, known, LeavesOthers, moved}
+use Rattle.k42_rule.proofs.PartLaws.{rows_noted}
 
 abbrev pub lock_value : ℕ → ℕ → ℕ
 lock_value c word = cond (eqb word 0) (c + 1) word
@@ -56,9 +57,12 @@ module _ {S L P : Type 0} (F : Layouts S L P) (laws : AreLaws F) (declared : Lis
   abbrev i : ℕ
   i = lock_word n
 
-  pub lock_moves : MayLock F declared id n v → v.out ≡ None
+  pub lock_moves : MayLock F.procs n v → v.out ≡ None
       → Moves F declared (AtCells (Lock v.number n)) (lock_word n) (lock_value v.number) (locked_view n) id v
   lock_moves may idle = record { from = λ table r at. locks F laws declared table r id v at n may idle }
+
+  pub lock_finds : MayLock F.procs n v → Finds F declared (lock_word n) (LockFound n) id v
+  lock_finds may table r at = lock_found F laws declared table r id v at n may
 
   pub unlock_moves : HoldsHome n v → v.out ≡ None
       → Moves F declared (AtCells (Unlock v.number n)) (lock_word n) (λ word. 0) (λ found. unlocked_view n) id v
@@ -101,36 +105,54 @@ module _ {S L P : Type 0} (F : Layouts S L P) (laws : AreLaws F) (declared : Lis
         part = subst (IsPart F declared r.state n) (ap r.beside.contents.part (sym named) ∙ is.part) (r.parts n there);
       }
 
-  module _ (few : n < 256) where
+  -- what a pass knows of rows does not hang on the slot that is out with it
+  rows_given : AreRowsNoted F declared v → AreRowsNoted F declared (given_view v)
+  rows_given is = record { inside = is.inside; moved = is.moved }
+
+  pub take_possible_always : HoldsHome n v → Always F declared id v (λ s. IsPossible F declared s (AtCells (Take v.number n)))
+  take_possible_always may table r at = may_take F laws declared table r id v at n may
+
+  pub put_possible_always : (place : ℕ) (note : Note P) → slice_get v.notes place ≡ Some note → note.cell ≡ n
+      → Always F declared id (reaching_view n v) (λ s. IsPossible F declared s (AtCells (Put v.number n)))
+  put_possible_always place note e named table r at = may_put F laws declared table r id (reaching_view n v) at n place note e named
+
+  -- a move of a slot makes no caller
+  still_ruled : (callers : ℕ) {table after : State (Slot P) (View P)} (r : Ruled F declared callers table) {t : Joined L} → (new : Rule F declared after) × (new.state ≡ t)
+      → many_callers t ≡ many_callers r.rule.state → Ruled F declared callers after
+  still_ruled callers r new same = record { rule = new.0; many = ap many_callers new.1 ∙ same ∙ r.many }
+
+  module _ (callers : ℕ) (few : n < 256) where
     same_cell : n ≡ cell_at_lock (lock_word n)
     same_cell = sym (cell_of_lock n few)
 
     pub lift_allowed : HoldsHome n v → v.out ≡ None → (slots : ℕ)
-        → Allows (Rule F declared) slots id (Crew (v ∷ []), []) (lock_word n) (λ word. word) (Lifts (step slots (lock_word n) 0 0 none) (Crew (v ∷ []), []))
+        → Allows (Ruled F declared callers) slots id (Crew (v ∷ []), []) (lock_word n) (λ word. word) (Lifts (step slots (lock_word n) 0 0 none) (Crew (v ∷ []), []))
     lift_allowed may idle slots table r long at fits =
-        let has = take_found F laws declared table r id v at n may in
-        let after = takes_away F laws declared table r id v at n may idle has.0 has.1 in
-        (Crew (lifted_view has.0 v ∷ []), takes (slot_of n) (Some has.0), has.1, after.0, (has.0, has.2 ∙ same_cell, λ k. (Crew (lifted_view has.0 v ∷ []), (slot_of (same_cell k), Some has.0) ∷ [])))
+        let has = take_found F laws declared table r.rule id v at n may in
+        let after = takes_away F laws declared table r.rule id v at n may idle has.0 has.1 in
+        (Crew (lifted_view has.0 v ∷ []), takes (slot_of n) (Some has.0), has.1, still_ruled callers r after refl, (has.0, has.2 ∙ same_cell, λ k. (Crew (lifted_view has.0 v ∷ []), (slot_of (same_cell k), Some has.0) ∷ [])))
 
-    pub give_allowed : v.out ≡ Some n → (slots : ℕ)
-        → Allows (Rule F declared) slots id (Crew (v ∷ []), (slot_of n, None) ∷ []) (lock_word n) (λ word. word)
-        (GivesBack (step slots (lock_word n) 0 0 none) (Crew (v ∷ []), (slot_of n, None) ∷ []))
-    give_allowed out slots table r long at fits =
-        let after = gives_back F laws declared table r id v at n out in (Crew (given_view v ∷ []), gives, tt, after.0, refl)
+    pub give_allowed : (Known : PassView P → Type 0) → ((w : PassView P) → AreRowsNoted F declared w → Known w) → v.out ≡ Some n → (slots : ℕ)
+        → Allows (Ruled F declared callers) slots id (Crew (v ∷ []), (slot_of n, None) ∷ []) (lock_word n) (λ word. word)
+        (GivesBackKnown Known (step slots (lock_word n) 0 0 none) (Crew (v ∷ []), (slot_of n, None) ∷ []))
+    give_allowed Known known' out slots table r long at fits =
+        let after = gives_back F laws declared table r.rule id v at n out in
+        let noted' = rows_given (rows_noted F laws declared table r.rule id v at) in
+        (Crew (given_view v ∷ []), gives, tt, still_ruled callers r after refl, (refl, known' (given_view v) noted'))
 
     pub reach_allowed : v.out ≡ None → (place : ℕ) (note : Note P) → slice_get v.notes place ≡ Some note → note.cell ≡ n → (slots : ℕ)
-        → Allows (Rule F declared) slots id (Crew (v ∷ []), []) (lock_word n) (λ word. word) (Reaches (step slots (lock_word n) 0 0 none) (Crew (v ∷ []), []))
+        → Allows (Ruled F declared callers) slots id (Crew (v ∷ []), []) (lock_word n) (λ word. word) (Reaches (step slots (lock_word n) 0 0 none) (Crew (v ∷ []), []))
     reach_allowed idle place note e named slots table r long at fits =
-        let empty = reach_found F laws declared table r id v at n idle place note e named in
-        let after = reaches F laws declared table r id v at n idle place note e named in
-        (Crew (reaching_view n v ∷ []), takes (slot_of n) None, empty, after.0, λ k. (Crew (reaching_view (same_cell k) v ∷ []), (slot_of (same_cell k), None) ∷ []))
+        let empty = reach_found F laws declared table r.rule id v at n idle place note e named in
+        let after = reaches F laws declared table r.rule id v at n idle place note e named in
+        (Crew (reaching_view n v ∷ []), takes (slot_of n) None, empty, still_ruled callers r after refl, λ k. (Crew (reaching_view (same_cell k) v ∷ []), (slot_of (same_cell k), None) ∷ []))
 
     pub put_allowed : (content : code.Content P) → MayPut F declared id n content v → v.out ≡ None → (slots : ℕ)
-        → Allows (Rule F declared) slots id (Crew (reaching_view n v ∷ []), (slot_of n, Some content) ∷ []) (lock_word n) (λ word. word)
+        → Allows (Ruled F declared callers) slots id (Crew (reaching_view n v ∷ []), (slot_of n, Some content) ∷ []) (lock_word n) (λ word. word)
         (Puts (step slots (lock_word n) 0 0 none) (Crew (reaching_view n v ∷ []), (slot_of n, Some content) ∷ []))
     put_allowed content may idle slots table r long at fits =
-        let after = put_is content may idle table r at tt in
-        (Crew (put_view n v ∷ []), gives, tt, after.0, λ k. (Crew (put_view (same_cell k) v ∷ []), []))
+        let after = put_is content may idle table r.rule at tt in
+        (Crew (put_view n v ∷ []), gives, tt, still_ruled callers r after refl, λ k. (Crew (put_view (same_cell k) v ∷ []), []))
 
 pub lock_either : (b : Bool) (new word : ℕ) → either b new word ≡ cond b new word
 lock_either true new word = refl
@@ -138,26 +160,26 @@ lock_either false new word = refl
 
 module _ {S L P : Type 0} (F : Layouts S L P) (laws : AreLaws F) (declared : List L) (id n : ℕ) (v : PassView P) (me : Seated P) (is : IsSeatOf me v)
     (idle : v.out ≡ None) where
-  pub lock_allowed : MayLock F declared id n v → (new : ℕ) → new ≡ v.number + 1 → (slots : ℕ)
-      → Allows (Rule F declared) slots id me (lock_word n) (λ word. either (eqb word 0) new word)
-      (Tells (locked_view (cell_at_lock (lock_word n))) (step slots (lock_word n) 0 new none) me)
-  lock_allowed may new same slots =
-      subst (λ (z : (ℕ → ℕ) × ℕ). Allows (Rule F declared) slots id me (lock_word n) z.0 (Tells (locked_view z.1) (step slots (lock_word n) 0 new none) me))
+  pub lock_allowed : {callers : ℕ} → MayLock F.procs n v → (new : ℕ) → new ≡ v.number + 1 → (slots : ℕ)
+      → Allows (Ruled F declared callers) slots id me (lock_word n) (λ word. either (eqb word 0) new word)
+      (TellsWith (locked_view (cell_at_lock (lock_word n))) (LockFound (cell_at_lock (lock_word n))) (step slots (lock_word n) 0 new none) me)
+  lock_allowed {callers} may new same slots =
+      subst (λ (z : (ℕ → ℕ) × ℕ). Allows (Ruled F declared callers) slots id me (lock_word n) z.0 (TellsWith (locked_view z.1) (LockFound z.1) (step slots (lock_word n) 0 new none) me))
       (λ k. ((λ word. (ap (λ c. cond (eqb word 0) c word) (sym same) ∙ sym (lock_either (eqb word 0) new word)) k), sym (cell_of_lock n may.cell) k))
-      (seat_allowed (lock_moves F laws declared id n v may idle) me is slots (step slots (lock_word n) 0 new none))
+      (seat_allowed_with (lock_moves F laws declared id n v may idle) (LockFound n) (lock_finds F laws declared id n v may) me is slots (step slots (lock_word n) 0 new none))
 
-  pub lock_is : (may : MayLock F declared id n v) → (after : Seated P) (step : Step (Slot P)) (found : ℕ)
+  pub lock_is : (may : MayLock F.procs n v) → (after : Seated P) (step : Step (Slot P)) (found : ℕ)
       → Tells (locked_view (cell_at_lock (lock_word n))) step me found after
       → StepIs F declared (AtCells (Lock v.number n)) (lock_word n) (lock_value v.number) id v found (pass_in after.0)
   lock_is may after step found told =
       seat_is (lock_moves F laws declared id n v may idle) me after is step found
       (told ∙ (λ k. (on_pass (locked_view (cell_of_lock n may.cell k) found) me.0, me.1)))
 
-  pub unlock_allowed : HoldsHome n v → (slots : ℕ)
-      → Allows (Rule F declared) slots id me (lock_word n) (λ word. 0)
+  pub unlock_allowed : {callers : ℕ} → HoldsHome n v → (slots : ℕ)
+      → Allows (Ruled F declared callers) slots id me (lock_word n) (λ word. 0)
       (λ word. Tells (λ found. unlocked_view (cell_at_lock (lock_word n))) (step slots (lock_word n) 0 0 none) me 0)
-  unlock_allowed may slots =
-      subst (λ z. Allows (Rule F declared) slots id me (lock_word n) (λ word. 0) (λ word. Tells (λ found. unlocked_view z) (step slots (lock_word n) 0 0 none) me 0))
+  unlock_allowed {callers} may slots =
+      subst (λ z. Allows (Ruled F declared callers) slots id me (lock_word n) (λ word. 0) (λ word. Tells (λ found. unlocked_view z) (step slots (lock_word n) 0 0 none) me 0))
       (sym (cell_of_lock n may.cell))
       (seat_allowed (unlock_moves F laws declared id n v may idle) me is slots (step slots (lock_word n) 0 0 none))
 
@@ -168,31 +190,32 @@ module _ {S L P : Type 0} (F : Layouts S L P) (laws : AreLaws F) (declared : Lis
       seat_is (unlock_moves F laws declared id n v may idle) me after is step found
       (told ∙ (λ k. (on_pass (unlocked_view (cell_of_lock n may.cell k)) me.0, me.1)))
 
-  pub lift_seat : HoldsHome n v → (slots : ℕ)
-      → Allows (Rule F declared) slots id me (lock_word n) (λ word. word) (Lifts (step slots (lock_word n) 0 0 none) me)
-  lift_seat may slots =
-      subst (λ (m : Seated P). Allows (Rule F declared) slots id m (lock_word n) (λ word. word) (Lifts (step slots (lock_word n) 0 0 none) m)) (sym is)
-      (lift_allowed F laws declared id n v may.cell may idle slots)
+  pub lift_seat : {callers : ℕ} → HoldsHome n v → (slots : ℕ)
+      → Allows (Ruled F declared callers) slots id me (lock_word n) (λ word. word) (Lifts (step slots (lock_word n) 0 0 none) me)
+  lift_seat {callers} may slots =
+      subst (λ (m : Seated P). Allows (Ruled F declared callers) slots id m (lock_word n) (λ word. word) (Lifts (step slots (lock_word n) 0 0 none) m)) (sym is)
+      (lift_allowed F laws declared id n v callers may.cell may idle slots)
 
   -- the slot comes back from any seat that has it
-  pub give_seat : (few : n < 256) (content : code.Content P) → content.number ≡ n → (now : Seated P) → now ≡ (Crew (lifted_view content v ∷ []), (slot_of n, None) ∷ []) → (slots : ℕ)
-      → Allows (Rule F declared) slots id now (lock_word n) (λ word. word) (GivesBack (step slots (lock_word n) 0 0 none) now)
-  give_seat few content number now same slots =
-      subst (λ (m : Seated P). Allows (Rule F declared) slots id m (lock_word n) (λ word. word) (GivesBack (step slots (lock_word n) 0 0 none) m)) (sym same)
-      (give_allowed F laws declared id n (lifted_view content v) few (ap Some number) slots)
+  pub give_seat : {callers : ℕ} (Known : PassView P → Type 0) → ((w : PassView P) → AreRowsNoted F declared w → Known w) → (few : n < 256) (content : code.Content P) → content.number ≡ n
+      → (now : Seated P) → now ≡ (Crew (lifted_view content v ∷ []), (slot_of n, None) ∷ []) → (slots : ℕ)
+      → Allows (Ruled F declared callers) slots id now (lock_word n) (λ word. word) (GivesBackKnown Known (step slots (lock_word n) 0 0 none) now)
+  give_seat {callers} Known known' few content number now same slots =
+      subst (λ (m : Seated P). Allows (Ruled F declared callers) slots id m (lock_word n) (λ word. word) (GivesBackKnown Known (step slots (lock_word n) 0 0 none) m)) (sym same)
+      (give_allowed F laws declared id n (lifted_view content v) callers few Known known' (ap Some number) slots)
 
-  pub reach_seat : (content : code.Content P) → MayPut F declared id n content v → (slots : ℕ)
-      → Allows (Rule F declared) slots id me (lock_word n) (λ word. word) (Reaches (step slots (lock_word n) 0 0 none) me)
-  reach_seat content may slots =
-      subst (λ (m : Seated P). Allows (Rule F declared) slots id m (lock_word n) (λ word. word) (Reaches (step slots (lock_word n) 0 0 none) m)) (sym is)
-      (reach_allowed F laws declared id n v may.cell idle may.place may.note may.noted may.named slots)
+  pub reach_seat : {callers : ℕ} (content : code.Content P) → MayPut F declared id n content v → (slots : ℕ)
+      → Allows (Ruled F declared callers) slots id me (lock_word n) (λ word. word) (Reaches (step slots (lock_word n) 0 0 none) me)
+  reach_seat {callers} content may slots =
+      subst (λ (m : Seated P). Allows (Ruled F declared callers) slots id m (lock_word n) (λ word. word) (Reaches (step slots (lock_word n) 0 0 none) m)) (sym is)
+      (reach_allowed F laws declared id n v callers may.cell idle may.place may.note may.noted may.named slots)
 
-  pub put_seat : (content : code.Content P) → MayPut F declared id n content v → (now : Seated P) → now ≡ (Crew (reaching_view n v ∷ []), (slot_of n, Some content) ∷ [])
+  pub put_seat : {callers : ℕ} (content : code.Content P) → MayPut F declared id n content v → (now : Seated P) → now ≡ (Crew (reaching_view n v ∷ []), (slot_of n, Some content) ∷ [])
       → (seat : ℕ) → seat ≡ id → (slots : ℕ)
-      → Allows (Rule F declared) slots seat now (lock_word n) (λ word. word) (Puts (step slots (lock_word n) 0 0 none) now)
-  put_seat content may now same seat here slots =
-      subst (λ (z : ℕ × Seated P). Allows (Rule F declared) slots z.0 z.1 (lock_word n) (λ word. word) (Puts (step slots (lock_word n) 0 0 none) z.1))
-      (λ k. (sym here k, sym same k)) (put_allowed F laws declared id n v may.cell content may idle slots)
+      → Allows (Ruled F declared callers) slots seat now (lock_word n) (λ word. word) (Puts (step slots (lock_word n) 0 0 none) now)
+  put_seat {callers} content may now same seat here slots =
+      subst (λ (z : ℕ × Seated P). Allows (Ruled F declared callers) slots z.0 z.1 (lock_word n) (λ word. word) (Puts (step slots (lock_word n) 0 0 none) z.1))
+      (λ k. (sym here k, sym same k)) (put_allowed F laws declared id n v callers may.cell content may idle slots)
 
 module _ {P : Type 0} (n : ℕ) (v : PassView P) (me : Seated P) (is : IsSeatOf me v) where
   -- the seat after the slot went out with it
@@ -207,6 +230,13 @@ module _ {P : Type 0} (n : ℕ) (v : PassView P) (me : Seated P) (is : IsSeatOf 
       → after ≡ (Crew (reaching_view n v ∷ []), (slot_of n, None) ∷ [])
   reached_seat few after told =
       told ∙ (λ k. (on_pass (reaching_view (cell_of_lock n few k)) (is k).0, (slot_of (cell_of_lock n few k), None) ∷ (is k).1))
+
+-- what it knows as the slot comes back, it knows after that
+pub given_known : {P : Type 0} (Known : PassView P → Type 0) (me after : Seated P) (w : PassView P) (carried : List (ℕ × Slot P)) → me ≡ (Crew (w ∷ []), carried)
+    → after ≡ (on_pass given_view me.0, rest me.1) → Known (given_view (pass_in me.0)) → Known (pass_in after.0)
+given_known Known me after w carried is told known =
+    subst Known (sym (ap (λ (m : Seated _). pass_in m.0) told ∙ ap (λ (m : Seated _). pass_in (on_pass given_view m.0)) is))
+    (subst (λ (m : Seated _). Known (given_view (pass_in m.0))) is known)
 
 -- the slot that went out, and what an exchange leaves of the seat
 module _ {P : Type 0} (lifted : Seated P) (w : PassView P) (slot : ℕ) (y : Slot P) (is : lifted ≡ (Crew (w ∷ []), (slot, y) ∷ [])) where

@@ -11,14 +11,14 @@ use lib.ListN.{get_elem?}
 use Rattle.atomic_table.specs.Table.{State}
 use Rattle.k42_kinds.specs.declared.entry.Entry.{Entry}
 use Rattle.k42_places.specs.Places.{EachPlace}
-use Rattle.k42_places.proofs.EachPlaces.{EachPlace-then}
+use Rattle.k42_places.proofs.EachPlaces.{EachPlace-then, EachPlace-set}
 use Rattle.turn_core.specs.Events as turns
 use Rattle.turn_core.specs.Events.{cell_told, caller_drawn}
 use Rattle.turn_core.specs.Names.{names, names_once}
 use Rattle.turn_core.specs.Plain.{Cell, Caller, Turns}
 use Rattle.turn_core.specs.State.{cell_at, caller_at, fresh_cell, fresh_caller, change_caller, change_cells}
 use Rattle.turn_core.specs.declared.event.TurnEvent.TheVariants.{Draw}
-use Rattle.turn_core.proofs.Changed.{callers-change_cells, at_changed}
+use Rattle.turn_core.proofs.Changed.{callers-change_cells, length-change_cells, at_changed}
 use Rattle.k42_stamp.specs.Laws.{AreLaws}
 use Rattle.k42_stamp.specs.Layouts.{Layouts}
 use Rattle.k42_joined.specs.Effects.{effect, kept_drawn}
@@ -30,7 +30,7 @@ use Rattle.k42_joined.specs.State.{many_procs, kept_of, nothing_kept}
 use Rattle.k42_joined.proofs.CellChanges.{cell_at-else, cell_at-named}
 use Rattle.k42_joined.proofs.Kept.{joined_keeps}
 use Rattle.k42_rule.specs.Cells.{Slot, Contents, IsCellShown, IsSlot, IsNoted, IsOut, KnowsCells, cells_noted}
-use Rattle.k42_rule.specs.Drawing.{told_notes, told_note, drawn_view}
+use Rattle.k42_rule.specs.Drawing.{told_notes, told_note, drawn_view, untold_view}
 use Rattle.k42_rule.specs.Generations.{MOST}
 use Rattle.k42_rule.specs.Parts.{IsPart}
 use Rattle.k42_rule.specs.Trace.{KnowsTrace, IsOfTime}
@@ -41,6 +41,7 @@ use Rattle.k42_rule.specs.declared.view.View.{View}
 use Rattle.k42_rule.specs.declared.view.View.TheVariants.{Crew}
 use Rattle.k42_rule.proofs.CellsApart.{note_of, is_noted}
 use Rattle.k42_rule.proofs.CellsMoved.{moved_to, with_contents, StaysAt, LeavesCells, others_stay}
+use Rattle.k42_rule.proofs.Drawers.{pass_drawn}
 use Rattle.k42_rule.proofs.OnePass.{with_pass, known, moved}
 
 some_one : (c d : ℕ) → Some c ≡ Some d → c ≡ d
@@ -88,10 +89,13 @@ module _ {S L P : Type 0} (F : Layouts S L P) (laws : AreLaws F) (declared : Lis
   t = turns.effect s.turns (Draw c cells entry)
 
   abbrev w : PassView P
-  w = drawn_view cells entry fresh v
+  w = untold_view cells (drawn_view cells entry fresh v)
 
   k : KnowsPass F.tag_of s r.beside id v
   k = known F declared table r id v at
+
+  pub drawn_long : length t.cells ≡ length s.turns.cells
+  drawn_long = length-change_cells (cell_told entry) (change_caller (caller_drawn entry) s.turns c) cells
 
   -- what a draw at cells that it has taken asks
   pub record IsDraw : Type 0 where
@@ -202,29 +206,21 @@ module _ {S L P : Type 0} (F : Layouts S L P) (laws : AreLaws F) (declared : Lis
     kept_there = let many = r.sound.cells.locks.many.kept in let lt = k.there in omega (arith, many, lt)
 
     pass_after : KnowsPass F.tag_of (moved_to s t (kept_drawn s c false)) (with_contents r.beside told_contents) id w
-    pass_after = record {
-      there = k.there;
-      seat = k.seat;
-      generations = record { turn = k.generations.turn; activities = k.generations.activities; graces = k.generations.graces; base = k.generations.base };
-      phases = record {
-        visitor = k.phases.visitor;
-        layout = k.phases.layout;
-        learned = k.phases.learned;
-        begun = k.phases.begun;
-        rows = k.phases.rows;
-        granted = k.phases.granted;
-      };
-      cells = knows;
-      trace = record {
-        kept = get_or-set_same s.kept c _ nothing_kept kept_there ∙ ap (λ (z : Kept). record z { found = None }) k.trace.kept;
-        found = λ answer begin e. absurd (cc);
-        handed = k.trace.handed;
-        unhanded = k.trace.unhanded;
-        few = let less = is.few in let more = length_push v.taker.mine entry in omega (arith, less, more);
-        times = λ place other e. ⊎_elim (λ old. k.trace.times place other old.1) (λ new. subst (IsOfTime s.phases.turns v.turn.proc) new.1 is.timely)
-            (at_push v.taker.mine entry place other e);
-      };
-    }
+    pass_after =
+        pass_drawn F.tag_of s t s.hands (kept_drawn s c false) r.beside told_contents id v k entry (told_notes cells entry fresh v.notes) v.abandoned v.handed cells entry.stamp
+        (record {
+          cells = knows;
+          kept_is = get_or-set_same s.kept c _ nothing_kept kept_there ∙ ap (λ (z : Kept). record z { found = None }) k.trace.kept;
+          timely = is.timely;
+          handed_is = k.trace.handed;
+          unhanded = k.trace.unhanded;
+        })
+
+    few_after : EachPlace (λ d (x : Caller). length x.mine ≤ MOST) t.callers
+    few_after =
+        subst (λ (xs : List Caller). EachPlace (λ d (x : Caller). length x.mine ≤ MOST) xs) (sym (callers-change_cells (cell_told entry) base cells))
+        (EachPlace-set (λ d (x : Caller). length x.mine ≤ MOST) s.turns.callers c (caller_drawn entry (caller_at s.turns c)) r.shows.few_entries
+        (let less = is.few in let more = length_push (caller_at s.turns c).mine entry in let same = ap (λ (x : Caller). length x.mine) k.cells.taker in omega (arith, less, more, same)))
 
     cell_after : (n : ℕ) (y : Cell) → slice_get t.cells n ≡ Some y → IsCellShown (many_procs s) table.words table.homes told_contents n y
     cell_after n y e =
@@ -262,6 +258,7 @@ module _ {S L P : Type 0} (F : Layouts S L P) (laws : AreLaws F) (declared : Lis
           many_words = r.shows.many_words;
           many_slots = r.shows.many_slots;
           few_objects = r.shows.few_objects;
+          few_entries = few_after;
           generations = r.shows.generations;
           objects = r.shows.objects;
           cells = cell_after;

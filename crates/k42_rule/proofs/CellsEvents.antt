@@ -31,7 +31,7 @@ use Rattle.k42_joined.proofs.Kept.{joined_keeps}
 use Rattle.k42_rule.specs.Cells.{Slot, Contents, IsCell, IsCellShown, IsSlot, IsNoted, IsOut, KnowsCells, cells_noted}
 use Rattle.k42_rule.specs.Parts.{IsPart}
 use Rattle.k42_rule.specs.Rule.{Beside, KnowsPass, Shows, Rule}
-use Rattle.k42_rule.specs.Taking.{HoldsHome, MayLock, MayPut, noted, ActIs, locked_view, unlocked_view, reaching_view, lifted_view, taken_view, put_view, without}
+use Rattle.k42_rule.specs.Taking.{HoldsHome, MayLock, LockFound, MayPut, noted, ActIs, locked_view, unlocked_view, reaching_view, lifted_view, taken_view, put_view, without}
 use Rattle.k42_rule.specs.Words.{lock_word, slot_of, many_words, many_slots}
 use Rattle.k42_rule.specs.Values.{holder_value}
 use Rattle.k42_rule.specs.declared.cell.Content as code
@@ -42,6 +42,7 @@ use Rattle.k42_rule.specs.declared.view.View.TheVariants.{Crew}
 use Rattle.k42_rule.proofs.CellsApart.{written, written_here, written_else, each_first, first_noted, further_noted, note_of, is_noted, IsKept, each_without, still_noted}
 use Rattle.k42_rule.proofs.CellsMoved.{moved_to, cell_moved}
 use Rattle.k42_rule.proofs.CellsSteps.{free_word, held_word, some_one, stands, relock, take_move, slot_move, put_move, has_content, before}
+use Rattle.k42_rule.proofs.CellsTouched.{touch, alone_at}
 use Rattle.k42_rule.proofs.Moves.{Moves}
 use Rattle.k42_rule.proofs.OnePass.{with_pass, known, LeavesOthers, moved}
 
@@ -115,19 +116,18 @@ module _ {S L P : Type 0} (F : Layouts S L P) (laws : AreLaws F) (declared : Lis
 
   abbrev pub IsLocked : ℕ → Caller → Type 0
   IsLocked new taker =
-      (after : Rule F declared (with_pass table (set table.words i new) table.homes id (record v { taker = taker }))) × (after.state ≡ effect s (AtCells (Lock c n)))
+      (after : Rule F declared (with_pass table (set table.words i new) table.homes id (record v { taker = taker; heard = found })))
+      × (after.state ≡ effect s (AtCells (Lock c n))) × IsPossible F declared s (AtCells (Lock c n))
 
-  pub locks : MayLock F declared id n v → v.out ≡ None
-      → IsLocked (cond (eqb found 0) (c + 1) found) (cond (eqb found 0) (caller_locked n v.taker) v.taker)
-  locks may idle = go (eqb found 0) refl where
+  module _ (may : MayLock F.procs n v) where
     touched : MayTouch s c n
-    touched = may.touched table r at
+    touched = touch F laws declared table r id v at n may.touches
 
-    there : n < length s.turns.cells
-    there = let many = r.sound.cells.locks.many.cells in let lt = touched.object in omega (arith, many, lt)
+    lock_there : n < length s.turns.cells
+    lock_there = let many = r.sound.cells.locks.many.cells in let lt = touched.object in omega (arith, many, lt)
 
     at_n : slice_get s.turns.cells n ≡ Some x
-    at_n = slice_get-get_or s.turns.cells n (fresh_cell 0) there
+    at_n = slice_get-get_or s.turns.cells n (fresh_cell 0) lock_there
 
     not_held : x.lock ≢ Some c
     not_held e =
@@ -137,43 +137,74 @@ module _ {S L P : Type 0} (F : Layouts S L P) (laws : AreLaws F) (declared : Lis
     word : found ≡ holder_value x.lock
     word = (r.shows.cells n x at_n).lock
 
-    free_possible : x.lock ≡ None → IsPossible F declared s (AtCells (Lock c n))
-    free_possible free = record {
-      caller = (known F declared table r id v at).there;
-      may = record { core = rw free refl; beside = touched };
-    }
+    lock_possible : IsPossible F declared s (AtCells (Lock c n))
+    lock_possible = record { caller = (known F declared table r id v at).there; may = record { core = core x.lock not_held; beside = touched } } where
+      core : (lock : Option ℕ) → lock ≢ Some c → not (is_caller lock c) ≡ true
+      core None other = refl
+      core (Some d) other = go (eqb d c) refl where
+        go : (b : Bool) → eqb d c ≡ b → not b ≡ true
+        go false e = refl
+        go true e = absurd (other (ap Some (eqb-true d c e)))
 
     home_free : x.lock ≡ None → (b : Bool) → x.home ≡ b → x.home ≡ true
     home_free free true e = e
     home_free free false e = let some = (r.sound.cells.turns.cells n x at_n).away e in let no = ap is_some free in absurd (cc)
 
-    go : (b : Bool) → eqb found 0 ≡ b → IsLocked (cond b (c + 1) found) (cond b (caller_locked n v.taker) v.taker)
-    go true e =
-        let free = free_word x.lock (sym word ∙ eqb-true found 0 e) in
-        let callers : List Caller = set s.turns.callers c (caller_locked n (caller_at s.turns c)) in
-        cell_moved F declared table r id v at n (c + 1) table.homes r.beside.contents (cell_locked c x) callers (caller_locked n v.taker) v.notes v.out
-        (relock F laws declared table r id v at n there touched (Some c) (c + 1) callers (caller_locked n v.taker) (home_free free x.home refl) idle
-        (λ d not e'. absurd (cc)) (λ d not e'. not (sym (some_one c d e'))) refl (λ d not. get_or-set_other s.turns.callers c d _ fresh_caller not)
-        (get_or-set_same s.turns.callers c _ fresh_caller c_there ∙ ap (caller_locked n) knows.taker) refl)
-        (effect s (AtCells (Lock c n))) (λ k. record s { turns = locked s.turns c n (sym free k); kept = s.kept })
-        (joined_keeps F laws declared s r.sound (AtCells (Lock c n)) (free_possible free))
-    go false e =
-        let holder = held_word x.lock (λ none'. let is = eq-eqb found 0 (word ∙ none') in absurd (cc)) in
-        let after = stands F laws declared table r id v at n found refl in
-        (after.0, after.1 ∙ (λ k. record s { turns = locked s.turns c n (sym holder.1 k); kept = s.kept }))
+    pub locks : v.out ≡ None → IsLocked (cond (eqb found 0) (c + 1) found) (cond (eqb found 0) (caller_locked n v.taker) v.taker)
+    locks idle = go (eqb found 0) refl where
+      go : (b : Bool) → eqb found 0 ≡ b → IsLocked (cond b (c + 1) found) (cond b (caller_locked n v.taker) v.taker)
+      go true e =
+          let free = free_word x.lock (sym word ∙ eqb-true found 0 e) in
+          let callers : List Caller = set s.turns.callers c (caller_locked n (caller_at s.turns c)) in
+          let after =
+          cell_moved F declared table r id v at n (c + 1) table.homes r.beside.contents (cell_locked c x) callers (caller_locked n v.taker) v.notes v.out found
+          (relock F laws declared table r id v at n lock_there touched (Some c) (c + 1) callers (caller_locked n v.taker) found (home_free free x.home refl) idle
+          (λ d not e'. absurd (cc)) (λ d not e'. not (sym (some_one c d e'))) refl (λ d not. get_or-set_other s.turns.callers c d _ fresh_caller not)
+          (get_or-set_same s.turns.callers c _ fresh_caller c_there ∙ ap (caller_locked n) knows.taker) refl)
+          (effect s (AtCells (Lock c n))) (λ k. record s { turns = locked s.turns c n (sym free k); kept = s.kept })
+          (joined_keeps F laws declared s r.sound (AtCells (Lock c n)) lock_possible) in
+          (after.0, after.1, lock_possible)
+      go false e =
+          let holder = held_word x.lock (λ none'. let is = eq-eqb found 0 (word ∙ none') in absurd (cc)) in
+          let after = stands F laws declared table r id v at n found refl in
+          (after.0, after.1 ∙ (λ k. record s { turns = locked s.turns c n (sym holder.1 k); kept = s.kept }), lock_possible)
+
+    -- the lock is nobody's or another's, and nobody's where the pass is alone at the row
+    pub lock_found : LockFound n v found
+    lock_found = by_lock x.lock refl where
+      by_lock : (lock : Option ℕ) → x.lock ≡ lock → LockFound n v found
+      by_lock None e =
+          let none : found ≡ 0 = word ∙ ap holder_value e in
+          record { another = λ same. omega (arith, none, same); small = omega (arith, none); free = λ alone. none }
+      by_lock (Some d) e =
+          let is : found ≡ d + 1 = word ∙ ap holder_value e in
+          let there = (r.sound.cells.turns.cells n x at_n).holder d e in
+          let many = r.sound.cells.locks.many.callers in
+          let shown = r.sound.phases.in_scene.many_callers in
+          let few = r.sound.phases.in_scene.in_course.limits.few_callers in
+          record {
+            another = λ same. not_held (e ∙ ap Some (omega (arith, is, same)));
+            small = omega (arith, is, there, many, shown, few);
+            free = λ alone.
+                absurd
+                (not_held (e ∙ ap Some (alone_at F laws declared table r id v at n alone d (omega (arith, there, many)) (r.sound.cells.locks.held n d e))));
+          }
 
   -- leaving a lock
   pub unlocks : HoldsHome n v → v.out ≡ None
-      → (after : Rule F declared (with_pass table (set table.words i 0) table.homes id (unlocked_view n v))) × (after.state ≡ effect s (AtCells (Unlock c n)))
+      → (after : Rule F declared (with_pass table (set table.words i 0) table.homes id (unlocked_view n v)))
+      × (after.state ≡ effect s (AtCells (Unlock c n))) × IsPossible F declared s (AtCells (Unlock c n))
   unlocks may idle =
       let is = listed may.held in
       let home = in_place is.held may.home in
       let callers : List Caller = set s.turns.callers c (caller_unlocked n (caller_at s.turns c)) in
-      cell_moved F declared table r id v at n 0 table.homes r.beside.contents (cell_unlocked x) callers (caller_unlocked n v.taker) v.notes v.out
-      (relock F laws declared table r id v at n is.there is.touched None 0 callers (caller_unlocked n v.taker) home idle
+      let after =
+      cell_moved F declared table r id v at n 0 table.homes r.beside.contents (cell_unlocked x) callers (caller_unlocked n v.taker) v.notes v.out v.heard
+      (relock F laws declared table r id v at n is.there is.touched None 0 callers (caller_unlocked n v.taker) v.heard home idle
       (λ d not e. not (some_one d c (sym e ∙ is.held))) (λ d not e. absurd (cc)) refl (λ d not. get_or-set_other s.turns.callers c d _ fresh_caller not)
       (get_or-set_same s.turns.callers c _ fresh_caller c_there ∙ ap (caller_unlocked n) knows.taker) refl)
-      (effect s (AtCells (Unlock c n))) refl (joined_keeps F laws declared s r.sound (AtCells (Unlock c n)) (unlock_possible is home))
+      (effect s (AtCells (Unlock c n))) refl (joined_keeps F laws declared s r.sound (AtCells (Unlock c n)) (unlock_possible is home)) in
+      (after.0, after.1, unlock_possible is home)
 
   -- taking: the slot of a cell at home has its content
 
@@ -183,6 +214,9 @@ module _ {S L P : Type 0} (F : Layouts S L P) (laws : AreLaws F) (declared : Lis
       let has = has_content F laws declared table r id v at n is.there is.touched (in_place is.held may.home) in
       (has.2.content, has.1 ∙ ap some has.2.full, has.2.is.number)
 
+  pub may_take : HoldsHome n v → IsPossible F declared s (AtCells (Take c n))
+  may_take may = let is = listed may.held in take_possible is (in_place is.held may.home)
+
   pub takes_away : HoldsHome n v → v.out ≡ None → (content : code.Content P) → get_elem? table.homes (slot_of n) ≡ some (some (Some content))
       → (after : Rule F declared (with_pass table (set table.words i found) (set table.homes (slot_of n) none) id (lifted_view content v)))
       × (after.state ≡ effect s (AtCells (Take c n)))
@@ -190,7 +224,7 @@ module _ {S L P : Type 0} (F : Layouts S L P) (laws : AreLaws F) (declared : Lis
       let is = listed may.held in
       let home = in_place is.held may.home in
       cell_moved F declared table r id v at n found (set table.homes (slot_of n) none)
-      (record r.beside.contents { out = written r.beside.contents.out n true }) (cell_taken x) s.turns.callers v.taker (noted content ∷ v.notes) (Some content.number)
+      (record r.beside.contents { out = written r.beside.contents.out n true }) (cell_taken x) s.turns.callers v.taker (noted content ∷ v.notes) (Some content.number) v.heard
       (take_move F laws declared table r id v at n is.there is.touched is.held idle home content full)
       (effect s (AtCells (Take c n))) refl (joined_keeps F laws declared s r.sound (AtCells (Take c n)) (take_possible is home))
 
@@ -202,7 +236,7 @@ module _ {S L P : Type 0} (F : Layouts S L P) (laws : AreLaws F) (declared : Lis
       let is' = knows.out n out in
       let is = locked_there is'.held in
       cell_moved F declared table r id v at n found (set table.homes (slot_of n) (some None))
-      (record r.beside.contents { out = written r.beside.contents.out n false }) x s.turns.callers v.taker v.notes None
+      (record r.beside.contents { out = written r.beside.contents.out n false }) x s.turns.callers v.taker v.notes None v.heard
       (slot_move F laws declared table r id v at n is.there is.touched is.held false (set table.homes (slot_of n) (some None)) (some None) None is'.away refl refl
       (λ m e. some_one m n (sym e ∙ out)) (λ m e. absurd (cc)) (λ e. absurd (cc)))
       s (λ k. record s { turns = before F laws declared table r id v at n is.there is.touched k }) r.sound
@@ -227,6 +261,9 @@ module _ {S L P : Type 0} (F : Layouts S L P) (laws : AreLaws F) (declared : Lis
   pub note_there : (place : ℕ) (note : Note P) → slice_get v.notes place ≡ Some note → note.cell ≡ n → n < length s.turns.cells
   note_there place note e named = (away_by place note e named).held.there
 
+  pub may_put : (place : ℕ) (note : Note P) → slice_get v.notes place ≡ Some note → note.cell ≡ n → IsPossible F declared s (AtCells (Put c n))
+  may_put place note e named = let is = away_by place note e named in put_possible is.held is.away
+
   slot_inside : v.out ≡ None → x.lock ≡ Some c → r.beside.contents.out n ≡ false
   slot_inside idle held = go (r.beside.contents.out n) refl where
     go : (b : Bool) → r.beside.contents.out n ≡ b → r.beside.contents.out n ≡ false
@@ -249,7 +286,7 @@ module _ {S L P : Type 0} (F : Layouts S L P) (laws : AreLaws F) (declared : Lis
   reaches idle place note e named =
       let is = away_by place note e named in
       cell_moved F declared table r id v at n found (set table.homes (slot_of n) none)
-      (record r.beside.contents { out = written r.beside.contents.out n true }) x s.turns.callers v.taker v.notes (Some n)
+      (record r.beside.contents { out = written r.beside.contents.out n true }) x s.turns.callers v.taker v.notes (Some n) v.heard
       (slot_move F laws declared table r id v at n is.held.there is.held.touched is.held.held true (set table.homes (slot_of n) none) none (Some n) is.away refl refl
       (λ m e'. absurd (cc)) (λ m e'. (sym (some_one n m e'), refl)) (λ e'. refl))
       s (λ k. record s { turns = before F laws declared table r id v at n is.held.there is.held.touched k }) r.sound
@@ -265,7 +302,7 @@ module _ {S L P : Type 0} (F : Layouts S L P) (laws : AreLaws F) (declared : Lis
       let closed : x.closed ≡ note.closed = ap (λ k. (cell_at s.turns k).closed) (sym named) ∙ is.noted.closed in
       cell_moved F declared table r id v at n found (set table.homes (slot_of n) (some (Some content)))
       (record { part = written r.beside.contents.part n content.part; out = written r.beside.contents.out n false }) (cell_put x) s.turns.callers v.taker
-      (without n v.notes) None
+      (without n v.notes) None v.heard
       (put_move F laws declared table r id v at n is.held.there is.held.touched is.held.held out is.away content
       (subst (λ (z : List Entry × Bool). IsCell n z.0 z.1 content.part content) (λ k. (sym history k, sym closed k)) whole) part)
       (effect s (AtCells (Put c n))) refl (joined_keeps F laws declared s r.sound (AtCells (Put c n)) (put_possible is.held is.away))

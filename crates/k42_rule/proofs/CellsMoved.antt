@@ -1,13 +1,15 @@
 -- One cell and one pass moved: what the steps on cells owe to the rule.
-use Rattle.std.proofs.Common.{◌≡◌, ◌≢◌, ◌⊎◌, ℕ, ◌+◌, ◌*◌, ◌/◌, ◌<◌, ◌≤◌, Bool, true, false, List, [], ◌∷◌, ◌++◌, Option, Some, None, length, get_or, set, sym, refl, ap, ◌∙◌, subst, inl, inr, ⊎_elim, arith, length-set, get_or-set_other, get_or-set_same}
+use Rattle.std.proofs.Common.{◌≡◌, ◌≢◌, ◌⊎◌, ℕ, zero, suc, ◌+◌, ◌*◌, ◌/◌, ◌<◌, ◌≤◌, Bool, true, false, List, [], ◌∷◌, ◌++◌, Option, Some, None, length, get_or, set, sym, refl, ap, ◌∙◌, subst, inl, inr, ⊎_elim, arith, length-set, get_or-set_other, get_or-set_same}
 use Rattle.std.specs.List.{slice_get, slice_index}
-use Rattle.std.proofs.lemmas.Option.{slice_get_within, slice_get-get_or}
+use Rattle.std.proofs.lemmas.Option.{slice_get_within, slice_get-get_or, get_or_from_slice_get}
 use mathlib.Core.Option.{some}
 use mathlib.Core.Option as maybe
 use lib.ListN.{get_elem?}
 use Rattle.atomic_table.specs.Table.{State}
 use mathlib.Core.Logic.{dite}
 use native.Mathlib.Decide.{ℕ_discrete}
+use Rattle.gen_core.specs.Plain.{Generations}
+use Rattle.k42_kinds.specs.declared.entry.Answer.{Answer}
 use Rattle.k42_kinds.specs.declared.entry.Entry.{Entry}
 use Rattle.k42_places.specs.Places.{EachPlace}
 use Rattle.k42_places.proofs.Written.{get_or-set_related}
@@ -17,12 +19,12 @@ use Rattle.k42_stamp.specs.Chains.{Chain, Row}
 use Rattle.k42_joined.specs.Numbers.{cell_of, object_of}
 use Rattle.k42_joined.specs.Rows.{AreRowsOf, history_in}
 use Rattle.k42_joined.proofs.LocksCells.{IsSameTold}
-use Rattle.k42_rule.specs.Generations.{MOST}
+use Rattle.k42_rule.specs.Generations.{Counts, MOST, KnowsGenerations}
 use Rattle.k42_places.proofs.EachPlaces.{EachPlace-set_else}
-use Rattle.phase_core.specs.Plain.{Object}
+use Rattle.phase_core.specs.Plain.{Object, Phases}
 use Rattle.turn_core.specs.Names.{names}
 use Rattle.turn_core.specs.Plain.{Cell, Caller, Turns}
-use Rattle.turn_core.specs.State.{cell_at, caller_at, fresh_cell}
+use Rattle.turn_core.specs.State.{cell_at, caller_at, fresh_cell, fresh_caller}
 use Rattle.turn_core.specs.Sound.{histories_of}
 use Rattle.k42_stamp.specs.Layouts.{Layouts}
 use Rattle.k42_joined.specs.Plain.{Kept, Joined}
@@ -31,11 +33,14 @@ use Rattle.k42_joined.specs.State.{many_callers, many_procs, many_hands, kept_of
 use Rattle.k42_rule.specs.Cells.{Slot, Contents, IsCellShown, IsSlot, IsNoted, IsOut, KnowsCells, cells_noted}
 use Rattle.k42_rule.specs.Parts.{IsPart, row_in}
 use Rattle.k42_rule.specs.Trace.{KnowsTrace, IsOfTime}
-use Rattle.k42_rule.specs.Rule.{Beside, KnowsPass, Shows, Rule}
+use Rattle.k42_rule.specs.Phases.{KnowsPhases}
+use Rattle.k42_rule.specs.Rule.{Beside, KnowsPass, NamesRows, Shows, Rule}
 use Rattle.k42_rule.specs.Words.{lock_word, slot_of}
 use Rattle.k42_rule.specs.Values.{holder_value}
+use Rattle.k42_rule.specs.Views.{hears}
 use Rattle.k42_rule.specs.declared.view.Note.{Note}
 use Rattle.k42_rule.specs.declared.view.PassView.{PassView}
+use Rattle.k42_rule.specs.declared.view.Row as named
 use Rattle.k42_rule.specs.declared.view.View.{View}
 use Rattle.k42_rule.specs.declared.view.View.TheVariants.{Crew}
 use Rattle.k42_rule.proofs.CellsApart.{generations_apart, objects_apart, locks_apart, slots_apart}
@@ -71,6 +76,73 @@ module _ {L : Type 0} (s : Joined L) (t : Turns) (kept : List Kept) (told : (m :
             (ap (row_in chain) (sym life) ∙ here) (subst (λ (l : ℕ). (object_at s.phases (object_of n)).freed ≤ l) life freed);
         before = λ ahead. is.before (subst (λ (l : ℕ). many_hands s (object_of n) < l) life ahead);
       }
+
+-- the rows that a seat names do not hang on what cells have
+pub names_stay : {P : Type 0} (beside : Beside P) (contents : Contents P) (id : ℕ) (rows : List named.Row) → NamesRows beside id rows
+    → NamesRows (with_contents beside contents) id rows
+names_stay beside contents id rows is = record { named = is.named; once = is.once }
+
+-- the pass with other notes of cells and entries
+abbrev pub re_noted : {P : Type 0} → PassView P → Caller → Option Answer → Bool → Option ℕ → List (Note P) → Option ℕ → List ℕ → ℕ → PassView P
+re_noted v taker found abandoned handed notes out untold heard = record v {
+  taker = taker;
+  found = found;
+  abandoned = abandoned;
+  handed = handed;
+  notes = notes;
+  out = out;
+  untold = untold;
+  heard = heard;
+}
+
+-- what it knows of generations, and of its call, its swap and its rows, does not hang on these
+module _ {P : Type 0} (v : PassView P) (taker : Caller) (found : Option Answer) (abandoned : Bool) (handed : Option ℕ) (notes : List (Note P)) (out : Option ℕ)
+    (untold : List ℕ) (heard : ℕ) where
+  pub generations_stay : (g : Generations) (counts : Counts) → KnowsGenerations g counts v
+      → KnowsGenerations g counts (re_noted v taker found abandoned handed notes out untold heard)
+  generations_stay g counts k = record { turn = k.turn; activities = k.activities; graces = k.graces; base = k.base }
+
+  pub phases_stay : (p : Phases) → KnowsPhases p v → KnowsPhases p (re_noted v taker found abandoned handed notes out untold heard)
+  phases_stay p k = record {
+    visitor = k.visitor;
+    layout = k.layout;
+    learned = k.learned;
+    swap = record { turned = k.swap.turned; layout_begun = k.swap.layout_begun; begun = k.swap.begun; next = k.swap.next };
+    rows = record { old = k.rows.old; granted = k.rows.granted; swept = k.rows.swept; spans = k.rows.spans };
+  }
+
+-- nor does the word that it found
+pub known_heard : {L P : Type 0} (tag_of : L → ℕ) (s : Joined L) (beside : Beside P) (id : ℕ) (v : PassView P) (heard : ℕ)
+    → KnowsPass tag_of s beside id v → KnowsPass tag_of s beside id (hears heard v)
+known_heard tag_of s beside id v heard k = record {
+  there = k.there;
+  seat = k.seat;
+  names = k.names;
+  generations = generations_stay v v.taker v.found v.abandoned v.handed v.notes v.out v.untold heard s.phases.turns beside.counts k.generations;
+  phases = phases_stay v v.taker v.found v.abandoned v.handed v.notes v.out v.untold heard s.phases k.phases;
+  cells = record { taker = k.cells.taker; notes = k.cells.notes; noted = k.cells.noted; out = k.cells.out; only = k.cells.only };
+  trace = record { kept = k.trace.kept; found = k.trace.found; over = k.trace.over; handed = k.trace.handed; unhanded = k.trace.unhanded; times = k.trace.times };
+}
+
+-- no view is shown
+pub shows_again : {L P : Type 0} (s : Joined L) (beside : Beside P) (table : State (Slot P) (View P)) (words : List ℕ) (id : ℕ) (w : PassView P) → Shows s beside table
+    → words ≡ table.words → Shows s beside (with_pass table words table.homes id w)
+shows_again s beside table words id w shows same =
+    subst (λ (z : List ℕ). Shows s beside (with_pass table z table.homes id w)) (sym same) (record {
+      many_words = shows.many_words;
+      many_slots = shows.many_slots;
+      few_objects = shows.few_objects;
+      few_entries = shows.few_entries;
+      generations = shows.generations;
+      objects = shows.objects;
+      cells = shows.cells;
+    })
+
+-- no caller has drawn more entries than are counted
+pub few_drawn : (callers : List Caller) → EachPlace (λ c x. length x.mine ≤ MOST) callers → (d : ℕ) → length (get_or callers d fresh_caller).mine ≤ MOST
+few_drawn [] few d = omega arith
+few_drawn (x ∷ callers) few zero = few 0 x refl
+few_drawn (x ∷ callers) few (suc d) = few_drawn callers (λ c y e. few (suc c) y e) d
 
 pub same_told' : (x : Cell) → IsSameTold x x
 same_told' x = record { closed = refl; life = refl; history = refl; past = refl }
@@ -129,9 +201,9 @@ module _ {S L P : Type 0} (F : Layouts S L P) (declared : List L)
     trace_stays_known x not knows = record {
       kept = leaves.keeps x.number not ∙ knows.kept;
       found = knows.found;
+      over = knows.over;
       handed = knows.handed;
       unhanded = knows.unhanded;
-      few = knows.few;
       times = knows.times;
     }
 
@@ -140,20 +212,20 @@ module _ {S L P : Type 0} (F : Layouts S L P) (declared : List L)
       passes = λ j x not knows. record {
         there = knows.there;
         seat = knows.seat;
+        names = names_stay r.beside contents j x.rows knows.names;
         generations = knows.generations;
         phases = knows.phases;
         cells = cells_stay_known x not knows.cells;
         trace = trace_stays_known x not knows.trace;
       };
-      rows = λ row old. old;
-      row_seats = λ row. refl;
+      named = λ j row not old is. (old, is);
     }
 
   few_objects : length s.phases.objects ≤ 16
   few_objects = r.shows.few_objects
 
-  few_entries : EachPlace (λ o (k : Object). length k.entries ≤ 8) s.phases.objects
-  few_entries o k here =
+  few_processors : EachPlace (λ o (k : Object). length k.entries ≤ 8) s.phases.objects
+  few_processors o k here =
       let long = (r.sound.phases.in_scene.objects o k here).many_entries in
       let few = r.sound.phases.in_scene.in_course.limits.few_procs in omega (arith, long, few)
 
@@ -170,15 +242,16 @@ module _ {S L P : Type 0} (F : Layouts S L P) (declared : List L)
     pub shown : IsCellShown (many_procs s) (set table.words (lock_word n) new) homes contents n y
 
   pub one_cell_shows : (n new : ℕ) (homes : List (maybe.Option (Slot P))) (contents : Contents P) (y : Cell) (t : Turns) (kept : List Kept) (w : PassView P)
-      → t.cells ≡ set s.turns.cells n y → OneCell n new homes contents y
+      → t.cells ≡ set s.turns.cells n y → EachPlace (λ c x. length x.mine ≤ MOST) t.callers → OneCell n new homes contents y
       → Shows (moved_to s t kept) (with_contents r.beside contents) (with_pass table (set table.words (lock_word n) new) homes id w)
-  one_cell_shows n new homes contents y t kept w cells one = record {
+  one_cell_shows n new homes contents y t kept w cells few_mine one = record {
     many_words = length-set table.words (lock_word n) new ∙ r.shows.many_words;
     many_slots = one.many ∙ r.shows.many_slots;
     few_objects = r.shows.few_objects;
+    few_entries = few_mine;
     generations =
         generations_apart table.words n new s.phases.turns r.beside.counts small (r.sound.cells.locks.many.few_procs) r.shows.generations;
-    objects = objects_apart table.words n new s.phases.objects small few_objects few_entries r.shows.objects;
+    objects = objects_apart table.words n new s.phases.objects small few_objects few_processors r.shows.objects;
     cells =
         subst (λ (xs : List Cell). EachPlace (IsCellShown (many_procs s) (set table.words (lock_word n) new) homes contents) xs) (sym cells)
         (EachPlace-set_else (IsCellShown (many_procs s) table.words table.homes r.beside.contents)
@@ -209,12 +282,12 @@ module _ {S L P : Type 0} (F : Layouts S L P) (declared : List L)
 
   -- one cell moved, told as before, and with it what one pass knows
   module _ (n new : ℕ) (homes : List (maybe.Option (Slot P))) (contents : Contents P) (y : Cell) (callers : List Caller)
-      (taker : Caller) (notes : List (Note P)) (out : Option ℕ) where
+      (taker : Caller) (notes : List (Note P)) (out : Option ℕ) (heard : ℕ) where
     abbrev pub t : Turns
     t = record { cells = set s.turns.cells n y; callers = callers }
 
     abbrev pub w : PassView P
-    w = record v { taker = taker; notes = notes; out = out }
+    w = record v { taker = taker; notes = notes; out = out; heard = heard }
 
     -- the cell was nobody else's, and is nobody else's now
     pub record IsMove : Type 0 where
@@ -299,25 +372,29 @@ module _ {S L P : Type 0} (F : Layouts S L P) (declared : List L)
           record {
             there = k.there;
             seat = k.seat;
-            generations = record { turn = k.generations.turn; activities = k.generations.activities; graces = k.generations.graces; base = k.generations.base };
-            phases = record {
-              visitor = k.phases.visitor;
-              layout = k.phases.layout;
-              learned = k.phases.learned;
-              begun = k.phases.begun;
-              rows = k.phases.rows;
-              granted = k.phases.granted;
-            };
+            names = names_stay r.beside contents id v.rows k.names;
+            generations = generations_stay v taker v.found v.abandoned v.handed notes out v.untold heard s.phases.turns r.beside.counts k.generations;
+            phases = phases_stay v taker v.found v.abandoned v.handed notes out v.untold heard s.phases k.phases;
             cells = cells_after;
             trace = record {
               kept = k.trace.kept;
               found = k.trace.found;
+              over = k.trace.over;
               handed = k.trace.handed;
               unhanded = k.trace.unhanded;
-              few = subst (λ (entries : List Entry). length entries ≤ MOST) (sym is.mine) k.trace.few;
               times = subst (λ (entries : List Entry). EachPlace (λ place entry. IsOfTime s.phases.turns v.turn.proc entry) entries) (sym is.mine) k.trace.times;
             };
           }
+
+      few_after : EachPlace (λ c x. length x.mine ≤ MOST) callers
+      few_after d x e =
+          let here = get_or_from_slice_get callers d x fresh_caller e in
+          subst (λ (z : Caller). length z.mine ≤ MOST) here
+          (dite (ℕ_discrete d v.number)
+          (λ same.
+          let own : (get_or callers d fresh_caller).mine ≡ (caller_at s.turns v.number).mine = ap (λ k. (get_or callers k fresh_caller).mine) same ∙ ap (λ (z : Caller). z.mine) is.own ∙ is.mine ∙ sym (ap (λ (z : Caller). z.mine) knows.taker) in
+          subst (λ (mine : List Entry). length mine ≤ MOST) (sym own) (few_drawn s.turns.callers r.shows.few_entries v.number))
+          (λ not. subst (λ (z : Caller). length z.mine ≤ MOST) (sym (is.others d not)) (few_drawn s.turns.callers r.shows.few_entries d)))
 
       told : (m : ℕ) → IsSameTold (cell_at s.turns m) (cell_at t m)
       told m = get_or-set_related IsSameTold same_told' s.turns.cells n m y (fresh_cell 0) is.told
@@ -334,5 +411,5 @@ module _ {S L P : Type 0} (F : Layouts S L P) (declared : List L)
           let after =
           moved F declared table r id v at (moved_to s t s.kept) (with_contents r.beside contents) (set table.words (lock_word n) new) homes w
           (others_stay t s.kept contents leaves) (subst (IsSound F declared) (sym same) sound)
-          (one_cell_shows n new homes contents y t s.kept w refl is.one) parts_after pass_after in
+          (one_cell_shows n new homes contents y t s.kept w refl few_after is.one) parts_after pass_after in
           (after.0, after.1 ∙ same)

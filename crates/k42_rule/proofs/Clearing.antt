@@ -134,8 +134,10 @@ module _ {S L P : Type 0} (F : Layouts S L P) (laws : AreLaws F) (declared : Lis
         objects = tt;
         core = ap is_moved (stage_is F laws declared table r id v at) ∙ moves;
         beside =
-            rw (ap (λ (z : turns.Caller). holds_none z.held) knows.cells.taker ∙ free,
-            ap (λ z. is_handed r.state (object_named z)) (stage_is F laws declared table r id v at) ∙ knows.trace.unhanded unhanded moves)
+            rw (
+              ap (λ (z : turns.Caller). holds_none z.held) knows.cells.taker ∙ free,
+              ap (λ z. is_handed r.state (object_named z)) (stage_is F laws declared table r id v at) ∙ knows.trace.unhanded unhanded moves,
+            )
             refl;
       };
     }

@@ -1,4 +1,4 @@
--- A seat with several passes may be parted from its first, and passes may be joined again.
+-- A seat with several passes may be parted from its first, which holds no row.
 use Rattle.std.proofs.Common.{◌≡◌, ◌≢◌, ℕ, zero, suc, ◌+◌, ◌<◌, ◌≤◌, ◌⊎◌, List, [], ◌∷◌, ◌++◌, Some, length, set, inl, inr, sym, refl, ap, ◌∙◌, subst, ⊎_elim, arith, length-set}
 use Rattle.std.specs.List.{slice_get}
 use Rattle.std.proofs.lemmas.Option.{same_Some}
@@ -11,8 +11,9 @@ use Rattle.k42_stamp.specs.Layouts.{Layouts}
 use Rattle.k42_joined.specs.Plain.{Joined}
 use Rattle.k42_rule.specs.Cells.{Slot}
 use Rattle.k42_rule.specs.Dealing.{dealer, dealt}
-use Rattle.k42_rule.specs.Rule.{Beside, AreApart, KnowsPass, Knows, Shows, Rule}
+use Rattle.k42_rule.specs.Rule.{Beside, AreApart, NamesRows, KnowsPass, Knows, Shows, Rule, Ruled}
 use Rattle.k42_rule.specs.declared.view.PassView.{PassView}
+use Rattle.k42_rule.specs.declared.view.Row.{Row}
 use Rattle.k42_rule.specs.declared.view.View.{View}
 use Rattle.k42_rule.specs.declared.view.View.TheVariants.{Crew, Kept, Named, Spent}
 use Rattle.k42_rule.proofs.OnePass.{apart_alone}
@@ -26,19 +27,24 @@ at_end (x ∷ xs) a b zero e = inr e
 at_end (x ∷ xs) a b (suc j) e = ⊎_elim (λ t. inl (ap suc t.0, t.1)) (λ t. inr t) (at_end xs a b j e)
 
 pub seated_at : {L P : Type 0} (tag_of : L → ℕ) (s : Joined L) (beside : Beside P) (seat : ℕ → ℕ) (id j : ℕ) (x : PassView P) → seat x.number ≡ j
-    → KnowsPass tag_of s beside id x → KnowsPass tag_of s (record beside { seat = seat }) j x
-seated_at tag_of s beside seat id j x is knows = record {
+    → NamesRows beside j x.rows → KnowsPass tag_of s beside id x → KnowsPass tag_of s (record beside { seat = seat }) j x
+seated_at tag_of s beside seat id j x is names knows = record {
   there = knows.there;
   seat = is;
+  names = record { named = names.named; once = names.once };
   generations = knows.generations;
   phases = knows.phases;
   cells = knows.cells;
   trace = knows.trace;
 }
 
-module _ {S L P : Type 0} (F : Layouts S L P) (declared : List L) (id : ℕ) (v : PassView P) (rest : List (PassView P)) where
-  pub deals : Splits (Rule F declared) id (Crew (v ∷ rest)) (Crew rest) (Crew (v ∷ []))
-  deals table r at = record {
+pub names_none : {P : Type 0} (beside : Beside P) (id : ℕ) (rows : List Row) → rows ≡ [] → NamesRows beside id rows
+names_none beside id [] is = record { named = λ place row e. absurd (cc); once = λ i j row e. absurd (cc) }
+names_none beside id (row ∷ rows) is = absurd (cc)
+
+module _ {S L P : Type 0} (F : Layouts S L P) (declared : List L) (callers : ℕ) (id : ℕ) (v : PassView P) (rest : List (PassView P)) (none : v.rows ≡ []) where
+  parted : Splits (Rule F declared) id (Crew (v ∷ rest)) (Crew rest) (Crew (v ∷ []))
+  parted table r at = record {
     state = r.state;
     sound = r.sound;
     beside = beside';
@@ -46,6 +52,7 @@ module _ {S L P : Type 0} (F : Layouts S L P) (declared : List L) (id : ℕ) (v 
       many_words = r.shows.many_words;
       many_slots = r.shows.many_slots;
       few_objects = r.shows.few_objects;
+      few_entries = r.shows.few_entries;
       generations = r.shows.generations;
       objects = r.shows.objects;
       cells = r.shows.cells;
@@ -76,7 +83,7 @@ module _ {S L P : Type 0} (F : Layouts S L P) (declared : List L) (id : ℕ) (v 
     own_each : (place : ℕ) (x : PassView P) → slice_get (v ∷ []) place ≡ Some x → KnowsPass F.tag_of r.state beside' (length table.views) x
     own_each zero x e =
         subst (KnowsPass F.tag_of r.state beside' (length table.views)) (same_Some v x e)
-        (seated_at F.tag_of r.state r.beside (put r.beside.seat v.number (length table.views)) id (length table.views) v (put_here r.beside.seat v.number (length table.views) v.number refl) mine)
+        (seated_at F.tag_of r.state r.beside (put r.beside.seat v.number (length table.views)) id (length table.views) v (put_here r.beside.seat v.number (length table.views) v.number refl) (names_none r.beside (length table.views) v.rows none) mine)
     own_each (suc place) x e = absurd (cc)
 
     own : Knows F.tag_of r.state beside' (length table.views) (Crew (v ∷ []))
@@ -88,7 +95,7 @@ module _ {S L P : Type 0} (F : Layouts S L P) (declared : List L) (id : ℕ) (v 
       λ place x e.
           let k = knows.1 (suc place) x e in
           seated_at F.tag_of r.state r.beside (put r.beside.seat v.number (length table.views)) id id x
-          (put_else r.beside.seat v.number (length table.views) x.number (λ same. let one = knows.0 (suc place) 0 x v e refl same in absurd (omega (arith, one))) ∙ k.seat) k,
+          (put_else r.beside.seat v.number (length table.views) x.number (λ same. let one = knows.0 (suc place) 0 x v e refl same in absurd (omega (arith, one))) ∙ k.seat) k.names k,
     )
 
     other : (j : ℕ) (view : View P) → j ≢ id → Knows F.tag_of r.state r.beside j view → Knows F.tag_of r.state beside' j view
@@ -97,8 +104,12 @@ module _ {S L P : Type 0} (F : Layouts S L P) (declared : List L) (id : ℕ) (v 
       λ place x e.
           let k = known.1 place x e in
           seated_at F.tag_of r.state r.beside (put r.beside.seat v.number (length table.views)) j j x
-          (put_else r.beside.seat v.number (length table.views) x.number (λ same. not (sym k.seat ∙ ap r.beside.seat same ∙ mine.seat)) ∙ k.seat) k,
+          (put_else r.beside.seat v.number (length table.views) x.number (λ same. not (sym k.seat ∙ ap r.beside.seat same ∙ mine.seat)) ∙ k.seat) k.names k,
     )
     other j (Kept told) not known = tt
     other j (Named row) not known = known
     other j Spent not known = tt
+
+  pub deals : Splits (Ruled F declared callers) id (Crew (v ∷ rest)) (Crew rest) (Crew (v ∷ []))
+  unfolding parted
+  deals table ruled at = record { rule = parted table ruled.rule at; many = ruled.many }

@@ -1,5 +1,5 @@
 -- A new table shows the new state.
-use Rattle.std.proofs.Common.{◌≡◌, ◌≢◌, ℕ, zero, suc, ◌+◌, ◌*◌, ◌/◌, ◌%◌, ◌^◌, ◌<◌, ◌≤◌, Bool, true, false, List, [], ◌∷◌, Option, Some, None, map, length, get_or, replicate, sym, refl, ap, ◌∙◌, subst, arith}
+use Rattle.std.proofs.Common.{◌≡◌, ◌≢◌, ℕ, zero, suc, ◌+◌, ◌*◌, ◌/◌, ◌%◌, ◌^◌, ◌<◌, ◌≤◌, Bool, true, false, eqb, ◌&&◌, List, [], ◌∷◌, Option, Some, None, map, length, get_or, replicate, sym, refl, ap, ◌∙◌, subst, arith}
 use Rattle.std.specs.List.{slice_get, slice_index}
 use Rattle.std.specs.Prelude.{option_map}
 use Rattle.std.proofs.lemmas.List.{length-map, length-replicate, get_or-replicate}
@@ -12,6 +12,8 @@ use Rattle.atomic_table.specs.Table.{opening}
 use Rattle.atomic_table.proofs.Lists.{at_map}
 use Rattle.k42_places.specs.Places.{EachPlace}
 use Rattle.k42_places.proofs.EachPlaces.{EachPlace-map}
+use Rattle.k42_places.proofs.Counts.{count_by_none}
+use Rattle.gen_core.specs.Consequences.{entries_so_far, exits_so_far, is_active_on}
 use Rattle.gen_core.specs.State.{fresh_proc, fresh_caller, caller_at}
 use Rattle.gen_core.specs.declared.state.GenProc.{GenProc}
 use Rattle.phase_core.specs.Plain.{Object}
@@ -32,7 +34,7 @@ use Rattle.k42_joined.proofs.Fresh.{fresh_sound}
 use Rattle.k42_rule.specs.Cells.{Slot, Contents, IsCell, IsCellShown}
 use Rattle.k42_rule.specs.Generations.{Counts, MOST, AreFew, AreGenerations, IsProcessorShown}
 use Rattle.k42_rule.specs.Phases.{AreObjects, IsObjectShown}
-use Rattle.k42_rule.specs.Rule.{Beside, KnowsPass, Knows, Shows, Rule}
+use Rattle.k42_rule.specs.Rule.{Beside, KnowsPass, Knows, Shows, Ruled}
 use Rattle.k42_rule.specs.Starting.{AreFirstWords, AreFirstSlots, number_in}
 use Rattle.k42_rule.specs.Values.{local_value}
 use Rattle.k42_rule.specs.Views.{new_pass, new_passes, first_view}
@@ -53,10 +55,17 @@ to_get [] i a e = absurd (cc)
 to_get (x ∷ xs) zero a e = ap some (same_Some x a e)
 to_get (x ∷ xs) (suc i) a e = to_get xs i a e
 
-there_is : {A : Type 0} (xs : List A) (i : ℕ) → i < length xs → (a : A) × (slice_get xs i ≡ Some a)
+pub there_is : {A : Type 0} (xs : List A) (i : ℕ) → i < length xs → (a : A) × (slice_get xs i ≡ Some a)
 there_is [] i lt = absurd (omega arith)
 there_is (x ∷ xs) zero lt = (x, refl)
 there_is (x ∷ xs) (suc i) lt = there_is xs i (omega arith)
+
+and_false : (b : Bool) → (b && false) ≡ false
+and_false true = refl
+and_false false = refl
+
+spans_none : {span : ℕ × ℕ} → span ≡ (0, 0) → span.0 < span.1 → ⊥
+spans_none is less = let a = ap (λ (z : ℕ × ℕ). z.0) is in let b = ap (λ (z : ℕ × ℕ). z.1) is in omega (arith, a, b, less)
 
 -- the passes of the first view
 passes_at : {P : Type 0} (procs objects first : ℕ) (homes : List ℕ) (i : ℕ) (v : PassView P) → slice_get (new_passes procs objects first homes) i ≡ Some v
@@ -97,6 +106,14 @@ module _ {S L P : Type 0} (F : Layouts S L P) (laws : AreLaws F) (declared : Lis
     few = λ c n e. let is = (replicated (length callers) c 0 n e).1 in omega (arith, is);
   }
 
+  no_entries : (p : ℕ) → entries_so_far s.phases.turns p ≡ 0
+  no_entries p =
+      let idle = ap exits_so_far (same_everywhere F.procs p fresh_proc) in
+      let inactive =
+      count_by_none (is_active_on p) s.phases.turns.callers
+      (EachPlace-map (λ c x. is_active_on p x ≡ false) (fresh_caller F.procs) callers (λ c home e. and_false (eqb home p))) in
+      omega (arith, idle, inactive)
+
   generations : AreGenerations words s.phases.turns beside.counts
   generations = record {
     procs = λ p k e.
@@ -114,7 +131,7 @@ module _ {S L P : Type 0} (F : Layouts S L P) (laws : AreLaws F) (declared : Lis
     begun = λ p k e.
         let is = (replicated F.procs p fresh_proc k e).1 in
         record {
-          entered = let same = ap (λ (z : GenProc). z.entered) is in omega (arith, same);
+          entered = let none = no_entries p in omega (arith, none);
           flipped = let same = ap (λ (z : GenProc). z.generation) is in omega (arith, same);
         };
   }
@@ -165,6 +182,8 @@ module _ {S L P : Type 0} (F : Layouts S L P) (laws : AreLaws F) (declared : Lis
     many_words = first.many;
     many_slots = length-map slots some ∙ many;
     few_objects = let few = few_objects in rw (length-map (map F.tag_of declared) (new_object F.procs), length-map declared F.tag_of) few;
+    few_entries = λ c x e.
+        let none = ap (λ (y : turns'.Caller). length y.mine) (replicated (length callers) c turns.fresh_caller x e).1 in omega (arith, none);
     generations = generations;
     objects = objects;
     cells = cells;
@@ -174,6 +193,7 @@ module _ {S L P : Type 0} (F : Layouts S L P) (laws : AreLaws F) (declared : Lis
   knows_new c home e = record {
     there = rw (length-replicate (length callers) (new_visitor (length (map F.tag_of declared)))) there;
     seat = refl;
+    names = record { named = λ place row is. absurd (cc); once = λ i j row is. absurd (cc) };
     generations = record {
       turn = get_or_from_slice_get s.phases.turns.callers c (fresh_caller F.procs home) _ (slice_get-map (fresh_caller F.procs) callers c ∙ ap (option_map (fresh_caller F.procs)) e);
       activities = same_everywhere (length callers) c 0;
@@ -184,9 +204,18 @@ module _ {S L P : Type 0} (F : Layouts S L P) (laws : AreLaws F) (declared : Lis
       visitor = get_or-replicate (length callers) c (new_visitor (length (map F.tag_of declared))) _ there ∙ ap new_visitor (length-map declared F.tag_of);
       layout = λ l o i is. absurd (cc);
       learned = λ is. absurd (cc);
-      begun = λ o begin is. absurd (cc);
-      rows = λ place row is. absurd (cc);
-      granted = λ place row is. absurd (cc);
+      swap = record {
+        turned = refl;
+        layout_begun = λ o is. absurd (cc);
+        begun = λ o is. absurd (cc);
+        next = λ o is. absurd (cc);
+      };
+      rows = record {
+        old = λ place row is. absurd (cc);
+        granted = λ place row is. absurd (cc);
+        swept = λ o n is. absurd (cc);
+        spans = λ o less. absurd (let none = same_everywhere {A = ℕ × ℕ} (length declared) o (0, 0) in spans_none none less);
+      };
     };
     cells = record {
       taker = same_everywhere (length callers) c turns.fresh_caller;
@@ -197,10 +226,10 @@ module _ {S L P : Type 0} (F : Layouts S L P) (laws : AreLaws F) (declared : Lis
     };
     trace = record {
       kept = same_everywhere (length callers) c nothing_kept;
-      found = λ answer begin is. absurd (cc);
+      found = λ answer is. absurd (cc);
+      over = λ answer is. absurd (cc);
       handed = λ tag is. absurd (cc);
       unhanded = λ is moved. absurd (cc);
-      few = omega arith;
       times = λ place entry is. absurd (cc);
     };
   } where
@@ -220,12 +249,15 @@ module _ {S L P : Type 0} (F : Layouts S L P) (laws : AreLaws F) (declared : Lis
       )
   seats (suc id) view e = absurd (some-ne-none view (sym e))
 
-  pub opens : Rule F declared (opening words slots (first_view F.procs declared callers))
+  pub opens : Ruled F declared (length callers) (opening words slots (first_view F.procs declared callers))
   opens = record {
-    state = s;
-    sound = fresh_sound F declared callers plan;
-    beside = beside;
-    shows = shows;
-    parts = λ n lt. first_part F laws declared callers n;
-    seats = seats;
+    rule = record {
+      state = s;
+      sound = fresh_sound F declared callers plan;
+      beside = beside;
+      shows = shows;
+      parts = λ n lt. first_part F laws declared callers n;
+      seats = seats;
+    };
+    many = length-replicate (length callers) (new_visitor (length (map F.tag_of declared)));
   }

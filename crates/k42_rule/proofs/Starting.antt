@@ -2,17 +2,20 @@
 use Rattle.std.proofs.Common.{◌≡◌, ◌≢◌, ℕ, ◌+◌, ◌*◌, ◌/◌, ◌%◌, ◌^◌, ◌<◌, ◌≤◌, false, List, [], ◌∷◌, ◌++◌, Some, None, length, get_or, set, replicate, sym, refl, ap, ◌∙◌, subst, ⊎_elim, arith, drop, length-append, length-set, get_or-set_same, get_or-set_other}
 use Rattle.std.specs.List.{slice_get, slice_index}
 use Rattle.std.proofs.lemmas.Bool.{cases_eq}
-use Rattle.std.proofs.lemmas.Option.{same_Some, slice_get-get_or}
+use Rattle.std.proofs.lemmas.List.{length-replicate}
+use Rattle.std.proofs.lemmas.Option.{same_Some, slice_get_within, slice_get-get_or}
+use Rattle.k42_places.specs.Places.{EachPlace}
 use Rattle.atomic_table.specs.Seated.{TableId}
 use Rattle.k42_places.proofs.Appended.{at_push}
 use Rattle.k42_places.proofs.Rests.{drop_at}
 use Rattle.k42_rule.specs.Cells.{Slot, IsCell}
 use Rattle.k42_rule.specs.Dealing.{dealer}
-use Rattle.k42_rule.specs.Seen.{PassSeen}
+use Rattle.k42_rule.specs.Seen.{SysSeen, PassSeen, IsPassOf}
 use Rattle.k42_rule.specs.Steps.{Seated}
-use Rattle.k42_rule.specs.Starting.{AreFirstWords, AreFirstSlots, IsNewPass, IsDealing, number_in}
+use Rattle.k42_rule.specs.Starting.{AreFirstWords, AreFirstSlots, IsNewPass, AreDealt, IsStarted, IsDealing, number_in}
 use Rattle.k42_rule.specs.Views.{new_passes}
 use Rattle.k42_rule.specs.Words.{object_word, many_words}
+use Rattle.k42_rule.specs.declared.view.PassView.{PassView}
 use Rattle.k42_rule.specs.declared.view.View.{View}
 use Rattle.k42_rule.specs.declared.view.View.TheVariants.{Crew}
 use Rattle.k42_rule.specs.declared.cell.Content.{Content}
@@ -72,4 +75,29 @@ deals_more {P} table procs objects homes n seat seat' me me' passes pass lt same
       (λ old. h.each c p old.1)
       (λ last. subst (λ (z : ℕ × PassSeen P). IsNewPass table procs objects z.0 (slice_index homes z.0) z.1) (λ i. (sym (last.0 ∙ h.many) i, last.1 i)) new)
       (at_push passes pass c p e);
+}
+
+-- a new pass is one of its system
+pub is_of_system : {L P : Type 0} (sys : SysSeen L) (number home : ℕ) (pass : PassSeen P) → home < sys.procs
+    → IsNewPass sys.table sys.procs (length sys.layouts) number home pass → IsPassOf sys pass
+is_of_system {L} {P} sys number home pass there is = record {
+  table = is.ours;
+  proc = rw is.new there;
+  waits = ap (λ (v : PassView P). length v.turn.waits) is.new ∙ length-replicate sys.procs 0;
+  objects = ap (λ (v : PassView P). length v.visitor.noted) is.new ∙ length-replicate (length sys.layouts) None;
+  spans = ap (λ (v : PassView P). length v.visitor.freeing) is.new ∙ length-replicate (length sys.layouts) (0, 0);
+}
+
+pub is_started : {L P : Type 0} (layouts : List L) (procs : ℕ) (callers : List ℕ) (sys : SysSeen L) (passes : List (PassSeen P))
+    → sys.procs ≡ procs → sys.layouts ≡ layouts → sys.callers ≡ callers → EachPlace (λ c p. p < procs) callers
+    → AreDealt sys.table procs (length layouts) callers passes → IsStarted layouts procs callers sys passes
+is_started layouts procs callers sys passes procs_are layouts_are callers_are placed dealt = record {
+  procs_are = procs_are;
+  layouts_are = layouts_are;
+  callers_are = callers_are;
+  dealt = dealt;
+  passes_are = λ c pass e.
+      let there : c < length callers = let lt = slice_get_within passes c pass e in let many = dealt.many in omega (arith, lt, many) in
+      is_of_system sys c (slice_index callers c) pass (rw procs_are (placed c (slice_index callers c) (slice_get-get_or callers c 0 there)))
+      (rw (procs_are, layouts_are) (dealt.each c pass e));
 }

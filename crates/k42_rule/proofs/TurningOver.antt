@@ -151,8 +151,10 @@ module _ {S L P : Type 0} (F : Layouts S L P) (laws : AreLaws F) (declared : Lis
         objects = tt;
         core = rw (ap is_moved (stage_is F laws declared table r id v at) ∙ moves, le-leb tag 2 may.known) refl;
         beside =
-            rw (ap (λ (z : turns.Caller). holds_none z.held) knows.cells.taker ∙ may.free,
-            ap (λ z. may_turn_over r.state F.tag_of (object_named z) tag) (stage_is F laws declared table r id v at) ∙ (knows.trace.handed tag may.handed).1)
+            rw (
+              ap (λ (z : turns.Caller). holds_none z.held) knows.cells.taker ∙ may.free,
+              ap (λ z. may_turn_over r.state F.tag_of (object_named z) tag) (stage_is F laws declared table r id v at) ∙ (knows.trace.handed tag may.handed).1,
+            )
             refl;
       };
     }

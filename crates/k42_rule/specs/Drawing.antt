@@ -4,26 +4,30 @@ use Rattle.k42_places.specs.Places.{EachPlace, EachPair}
 use Rattle.k42_kinds.specs.Histories.{is_call}
 use Rattle.k42_kinds.specs.Rows.{Ways, cells_of, made_from, part_at}
 use Rattle.k42_kinds.specs.declared.entry.Act.{Act}
+use Rattle.k42_kinds.specs.declared.entry.Act.TheVariants.{Call}
 use Rattle.k42_kinds.specs.declared.entry.Answer.{Answer}
-use Rattle.k42_kinds.specs.declared.entry.Answer.TheVariants.{Swapped, Busy, Abandoned}
+use Rattle.k42_kinds.specs.declared.entry.Answer.TheVariants.{Replied, Swapped, Busy, Abandoned}
 use Rattle.k42_kinds.specs.declared.entry.Entry.{Entry}
 use Rattle.k42_kinds.specs.declared.entry.Reach.{Reach}
 use Rattle.k42_kinds.specs.declared.entry.Reach.TheVariants.{One, All}
 use Rattle.k42_kinds.specs.declared.operation.Op.{Op}
 use Rattle.k42_kinds.specs.declared.operation.Reply.{Reply}
-use Rattle.phase_core.specs.Stages.{IsInside}
+use Rattle.phase_core.specs.Stages.{IsInside, object_of, row_of, object_named}
 use Rattle.phase_core.specs.declared.caller.SwapAt.{SwapAt}
 use Rattle.phase_core.specs.declared.caller.SwapAt.TheVariants.{Moved, Reopening, Opened}
 use Rattle.turn_core.specs.Events.{caller_drawn}
 use Rattle.turn_core.specs.Names.{names}
 use Rattle.turn_core.specs.Stamps.{last_stamp}
 use Rattle.k42_stamp.specs.Layouts.{Layouts}
+use Rattle.k42_joined.specs.Drawing.{first_cell}
 use Rattle.k42_joined.specs.Found.{tells_over}
 use Rattle.k42_joined.specs.Numbers.{cell_of, row_cells}
 use Rattle.k42_joined.specs.Refusals.{tells_abandoned}
 use Rattle.k42_joined.specs.Rows.{cells_reached}
-use Rattle.k42_rule.specs.Cells.{IsCell}
+use Rattle.k42_rule.specs.Cells.{cells_noted}
 use Rattle.k42_rule.specs.Generations.{MOST}
+use Rattle.k42_rule.specs.Seats.{LAST_STAMP, told_by}
+use Rattle.k42_rule.specs.Seen.{PassSeen}
 use Rattle.k42_rule.specs.Values.{layout_in, incarnation_in}
 use Rattle.k42_rule.specs.Views.{word_begun, object_begun}
 use Rattle.k42_rule.specs.declared.cell.Content.{Content}
@@ -75,6 +79,30 @@ entry_next v cells object incarnation cell act answer = record {
   generation = if is_call act then v.turn.active else None;
 }
 
+-- the entry of a call, of a swap or destroy that found its object over, of one that was refused or given up, and of a
+-- hand
+
+abbrev pub entry_call : {P : Type 0} → PassView P → List ℕ → Act → Answer → Entry
+entry_call v cells act answer =
+    entry_next v cells (object_of v.visitor.place) (row_of v.visitor.place) (first_cell cells) act answer
+
+abbrev pub entry_mark : {P : Type 0} → PassView P → ℕ → Act → Answer → Entry
+entry_mark v n act answer =
+    entry_next v (n ∷ []) (object_begun v.last) (incarnation_in (word_begun v.last)) n act answer
+
+-- the number of the swap that the answer tells of
+abbrev pub number_told : Answer → ℕ
+number_told (Busy number) = number
+number_told (Abandoned number) = number
+number_told answer = 0
+
+abbrev pub entry_alone : {P : Type 0} → PassView P → Act → Answer → Entry
+entry_alone v act answer = entry_next v [] (object_begun v.last) (number_told answer - 1) 0 act answer
+
+abbrev pub entry_hand : {P : Type 0} → PassView P → List ℕ → List ℕ → Act → Answer → Entry
+entry_hand v from onto act answer =
+    entry_next v (from ++ onto) (object_named v.visitor.swap) (incarnation_in (word_begun v.last)) (first_cell onto) act answer
+
 -- cells that were taken
 
 abbrev pub numbers_of : {P : Type 0} → List (Content P) → List ℕ
@@ -85,12 +113,16 @@ abbrev pub part_in : {P : Type 0} → List (Content P) → ℕ → Option P
 part_in [] n = None
 part_in (content ∷ contents) n = if content.number == n then content.part else part_in contents n
 
+-- the greatest last stamp that these cells tell
+abbrev pub last_told : {P : Type 0} → List (Content P) → ℕ
+last_told [] = 0
+last_told (content ∷ contents) = max content.last (last_told contents)
+
 -- the pass has noted the cell as the cell's seat tells it
 pub record IsHeld {P : Type 0} (notes : List (Note P)) (content : Content P) : Type 0 where
-  pub place : ℕ
-  pub note : Note P
-  pub noted : slice_get notes place ≡ Some note
-  pub whole : IsCell note.cell note.history note.closed content.part content
+  pub noted : names (cells_noted notes) content.number ≡ true
+  pub history : (told_by content.badge.views).history ≡ history_noted notes content.number
+  pub closed : (told_by content.badge.views).closed ≡ closed_noted notes content.number
 
 abbrev pub AreHeld : {P : Type 0} → List (Note P) → List (Content P) → Type 0
 AreHeld notes contents = EachPlace (λ place content. IsHeld notes content) contents
@@ -155,6 +187,60 @@ handed_view from onto entry tag fresh v = record v {
 abbrev pub untold_view : {P : Type 0} → List ℕ → PassView P → PassView P
 untold_view cells v = record v { untold = cells }
 
+-- the pass that draws an entry at these cells, and once their seats tell of it
+abbrev pub draws_at : {P : Type 0} → List (Content P) → Entry → PassView P → PassView P
+draws_at contents entry v =
+    untold_view (numbers_of contents) (drawn_view (numbers_of contents) entry (part_in contents) v)
+
+abbrev pub drawn_at : {P : Type 0} → List (Content P) → Entry → PassView P → PassView P
+drawn_at contents entry v = untold_view [] (drawn_view (numbers_of contents) entry (part_in contents) v)
+
+-- the stamp of its last entry is not above the number of entries that may be drawn
+abbrev pub HasSmallStamp : {P : Type 0} → PassView P → Type 0
+HasSmallStamp v = last_stamp v.taker.mine ≤ LAST_STAMP
+
+-- the pass that has drawn has the same seat, and room for one entry less
+pub record IsDrawer {P : Type 0} (old new : PassSeen P) : Type 0 where
+  pub table : new.table ≡ old.table
+  pub seat : new.seat ≡ old.seat
+  pub room : new.room + 1 ≡ old.room
+  pub row_room : new.row_room ≡ old.row_room
+
+-- Its last Begin found the object over, with this answer; the cell is the first of that row.
+pub record MayDrawMark {P : Type 0} (content : Content P) (act : Act) (answer : Answer) (v : PassView P) : Type 0 where
+  pub act_is : is_call act ≡ false
+  pub found : v.found ≡ Some answer
+  pub over : tells_over answer ≡ true
+  pub named : content.number ≡ cell_of (object_begun v.last) (incarnation_in (word_begun v.last)) 0
+  pub held : IsHeld v.notes content
+  pub part : content.part ≡ part_noted v.notes content.number
+  pub few : length v.taker.mine < MOST
+
+-- its swap opens its object again, or has, without having turned it over
+abbrev pub gives_up : SwapAt → Bool → Bool
+gives_up (Reopening o p) turned = true
+gives_up (Opened o) turned = not turned
+gives_up swap turned = false
+
+-- what its last Begin found, or the number of the swap that it gives up, of which it has not told yet
+abbrev pub IsAnswerAlone : {P : Type 0} → PassView P → Answer → Type 0
+IsAnswerAlone v (Busy number) = v.found ≡ Some (Busy number)
+IsAnswerAlone v (Abandoned number) =
+    (gives_up v.visitor.swap v.turned ≡ true) × (v.abandoned ≡ false)
+    × (number ≡ incarnation_in (word_begun v.last) + 1)
+IsAnswerAlone v _ = ⊥
+
+pub record MayDrawAlone {P : Type 0} (act : Act) (answer : Answer) (v : PassView P) : Type 0 where
+  pub act_is : is_call act ≡ false
+  pub answer_is : IsAnswerAlone v answer
+  pub few : length v.taker.mine < MOST
+
+-- layouts of one object with one tag keep it in one way
+abbrev pub AgreeOn : {S L P : Type 0} → Layouts S L P → Type 0
+AgreeOn {S} {L} F =
+    (layout other : L) → F.object_of layout ≡ F.object_of other → F.tag_of layout ≡ F.tag_of other
+    → F.ways_of layout ≡ F.ways_of other
+
 module _ {S L P : Type 0} (F : Layouts S L P) (declared : List L) where
   -- the operation was stepped on the parts that are due, with this reply
   abbrev pub IsStepped : L → List (Note P) → (o i : ℕ) → List (Content P) → Op → Reach → Reply → Type 0
@@ -185,40 +271,9 @@ module _ {S L P : Type 0} (F : Layouts S L P) (declared : List L) where
         IsStepped layout v.notes object row contents op ((F.ways_of layout).reach F.procs op v.turn.proc) reply
     pub few : length v.taker.mine < MOST
 
-  -- Its last Begin found the object over, with this answer; the cell is the first of that row.
-  pub record MayDrawMark (content : Content P) (act : Act) (answer : Answer) (v : PassView P) : Type 0 where
-    pub act_is : is_call act ≡ false
-    pub found : v.found ≡ Some answer
-    pub over : tells_over answer ≡ true
-    pub named : content.number ≡ cell_of (object_begun v.last) (incarnation_in (word_begun v.last)) 0
-    pub held : IsHeld v.notes content
-    pub part : content.part ≡ part_noted v.notes content.number
-    pub few : length v.taker.mine < MOST
-
-  -- its swap opens its object again, or has, without having turned it over
-  abbrev pub gives_up : SwapAt → Bool → Bool
-  gives_up (Reopening o p) turned = true
-  gives_up (Opened o) turned = not turned
-  gives_up swap turned = false
-
-  -- what its last Begin found, or the number of the swap that it gives up, of which it has not told yet
-  abbrev pub IsAnswerAlone : PassView P → Answer → Type 0
-  IsAnswerAlone v (Busy number) = v.found ≡ Some (Busy number)
-  IsAnswerAlone v (Abandoned number) =
-      (gives_up v.visitor.swap v.turned ≡ true) × (v.abandoned ≡ false)
-      × (number ≡ incarnation_in (word_begun v.last) + 1)
-  IsAnswerAlone v _ = ⊥
-
-  pub record MayDrawAlone (act : Act) (answer : Answer) (v : PassView P) : Type 0 where
-    pub act_is : is_call act ≡ false
-    pub answer_is : IsAnswerAlone v answer
-    pub few : length v.taker.mine < MOST
-
-  -- the number of the swap that the answer tells of
-  abbrev pub number_told : Answer → ℕ
-  number_told (Busy number) = number
-  number_told (Abandoned number) = number
-  number_told answer = 0
+  abbrev pub MayDrawAs : List (Content P) → Act → Answer → PassView P → Type 0
+  MayDrawAs contents (Call op) (Replied reply) v = MayDrawCall contents op reply v
+  MayDrawAs contents act answer v = ⊥
 
   -- the parts that are due in the row which the pass moves
   abbrev pub parts_moved : L → PassView P → ℕ → List P

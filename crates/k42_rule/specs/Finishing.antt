@@ -1,5 +1,7 @@
 -- A system that is finished: what its passes owe, and what their lists are.
-use Rattle.std.specs.Prelude.{◌≡◌, ℕ, ◌<◌, true, List, length, None}
+use Rattle.std.specs.Prelude.{◌≡◌, ℕ, ◌<◌, true, List, ◌++◌, length, map, None}
+use Rattle.atomic_table.specs.Seated.{TableId}
+use Rattle.atomic_table.specs.declared.shared.Seat.{Seat}
 use Rattle.k42_places.specs.Places.{EachPlace}
 use Rattle.gen_core.specs.State.{caller_at}
 use Rattle.k42_kinds.specs.declared.entry.Entry.{Entry}
@@ -10,7 +12,18 @@ use Rattle.k42_joined.specs.Fitting.{lists_of}
 use Rattle.k42_joined.specs.Plain.{Joined}
 use Rattle.k42_joined.specs.Sound.{IsSound}
 use Rattle.k42_joined.specs.State.{many_callers}
+use Rattle.k42_rule.specs.Cells.{Slot}
+use Rattle.k42_rule.specs.Dealing.{crew_in, IsCrew}
 use Rattle.k42_rule.specs.Seen.{SysSeen, PassSeen, IsOf, is_at_rest}
+use Rattle.k42_rule.specs.declared.view.PassView.{PassView}
+use Rattle.k42_rule.specs.declared.view.View.{View}
+
+-- what the passes know, and their entries
+abbrev pub views_of : {P : Type 0} → List (PassSeen P) → List (PassView P)
+views_of passes = map (λ pass. pass.view) passes
+
+abbrev pub lists_in : {P : Type 0} → List (PassSeen P) → List (List Entry)
+lists_in passes = map (λ pass. pass.view.taker.mine) passes
 
 -- the pass is that of the caller with this number, and has nothing under way
 pub record IsPassAtRest {L P : Type 0} (sys : SysSeen L) (c : ℕ) (pass : PassSeen P) : Type 0 where
@@ -38,3 +51,15 @@ pub record AreLastLists
   pub many : many_callers state ≡ callers
   pub drawn : lists ≡ lists_of state
   pub resting : (c : ℕ) → c < callers → IsResting state c
+
+-- the seats and the lists of the first passes are with the others, and those of the rest are to come
+pub record IsGathering
+    {P : Type 0} (table : TableId) (first seat : Seat (Slot P) (View P)) (before lists : List (List Entry))
+    (all rest : List (PassSeen P))
+    : Type 0 where
+  pub ours : seat.table_id ≡ first.table_id
+  pub same : seat.id ≡ first.id
+  pub crew : IsCrew seat.me
+  pub views : crew_in seat.me.0 ++ views_of rest ≡ crew_in first.me.0 ++ views_of all
+  pub drawn : lists ++ lists_in rest ≡ before ++ lists_in all
+  pub theirs : EachPlace (λ c pass. pass.table ≡ table) rest

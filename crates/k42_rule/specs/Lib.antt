@@ -19,6 +19,8 @@ pub mod Tabling
 pub mod Seen
 pub mod Taking
 pub mod Drawing
+pub mod Receipts
 pub mod Plan
 pub mod Starting
 pub mod Dealing
+pub mod Laws

@@ -1,5 +1,5 @@
 -- Systems and passes, as contracts see them.
-use Rattle.std.specs.Prelude.{◌≡◌, ℕ, ◌+◌, ◌&&◌, Bool, List, [], ◌∷◌, Option, None, is_none, length}
+use Rattle.std.specs.Prelude.{◌≡◌, ◌+◌, ◌<◌, ◌≤◌, ℕ, ◌&&◌, Bool, true, false, List, [], ◌∷◌, Option, None, is_none, length, unwrap_or}
 use Rattle.atomic_table.specs.Seated.{TableId}
 use Rattle.gen_core.specs.Events as graces
 use Rattle.gen_core.specs.Plain as gens
@@ -7,9 +7,11 @@ use Rattle.phase_core.specs.Stages as swaps
 use Rattle.gen_core.specs.declared.state.GraceAt.{GraceAt}
 use Rattle.k42_kinds.specs.declared.entry.Entry.{Entry}
 use Rattle.phase_core.specs.declared.caller.Place.{Place}
+use Rattle.phase_core.specs.declared.caller.Place.TheVariants.{Tracked}
 use Rattle.phase_core.specs.declared.caller.SwapAt.{SwapAt}
 use Rattle.k42_rule.specs.Steps.{Seated}
 use Rattle.k42_rule.specs.Views.{pass_in}
+use Rattle.k42_rule.specs.declared.view.Inside.{Inside}
 use Rattle.k42_rule.specs.declared.view.LastBegin.{LastBegin}
 use Rattle.k42_rule.specs.declared.view.PassView.{PassView}
 use Rattle.k42_rule.specs.declared.view.Row.{Row}
@@ -85,6 +87,14 @@ pub record Mirrors {P : Type 0} (me : Seated P) (own : Own) : Type 0 where
 abbrev pub IsOf : {L P : Type 0} → SysSeen L → PassSeen P → Type 0
 IsOf sys pass = pass.table ≡ sys.table
 
+-- and is of its processors and objects
+pub record IsPassOf {L P : Type 0} (sys : SysSeen L) (pass : PassSeen P) : Type 0 where
+  pub table : IsOf sys pass
+  pub proc : pass.view.turn.proc < sys.procs
+  pub waits : length pass.view.turn.waits ≡ sys.procs
+  pub objects : length pass.view.visitor.noted ≡ length sys.layouts
+  pub spans : length pass.view.visitor.freeing ≡ length sys.layouts
+
 -- it has the same seat, and the same room
 pub record IsSamePass {P : Type 0} (old new : PassSeen P) : Type 0 where
   pub table : new.table ≡ old.table
@@ -98,6 +108,28 @@ pub record HasSameRoom {P : Type 0} (old new : PassSeen P) : Type 0 where
   pub seat : new.seat ≡ old.seat
   pub room : new.room ≡ old.room
   pub row_room : new.row_room + length new.view.rows ≡ old.row_room + length old.view.rows
+
+-- it has room for no fewer entries and rows, and knows the same
+pub record IsRoomier {P : Type 0} (old new : PassSeen P) : Type 0 where
+  pub table : new.table ≡ old.table
+  pub seat : new.seat ≡ old.seat
+  pub view : new.view ≡ old.view
+  pub room : old.room ≤ new.room
+  pub row_room : old.row_room ≤ new.row_room
+
+-- the mediator counts the call
+abbrev pub is_tracked : Place → Bool
+is_tracked (Tracked o i) = true
+is_tracked place = false
+
+-- the row that its call is inside, and what it has learned of the row's layout
+abbrev pub inside_in : {P : Type 0} → PassView P → Inside
+inside_in v = record {
+  object = swaps.object_of v.visitor.place;
+  incarnation = swaps.row_of v.visitor.place;
+  layout = unwrap_or v.layout 0;
+  tracked = is_tracked v.visitor.place;
+}
 
 -- no activity, no grace and no swap is under way
 abbrev pub is_at_rest : {P : Type 0} → PassView P → Bool

@@ -5,7 +5,7 @@ use Rattle.k42_limits.specs.declared.TheConstants.{OBJECTS}
 use Rattle.k42_places.specs.Places.{EachPlace}
 use Rattle.k42_rule.specs.Cells.{IsCell, Slot}
 use Rattle.gen_core.specs.State as gens
-use Rattle.k42_rule.specs.Seen.{SysSeen, PassSeen}
+use Rattle.k42_rule.specs.Seen.{SysSeen, PassSeen, IsPassOf}
 use Rattle.k42_rule.specs.Steps.{Seated}
 use Rattle.k42_rule.specs.Views.{new_pass, new_passes}
 use Rattle.k42_rule.specs.Words.{object_word, many_words, many_slots}
@@ -54,6 +54,7 @@ pub record IsStarted
   pub layouts_are : sys.layouts ≡ layouts
   pub callers_are : sys.callers ≡ callers
   pub dealt : AreDealt sys.table procs (length layouts) callers passes
+  pub passes_are : EachPlace (λ c pass. IsPassOf sys pass) passes
 
 -- the first passes are dealt, and the seat has the others
 pub record IsDealing {P : Type 0} (table : TableId) (procs objects : ℕ) (homes : List ℕ) (next : ℕ) (seat : TableId) (me : Seated P) (passes : List (PassSeen P)) : Type 0 where

@@ -4,7 +4,7 @@ use Rattle.std.specs.List.{filter}
 use mathlib.Core.Option.{some}
 use lib.ListN.{get_elem?}
 use Rattle.atomic_table.specs.Table.{State, Step, Act, Valid, rest, stepped}
-use Rattle.k42_limits.specs.declared.TheConstants.{CALLERS}
+use Rattle.k42_limits.specs.declared.TheConstants.{CALLERS, PROCESSORS}
 use Rattle.k42_kinds.specs.Rows.{part_at}
 use Rattle.k42_kinds.specs.declared.entry.Answer.{Answer}
 use Rattle.phase_core.specs.Stages.{IsInside}
@@ -23,7 +23,7 @@ use Rattle.k42_rule.specs.Rule.{Rule}
 use Rattle.k42_rule.specs.Seats.{told_by}
 use Rattle.k42_rule.specs.Steps.{Seated, on_pass, Always}
 use Rattle.k42_rule.specs.Values.{layout_in, incarnation_in}
-use Rattle.k42_rule.specs.Views.{hears, object_begun, word_begun}
+use Rattle.k42_rule.specs.Views.{hears, pass_in, object_begun, word_begun}
 use Rattle.k42_rule.specs.Words.{slot_of}
 use Rattle.k42_rule.specs.declared.cell.Content.{Content}
 use Rattle.k42_rule.specs.declared.view.Note.{Note}
@@ -87,6 +87,10 @@ Lifts step me found after =
 abbrev pub GivesBack : {P : Type 0} → Step (Slot P) → Seated P → ℕ → Seated P → Type 0
 GivesBack step me found after = after ≡ (on_pass given_view me.0, rest me.1)
 
+-- and what the pass knows then
+abbrev pub GivesBackKnown : {P : Type 0} → (PassView P → Type 0) → Step (Slot P) → Seated P → ℕ → Seated P → Type 0
+GivesBackKnown Known step me found after = GivesBack step me found after × Known (given_view (pass_in me.0))
+
 abbrev pub Reaches : {P : Type 0} → Step (Slot P) → Seated P → ℕ → Seated P → Type 0
 Reaches step me found after =
     after
@@ -144,10 +148,11 @@ pub record MayLock {P : Type 0} (procs n : ℕ) (v : PassView P) : Type 0 where
   pub unheld : names v.taker.held n ≡ false
   pub touches : Touches procs n v
 
--- the word found is that of nobody, or of another caller
-pub record LockFound {P : Type 0} (v : PassView P) (found : ℕ) : Type 0 where
+-- The word found is that of nobody, or of another caller; of nobody where the pass is alone at the row.
+pub record LockFound {P : Type 0} (n : ℕ) (v : PassView P) (found : ℕ) : Type 0 where
   pub another : found ≢ v.number + 1
   pub small : found ≤ CALLERS
+  pub free : TouchesMoved PROCESSORS n v ⊎ TouchesFreed PROCESSORS n v → found ≡ 0
 
 module _ {S L P : Type 0} (F : Layouts S L P) (declared : List L) where
   -- it has taken the cell of which this is the content: its number, its history, and the part that is due
@@ -173,19 +178,21 @@ module _ {S L P : Type 0} (F : Layouts S L P) (declared : List L) where
     pub layout : L
     pub same : F.object_of layout ≡ F.object_of declaration
     pub tagged : F.tag_of layout ≡ tag
+    pub known : F.tag_of layout ≤ 2
     pub row : List P
     pub whole : F.Whole layout F.procs row
     pub parts :
         (k p : ℕ) (note : Note P) → p < F.procs → slice_get notes k ≡ Some note → note.cell ≡ cell_of o i p
         → HasDue (F.ways_of layout) F.procs p note.part (part_at row p)
 
-  -- so are those of the row that the pass is inside, and of the one that it moves and has not handed on
+  -- so are those of the row that the pass is inside, and of the one that it moves and has not handed on, which is live
   pub record AreRowsNoted (v : PassView P) : Type 0 where
     pub inside :
         (o i tag : ℕ) → IsInside v.visitor.place o i → v.layout ≡ Some tag → IsRowNoted v.notes o i tag
     pub moved :
         (o : ℕ) → v.visitor.swap ≡ Moved o → v.handed ≡ None
         → IsRowNoted v.notes o (incarnation_in (word_begun v.last)) (layout_in (word_begun v.last))
+        × (layout_in (word_begun v.last) ≤ 1)
 
   -- Whatever state the table shows, and whatever the word is, the slot moves and the state becomes this.
   abbrev pub ActIs :

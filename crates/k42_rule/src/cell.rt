@@ -1,5 +1,5 @@
 //! A cell, with the seat that tells its history.
-ghost use Rattle.std.specs.Prelude.{◌≡◌, None, Some};
+ghost use Rattle.std.specs.Prelude.{◌≡◌, ◌<◌, None, Some};
 ghost use Rattle.k42_rule.specs.Seats.{IsTold};
 
 use crate::view::View;
@@ -17,6 +17,7 @@ pub struct Content<P: Drop> {
     pub(crate) last: u64,
     pub(crate) part: Option<P>,
     ghost told: { IsTold closed last badge.views },
+    ghost few: { number < 320 },
 }
 
 pub type Cell<L> = Content<<L as Layout>::Part>;
@@ -50,5 +51,17 @@ impl<P: Drop> Content<P> {
         ensures { self.new ≡ record self.old { part = Some part } }
     {
         self.part = Some(part);
+    }
+
+    /// Is told of the last entry that was drawn at it.
+    pub(crate) fn tell(&mut self, badge: Badge<View<P>>, closed: bool, last: u64)
+        requires { IsTold closed last badge.views }
+        ensures number { self.new.number ≡ self.old.number }
+        ensures part { self.new.part ≡ self.old.part }
+        ensures told { self.new.badge.views ≡ badge.views }
+    {
+        self.badge = badge;
+        self.closed = closed;
+        self.last = last;
     }
 }

@@ -3,6 +3,10 @@
 
 mod board;
 mod cell;
+mod finish;
+mod draw_plays;
+mod draw_words;
+mod drawing;
 mod freeing;
 mod generating;
 mod grace_words;
@@ -11,8 +15,10 @@ mod laws;
 mod noting;
 mod pass;
 mod plays;
+mod receipts;
 mod slot_plays;
 mod slots;
+mod stamps;
 mod start;
 mod swap_begins;
 mod swap_plays;
@@ -27,14 +33,17 @@ mod view;
 mod words;
 
 pub use cell::{Cell, Content};
+pub use drawing::{draw_alone, draw_call, draw_mark};
 pub use freeing::free;
 pub use generating::{enter_step, leave_step};
+pub use laws::{
+    freed_rows_stay_freed, rows_have_one_name, rows_inside_are_present, shown_states_are_safe,
+};
 pub use gracing::{flip, generation_step, give_role, look, take_role};
-pub use laws::shown_states_are_safe;
 pub use pass::{Pass, Walker};
 pub use swap_begins::begin_step;
 pub use swapping::{block_step, clear_step, entry_step, move_step, turn_over};
-pub use sys::Sys;
+pub use sys::{Sys, Unfinished};
 pub use tabling::{end_call, install_step, knock_step, look_up_step, root_step, step_out};
 pub use taking::{lock, put, take, unlock};
-pub use view::{LastBegin, Row};
+pub use view::{Inside, LastBegin, Row};

@@ -1,13 +1,20 @@
 //! A pass: what one caller steps with.
-ghost use Rattle.std.specs.Prelude.{◌≡◌, ◌<◌, length, is_some};
+ghost use Rattle.std.specs.Prelude.{◌≡◌, ◌<◌, ◌≤◌, true, Some, length, slice_index, is_some, OnOk};
+ghost use Rattle.k42_limits.specs.declared.TheConstants.{LAST_INCARNATION};
+ghost use Rattle.k42_stamp.specs.Lists.{IsListOf};
+ghost use Rattle.phase_core.specs.Stages.{named_by};
 ghost use Rattle.phase_core.specs.State.{note_at};
-ghost use Rattle.k42_rule.specs.Seen.{is_at_rest};
+ghost use Rattle.k42_rule.specs.Phases.{is_served};
+ghost use Rattle.k42_rule.specs.Seen.{IsRoomier, inside_in, is_at_rest};
+ghost use Rattle.k42_rule.specs.Values.{layout_in, incarnation_in};
+ghost use Rattle.k42_rule.specs.Views.{word_begun};
 
 use crate::cell::Content;
-use crate::view::{LastBegin, Row, View};
+use crate::view::{Inside, LastBegin, Row, View};
 use atomic_table::Seat;
 use gen_core::GraceAt;
 use k42_kinds::{Entry, Layout};
+use k42_memory::Memory;
 use phase_core::{Place, SwapAt};
 use std::marker::Model;
 
@@ -43,7 +50,10 @@ impl<P: Drop> Model for Walker<P> {
     ghost use Rattle.std.specs.Option.{unwrap_or};
     ghost use Rattle.k42_limits.specs.declared.TheConstants.{LAST_INCARNATION};
     ghost use Rattle.phase_core.specs.Stages.{object_of, row_of, object_named};
+    ghost use Rattle.turn_core.specs.Stamps.{last_stamp};
+    ghost use Rattle.k42_stamp.specs.Lists.{IsListOf};
     ghost use Rattle.k42_rule.specs.Gracing.{FitsGrace};
+    ghost use Rattle.k42_rule.specs.Seats.{LAST_STAMP};
     ghost use Rattle.k42_rule.specs.Seen.{PassSeen, Mirrors};
     ghost use Rattle.k42_rule.specs.Swapping.{next_entry};
     ghost use Rattle.k42_rule.specs.Values.{layout_in, incarnation_in};
@@ -81,7 +91,9 @@ impl<P: Drop> Model for Walker<P> {
         × (incarnation_in (word_begun p.last) ≤ LAST_INCARNATION) × (layout_in (word_begun p.last) ≤ 2)
         × (row_of p.place ≤ LAST_INCARNATION)
         × (p.granted ≤ length p.rows.items)
-        × FitsGrace p.grace p.base (length p.waits.items) × (unwrap_or p.base 0 + 1 < 2 ^ 32) × (unwrap_or p.coming 0 < 2 ^ 32) };
+        × FitsGrace p.grace p.base (length p.waits.items) × (unwrap_or p.base 0 + 1 < 2 ^ 32) × (unwrap_or p.coming 0 < 2 ^ 32)
+        × IsListOf p.number p.entries.items
+        × (last_stamp p.entries.items ≤ LAST_STAMP) };
 }
 
 impl<P: Drop> Walker<P> {
@@ -111,9 +123,39 @@ impl<P: Drop> Walker<P> {
         self.active
     }
 
+    /// How far its grace is.
+    pub fn grace(&self) -> GraceAt
+        ensures { result ≡ self.now.view.turn.grace }
+    {
+        self.grace
+    }
+
+    /// How many entries of the former generation on the processor its grace waits for.
+    pub fn waits(&self, proc: u32) -> u32
+        requires { proc < length self.now.view.turn.waits }
+        ensures { result ≡ slice_index self.now.view.turn.waits proc }
+    {
+        self.waits[proc as usize]
+    }
+
+    /// The generation that its grace found.
+    pub fn base(&self) -> Option<u32>
+        ensures { result ≡ self.now.view.base }
+    {
+        self.base
+    }
+
+    /// What it has learned of the exits to come on the processor that its grace flips next.
+    pub fn coming(&self) -> Option<u64>
+        ensures { result ≡ self.now.view.turn.coming }
+    {
+        self.coming
+    }
+
     /// Its entries, the oldest first.
     pub fn entries(&self) -> &[Entry]
-        ensures { result.now ≡ self.now.view.taker.mine }
+        ensures are { result.now ≡ self.now.view.taker.mine }
+        ensures listed { IsListOf self.now.view.number self.now.view.taker.mine }
     {
         self.entries.as_slice()
     }
@@ -134,7 +176,8 @@ impl<P: Drop> Walker<P> {
 
     /// The object of its last Begin, and the word that this found.
     pub fn last_begin(&self) -> Option<LastBegin>
-        ensures { result ≡ self.now.view.last }
+        ensures is { result ≡ self.now.view.last }
+        ensures bound { incarnation_in (word_begun self.now.view.last) ≤ LAST_INCARNATION }
     {
         self.last
     }
@@ -180,5 +223,60 @@ impl<P: Drop> Walker<P> {
         ensures { result ≡ is_at_rest self.now.view }
     {
         self.active.is_none() && self.grace == GraceAt::Idle && self.swap == SwapAt::Idle
+    }
+
+    /// The row that its call is inside.
+    pub fn inside(&self) -> Inside
+        requires { is_served self.now.view.visitor.place ≡ true }
+        ensures is { result ≡ inside_in self.now.view }
+        ensures bounds { (result.object < 16) × (result.incarnation ≤ LAST_INCARNATION) × (result.layout ≤ 2) }
+    {
+        let layout = self.layout.unwrap_or(0);
+        match self.place {
+            Place::Direct(object, incarnation) => Inside {
+                object,
+                incarnation,
+                layout,
+                tracked: false,
+            },
+            Place::Tracked(object, incarnation) => Inside {
+                object,
+                incarnation,
+                layout,
+                tracked: true,
+            },
+            _ => unreachable!(),
+        }
+    }
+
+    /// The tag of the layout with which it has handed on a row, until it turns over.
+    pub fn handed_layout(&self) -> u32
+        requires { is_some self.now.view.handed ≡ true }
+        ensures { self.now.view.handed ≡ Some result }
+    {
+        let Some(tag) = self.handed else {
+            unreachable!()
+        };
+        tag
+    }
+
+    /// The tag of the layout that its last Begin found.
+    pub fn begun_layout(&self) -> u32
+        requires { is_some (named_by self.now.view.visitor.swap) ≡ true }
+        ensures is { result ≡ layout_in (word_begun self.now.view.last) }
+        ensures bound { result ≤ 2 }
+    {
+        let word = self.last.map_or(0, |begin| begin.word);
+        (word / 268_435_456 % 4) as u32
+    }
+
+    /// Makes room for one more entry and one more row. Where there is no memory it knows the same.
+    pub fn reserve(&mut self) -> Result<(), Memory>
+        ensures same { IsRoomier self.old self.new }
+        ensures ok { OnOk result ((1 ≤ self.new.room) × (1 ≤ self.new.row_room)) }
+    {
+        self.entries.reserve(1)?;
+        self.rows.reserve(1)?;
+        Ok(())
     }
 }

@@ -1,7 +1,7 @@
 //! What each step on the table tells its pass.
 use crate::cell::Content;
 use crate::view::View;
-use atomic_table::{Play, Split};
+use atomic_table::{Join, Play, Split};
 
 pub(crate) struct Enter;
 
@@ -83,4 +83,15 @@ impl<P> Split<View<P>> for Deal {
     ghost left = { dealer };
 
     ghost right = { dealt };
+}
+
+pub(crate) struct Gather;
+
+impl<P> Join<View<P>> for Gather {
+    ghost use Rattle.k42_rule.specs.Dealing.{both_crews};
+    ghost use Rattle.k42_rule.specs.declared.view.View.TheVariants.{Spent};
+
+    ghost both = { both_crews };
+
+    ghost spent = { Spent };
 }

@@ -2,14 +2,26 @@
 use crate::cell::Content;
 use crate::view::View;
 use atomic_table::Play;
+use std::marker::{Brand, PhantomData};
+
+/// What a pass knows of parts once it has taken a cell. It hangs on the declared layouts, so the call picks it.
+pub(crate) trait Known<P> {
+    ghost use Rattle.k42_rule.specs.declared.view.PassView.{PassView};
+
+    ghost known: { PassView P → Type 0 };
+}
+
+impl<P> Known<P> for Brand {
+    ghost known = { λ v. Unit {0} };
+}
 
 pub(crate) struct Lock;
 
 impl<P: Drop> Play<Option<Content<P>>, View<P>> for Lock {
-    ghost use Rattle.k42_rule.specs.Steps.{Tells};
-    ghost use Rattle.k42_rule.specs.Taking.{cell_at_lock, locked_view};
+    ghost use Rattle.k42_rule.specs.Steps.{TellsWith};
+    ghost use Rattle.k42_rule.specs.Taking.{LockFound, cell_at_lock, locked_view};
 
-    ghost then = { λ step. Tells (locked_view (cell_at_lock step.word)) step };
+    ghost then = { λ step. TellsWith (locked_view (cell_at_lock step.word)) (LockFound (cell_at_lock step.word)) step };
 }
 
 pub(crate) struct Unlock;
@@ -29,12 +41,12 @@ impl<P: Drop> Play<Option<Content<P>>, View<P>> for Lift {
     ghost then = { Lifts };
 }
 
-pub(crate) struct GiveBack;
+pub(crate) struct GiveBack<K>(PhantomData<K>);
 
-impl<P: Drop> Play<Option<Content<P>>, View<P>> for GiveBack {
-    ghost use Rattle.k42_rule.specs.Taking.{GivesBack};
+impl<P: Drop, K: Known<P>> Play<Option<Content<P>>, View<P>> for GiveBack<K> {
+    ghost use Rattle.k42_rule.specs.Taking.{GivesBackKnown};
 
-    ghost then = { GivesBack };
+    ghost then = { GivesBackKnown K.known };
 }
 
 pub(crate) struct Reach;

@@ -56,7 +56,8 @@ fn deal<L: Layout>(
     number: u32,
     home: u32,
 ) -> Result<Pass<L>, Memory>
-    requires ours { (seat.old.table_id ≡ board.now.shared.table_id) × (board.now.shared.table_id.words ≡ many_words) × (home < 8) }
+    requires ours { (seat.old.table_id ≡ board.now.shared.table_id) × (board.now.shared.table_id.words ≡ many_words) }
+    requires few { (procs ≤ 8) × (home < 8) }
     requires crew { (rest : List (PassView L.Part)) × (seat.old.me ≡ (Crew (new_pass procs objects number home ∷ rest), [])) }
     ensures ours { (seat.new.table_id ≡ seat.old.table_id) × (seat.new.me ≡ (dealer seat.old.me.0, [])) }
     ensures dealt { IfOk result (λ pass. IsNewPass board.now.shared.table_id procs objects number home pass) }
@@ -100,6 +101,7 @@ pub(crate) fn deal_all<L: Layout>(
     homes: &[u32],
 ) -> Result<Vec<Pass<L>>, Memory>
     requires ours { (seat.old.table_id ≡ board.now.shared.table_id) × (board.now.shared.table_id.words ≡ many_words) }
+    requires few { procs ≤ 8 }
     requires crew { seat.old.me ≡ (Crew (new_passes procs objects 0 homes.now), []) }
     requires homes { (length homes.now ≤ 16) × EachPlace (λ c home. home < 8) homes.now }
     ensures { IfOk result (λ passes. AreDealt board.now.shared.table_id procs objects homes.now passes.items) }

@@ -1,5 +1,5 @@
 //! The steps of a swap.
-ghost use Rattle.std.specs.Prelude.{◌≡◌, ◌<◌, ◌≤◌, ◌+◌, ◌-◌, ◌*◌, ◌%◌, ◌^◌, true, length, bit_or, if◌then◌else◌};
+ghost use Rattle.std.specs.Prelude.{◌≡◌, ◌<◌, ◌≤◌, ◌+◌, ◌-◌, ◌*◌, ◌%◌, ◌^◌, true, [], ◌∷◌, ◌++◌, length, vec_len, vec_capacity, bit_or, if◌then◌else◌};
 ghost use Rattle.std.specs.Option.{unwrap_or};
 ghost use Rattle.k42_limits.specs.declared.TheConstants.{LAST_INCARNATION};
 ghost use Rattle.phase_core.specs.Effects.{after_interpose};
@@ -170,14 +170,9 @@ pub fn turn_over<L: Layout>(sys: &Sys<L>, pass: &mut Pass<L>, layout: u32) -> u6
 {
     let object = object_at(&pass.swap);
     let before = begun_word(&pass.last) / 268_435_456 % 4;
-    let amount = 4_294_967_296 + 268_435_456 * u64::from(layout) + 33_554_432 - 268_435_456 * before;
-    let found = turn_word(
-        &sys.board,
-        &mut pass.seat,
-        object as usize,
-        layout,
-        amount,
-    );
+    let amount = 4_294_967_296 + 268_435_456 * u64::from(layout) + 33_554_432
+        - 268_435_456 * before;
+    let found = turn_word(&sys.board, &mut pass.seat, object as usize, layout, amount);
     pass.swap = SwapAt::Opening(object, 0);
     pass.turned = true;
     pass.handed = None;
@@ -189,6 +184,17 @@ fn moves(swap: &SwapAt) -> bool
     ensures { result ≡ is_moved swap.now }
 {
     matches!(*swap, SwapAt::Moved(_))
+}
+
+/// Puts the row of an object that was turned over behind the others.
+fn keep_row(rows: &mut Vec<Row>, turned: bool, row: Row)
+    requires { turned ≡ true → vec_len rows.old < vec_capacity rows.old }
+    ensures items { rows.new.items ≡ (if turned then rows.old.items ++ row ∷ [] else rows.old.items) }
+    ensures capacity { vec_capacity rows.new ≡ vec_capacity rows.old }
+{
+    if turned {
+        rows.push_reserved(row);
+    }
 }
 
 /// Gives up what it moves and has not handed on, or ends the swap. The row that it has handed on and turned over is
@@ -214,13 +220,12 @@ pub fn clear_step<L: Layout>(sys: &Sys<L>, pass: &mut Pass<L>) -> u64
     }
     let mask = u64::MAX - 16_777_216 - 134_217_728;
     let found = clear_word(&sys.board, &mut pass.seat, object as usize, mask);
-    if pass.turned {
-        let incarnation = (begun_word(&pass.last) >> 32) as u32;
-        pass.rows.push_reserved(Row {
-            object,
-            incarnation,
-        });
-    }
+    let incarnation = (begun_word(&pass.last) >> 32) as u32;
+    let row = Row {
+        object,
+        incarnation,
+    };
+    keep_row(&mut pass.rows, pass.turned, row);
     pass.turned = false;
     pass.swap = SwapAt::Idle;
     found

@@ -1,12 +1,15 @@
 //! A system.
-ghost use Rattle.std.specs.Prelude.{◌≡◌, ◌<◌, Some, length, slice_get, IfOk};
+ghost use Rattle.std.specs.Prelude.{◌≡◌, ◌<◌, Some, length, map, slice_get, vec_items, IfOk, IfErr};
+ghost use Rattle.k42_rule.specs.Finishing.{AreAtRest, AreLastLists, lists_in};
+ghost use Rattle.k42_rule.specs.Plan.{layouts_on};
 ghost use Rattle.k42_rule.specs.Starting.{IsStart, IsStarted};
 
 use crate::board::{Board, Setup};
-use crate::pass::Pass;
+use crate::finish::{close, gather};
+use crate::pass::{Pass, Walker};
 use crate::start::{deal_all, first_slots, first_words};
 use atomic_table::Table;
-use k42_kinds::Layout;
+use k42_kinds::{Entry, Layout};
 use k42_memory::Memory;
 use std::alloc::Global;
 use std::marker::Model;
@@ -19,8 +22,15 @@ pub struct Sys<L: Layout> {
     procs: u32,
 }
 
+/// There was no memory for the list of lists. The system and its passes are as they were.
+#[derive(Drop)]
+pub struct Unfinished<L: Layout> {
+    pub sys: Sys<L>,
+    pub passes: Vec<Pass<L>>,
+}
+
 impl<L: Layout> Model for Sys<L> {
-    ghost use Rattle.std.specs.Prelude.{◌≡◌, ◌≤◌, length};
+    ghost use Rattle.std.specs.Prelude.{◌≡◌, ◌<◌, ◌≤◌, length};
     ghost use Rattle.k42_stamp.specs.Laws.{AreLaws};
     ghost use Rattle.k42_rule.specs.Plan.{layouts_on};
     ghost use Rattle.k42_rule.specs.Seen.{SysSeen};
@@ -36,7 +46,8 @@ impl<L: Layout> Model for Sys<L> {
     } };
 
     ghost invariant = { λ s. (s.board.shared.table_id.words ≡ many_words) × (s.board.shared.table_id.slots ≡ many_slots) × (s.layouts.items ≡ s.board.shared.key.layouts.items) × (s.procs ≡ s.board.shared.key.procs) × (length s.layouts.items ≤ 16)
-        × AreLaws (layouts_on L.object L.tag_of L.ways L.whole L.serves L.admitted L.act_of s.board.shared.key.procs s.board.shared.key.callers.items) };
+        × AreLaws (layouts_on L.object L.tag_of L.ways L.whole L.serves L.admitted L.act_of s.board.shared.key.procs s.board.shared.key.callers.items)
+        × (0 < length s.board.shared.key.callers.items) };
 }
 
 impl<L: Layout> Sys<L> {
@@ -76,6 +87,32 @@ impl<L: Layout> Sys<L> {
             procs,
         };
         Ok((sys, passes))
+    }
+
+    /// The entries of each caller, the oldest first.
+    pub fn finish(
+        self,
+        alloc: Global,
+        mut passes: Vec<Pass<L>>,
+    ) -> Result<Vec<Vec<Entry>>, Unfinished<L>>
+        requires { AreAtRest self passes.items }
+        ensures lists { IfOk result (λ lists. map vec_items lists.items ≡ lists_in passes.items) }
+        ensures last { IfOk result (λ lists. AreLastLists
+            (layouts_on L.object L.tag_of L.ways L.whole L.serves L.admitted L.act_of self.procs self.callers)
+            self.layouts (length self.callers) (map vec_items lists.items)) }
+        ensures err { IfErr result (λ back. (back.sys ≡ self) × (back.passes.items ≡ passes.items)) }
+    {
+        let Ok(mut lists) = Vec::with_capacity(alloc, passes.len()) else {
+            return Err(Unfinished { sys: self, passes });
+        };
+        let Sys { board, .. } = self;
+        let Walker {
+            mut seat, entries, ..
+        } = passes.remove(0);
+        lists.push_reserved(entries);
+        gather(&board, &mut seat, &mut lists, passes);
+        close(board, seat);
+        Ok(lists)
     }
 
     pub fn procs(&self) -> u32

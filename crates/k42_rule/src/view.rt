@@ -20,6 +20,16 @@ pub struct Row {
     pub incarnation: u32,
 }
 
+/// The row that a call is inside, and the row's layout.
+#[derive(Clone, Copy, Debug, PartialEq, Eq)]
+pub struct Inside {
+    pub object: u32,
+    pub incarnation: u32,
+    pub layout: u32,
+    /// Whether the mediator counts the call.
+    pub tracked: bool,
+}
+
 /// What a pass knows of a cell that it has taken.
 pub struct Note<P> {
     pub cell: u32,

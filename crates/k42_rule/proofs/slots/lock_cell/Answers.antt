@@ -22,4 +22,4 @@ pub returns-clause-event : goal.returns-clause-event
 returns-clause-event g c =
     let slots : ℕ = c.args.board.now.shared.table_id.slots in
     lock_is _ c.requires.laws _ _ c.args.cell (pass_in c.args.seat.now.me.0) c.args.seat.now.me c.requires.idle.0 c.requires.idle.1 c.requires.may
-    c.compare_exchange.new.seat.me (step slots (lock_word c.args.cell) 0 (c.from-new.result + 1) none) c.compare_exchange.result c.compare_exchange.ensures.2
+    c.compare_exchange.new.seat.me (step slots (lock_word c.args.cell) 0 (c.from-new.result + 1) none) c.compare_exchange.result (c.compare_exchange.ensures.2).0

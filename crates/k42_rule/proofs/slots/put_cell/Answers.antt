@@ -7,7 +7,7 @@ use Rattle.k42_rule.specs.Steps.{Seated, on_pass}
 use Rattle.k42_rule.specs.Taking.{cell_at_lock, reaching_view, put_view}
 use Rattle.k42_rule.specs.Words.{lock_word, slot_of}
 use Rattle.k42_rule.specs.declared.view.View.TheVariants.{Crew}
-use Rattle.k42_rule.proofs.CellsAllowed.{reach_seat, reached_seat, put_seat, slot_out, exchanged, reach_is, put_was}
+use Rattle.k42_rule.proofs.CellsAllowed.{reach_seat, reached_seat, put_seat, slot_out, exchanged, reach_is, put_was, put_possible_always}
 use Rattle.k42_rule.proofs.CellsApart.{cell_of_lock}
 use Rattle.k42_rule.proofs.slots.put_cell.Goals as goal
 
@@ -50,6 +50,11 @@ put_again g c =
 
 pub returns-clause-told : goal.returns-clause-told
 returns-clause-told g c = put_again g c
+
+pub returns-clause-possible : goal.returns-clause-possible
+returns-clause-possible g c =
+    let may = c.requires.may in
+    put_possible_always _ c.requires.laws _ c.args.seat.now.id c.args.cell (pass_in c.args.seat.now.me.0) may.place may.note may.noted may.named
 
 pub returns-clause-reach : goal.returns-clause-reach
 returns-clause-reach g c =

@@ -1,7 +1,7 @@
-use Rattle.std.proofs.Common.{ℕ, [], ◌∷◌, arith, sym, ap, subst}
+use Rattle.std.proofs.Common.{ℕ, [], ◌∷◌, length, arith, sym, refl, ap, subst}
 use Rattle.atomic_table.specs.Table.{Splits}
 use Rattle.k42_rule.specs.Dealing.{dealer, dealt}
-use Rattle.k42_rule.specs.Rule.{Rule}
+use Rattle.k42_rule.specs.Rule.{Ruled}
 use Rattle.k42_rule.specs.Steps.{Seated}
 use Rattle.k42_rule.specs.Plan.{layouts_on}
 use Rattle.k42_rule.specs.declared.view.View.{View}
@@ -14,6 +14,6 @@ split_seat-own-requires g c =
     let F = layouts_on g.L.Kind.object g.L.Layout.tag_of g.L.Layout.ways g.L.Layout.whole g.L.Layout.serves g.L.Layout.admitted g.L.Layout.act_of key.procs key.callers.items in (
       c.requires.ours.0,
       (let wide = c.requires.ours.1 in omega (arith, wide)),
-      subst (λ (w : View _). Splits (Rule F key.layouts.items) id w (dealer w) (dealt w)) (sym (ap (λ (m : Seated _). m.0) crew.1))
-          (deals F key.layouts.items id _ crew.0),
+      subst (λ (w : View _). Splits (Ruled F key.layouts.items (length key.callers.items)) id w (dealer w) (dealt w)) (sym (ap (λ (m : Seated _). m.0) crew.1))
+          (deals F key.layouts.items (length key.callers.items) id _ crew.0 refl),
     )

@@ -1,4 +1,3 @@
-use Rattle.std.proofs.Common.{rules, ◌≡◌}
 use Rattle.k42_rule.proofs.swap_begins.begin_step.Goals as goal
 
 pub returns-then-is_swapped-clause-event : goal.returns-then-is_swapped-clause-event

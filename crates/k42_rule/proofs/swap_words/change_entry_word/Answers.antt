@@ -1,9 +1,8 @@
-use Rattle.std.proofs.Common.{ℕ, ◌+◌, ◌*◌, refl, sym, arith, ap, subst}
+use Rattle.std.proofs.Common.{ℕ, ◌+◌, ◌*◌, arith}
 use mathlib.Core.Option.{none}
 use Rattle.atomic_table.specs.Table.{step}
 use Rattle.k42_rule.proofs.EntryTurns.{entry_moves, entry_allowed}
 use Rattle.k42_rule.proofs.Moves.{seat_is}
-use Rattle.k42_rule.specs.Views.{pass_in}
 use Rattle.k42_rule.proofs.swap_words.change_entry_word.Goals as goal
 
 pub swap-requires : goal.swap-requires

@@ -1,4 +1,3 @@
-use Rattle.std.proofs.Common.{rules, ◌≡◌}
 use Rattle.k42_rule.proofs.swapping.clear_step.Goals as goal
 
 pub returns-then-moves-clause-event : goal.returns-then-moves-clause-event

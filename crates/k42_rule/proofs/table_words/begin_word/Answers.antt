@@ -1,9 +1,8 @@
-use Rattle.std.proofs.Common.{ℕ, ◌+◌, ◌*◌, refl, sym, arith}
+use Rattle.std.proofs.Common.{ℕ, ◌+◌, ◌*◌, arith}
 use mathlib.Core.Option.{none}
 use Rattle.atomic_table.specs.Table.{step}
 use Rattle.k42_rule.proofs.Beginning.{begin_moves, begin_allowed, begin_told}
 use Rattle.k42_rule.proofs.Moves.{seat_is}
-use Rattle.k42_rule.specs.Views.{pass_in}
 use Rattle.k42_rule.proofs.table_words.begin_word.Goals as goal
 
 pub fetch_or-requires : goal.fetch_or-requires

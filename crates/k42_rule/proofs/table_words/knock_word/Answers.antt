@@ -1,9 +1,8 @@
-use Rattle.std.proofs.Common.{ℕ, ◌+◌, ◌*◌, refl, sym, arith}
+use Rattle.std.proofs.Common.{ℕ, ◌+◌, ◌*◌, arith}
 use mathlib.Core.Option.{none}
 use Rattle.atomic_table.specs.Table.{step}
 use Rattle.k42_rule.proofs.Knocking.{knock_moves, knock_allowed, knock_told}
 use Rattle.k42_rule.proofs.Moves.{seat_is}
-use Rattle.k42_rule.specs.Views.{pass_in}
 use Rattle.k42_rule.proofs.table_words.knock_word.Goals as goal
 
 pub fetch_add-requires : goal.fetch_add-requires

@@ -1,10 +1,9 @@
-use Rattle.std.proofs.Common.{ℕ, ◌+◌, ◌*◌, refl, sym, arith}
+use Rattle.std.proofs.Common.{ℕ, ◌+◌, ◌*◌, arith}
 use mathlib.Core.Option.{none}
 use Rattle.atomic_table.specs.Table.{step}
 use Rattle.k42_rule.proofs.Looking.{root_moves, root_finds}
 use Rattle.k42_rule.proofs.Moves.{seat_allowed_with, seat_is}
 use Rattle.k42_rule.specs.Tabling.{RootFound}
-use Rattle.k42_rule.specs.Views.{pass_in}
 use Rattle.k42_rule.proofs.table_words.root_word.Goals as goal
 
 pub load-requires : goal.load-requires

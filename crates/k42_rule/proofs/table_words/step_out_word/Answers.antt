@@ -1,9 +1,8 @@
-use Rattle.std.proofs.Common.{ℕ, ◌+◌, ◌*◌, refl, sym, arith}
+use Rattle.std.proofs.Common.{ℕ, ◌+◌, ◌*◌, refl, arith}
 use mathlib.Core.Option.{none}
 use Rattle.atomic_table.specs.Table.{step}
 use Rattle.k42_rule.proofs.Knocking.{step_out_moves}
 use Rattle.k42_rule.proofs.Moves.{seat_allowed, seat_is}
-use Rattle.k42_rule.specs.Views.{pass_in}
 use Rattle.k42_rule.proofs.table_words.step_out_word.Goals as goal
 
 pub fetch_sub-requires : goal.fetch_sub-requires

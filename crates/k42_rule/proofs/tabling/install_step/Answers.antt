@@ -1,4 +1,3 @@
-use Rattle.std.proofs.Common.{rules, ◌≡◌}
 use Rattle.k42_rule.proofs.tabling.install_step.Goals as goal
 
 pub returns-then-found-old-clause-event : goal.returns-then-found-old-clause-event

@@ -6,3 +6,6 @@ returns-clause-reach g c = rw (← c.pass.view_is, ← c.sys.view_is) c.put_cell
 
 pub returns-clause-event : goal.returns-clause-event
 returns-clause-event g c = rw (← c.pass.view_is, ← c.sys.view_is) c.put_cell.ensures.event
+
+pub returns-clause-possible : goal.returns-clause-possible
+returns-clause-possible g c = rw (← c.pass.view_is, ← c.sys.view_is) c.put_cell.ensures.possible

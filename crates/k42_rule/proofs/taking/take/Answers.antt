@@ -9,3 +9,9 @@ returns-clause-event g c = rw (← c.pass.view_is, ← c.sys.view_is) c.take_cel
 
 pub returns-clause-back : goal.returns-clause-back
 returns-clause-back g c = rw (← c.pass.view_is, ← c.sys.view_is) c.take_cell.ensures.back
+
+pub returns-clause-row : goal.returns-clause-row
+returns-clause-row g c = rw (← c.sys.view_is) c.take_cell.ensures.known
+
+pub returns-clause-possible : goal.returns-clause-possible
+returns-clause-possible g c = rw (← c.pass.view_is, ← c.sys.view_is) c.take_cell.ensures.possible

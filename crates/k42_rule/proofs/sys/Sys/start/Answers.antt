@@ -4,9 +4,10 @@ use Rattle.k42_places.specs.Places.{EachPlace}
 use Rattle.k42_stamp.specs.Layouts.{Layouts}
 use Rattle.k42_stamp.specs.Laws.{AreLaws}
 use Rattle.k42_rule.specs.Plan.{layouts_on}
-use Rattle.k42_rule.specs.Starting.{AreFirstWords}
+use Rattle.k42_rule.specs.Starting.{AreFirstWords, AreDealt}
 use Rattle.k42_rule.proofs.Opening.{opens}
 use Rattle.k42_rule.proofs.Plans.{plan_of, on_processors}
+use Rattle.k42_rule.proofs.Starting.{is_started}
 use Rattle.k42_rule.proofs.sys.Sys.start.Goals as goal
 use Rattle.k42_rule.proofs.sys.Sys.start.Given as given
 
@@ -55,4 +56,15 @@ invariant_of-sys g c =
       subst
           (λ k. AreLaws (layouts_on g.L.Kind.object g.L.Layout.tag_of g.L.Layout.ways g.L.Layout.whole g.L.Layout.serves g.L.Layout.admitted g.L.Layout.act_of k.procs k.callers.items))
           (sym made.5) (laws_at g procs callers c.requires.turns.limits.some_procs c.requires.turns.placed),
+      subst (λ k. 0 < length k.callers.items) (sym made.5) c.requires.turns.limits.some_callers,
     )
+
+pub returns : goal.returns
+returns g c =
+    let key = c.in-Ok.ensures.ok.5 in let table = c.in-Ok.board.shared.table_id in let passes = c.in_ok-passes.passes.items in
+    let procs : ℕ = c.args.procs in let objects : ℕ = c.len-objects.result in
+    let many : objects ≡ length c.args.layouts.items = c.len-objects.ensures ∙ c.args.layouts.ok.0 in
+    let dealt : AreDealt table procs (length c.args.layouts.items) c.args.callers.items passes =
+    subst (λ (z : ℕ × List ℕ). AreDealt table procs z.0 z.1 passes) (λ i. (many i, c.as_slice-3.ensures.value i)) c.in_ok-passes.ensures in
+    is_started c.args.layouts.items procs c.args.callers.items _ passes (ap (λ k. k.procs) key) (ap (λ k. k.layouts.items) key) (ap (λ k. k.callers.items) key)
+    c.requires.turns.placed dealt

@@ -1,0 +1,57 @@
+//! How a system ends.
+ghost use Rattle.std.specs.Prelude.{◌≡◌, ◌+◌, ◌≤◌, [], ◌++◌, length, map, vec_items, vec_len, vec_capacity};
+ghost use Rattle.atomic_table.specs.Table.{State, Seen};
+ghost use Rattle.k42_places.specs.Places.{EachPlace};
+ghost use Rattle.k42_rule.specs.Cells.{Slot};
+ghost use Rattle.k42_rule.specs.Dealing.{crew_in, IsCrew};
+ghost use Rattle.k42_rule.specs.Finishing.{views_of, lists_in};
+ghost use Rattle.k42_rule.specs.Plan.{layouts_on};
+ghost use Rattle.k42_rule.specs.Rule.{Ruled};
+ghost use Rattle.k42_rule.specs.Words.{many_words};
+ghost use Rattle.k42_rule.specs.declared.view.View.{View};
+ghost use Rattle.k42_rule.specs.declared.view.View.TheVariants.{Crew};
+
+use crate::board::{Board, Place};
+use crate::pass::{Pass, Walker};
+use crate::plays::Gather;
+use k42_kinds::{Entry, Layout};
+
+/// The passes' seats are joined to one, and their lists stand in order.
+pub(crate) fn gather<L: Layout>(
+    board: &Board<L>,
+    seat: &mut Place<L>,
+    lists: &mut Vec<Vec<Entry>>,
+    passes: Vec<Pass<L>>,
+)
+    requires ours { (seat.old.table_id ≡ board.now.shared.table_id) × (board.now.shared.table_id.words ≡ many_words) }
+    requires crew { IsCrew seat.old.me }
+    requires theirs { EachPlace (λ c pass. pass.table ≡ board.now.shared.table_id) passes.items }
+    requires room { vec_len lists.old + length passes.items ≤ vec_capacity lists.old }
+    ensures ours { (seat.new.table_id ≡ seat.old.table_id) × (seat.new.id ≡ seat.old.id) }
+    ensures crew { seat.new.me ≡ (Crew (crew_in seat.old.me.0 ++ views_of passes.items), []) }
+    ensures lists { map vec_items lists.new.items ≡ map vec_items lists.old.items ++ lists_in passes.items }
+{
+    for pass in passes {
+        let Walker {
+            seat: own, entries, ..
+        } = pass;
+        board.shared.join_seat::<Gather>(seat, own);
+        lists.push_reserved(entries);
+    }
+}
+
+/// Frees the table. In its last state the seat's passes are what they were.
+pub(crate) fn close<L: Layout>(board: Board<L>, seat: Place<L>)
+    requires { seat.table_id ≡ board.shared.table_id }
+    ensures { (table : State (Slot L.Part) (View L.Part)) × Seen (Ruled
+        (layouts_on L.object L.tag_of L.ways L.whole L.serves L.admitted L.act_of board.shared.key.procs board.shared.key.callers.items)
+        board.shared.key.layouts.items (length board.shared.key.callers.items)) seat.id seat.me.0 table }
+{
+    let mut closed = board.close_with(seat);
+    let mut slot = 0;
+    while slot < closed.slot_count() {
+        drop(closed.take(slot));
+        slot += 1;
+    }
+    closed.free();
+}
