@@ -53,5 +53,7 @@ pub mod Joining
 pub mod Gathering
 pub mod Ending
 pub mod Showing
+pub mod Carrying
+pub mod Naming
 pub mod Starting
 pub mod Plans

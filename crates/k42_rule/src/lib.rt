@@ -11,11 +11,13 @@ mod freeing;
 mod generating;
 mod grace_words;
 mod gracing;
+mod queueing;
 mod laws;
 mod noting;
 mod pass;
 mod plays;
 mod receipts;
+mod retired;
 mod slot_plays;
 mod slots;
 mod stamps;
@@ -36,11 +38,13 @@ pub use cell::{Cell, Content};
 pub use drawing::{draw_alone, draw_call, draw_mark};
 pub use freeing::free;
 pub use generating::{enter_step, leave_step};
+pub use queueing::{Rows, pop_row, push_row};
 pub use laws::{
     freed_rows_stay_freed, rows_have_one_name, rows_inside_are_present, shown_states_are_safe,
 };
 pub use gracing::{flip, generation_step, give_role, look, take_role};
 pub use pass::{Pass, Walker};
+pub use retired::{Carried, Retired, Slip};
 pub use swap_begins::begin_step;
 pub use swapping::{block_step, clear_step, entry_step, move_step, turn_over};
 pub use sys::{Sys, Unfinished};
