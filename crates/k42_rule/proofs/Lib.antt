@@ -57,3 +57,4 @@ pub mod Carrying
 pub mod Naming
 pub mod Starting
 pub mod Plans
+pub mod Listed
