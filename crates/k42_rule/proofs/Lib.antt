@@ -58,3 +58,4 @@ pub mod Carrying
 pub mod Naming
 pub mod Starting
 pub mod Plans
+pub mod Listed
