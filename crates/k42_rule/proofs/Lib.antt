@@ -27,10 +27,14 @@ pub mod PartLaws
 pub mod PartsDue
 pub mod PutBack
 pub mod CellsDrawn
+pub mod CellsHanded
 pub mod Drawers
 pub mod DrawnAlone
 pub mod CellsTold
 pub mod Noted
+pub mod RowCells
+pub mod HandedNotes
+pub mod HandedParts
 pub mod DrawnParts
 pub mod DrawnAt
 pub mod DrawnMark

@@ -10,6 +10,8 @@ mod drawing;
 mod generating;
 mod grace_words;
 mod gracing;
+mod hand_words;
+mod handing;
 mod laws;
 mod noting;
 mod pass;
@@ -38,6 +40,7 @@ pub use laws::{
     freed_rows_stay_freed, rows_have_one_name, rows_inside_are_present, shown_states_are_safe,
 };
 pub use gracing::{flip, generation_step, give_role, look, take_role};
+pub use handing::draw_done;
 pub use pass::{Pass, Walker};
 pub use swap_begins::begin_step;
 pub use swapping::{block_step, clear_step, entry_step, move_step, turn_over};

@@ -19,7 +19,7 @@ pub struct Sys<L: Layout> {
     pub(crate) board: Board<L>,
     /// The layouts with which the objects were started.
     layouts: Vec<L>,
-    procs: u32,
+    pub(crate) procs: u32,
 }
 
 /// There was no memory for the list of lists. The system and its passes are as they were.
