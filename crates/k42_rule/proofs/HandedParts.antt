@@ -133,13 +133,13 @@ module _ {S L P : Type 0} (F : Layouts S L P) (laws : AreLaws F) (declared : Lis
         absurd (not (ap object_of is.same ∙ object_of-cell o j is.place small) (omega (arith, place, high)))
 
   record IsElse (n : ℕ) : Type 0 where
-    from : names from n ≡ false
-    onto : names onto n ≡ false
+    unclosed : names from n ≡ false
+    unbegun : names onto n ≡ false
 
   else_is : (n : ℕ) → (object_of n ≡ o → place_of n < procs → ⊥) → IsElse n
   else_is n not = record {
-    from = ap (λ cells. names cells n) possible.may.beside.closes ∙ unnamed i n not;
-    onto = ap (λ cells. names cells n) possible.may.beside.begins ∙ unnamed (i + 1) n not;
+    unclosed = ap (λ cells. names cells n) possible.may.beside.closes ∙ unnamed i n not;
+    unbegun = ap (λ cells. names cells n) possible.may.beside.begins ∙ unnamed (i + 1) n not;
   }
 
   part_closed : (n : ℕ) → names from n ≡ true → part_after n ≡ fresh n
@@ -151,7 +151,7 @@ module _ {S L P : Type 0} (F : Layouts S L P) (laws : AreLaws F) (declared : Lis
 
   part_else : (n : ℕ) → IsElse n → part_after n ≡ contents.part n
   part_else n is =
-      ap (λ b. cond b (fresh n) (cond (names onto n) (fresh n) (contents.part n))) is.from ∙ ap (λ b. cond b (fresh n) (contents.part n)) is.onto
+      ap (λ b. cond b (fresh n) (cond (names onto n) (fresh n) (contents.part n))) is.unclosed ∙ ap (λ b. cond b (fresh n) (contents.part n)) is.unbegun
 
   -- lives
 
@@ -168,7 +168,7 @@ module _ {S L P : Type 0} (F : Layouts S L P) (laws : AreLaws F) (declared : Lis
       ∙ (cell_begins i (cell_in s o i p) (cell_in s o (i + 1) p) entry (lives p lt)).life
 
   life_else : (n : ℕ) → IsElse n → (cell t n).life ≡ (cell s n).life
-  life_else n is = ap (λ (z : Cell). z.life) (at_unnamed F declared s r.sound.cells.locks c from onto to entry possible.may named n is.from is.onto)
+  life_else n is = ap (λ (z : Cell). z.life) (at_unnamed F declared s r.sound.cells.locks c from onto to entry possible.may named n is.unclosed is.unbegun)
 
   -- the hand leaves the parts of the row, and begins the next with what its layout imports
   pub record Hands : Type 0 where
