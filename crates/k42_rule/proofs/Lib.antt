@@ -35,6 +35,7 @@ pub mod Noted
 pub mod RowCells
 pub mod HandedNotes
 pub mod HandedParts
+pub mod HandedCells
 pub mod HandedOn
 pub mod DrawnParts
 pub mod DrawnAt

@@ -16,12 +16,12 @@ use crate::cell::{Cell, Content};
 use crate::draw_plays::{Draw, Said};
 use k42_kinds::{Entry, Layout};
 
-/// The number of the first of these cells.
-pub(crate) fn first_number<P: Drop>(cells: &[Content<P>]) -> u32
-    ensures is { result ≡ first_cell (numbers_of cells.now) }
+/// The number of the cell at this place, or 0.
+pub(crate) fn number_at<P: Drop>(cells: &[Content<P>], place: usize) -> u32
+    ensures is { result ≡ first_cell (numbers_of (drop place cells.now)) }
     ensures few { result < 320 }
 {
-    match cells.first() {
+    match cells.get(place) {
         Some(cell) => cell.number,
         None => 0,
     }
@@ -44,7 +44,7 @@ pub(crate) fn hand_word<L: Layout, K: Said<L::Part>>(
     ensures told { IsSeatOf seat.new.me (hands_at (take board.now.shared.key.procs cells.now) (drop board.now.shared.key.procs cells.now) entry.now (L.tag_of to.now) (pass_in seat.old.me.0)) × HasSmallStamp (hands_at (take board.now.shared.key.procs cells.now) (drop board.now.shared.key.procs cells.now) entry.now (L.tag_of to.now) (pass_in seat.old.me.0)) }
     ensures event { (found : ℕ) → StepIs (layouts_on L.object L.tag_of L.ways L.whole L.serves L.admitted L.act_of board.now.shared.key.procs board.now.shared.key.callers.items) board.now.shared.key.layouts.items (HandWith (pass_in seat.old.me.0).number (numbers_of (take board.now.shared.key.procs cells.now)) (numbers_of (drop board.now.shared.key.procs cells.now)) to.now entry.now) (lock_word (first_cell (numbers_of cells.now))) (λ word. word) seat.old.id (pass_in seat.old.me.0) found (pass_in seat.new.me.0) }
 {
-    let number = first_number(cells) as usize;
+    let number = number_at(cells, 0) as usize;
     board
         .shared
         .load::<Draw<K>>(seat, 48 + 64 * (number % 8) + number / 8);

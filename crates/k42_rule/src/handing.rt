@@ -12,7 +12,7 @@ ghost use Rattle.k42_rule.specs.Words.{lock_word};
 
 use crate::cell::Cell;
 use crate::drawing::incarnation_at;
-use crate::hand_words::{first_number, hand_word};
+use crate::hand_words::{hand_word, number_at};
 use crate::pass::Pass;
 use crate::receipts::tell_all;
 use crate::stamps::{last_at, stamp_after};
@@ -38,6 +38,34 @@ fn object_at(swap: &SwapAt) -> u32
         | SwapAt::Opening(object, _)
         | SwapAt::Reopening(object, _)
         | SwapAt::Opened(object) => object,
+    }
+}
+
+/// The entry that tells of the swap.
+fn done_entry<L: Layout>(
+    sys: &Sys<L>,
+    pass: &Pass<L>,
+    cells: &[Cell<L>],
+    to: &L,
+    answer: Answer,
+) -> Entry
+    requires may { MayHandOn
+        (layouts_on L.object L.tag_of L.ways L.whole L.serves L.admitted L.act_of sys.now.procs sys.now.callers)
+        sys.now.layouts (take sys.now.procs cells.now) (drop sys.now.procs cells.now) to.now answer pass.now.view }
+    ensures { result ≡ entry_hand pass.now.view (numbers_of (take sys.now.procs cells.now)) (numbers_of (drop sys.now.procs cells.now)) (L.act_of to.now) answer }
+{
+    let stamp = stamp_after(pass.entries.as_slice(), last_at(cells));
+    Entry {
+        stamp,
+        caller: pass.number,
+        index: pass.entries.len() as u32,
+        object: object_at(&pass.swap),
+        incarnation: incarnation_at(&pass.last),
+        cell: number_at(cells, sys.procs as usize),
+        act: to.act(),
+        answer,
+        proc: pass.home,
+        generation: None,
     }
 }
 
@@ -71,24 +99,12 @@ pub fn draw_done<L: Layout>(
         (lock_word (first_cell (numbers_of cells.old.items))) (λ word. word)
         pass.old.seat pass.old.view found (untold_view (numbers_of cells.old.items) pass.new.view) }
 {
-    let procs = sys.procs as usize;
-    let tag = to.tag();
-    let stamp = stamp_after(pass.entries.as_slice(), last_at(cells.as_slice()));
-    let entry = Entry {
-        stamp,
-        caller: pass.number,
-        index: pass.entries.len() as u32,
-        object: object_at(&pass.swap),
-        incarnation: incarnation_at(&pass.last),
-        cell: first_number(&cells[procs..]),
-        act: to.act(),
-        answer,
-        proc: pass.home,
-        generation: None,
-    };
+    let entry = done_entry(sys, pass, cells.as_slice(), to, answer);
+    let stamp = entry.stamp;
     hand_word::<L, Brand>(&sys.board, &mut pass.seat, cells.as_slice(), to, &entry);
+    let procs = sys.procs as usize;
     tell_all(&sys.board, &mut pass.seat, cells.as_mut_slice(), procs, true, stamp);
-    pass.handed = Some(tag);
+    pass.handed = Some(to.tag());
     pass.entries.push_reserved(entry);
     stamp
 }
