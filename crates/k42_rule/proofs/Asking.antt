@@ -1,5 +1,5 @@
 -- Asking for the generation of the processors is allowed to a pass that is about to flip the first.
-use Rattle.std.proofs.Common.{◌≡◌, ◌≢◌, ℕ, ◌+◌, ◌*◌, ◌/◌, ◌^◌, ◌<◌, Bool, false, ltb, List, [], ◌∷◌, Option, Some, None, get_or, set, sym, refl, ap, ◌∙◌, arith, le_refl}
+use Rattle.std.proofs.Common.{◌≡◌, ◌≢◌, ℕ, false, ltb, List, [], ◌∷◌, Some, get_or, set, sym, refl, ap, ◌∙◌, arith, le_refl}
 use Rattle.std.specs.List.{slice_get}
 use Rattle.std.proofs.lemmas.Bool.{le-ltb}
 use Rattle.std.proofs.lemmas.Option.{slice_get-get_or, same_Some}
@@ -7,15 +7,15 @@ use mathlib.Core.Option.{some}
 use lib.ListN.{get_elem?}
 use Rattle.atomic_table.specs.Table.{State}
 use Rattle.gen_core.specs.Sound.{generation_of, is_flipped}
-use Rattle.gen_core.specs.State.{caller_at, proc_at, fresh_proc}
+use Rattle.gen_core.specs.State.{proc_at, fresh_proc}
 use Rattle.gen_core.specs.declared.state.GenProc.{GenProc}
 use Rattle.gen_core.specs.declared.state.GraceAt.{GraceAt}
-use Rattle.gen_core.specs.declared.state.GraceAt.TheVariants.{Idle, Flipping}
+use Rattle.gen_core.specs.declared.state.GraceAt.TheVariants.{Idle}
 use Rattle.gen_core.proofs.Ranges.{next_fits}
 use Rattle.k42_stamp.specs.Layouts.{Layouts}
 use Rattle.k42_rule.specs.Cells.{Slot}
 use Rattle.k42_rule.specs.Gracing.{MayAskGeneration, asked_view, GenerationFound}
-use Rattle.k42_rule.specs.Rule.{KnowsPass, Rule}
+use Rattle.k42_rule.specs.Rule.{Rule}
 use Rattle.k42_rule.specs.Values.{generation_in}
 use Rattle.k42_rule.specs.Words.{generation_word}
 use Rattle.k42_rule.specs.declared.view.PassView.{PassView}

@@ -1,8 +1,6 @@
 -- Flipping a processor is allowed to a pass that knows what its next generation counts on from.
-use Rattle.std.proofs.Common.{◌≡◌, ◌≢◌, ℕ, zero, suc, ◌+◌, ◌*◌, ◌%◌, ◌^◌, ◌<◌, ◌≤◌, Bool, true, false, cond, eqb, ltb, List, [], ◌∷◌, Option, Some, None, length, get_or, set, sym, refl, ap, ◌∙◌, subst, ⊎_elim, arith, le_refl, length-set, get_or-set_same, get_or-set_other}
-use Rattle.std.specs.List.{slice_get, slice_index}
-use Rattle.std.specs.Option.{unwrap_or}
-use Rattle.std.proofs.lemmas.Bool.{ltb-true, le-ltb, lt-ltb}
+use Rattle.std.proofs.Common.{◌≡◌, ◌≢◌, ℕ, ◌+◌, ◌<◌, ◌≤◌, Bool, true, false, cond, ltb, List, [], ◌∷◌, Option, Some, None, length, get_or, set, sym, refl, ap, ◌∙◌, subst, ⊎_elim, arith, length-set, get_or-set_same, get_or-set_other}
+use Rattle.std.specs.List.{slice_get}
 use Rattle.std.proofs.lemmas.Option.{slice_get_within, slice_get-get_or, same_Some}
 use mathlib.Core.Option.{some}
 use lib.ListN.{get_elem?}
@@ -10,7 +8,6 @@ use Rattle.atomic_table.specs.Table.{State, Step, Allows}
 use Rattle.k42_places.specs.Places.{EachPlace}
 use Rattle.k42_places.proofs.EachPlaces.{EachPlace-set_else}
 use Rattle.k42_places.proofs.Written.{at_set}
-use Rattle.gen_core.specs.Consequences.{entries_by}
 use Rattle.gen_core.specs.Events as gens
 use Rattle.gen_core.specs.Events.{is_idle, place_of, turn_of, caller_flipped, proc_flipped, after_flip}
 use Rattle.gen_core.specs.Plain.{Generations, Caller}
@@ -37,7 +34,7 @@ use Rattle.k42_rule.specs.Rule.{KnowsPass, Rule, Ruled}
 use Rattle.k42_rule.specs.Seen.{IsSeatOf}
 use Rattle.k42_rule.specs.Steps.{Seated, Tells}
 use Rattle.k42_rule.specs.Values.{generation_value}
-use Rattle.k42_rule.specs.Words.{generation_word, exits_word, role_word, many_words}
+use Rattle.k42_rule.specs.Words.{generation_word, exits_word, role_word}
 use Rattle.k42_rule.specs.declared.view.PassView.{PassView}
 use Rattle.k42_rule.specs.declared.view.View.{View}
 use Rattle.k42_rule.specs.declared.view.View.TheVariants.{Crew}
@@ -170,18 +167,25 @@ module _ {S L P : Type 0} (F : Layouts S L P) (laws : AreLaws F) (declared : Lis
   flips : EachPlace (λ q l. (old : GenProc) × (slice_get s.procs q ≡ Some old) × (flips_of g q l ≤ flips_of s q old + 0)) g.procs
   flips q l e =
       ⊎_elim
-      (λ is. (k, ap (slice_get s.procs) is.0 ∙ at_p,
-      let after = now q in let before = was q in
-      let done : is_flipped (after_flip p n) q ≡ true = ap (is_flipped (after_flip p n)) is.0 ∙ flipped-after_flip_here p n p_there in
-      let still : ltb q p ≡ false = ap (λ (m : ℕ). ltb m p) is.0 ∙ ltb_same p in
-      let more : l.generation ≡ k.generation + 1 = ap (λ (z : GenProc). z.generation) (sym is.1) in
-      let none : will_flip g.role (grace_of g g.role) q ≡ 0 = after ∙ ap (λ (b : Bool). cond b 0 1) done in
-      let one : will_flip s.role (grace_of s s.role) q ≡ 1 = before ∙ ap (λ (b : Bool). cond b 0 1) still in
-      omega (arith, none, one, more)))
-      (λ old. (l, old.1, let after = now q in let before = was q in
-      let same : is_flipped (after_flip p n) q ≡ ltb q p = flipped-after_flip_else p n p_there q (slice_get_within s.procs q l old.1) old.0 in
-      let equal : will_flip g.role (grace_of g g.role) q ≡ will_flip s.role (grace_of s s.role) q = after ∙ ap (λ (b : Bool). cond b 0 1) same ∙ sym before in
-      omega (arith, equal)))
+      (λ is. (
+        k,
+        ap (slice_get s.procs) is.0 ∙ at_p,
+        let after = now q in let before = was q in
+            let done : is_flipped (after_flip p n) q ≡ true = ap (is_flipped (after_flip p n)) is.0 ∙ flipped-after_flip_here p n p_there in
+            let still : ltb q p ≡ false = ap (λ (m : ℕ). ltb m p) is.0 ∙ ltb_same p in
+            let more : l.generation ≡ k.generation + 1 = ap (λ (z : GenProc). z.generation) (sym is.1) in
+            let none : will_flip g.role (grace_of g g.role) q ≡ 0 = after ∙ ap (λ (b : Bool). cond b 0 1) done in
+            let one : will_flip s.role (grace_of s s.role) q ≡ 1 = before ∙ ap (λ (b : Bool). cond b 0 1) still in
+            omega (arith, none, one, more),
+      ))
+      (λ old. (
+        l,
+        old.1,
+        let after = now q in let before = was q in
+            let same : is_flipped (after_flip p n) q ≡ ltb q p = flipped-after_flip_else p n p_there q (slice_get_within s.procs q l old.1) old.0 in
+            let equal : will_flip g.role (grace_of g g.role) q ≡ will_flip s.role (grace_of s s.role) q = after ∙ ap (λ (b : Bool). cond b 0 1) same ∙ sym before in
+            omega (arith, equal),
+      ))
       (at_set s.procs p q k' l e)
     where
       held : s.role ≡ Some c
@@ -267,8 +271,8 @@ pub flip_moves : {S L P : Type 0} (F : Layouts S L P) → AreLaws F → (declare
 flip_moves F laws declared id p v may = record { from = λ table r at. flips_on F laws declared table r id v at p may }
 
 pub flip_allowed : {S L P : Type 0} (F : Layouts S L P) → AreLaws F → (declared : List L) (id callers p : ℕ) (v : PassView P) (me : Seated P) → IsSeatOf me v
-    → MayFlip p v → (word : ℕ) → word ≡ flip_word v → (slots : ℕ) (step : Step (Slot P))
-    → Allows (Ruled F declared callers) slots id me (generation_word p) (λ n. word) (Tells flipped_view step me)
-flip_allowed F laws declared id callers p v me is may word same slots step =
+    → MayFlip p v → (stored : ℕ) → stored ≡ flip_word v → (slots : ℕ) (step : Step (Slot P))
+    → Allows (Ruled F declared callers) slots id me (generation_word p) (λ n. stored) (Tells flipped_view step me)
+flip_allowed F laws declared id callers p v me is may stored same slots step =
     subst (λ (z : ℕ). Allows (Ruled F declared callers) slots id me (generation_word p) (λ n. z) (Tells flipped_view step me)) (sym same)
     (seat_allowed (flip_moves F laws declared id p v may) me is slots step)

@@ -1,7 +1,6 @@
 -- Giving the role back is allowed to a quiet pass that has freed the rows of the object that it swaps.
-use Rattle.std.proofs.Common.{◌≡◌, ◌≢◌, ℕ, zero, suc, ◌+◌, ◌*◌, ◌^◌, ◌<◌, ◌≤◌, Bool, true, false, List, [], ◌∷◌, Option, Some, None, length, get_or, set, take, drop, replicate, sym, refl, ap, ◌∙◌, subst, arith, le_refl, length-set, get_or-set_same, get_or-set_other}
-use Rattle.std.specs.List.{slice_get, slice_index}
-use Rattle.std.specs.Bool.{MatchBool}
+use Rattle.std.proofs.Common.{◌≡◌, ◌≢◌, ℕ, zero, suc, ◌+◌, ◌<◌, Bool, true, false, List, [], ◌∷◌, Some, length, get_or, set, drop, replicate, sym, refl, ap, ◌∙◌, subst, arith, le_refl, length-set, get_or-set_same, get_or-set_other}
+use Rattle.std.specs.List.{slice_get}
 use Rattle.std.proofs.lemmas.Bool.{le-leb, MatchBool-at_false, ltb-true, ltb-false}
 use Rattle.std.proofs.lemmas.List.{get_or-replicate, get_or_past, length-replicate}
 use Rattle.std.proofs.lemmas.Option.{slice_get_within}
@@ -15,12 +14,11 @@ use Rattle.gen_core.specs.Events.{is_idle, role_given}
 use Rattle.gen_core.specs.Plain.{Generations, Caller}
 use Rattle.gen_core.specs.State.{caller_at, proc_at}
 use Rattle.gen_core.specs.declared.event.GenEvent.TheVariants.{GiveRole}
-use Rattle.gen_core.specs.declared.state.GenProc.{GenProc}
 use Rattle.gen_core.specs.declared.state.GraceAt.TheVariants.{Quiet}
 use Rattle.gen_core.specs.declared.state.GraceAt.TheVariants as graces
 use Rattle.phase_core.specs.Event.{Turn}
 use Rattle.phase_core.specs.Events.{may_give}
-use Rattle.phase_core.specs.Plain.{Object, Visitor, Phases}
+use Rattle.phase_core.specs.Plain.{Visitor}
 use Rattle.phase_core.specs.Stages.{named_by}
 use Rattle.phase_core.specs.State.{object_at, visitor_at, note_at, span_at}
 use Rattle.phase_core.specs.declared.caller.SwapAt.{SwapAt}
@@ -32,16 +30,15 @@ use Rattle.k42_stamp.specs.Layouts.{Layouts}
 use Rattle.k42_joined.specs.Effects.{effect}
 use Rattle.k42_joined.specs.Event.{AtPhases}
 use Rattle.k42_joined.specs.Possible.{IsPossible}
-use Rattle.k42_joined.specs.State.{held}
 use Rattle.k42_joined.specs.Swapping.{holds_none}
 use Rattle.k42_rule.specs.Cells.{Slot}
 use Rattle.k42_rule.specs.Generations.{AreGenerations}
 use Rattle.k42_rule.specs.Gracing.{MayGiveRole, given_view, RowsGiven}
 use Rattle.k42_rule.specs.Phases.{IsOld}
-use Rattle.k42_rule.specs.Rule.{AreOnce, NamesRows, KnowsPass, Rule, Ruled}
+use Rattle.k42_rule.specs.Rule.{AreOnce, KnowsPass, Rule, Ruled}
 use Rattle.k42_rule.specs.Seen.{IsSeatOf}
 use Rattle.k42_rule.specs.Steps.{Seated, TellsWith}
-use Rattle.k42_rule.specs.Words.{generation_word, exits_word, role_word, many_words}
+use Rattle.k42_rule.specs.Words.{role_word}
 use Rattle.k42_rule.specs.declared.view.PassView.{PassView}
 use Rattle.k42_rule.specs.declared.view.Row.{Row}
 use Rattle.k42_rule.specs.declared.view.View.{View}
@@ -121,7 +118,7 @@ module _ {S L P : Type 0} (F : Layouts S L P) (laws : AreLaws F) (declared : Lis
         let holds : r.sound.phases.scene.course.holder ≡ Some c = sym r.sound.phases.in_scene.in_course.role ∙ held_role in
         let note : note_at v.visitor.noted o ≡ Some look.incarnation =
         ap (λ (z : Visitor). note_at z.noted o) (sym mine.phases.visitor) ∙ its.frees_alone.noted holds o ∙ noted in
-        let freed = mine.phases.rows.swept o look.incarnation (may.swept o own) note in
+        let freed = mine.phases.rows.swept o look.incarnation (may.swept o look.incarnation own note) note in
         let same = known.bits_follow.incarnation in
         le-leb (object_at r.state.phases o).incarnation (object_at r.state.phases o).freed (omega (arith, freed, same))
     by_swap swap is = refl

@@ -1,6 +1,5 @@
 -- What is so while a pass has a grace under way.
-use Rattle.std.proofs.Common.{◌≡◌, ◌≢◌, ℕ, ◌+◌, ◌*◌, ◌/◌, ◌^◌, ◌<◌, ◌≤◌, Bool, true, false, List, [], ◌∷◌, Option, Some, None, length, get_or, set, sym, refl, ap, subst, ◌∙◌, arith, le_refl, length-set}
-use Rattle.std.specs.List.{slice_get}
+use Rattle.std.proofs.Common.{◌≡◌, ◌≢◌, ℕ, ◌<◌, ◌≤◌, Bool, true, false, List, [], ◌∷◌, Some, length, sym, refl, ap, subst, ◌∙◌, arith, le_refl}
 use Rattle.std.proofs.lemmas.Bool.{ltb-true, ltb-false, le-ltb}
 use Rattle.std.proofs.lemmas.List.{get_or_past}
 use Rattle.std.proofs.lemmas.Option.{slice_get-get_or, same_Some}
@@ -14,7 +13,6 @@ use Rattle.gen_core.specs.Plain.{Generations, Caller}
 use Rattle.gen_core.specs.Sound as gen
 use Rattle.gen_core.specs.Sound.{IsHolder, is_flipped, generation_of}
 use Rattle.gen_core.specs.State.{caller_at, proc_at, fresh_proc}
-use Rattle.gen_core.specs.declared.state.GenProc.{GenProc}
 use Rattle.gen_core.specs.declared.state.GraceAt.{GraceAt}
 use Rattle.gen_core.specs.declared.state.GraceAt.TheVariants as graces
 use Rattle.gen_core.proofs.Courses.{at_caller}
@@ -25,9 +23,7 @@ use Rattle.phase_core.proofs.Ranges.{turns_sound, some_procs}
 use Rattle.phase_core.proofs.Reached.{turn_there}
 use Rattle.k42_stamp.specs.Layouts.{Layouts}
 use Rattle.k42_rule.specs.Cells.{Slot}
-use Rattle.k42_rule.specs.Generations.{Counts, IsProcessorShown, AreGenerations, IsProcessorBegun}
 use Rattle.k42_rule.specs.Rule.{KnowsPass, Rule}
-use Rattle.k42_rule.specs.Words.{generation_word, exits_word, role_word}
 use Rattle.k42_rule.specs.declared.view.PassView.{PassView}
 use Rattle.k42_rule.specs.declared.view.View.{View}
 use Rattle.k42_rule.specs.declared.view.View.TheVariants.{Crew}

@@ -1,24 +1,20 @@
 -- Leaving is allowed to a pass in an activity and inside no call.
-use Rattle.std.proofs.Common.{◌≡◌, ◌≢◌, ℕ, ◌+◌, ◌-◌, ◌*◌, ◌/◌, ◌%◌, ◌^◌, ◌<◌, ◌≤◌, Bool, true, false, cond, eqb, ltb, List, [], ◌∷◌, Option, Some, None, length, get_or, set, sym, refl, ap, ◌∙◌, subst, ⊎_elim, arith, le_refl, length-set, get_or-set_same, get_or-set_other}
-use Rattle.std.specs.List.{slice_get, slice_index}
-use Rattle.std.specs.Prelude.{sum}
-use Rattle.std.proofs.lemmas.Bool.Decides.{nat_tests}
-use Rattle.std.proofs.lemmas.Bool.{and_parts, lt-ltb, eqb-true, eqb-false}
-use Rattle.std.proofs.lemmas.Option.{slice_get_within, slice_get-get_or}
-use Rattle.std.proofs.lemmas.List.Sums.{sum_by-set, sum_by-le}
+use Rattle.std.proofs.Common.{◌≡◌, ◌≢◌, ℕ, ◌+◌, ◌-◌, ◌%◌, ◌^◌, ◌<◌, Bool, true, false, cond, eqb, ltb, List, [], ◌∷◌, Some, None, length, get_or, set, sym, refl, ap, ◌∙◌, subst, ⊎_elim, arith, length-set, get_or-set_same, get_or-set_other}
+use Rattle.std.specs.List.{slice_get}
+use Rattle.std.proofs.lemmas.Bool.{lt-ltb, eqb-true, eqb-false}
+use Rattle.std.proofs.lemmas.Option.{slice_get-get_or}
 use mathlib.Core.Option.{some}
 use lib.ListN.{get_elem?}
 use Rattle.atomic_table.specs.Table.{State}
 use Rattle.k42_places.specs.Places.{EachPlace}
 use Rattle.k42_places.proofs.Written.{at_set, get_or-set_related}
-use Rattle.k42_places.proofs.EachPlaces.{EachPlace-set_else, EachPlace-set}
+use Rattle.k42_places.proofs.EachPlaces.{EachPlace-set_else}
 use Rattle.gen_core.specs.Events.{is_even, exits_of, can_leave, home_of, caller_left, proc_left, exit_counted}
 use Rattle.gen_core.specs.Sound.{FitsFields}
 use Rattle.gen_core.specs.Plain.{Generations, Caller}
-use Rattle.gen_core.specs.State.{caller_at, proc_at, fresh_proc}
+use Rattle.gen_core.specs.State.{caller_at, fresh_proc}
 use Rattle.gen_core.specs.declared.event.GenEvent.TheVariants.{Leave}
 use Rattle.gen_core.specs.declared.state.GenProc.{GenProc}
-use Rattle.gen_core.specs.declared.state.GraceAt.{GraceAt}
 use Rattle.gen_core.specs.Events as gens
 use Rattle.gen_core.specs.Sound as gen
 use Rattle.phase_core.proofs.Reached.{turn_there}
@@ -35,9 +31,8 @@ use Rattle.k42_joined.specs.Event.{AtPhases}
 use Rattle.k42_joined.specs.Possible.{IsPossible}
 use Rattle.k42_rule.specs.Cells.{Slot}
 use Rattle.k42_rule.specs.Generating.{MayLeave, left_view}
-use Rattle.k42_rule.specs.Generations.{Counts, MOST, AreFew, IsProcessorShown, IsProcessorBegun, AreGenerations, KnowsGenerations, grace_of, will_flip}
-use Rattle.k42_rule.specs.Rule.{Beside, KnowsPass, Rule}
-use Rattle.k42_rule.specs.Values.{generation_value, generation_in}
+use Rattle.k42_rule.specs.Generations.{IsProcessorShown, AreGenerations}
+use Rattle.k42_rule.specs.Rule.{KnowsPass, Rule}
 use Rattle.k42_rule.specs.Words.{generation_word, exits_word, role_word, many_words}
 use Rattle.k42_rule.specs.declared.view.PassView.{PassView}
 use Rattle.k42_rule.specs.declared.view.View.{View}

@@ -12,6 +12,7 @@ pub mod Asking
 pub mod Looks
 pub mod Flips
 pub mod Gives
+pub mod Frees
 pub mod AtTables
 pub mod Fields
 pub mod Looking
@@ -40,6 +41,8 @@ pub mod HandedOn
 pub mod DrawnParts
 pub mod DrawnAt
 pub mod DrawnMark
+pub mod RowCells
+pub mod DrawnCall
 pub mod Beginning
 pub mod Staging
 pub mod EntryTurns
@@ -56,5 +59,7 @@ pub mod Joining
 pub mod Gathering
 pub mod Ending
 pub mod Showing
+pub mod Carrying
+pub mod Naming
 pub mod Starting
 pub mod Plans

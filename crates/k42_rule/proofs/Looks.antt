@@ -1,8 +1,7 @@
 -- Reading the exits of a processor is allowed to a pass whose grace is there.
-use Rattle.std.proofs.Common.{◌≡◌, ◌≢◌, ℕ, zero, suc, ◌+◌, ◌*◌, ◌%◌, ◌^◌, ◌<◌, ◌≤◌, ◌⊎◌, Bool, true, false, not, cond, eqb, ltb, List, [], ◌∷◌, Option, Some, None, length, get_or, set, sym, refl, ap, ◌∙◌, subst, ⊎_elim, arith, le_refl, length-set, get_or-set_same, get_or-set_other}
+use Rattle.std.proofs.Common.{◌≡◌, ◌≢◌, ℕ, zero, suc, ◌+◌, ◌%◌, ◌<◌, ◌≤◌, Bool, true, false, not, cond, eqb, List, [], ◌∷◌, Option, Some, length, get_or, set, sym, refl, ap, ◌∙◌, subst, ⊎_elim, arith, le_refl, length-set, get_or-set_same, get_or-set_other}
 use Rattle.std.specs.List.{slice_get, slice_index}
-use Rattle.std.specs.Prelude.{◌&&◌}
-use Rattle.std.proofs.lemmas.Bool.{eqb-true, eqb-false, ltb-true, ltb-false}
+use Rattle.std.proofs.lemmas.Bool.{eqb-true, eqb-false}
 use Rattle.std.proofs.lemmas.List.{set-get_or}
 use Rattle.std.proofs.lemmas.Option.{slice_get_within, slice_get-get_or}
 use mathlib.Core.Option.{some}
@@ -12,7 +11,7 @@ use Rattle.k42_places.specs.Places.{EachPlace}
 use Rattle.gen_core.specs.Events as gens
 use Rattle.gen_core.specs.Events.{is_idle, is_even, is_flipping, is_looking, exits_of, other_exits, turn_of, looked_ahead, caller_passed, is_drained, place_of, after_look}
 use Rattle.gen_core.specs.Plain.{Generations, Caller}
-use Rattle.gen_core.specs.Sound.{generation_of, is_flipped, is_passed}
+use Rattle.gen_core.specs.Sound.{generation_of, is_flipped}
 use Rattle.gen_core.specs.State.{caller_at, proc_at, put_caller, fresh_proc}
 use Rattle.gen_core.specs.declared.event.GenEvent.{GenEvent}
 use Rattle.gen_core.specs.declared.event.GenEvent.TheVariants.{LookAhead, Look}
@@ -32,23 +31,22 @@ use Rattle.k42_stamp.specs.Laws.{AreLaws}
 use Rattle.k42_stamp.specs.Layouts.{Layouts}
 use Rattle.k42_joined.specs.Effects.{effect}
 use Rattle.k42_joined.specs.Event.{AtPhases}
-use Rattle.k42_joined.specs.Plain.{Joined}
 use Rattle.k42_joined.specs.Possible.{IsPossible}
 use Rattle.k42_rule.specs.Cells.{Slot}
-use Rattle.k42_rule.specs.Generations.{Counts, IsProcessorShown, AreGenerations, KnowsGenerations, will_flip, grace_of}
+use Rattle.k42_rule.specs.Generations.{IsProcessorShown, AreGenerations, will_flip, grace_of}
 use Rattle.k42_rule.specs.Gracing.{LooksAhead, LooksBack, MayLook, look_event, looked_at, looked_view, passed_view, ExitsFound}
-use Rattle.k42_rule.specs.Rule.{KnowsPass, Rule}
+use Rattle.k42_rule.specs.Rule.{Rule}
 use Rattle.k42_rule.specs.Views.{hears}
 use Rattle.k42_rule.specs.Words.{exits_word}
 use Rattle.k42_rule.specs.declared.view.PassView.{PassView}
 use Rattle.k42_rule.specs.declared.view.View.{View}
 use Rattle.k42_rule.specs.declared.view.View.TheVariants.{Crew}
 use Rattle.k42_rule.proofs.Apart.{IsOfGenerations, of_processor}
-use Rattle.k42_rule.proofs.Begun.{begun_goes, flips_of, rises_by}
+use Rattle.k42_rule.proofs.Begun.{begun_goes, flips_of}
 use Rattle.k42_rule.proofs.Holding.{knows, sound, there, turn, procs_few, waits_many, in_step, base_is, role, stage, holder, busy_test, ltb_same}
 use Rattle.k42_rule.proofs.Moves.{Moves, Finds}
 use Rattle.k42_rule.proofs.OnePass.{with_pass}
-use Rattle.k42_rule.proofs.Turning.{IsTurn, turned, visitors_after, state_after, with_counts, own_goes, rows_kept, IsSameSwap, same_swap, drained_swap}
+use Rattle.k42_rule.proofs.Turning.{IsTurn, turned, visitors_after, state_after, own_goes, rows_kept, IsSameSwap, same_swap, drained_swap}
 
 odd_is : (generation parity : ℕ) → parity ≡ generation % 2 → generation % 2 ≢ 0 → parity ≡ 1
 odd_is generation parity is odd = by_bound parity is (λ none. odd (sym is ∙ none)) where

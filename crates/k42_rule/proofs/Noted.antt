@@ -5,12 +5,17 @@ use Rattle.std.specs.Prelude.{map, max}
 use Rattle.std.proofs.lemmas.Bool.{eqb-true, eq-eqb, and_parts, not-true}
 use Rattle.std.proofs.lemmas.List.{length_push}
 use Rattle.std.proofs.lemmas.Option.{same_Some}
+use Rattle.k42_kinds.specs.Histories.{is_call}
+use Rattle.k42_kinds.specs.declared.entry.Act.{Act}
+use Rattle.k42_kinds.specs.declared.entry.Answer.{Answer}
 use Rattle.k42_kinds.specs.declared.entry.Entry.{Entry}
+use Rattle.phase_core.specs.Stages.{object_of, row_of}
+use Rattle.k42_joined.specs.Drawing.{first_cell}
 use Rattle.k42_places.specs.Places.{EachPlace}
 use Rattle.turn_core.specs.Names.{names, names_once}
 use Rattle.turn_core.specs.Stamps.{last_stamp, stamp_of}
 use Rattle.k42_rule.specs.Cells.{cells_noted}
-use Rattle.k42_rule.specs.Drawing.{history_noted, closed_noted, part_noted, last_noted, last_told, numbers_of, part_in, IsHeld, AreHeld, told_note, told_notes, draws_at, untold_view, HasSmallStamp}
+use Rattle.k42_rule.specs.Drawing.{history_noted, closed_noted, part_noted, last_noted, last_told, numbers_of, part_in, IsHeld, AreHeld, told_note, told_notes, draws_at, untold_view, HasSmallStamp, entry_call, stamp_next}
 use Rattle.k42_rule.specs.Receipts.{IsDue, AreDue, closed_due, last_due}
 use Rattle.k42_rule.specs.Seats.{LAST_STAMP, told_by}
 use Rattle.k42_rule.specs.Seen.{IsSeatOf}
@@ -225,3 +230,26 @@ pub view_back : {P : Type 0} (v : PassView P) (contents : List (Content P)) (ent
 view_back v contents entry me seated is cells told =
     ap (λ (m : Seated _). untold_view (numbers_of contents) (pass_in m.0)) told
     ∙ ap (λ (m : Seated _). untold_view (numbers_of contents) (pass_in m.0)) is ∙ sym (ap (λ (m : Seated _). pass_in m.0) is)
+
+-- the entry of a call, field by field
+pub call_entry : {P : Type 0} (v : PassView P) (cells : List ℕ) (act : Act) (answer : Answer) (stamp caller index object incarnation cell proc : ℕ) (generation : Option ℕ)
+    → stamp ≡ stamp_next v cells → caller ≡ v.number → index ≡ length v.taker.mine → object ≡ object_of v.visitor.place → incarnation ≡ row_of v.visitor.place
+    → cell ≡ first_cell cells → proc ≡ v.turn.proc → generation ≡ v.turn.active → is_call act ≡ true
+    → record { stamp = stamp; caller = caller; index = index; object = object; incarnation = incarnation; cell = cell; act = act; answer = answer; proc = proc; generation = generation }
+    ≡ entry_call v cells act answer
+call_entry v cells act answer stamp caller index object incarnation cell proc generation e1 e2 e3 e4 e5 e6 e7 e8 call = λ i. record {
+  stamp = e1 i;
+  caller = e2 i;
+  index = e3 i;
+  object = e4 i;
+  incarnation = e5 i;
+  cell = e6 i;
+  act = act;
+  answer = answer;
+  proc = e7 i;
+  generation = (e8 ∙ sym (ap (λ b. cond b v.turn.active None) call)) i;
+}
+
+pub stamp_held : {P : Type 0} (v : PassView P) (contents : List (Content P)) (entries : List Entry) (stamp last : ℕ) → AreHeld v.notes contents → entries ≡ v.taker.mine
+    → last ≡ last_told contents → stamp ≡ max (last_stamp entries) last + 1 → stamp ≡ stamp_next v (numbers_of contents)
+stamp_held v contents entries stamp last held mine last_is is = is ∙ (λ i. max (last_stamp (mine i)) ((last_is ∙ last_held v.notes contents held) i) + 1)

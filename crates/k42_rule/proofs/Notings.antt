@@ -1,16 +1,19 @@
 -- What a pass notes as it takes the role, as notes of objects.
-use Rattle.std.proofs.Common.{◌≡◌, ◌≢◌, ℕ, zero, suc, ◌+◌, ◌<◌, ◌≤◌, ◌⊎◌, Bool, true, false, cond, eqb, ltb, leb, List, [], ◌∷◌, Option, Some, None, length, get_or, sym, refl, ap, ◌∙◌, inl, inr, ⊎_elim, le_refl, arith}
-use Rattle.std.specs.List.{slice_get, list_all, All, AllByRecursion, count_by}
+use Rattle.std.proofs.Common.{◌≡◌, ℕ, zero, suc, ◌+◌, ◌<◌, ◌≤◌, Bool, true, false, cond, eqb, leb, List, [], ◌∷◌, ◌++◌, Option, Some, None, length, get_or, set, drop, sym, refl, ap, ◌∙◌, arith}
+use Rattle.std.specs.List.{slice_get, list_all, All, AllByRecursion}
 use Rattle.std.specs.Option.{unwrap_or}
 use Rattle.std.specs.Prelude.{max}
-use Rattle.std.proofs.Math.Nat.{le-max_left, le-max_right, max-eq_left, max-eq_right}
+use Rattle.std.proofs.Math.Seq.{set-append_seam}
+use Rattle.std.proofs.Math.Nat.{zero-add, le-max_left, le-max_right, max-eq_left, max-eq_right}
 use Rattle.std.proofs.lemmas.List.Sums.{sum_by-cons}
 use Rattle.std.proofs.lemmas.Bool.{eq-eqb, ne_eqb, eqb-true, leb-true, leb-false}
-use Rattle.std.proofs.lemmas.List.{same_lists}
+use Rattle.std.proofs.lemmas.List.{same_lists, append_assoc}
 use Rattle.std.proofs.lemmas.List.Elements.{All-from_recursion}
-use Rattle.std.proofs.lemmas.Option.{same_Some, slice_get_within, slice_get-get_or, get_or_from_slice_get}
+use Rattle.std.proofs.lemmas.Option.{same_Some, slice_get-get_or, get_or_from_slice_get}
 use Rattle.k42_kinds.specs.Rows.{made_from}
 use Rattle.k42_places.specs.Places.{EachPlace}
+use Rattle.k42_kinds.proofs.RowSteps.{made_from_push}
+use Rattle.k42_places.proofs.Rests.{drop_at}
 use Rattle.k42_places.proofs.Counts.{count_by_some, count_by_none}
 use Rattle.phase_core.specs.Notes.{note_of, numbers_of, times_named, name_each_once, fits_note, fit_notes}
 use Rattle.phase_core.specs.Plain.{Object}
@@ -151,19 +154,19 @@ pub rows_fit : (k : Object) (o : ℕ) (rows : List Row) (n : ℕ)
 rows_fit k o [] n each e = absurd (cc)
 rows_fit k o (row ∷ rows) n each e =
     by_test (λ m here. rows_fit k o rows m (λ i x at. each (suc i) x at) here) (eqb row.object o) refl e where
-  Fits : Type 0
-  Fits = (m : ℕ) → after_rows rows o ≡ Some m → fits_note k m ≡ true
+      Fits : Type 0
+      Fits = (m : ℕ) → after_rows rows o ≡ Some m → fits_note k m ≡ true
 
-  newest : Fits → row.object ≡ o → (found : Option ℕ) → after_rows rows o ≡ found → fits_note k (max (row.incarnation + 1) (unwrap_or found 0)) ≡ true
-  newest rest same None here = rw (max-eq_left {n = row.incarnation + 1} {m = 0} (omega arith)) (each 0 row refl same)
-  newest rest same (Some m) here = fits_max k (row.incarnation + 1) m (each 0 row refl same) (rest m here)
+      newest : Fits → row.object ≡ o → (found : Option ℕ) → after_rows rows o ≡ found → fits_note k (max (row.incarnation + 1) (unwrap_or found 0)) ≡ true
+      newest rest same None here = rw (max-eq_left {n = row.incarnation + 1} {m = 0} (omega arith)) (each 0 row refl same)
+      newest rest same (Some m) here = fits_max k (row.incarnation + 1) m (each 0 row refl same) (rest m here)
 
-  by_test : Fits → (b : Bool) → eqb row.object o ≡ b
-      → cond b (Some (max (row.incarnation + 1) (unwrap_or (after_rows rows o) 0))) (after_rows rows o) ≡ Some n → fits_note k n ≡ true
-  by_test rest true same is =
-      rw (← same_Some (max (row.incarnation + 1) (unwrap_or (after_rows rows o) 0)) n is)
-      (newest rest (eqb-true row.object o same) (after_rows rows o) refl)
-  by_test rest false not is = rest n is
+      by_test : Fits → (b : Bool) → eqb row.object o ≡ b
+          → cond b (Some (max (row.incarnation + 1) (unwrap_or (after_rows rows o) 0))) (after_rows rows o) ≡ Some n → fits_note k n ≡ true
+      by_test rest true same is =
+          rw (← same_Some (max (row.incarnation + 1) (unwrap_or (after_rows rows o) 0)) n is)
+          (newest rest (eqb-true row.object o same) (after_rows rows o) refl)
+      by_test rest false not is = rest n is
 
 -- and is above each row of the object
 pub rows_below : (rows : List Row) (o place : ℕ) (row : Row) → slice_get rows place ≡ Some row → row.object ≡ o
@@ -181,8 +184,20 @@ rows_below (x ∷ rows) o place row e same = by_test (λ i here. rows_below rows
   by_test rest zero here false test =
       absurd (let is : x.object ≡ o = ap (λ (z : Row). z.object) (same_Some x row here) ∙ same in let yes = eq-eqb x.object o is in cc)
   by_test rest (suc i) here true test =
-      let later = rest i here in
-      (most, rw test refl,
-      let more : later.0 ≤ most = rw later.1 (le-max_right (x.incarnation + 1) later.0) in let lt = later.2 in omega (arith, more, lt))
+      let later = rest i here in (
+        most,
+        rw test refl,
+        let more : later.0 ≤ most = rw later.1 (le-max_right (x.incarnation + 1) later.0) in let lt = later.2 in omega (arith, more, lt),
+      )
   by_test rest (suc i) here false test =
       let later = rest i here in (later.0, rw test later.1, later.2)
+
+-- one more number is made
+pub made_more : (make : ℕ → Option ℕ) (noted : List (Option ℕ)) (o : ℕ) → o < length noted
+    → set (made_from make 0 o ++ drop o noted) o (make o) ≡ made_from make 0 (o + 1) ++ drop (o + 1) noted
+made_more make noted o within =
+    let here = drop_at noted o (get_or noted o None) (slice_get-get_or noted o None within) in
+    let put = set-append_seam (made_from make 0 o) (get_or noted o None) (drop (o + 1) noted) (make o) in
+    let more : made_from make 0 (o + 1) ≡ made_from make 0 o ++ make o ∷ [] =
+    made_from_push make 0 o ∙ ap (λ q. made_from make 0 o ++ make q ∷ []) (zero-add o) in
+    rw (here, more) (rw (made_length make 0 o) at put ∙ sym (append_assoc (made_from make 0 o) (make o ∷ []) (drop (o + 1) noted)))

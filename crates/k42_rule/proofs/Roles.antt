@@ -1,10 +1,9 @@
 -- Taking the role is allowed to an idle pass, with what is due to be noted.
-use Rattle.std.proofs.Common.{◌≡◌, ◌≢◌, ℕ, zero, suc, ◌+◌, ◌-◌, ◌*◌, ◌^◌, ◌<◌, ◌≤◌, ◌⊎◌, Bool, true, false, cond, eqb, ltb, List, [], ◌∷◌, Option, Some, None, length, get_or, set, take, sym, refl, ap, ◌∙◌, subst, ⊎_elim, arith, le_refl, length-set, get_or-set_same, get_or-set_other}
-use Rattle.std.specs.List.{slice_get, slice_index}
-use Rattle.std.specs.Option.{unwrap_or}
-use Rattle.std.specs.Prelude.{sum, ◌&&◌}
+use Rattle.std.proofs.Common.{◌≡◌, ℕ, ◌+◌, ◌-◌, ◌*◌, ◌^◌, ◌<◌, ◌≤◌, Bool, true, false, cond, eqb, ltb, List, [], ◌∷◌, Option, Some, None, length, get_or, set, sym, refl, ap, ◌∙◌, subst, arith, le_refl, length-set, get_or-set_same, get_or-set_other}
+use Rattle.std.specs.List.{slice_get}
+use Rattle.std.specs.Prelude.{sum}
 use Rattle.std.proofs.lemmas.Bool.{and_parts, lt-ltb, eq-eqb, eqb-true, ne_eqb, le-leb, ltb-true, ltb-false}
-use Rattle.std.proofs.lemmas.Option.{slice_get_within, slice_get-get_or, same_Some}
+use Rattle.std.proofs.lemmas.Option.{slice_get_within, same_Some}
 use mathlib.Core.Option.{some}
 use lib.ListN.{get_elem?}
 use prog.Atomic.{either}
@@ -12,13 +11,12 @@ use Rattle.atomic_table.specs.Table.{State, Step, Allows}
 use Rattle.std.proofs.Math.Seq.{take-length}
 use Rattle.std.proofs.lemmas.List.{get_or_past}
 use Rattle.k42_limits.specs.declared.TheConstants.{LAST_INCARNATION}
-use Rattle.k42_places.specs.Places.{EachPlace}
 use Rattle.k42_places.proofs.EachPlaces.{EachPlace-set}
 use Rattle.gen_core.specs.Events as gens
 use Rattle.gen_core.specs.Events.{is_free, is_idle, role_taken}
 use Rattle.gen_core.specs.Plain.{Generations, Caller}
 use Rattle.gen_core.specs.Sound as gen
-use Rattle.gen_core.specs.State.{caller_at, proc_at, fresh_proc}
+use Rattle.gen_core.specs.State.{caller_at, proc_at}
 use Rattle.gen_core.specs.declared.event.GenEvent.TheVariants.{TakeRole}
 use Rattle.gen_core.specs.declared.state.GenProc.{GenProc}
 use Rattle.gen_core.proofs.Stages.{from_is_idle}
@@ -26,9 +24,8 @@ use Rattle.gen_core.proofs.Ranges.{few_procs, length-waits}
 use Rattle.gen_core.proofs.Reached.{one_holder, role_there}
 use Rattle.phase_core.specs.Effects.{role_taken_with}
 use Rattle.phase_core.specs.Event.{TakeRoleWith}
-use Rattle.phase_core.specs.Events as swaps
 use Rattle.phase_core.specs.Events.{taken_with}
-use Rattle.phase_core.specs.Notes.{note_of, numbers_of, fits_note, notes_own, is_note}
+use Rattle.phase_core.specs.Notes.{numbers_of, fits_note, notes_own}
 use Rattle.phase_core.specs.Plain.{Object, Visitor, Phases}
 use Rattle.phase_core.specs.Sound as phases
 use Rattle.phase_core.specs.Stages.{may_take, named_by}
@@ -42,25 +39,24 @@ use Rattle.k42_stamp.specs.Laws.{AreLaws}
 use Rattle.k42_stamp.specs.Layouts.{Layouts}
 use Rattle.k42_joined.specs.Effects.{effect}
 use Rattle.k42_joined.specs.Event.{AtPhases}
-use Rattle.k42_joined.specs.Plain.{Joined}
 use Rattle.k42_joined.specs.Possible.{IsPossible}
 use Rattle.k42_rule.specs.Cells.{Slot}
-use Rattle.k42_rule.specs.Generations.{Counts, MOST, IsProcessorShown, AreGenerations, will_flip, grace_of}
+use Rattle.k42_rule.specs.Generations.{Counts, MOST, AreGenerations, grace_of}
 use Rattle.k42_rule.specs.Gracing.{MayTakeRole, role_view, RoleFound}
 use Rattle.k42_rule.specs.Noting.{after_rows, is_of, due_note, notes_due, pairs_from}
-use Rattle.k42_rule.specs.Phases.{IsOld, IsGranted, KnowsRows, KnowsSwap}
-use Rattle.k42_rule.specs.Rule.{Beside, KnowsPass, Rule, Ruled}
+use Rattle.k42_rule.specs.Phases.{IsOld, IsGranted}
+use Rattle.k42_rule.specs.Rule.{KnowsPass, Rule, Ruled}
 use Rattle.k42_rule.specs.Seen.{IsSeatOf}
 use Rattle.k42_rule.specs.Steps.{Seated, TellsWith}
 use Rattle.k42_rule.specs.Values.{holder_value, incarnation_in}
 use Rattle.k42_rule.specs.Views.{hears, word_begun}
-use Rattle.k42_rule.specs.Words.{generation_word, exits_word, role_word, many_words}
+use Rattle.k42_rule.specs.Words.{role_word}
 use Rattle.k42_rule.specs.declared.view.PassView.{PassView}
 use Rattle.k42_rule.specs.declared.view.Row.{Row}
 use Rattle.k42_rule.specs.declared.view.View.{View}
 use Rattle.k42_rule.specs.declared.view.View.TheVariants.{Crew}
 use Rattle.k42_rule.proofs.Apart.{of_role}
-use Rattle.k42_rule.proofs.Begun.{few_begun, one_more, processor_stays, begun_goes, flips_of, will_flip_once}
+use Rattle.k42_rule.proofs.Begun.{few_begun, one_more, processor_stays, begun_goes, will_flip_once}
 use Rattle.k42_rule.proofs.Moves.{Moves, Finds, seat_allowed_with}
 use Rattle.k42_rule.proofs.Notings.{note_there, noted_of, numbers_noted, named_once, fitting, pairs_there, made_length, made_note, rows_fit, rows_below, all_from}
 use Rattle.k42_rule.proofs.OnePass.{with_pass, known}

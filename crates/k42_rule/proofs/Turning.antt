@@ -1,9 +1,9 @@
 -- An event of generations, as a step of one pass.
-use Rattle.std.proofs.Common.{◌≡◌, ◌≢◌, ℕ, ◌<◌, ◌≤◌, Bool, true, false, List, [], ◌∷◌, Option, Some, None, length, get_or, set, sym, refl, ap, ◌∙◌, subst, arith, le_refl, length-set, get_or-set_other}
+use Rattle.std.proofs.Common.{◌≡◌, ◌≢◌, ℕ, ◌≤◌, false, List, [], ◌∷◌, Option, Some, length, get_or, set, sym, refl, ap, ◌∙◌, subst, arith, le_refl, length-set, get_or-set_other}
 use Rattle.std.specs.List.{slice_get, slice_index}
 use Rattle.std.specs.Option.{unwrap_or}
 use Rattle.std.proofs.lemmas.List.{set-get_or}
-use Rattle.std.proofs.lemmas.Option.{slice_get_within, unwrap_or-slice_get}
+use Rattle.std.proofs.lemmas.Option.{unwrap_or-slice_get}
 use mathlib.Core.Option.{some}
 use lib.ListN.{get_elem?}
 use Rattle.atomic_table.specs.Table.{State}
@@ -29,13 +29,13 @@ use Rattle.k42_joined.specs.Event.{AtPhases}
 use Rattle.k42_joined.specs.Plain.{Joined}
 use Rattle.k42_joined.specs.Possible.{IsPossible}
 use Rattle.k42_joined.specs.Sound.{IsSound}
-use Rattle.k42_joined.specs.State.{many_callers, many_procs, is_handed}
+use Rattle.k42_joined.specs.State.{many_procs, is_handed}
 use Rattle.k42_joined.specs.Swapping.{may_turn_over}
 use Rattle.k42_joined.proofs.Kept.{joined_keeps}
 use Rattle.k42_rule.specs.Cells.{Slot}
 use Rattle.k42_rule.specs.Generations.{Counts, AreGenerations, KnowsGenerations}
 use Rattle.k42_rule.specs.Parts.{IsPart}
-use Rattle.k42_rule.specs.Phases.{KnowsSwap, KnowsRows, KnowsPhases}
+use Rattle.k42_rule.specs.Phases.{KnowsSwap, KnowsRows}
 use Rattle.k42_rule.specs.Trace.{KnowsTrace}
 use Rattle.k42_rule.specs.Views.{hears}
 use Rattle.k42_rule.specs.Rule.{Beside, NamesRows, KnowsPass, Shows, Rule}
@@ -44,7 +44,7 @@ use Rattle.k42_rule.specs.declared.view.Row.{Row}
 use Rattle.k42_rule.specs.declared.view.View.{View}
 use Rattle.k42_rule.specs.declared.view.View.TheVariants.{Crew}
 use Rattle.k42_rule.proofs.Apart.{IsOfGenerations, objects_stay, cells_stay}
-use Rattle.k42_rule.proofs.OnePass.{with_pass, known, LeavesOthers, moved}
+use Rattle.k42_rule.proofs.OnePass.{with_pass, LeavesOthers, moved}
 
 -- the state with these generations and visitors
 abbrev pub turned_to : {L : Type 0} → Joined L → Generations → List Visitor → Joined L

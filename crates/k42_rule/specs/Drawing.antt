@@ -235,6 +235,12 @@ pub record MayDrawAlone {P : Type 0} (act : Act) (answer : Answer) (v : PassView
   pub answer_is : IsAnswerAlone v answer
   pub few : length v.taker.mine < MOST
 
+-- layouts of one object with one tag keep it in one way
+abbrev pub AgreeOn : {S L P : Type 0} → Layouts S L P → Type 0
+AgreeOn {S} {L} F =
+    (layout other : L) → F.object_of layout ≡ F.object_of other → F.tag_of layout ≡ F.tag_of other
+    → F.ways_of layout ≡ F.ways_of other
+
 module _ {S L P : Type 0} (F : Layouts S L P) (declared : List L) where
   -- the operation was stepped on the parts that are due, with this reply
   abbrev pub IsStepped : L → List (Note P) → (o i : ℕ) → List (Content P) → Op → Reach → Reply → Type 0

@@ -1,5 +1,5 @@
 -- The step that frees rows, for one pass: where it may be taken, and what the pass knows after it.
-use Rattle.std.specs.Prelude.{◌≡◌, ℕ, ◌+◌, ◌<◌, if◌then◌else◌, nat_lt, List, ◌∷◌, Option, Some, slice_set, unwrap_or}
+use Rattle.std.specs.Prelude.{◌≡◌, ℕ, ◌+◌, ◌-◌, ◌/◌, ◌<◌, if◌then◌else◌, nat_lt, ◌∷◌, Some, length, slice_set, unwrap_or}
 use Rattle.gen_core.specs.declared.state.GraceAt.TheVariants.{Quiet}
 use Rattle.phase_core.specs.Plain.{Visitor}
 use Rattle.phase_core.specs.State.{note_at}

@@ -1,5 +1,5 @@
 -- The words of the generations, and what a pass knows of them.
-use Rattle.std.specs.Prelude.{if◌then◌else◌, ◌≡◌, ◌≢◌, ℕ, ◌+◌, ◌<◌, ◌≤◌, ◌^◌, Bool, true, false, List, Option, Some, None, length, slice_index, sum}
+use Rattle.std.specs.Prelude.{if◌then◌else◌, ◌≡◌, ℕ, ◌+◌, ◌≤◌, ◌^◌, false, List, Option, Some, None, length, slice_index, sum}
 use Rattle.k42_places.specs.Places.{EachPlace}
 use Rattle.gen_core.specs.Consequences.{entries_so_far}
 use Rattle.gen_core.specs.Events.{is_idle}

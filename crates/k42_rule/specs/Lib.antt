@@ -24,4 +24,5 @@ pub mod Receipts
 pub mod Plan
 pub mod Starting
 pub mod Dealing
+pub mod Queueing
 pub mod Laws

@@ -1,8 +1,9 @@
 //! The steps that draw entries.
 ghost use Rattle.std.specs.Prelude.{◌≡◌, ℕ, ◌<◌, [], ◌∷◌};
 ghost use Rattle.turn_core.specs.declared.event.TurnEvent.TheVariants as TurnEvent;
+ghost use Rattle.k42_joined.specs.Drawing.{first_cell};
 ghost use Rattle.k42_joined.specs.Event.{AtCells};
-ghost use Rattle.k42_rule.specs.Drawing.{MayDrawAlone, MayDrawMark, IsDrawer, IsTold, entry_alone, entry_mark, alone_view, drawn_at, untold_view, number_told, stamp_next};
+ghost use Rattle.k42_rule.specs.Drawing.{AgreeOn, MayDrawAlone, MayDrawMark, MayDrawAs, IsDrawer, IsTold, AreTold, entry_alone, entry_mark, entry_call, numbers_of, alone_view, drawn_at, untold_view, number_told, stamp_next};
 ghost use Rattle.k42_rule.specs.Plan.{layouts_on};
 ghost use Rattle.k42_rule.specs.Seen.{IsOf};
 ghost use Rattle.k42_rule.specs.Steps.{StepIs};
@@ -11,11 +12,12 @@ ghost use Rattle.k42_rule.specs.Views.{object_begun, word_begun};
 ghost use Rattle.k42_rule.specs.Words.{role_word, lock_word};
 
 use crate::cell::Cell;
-use crate::draw_words::{alone_word, mark_word};
+use crate::draw_words::{alone_word, call_word, first_of, mark_word};
 use crate::pass::Pass;
-use crate::receipts::tell_cell;
-use crate::stamps::stamp_after;
+use crate::receipts::{tell_all, tell_cell};
+use crate::stamps::{last_at, stamp_after};
 use crate::sys::Sys;
+use crate::tabling::{object_in, row_in};
 use crate::view::LastBegin;
 use k42_kinds::{Act, Answer, Entry, Layout};
 use std::marker::Brand;
@@ -31,7 +33,7 @@ fn number_in(answer: &Answer) -> u32
 }
 
 /// The object of the last Begin.
-fn object_in(last: &Option<LastBegin>) -> u32
+fn object_begun_in(last: &Option<LastBegin>) -> u32
     ensures { result ≡ object_begun last.now }
 {
     match last {
@@ -70,7 +72,7 @@ pub fn draw_alone<L: Layout>(sys: &Sys<L>, pass: &mut Pass<L>, act: Act, answer:
         stamp,
         caller: pass.number,
         index: pass.entries.len() as u32,
-        object: object_in(&pass.last),
+        object: object_begun_in(&pass.last),
         incarnation: number_in(&answer).saturating_sub(1),
         cell: 0,
         act,
@@ -110,7 +112,7 @@ pub fn draw_mark<L: Layout>(
         stamp,
         caller: pass.number,
         index: pass.entries.len() as u32,
-        object: object_in(&pass.last),
+        object: object_begun_in(&pass.last),
         incarnation: incarnation_at(&pass.last),
         cell: cell.number,
         act,
@@ -123,4 +125,75 @@ pub fn draw_mark<L: Layout>(
     tell_cell(&sys.board, &mut pass.seat, cell, closed, stamp);
     pass.entries.push_reserved(entry);
     stamp
+}
+
+/// Draws a call at cells that stand side by side.
+fn draw_at<L: Layout>(
+    sys: &Sys<L>,
+    pass: &mut Pass<L>,
+    cells: &mut [Cell<L>],
+    act: Act,
+    answer: Answer,
+) -> u64
+    requires ours { IsOf sys.now pass.old }
+    requires agree { AgreeOn (layouts_on L.object L.tag_of L.ways L.whole L.serves L.admitted L.act_of sys.now.procs sys.now.callers) }
+    requires room { 0 < pass.old.room }
+    requires may { MayDrawAs
+        (layouts_on L.object L.tag_of L.ways L.whole L.serves L.admitted L.act_of sys.now.procs sys.now.callers)
+        sys.now.layouts cells.old act answer pass.old.view }
+    ensures stamp { result ≡ stamp_next pass.old.view (numbers_of cells.old) }
+    ensures same { IsDrawer pass.old pass.new }
+    ensures knows { pass.new.view ≡ drawn_at cells.old (entry_call pass.old.view (numbers_of cells.old) act answer) pass.old.view }
+    ensures told { AreTold pass.new.view.notes cells.old cells.new }
+    ensures event { (found : ℕ) → StepIs
+        (layouts_on L.object L.tag_of L.ways L.whole L.serves L.admitted L.act_of sys.now.procs sys.now.callers)
+        sys.now.layouts
+        (AtCells (TurnEvent.Draw pass.old.view.number (numbers_of cells.old) (entry_call pass.old.view (numbers_of cells.old) act answer)))
+        (lock_word (first_cell (numbers_of cells.old))) (λ word. word)
+        pass.old.seat pass.old.view found (untold_view (numbers_of cells.old) pass.new.view) }
+{
+    let stamp = stamp_after(pass.entries.as_slice(), last_at(cells));
+    let entry = Entry {
+        stamp,
+        caller: pass.number,
+        index: pass.entries.len() as u32,
+        object: object_in(&pass.place),
+        incarnation: row_in(&pass.place),
+        cell: first_of(cells),
+        act,
+        answer,
+        proc: pass.home,
+        generation: pass.active,
+    };
+    call_word::<L, Brand>(&sys.board, &mut pass.seat, cells, &entry);
+    tell_all(&sys.board, &mut pass.seat, cells, 0, false, stamp);
+    pass.entries.push_reserved(entry);
+    stamp
+}
+
+/// Draws a call that was stepped, at the cells that its layout names.
+pub fn draw_call<L: Layout>(
+    sys: &Sys<L>,
+    pass: &mut Pass<L>,
+    cells: &mut Vec<Cell<L>>,
+    act: Act,
+    answer: Answer,
+) -> u64
+    requires ours { IsOf sys.now pass.old }
+    requires room { 0 < pass.old.room }
+    requires may { MayDrawAs
+        (layouts_on L.object L.tag_of L.ways L.whole L.serves L.admitted L.act_of sys.now.procs sys.now.callers)
+        sys.now.layouts cells.old.items act answer pass.old.view }
+    ensures stamp { result ≡ stamp_next pass.old.view (numbers_of cells.old.items) }
+    ensures same { IsDrawer pass.old pass.new }
+    ensures knows { pass.new.view ≡ drawn_at cells.old.items (entry_call pass.old.view (numbers_of cells.old.items) act answer) pass.old.view }
+    ensures told { AreTold pass.new.view.notes cells.old.items cells.new.items }
+    ensures event { (found : ℕ) → StepIs
+        (layouts_on L.object L.tag_of L.ways L.whole L.serves L.admitted L.act_of sys.now.procs sys.now.callers)
+        sys.now.layouts
+        (AtCells (TurnEvent.Draw pass.old.view.number (numbers_of cells.old.items) (entry_call pass.old.view (numbers_of cells.old.items) act answer)))
+        (lock_word (first_cell (numbers_of cells.old.items))) (λ word. word)
+        pass.old.seat pass.old.view found (untold_view (numbers_of cells.old.items) pass.new.view) }
+{
+    draw_at(sys, pass, cells.as_mut_slice(), act, answer)
 }

@@ -1,10 +1,11 @@
 //! The steps of a grace on the words of the table, for a seat alone.
-ghost use Rattle.std.specs.Prelude.{◌≡◌, ℕ, ◌<◌, ◌+◌, ◌^◌, ◌==◌, if◌then◌else◌, [], ◌∷◌, take};
+ghost use Rattle.std.specs.Prelude.{◌≡◌, ℕ, ◌<◌, ◌+◌, ◌^◌, ◌==◌, if◌then◌else◌, [], ◌∷◌, length, max, take};
 ghost use Rattle.k42_places.specs.Places.{EachPlace};
 ghost use Rattle.gen_core.specs.declared.event.GenEvent.TheVariants as GenEvent;
 ghost use Rattle.phase_core.specs.Event as phases;
 ghost use Rattle.k42_stamp.specs.Laws.{AreLaws};
 ghost use Rattle.k42_joined.specs.Event.{AtPhases};
+ghost use Rattle.k42_rule.specs.Freeing.{MayFree, number_noted, freed_view, MarkFound};
 ghost use Rattle.k42_rule.specs.Gracing.{MayTakeRole, role_view, RoleFound, MayAskGeneration, asked_view, GenerationFound, MayLook, look_event, looked_view, ExitsFound, MayFlip, flip_word, flipped_view, MayGiveRole, given_view};
 ghost use Rattle.k42_rule.specs.Noting.{notes_due, pairs_from};
 ghost use Rattle.k42_rule.specs.Phases.{IsGranted};
@@ -12,11 +13,11 @@ ghost use Rattle.k42_rule.specs.Plan.{layouts_on};
 ghost use Rattle.k42_rule.specs.Seen.{IsSeatOf};
 ghost use Rattle.k42_rule.specs.Views.{pass_in};
 ghost use Rattle.k42_rule.specs.Steps.{StepIs, StateStays};
-ghost use Rattle.k42_rule.specs.Words.{many_words, generation_word, exits_word, role_word};
+ghost use Rattle.k42_rule.specs.Words.{many_words, generation_word, exits_word, freed_word, role_word};
 ghost use Rattle.k42_rule.specs.declared.view.View.TheVariants.{Crew};
 
 use crate::board::{Board, Place};
-use crate::plays::{AskGeneration, Flip, GiveRole, Look, TakeRole};
+use crate::plays::{AskGeneration, Flip, Free, GiveRole, Look, TakeRole};
 use k42_kinds::Layout;
 
 pub(crate) fn take_role_word<L: Layout>(board: &Board<L>, seat: &mut Place<L>, number: u64) -> u64
@@ -90,4 +91,24 @@ pub(crate) fn give_role_store<L: Layout>(board: &Board<L>, seat: &mut Place<L>)
     ensures event { (found : ℕ) → StepIs (layouts_on L.object L.tag_of L.ways L.whole L.serves L.admitted L.act_of board.now.shared.key.procs board.now.shared.key.callers.items) board.now.shared.key.layouts.items (AtPhases (phases.Turn (GenEvent.GiveRole (pass_in seat.old.me.0).number))) role_word (λ word. 0) seat.old.id (pass_in seat.old.me.0) found (pass_in seat.new.me.0) }
 {
     board.shared.store::<GiveRole>(seat, 1040, 0)
+}
+
+pub(crate) fn free_word<L: Layout>(
+    board: &Board<L>,
+    seat: &mut Place<L>,
+    object: usize,
+    number: u64,
+) -> u64
+    requires ours { (seat.old.table_id ≡ board.now.shared.table_id) × (board.now.shared.table_id.words ≡ many_words) }
+    requires laws { AreLaws (layouts_on L.object L.tag_of L.ways L.whole L.serves L.admitted L.act_of board.now.shared.key.procs board.now.shared.key.callers.items) }
+    requires small { object < 16 }
+    requires may { IsSeatOf seat.old.me (pass_in seat.old.me.0) × MayFree (length board.now.shared.key.layouts.items) object (pass_in seat.old.me.0) × (number_noted (pass_in seat.old.me.0) object ≡ number) }
+    ensures ours { (seat.new.table_id ≡ seat.old.table_id) × (seat.new.id ≡ seat.old.id) }
+    ensures told { IsSeatOf seat.new.me (freed_view object result (pass_in seat.old.me.0)) }
+    ensures found { MarkFound object (pass_in seat.old.me.0) result }
+    ensures event { StepIs (layouts_on L.object L.tag_of L.ways L.whole L.serves L.admitted L.act_of board.now.shared.key.procs board.now.shared.key.callers.items) board.now.shared.key.layouts.items (AtPhases (phases.Free (pass_in seat.old.me.0).number object)) (freed_word object) (λ word. max word (number_noted (pass_in seat.old.me.0) object)) seat.old.id (pass_in seat.old.me.0) result (pass_in seat.new.me.0) }
+{
+    board
+        .shared
+        .fetch_max::<Free>(seat, 784 + 16 * object, number)
 }

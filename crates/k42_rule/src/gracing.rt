@@ -14,9 +14,7 @@ ghost use Rattle.k42_rule.specs.Seen.{IsOf, IsSamePass};
 ghost use Rattle.k42_rule.specs.Steps.{StepIs, StateStays};
 ghost use Rattle.k42_rule.specs.Words.{generation_word, exits_word, role_word};
 
-use crate::grace_words::{
-    flip_swap, generation_load, give_role_store, look_word, take_role_word,
-};
+use crate::grace_words::{flip_swap, generation_load, give_role_store, look_word, take_role_word};
 use crate::noting::note_all;
 use crate::pass::Pass;
 use crate::sys::Sys;
@@ -58,7 +56,7 @@ fn draining(swap: SwapAt) -> SwapAt
     }
 }
 
-/// And whose caller's grace has come so far.
+/// The stage of a swap whose caller's grace has come so far.
 fn drained(grace: GraceAt, swap: SwapAt) -> SwapAt
     ensures { result ≡ drained_at grace swap }
 {

@@ -7,6 +7,7 @@ ghost use Rattle.k42_rule.specs.Starting.{IsStart, IsStarted};
 
 use crate::board::{Board, Setup};
 use crate::finish::{close, gather};
+use crate::queueing::{Lane, Line, tie_root};
 use crate::pass::{Pass, Walker};
 use crate::start::{deal_all, first_slots, first_words};
 use atomic_table::Table;
@@ -21,6 +22,7 @@ pub struct Sys<L: Layout> {
     /// The layouts with which the objects were started.
     layouts: Vec<L>,
     pub(crate) procs: u32,
+    pub(crate) lane: Lane<L::Part>,
 }
 
 /// There was no memory for the list of lists. The system and its passes are as they were.
@@ -42,6 +44,7 @@ impl<L: Layout> Model for Sys<L> {
 
     ghost view = { λ s. record {
       table = s.board.shared.table_id;
+      queue = s.lane.line;
       procs = s.board.shared.key.procs;
       layouts = s.board.shared.key.layouts.items;
       callers = s.board.shared.key.callers.items;
@@ -64,6 +67,10 @@ impl<L: Layout> Sys<L> {
         requires { IsStart L.tag_of layouts.items procs callers.items }
         ensures { IfOk result (λ made. IsStarted layouts.items procs callers.items made.0 made.1.items) }
     {
+        let Ok((line, mut root)) = Line::<L::Part>::with_rule(alloc) else {
+            return Err(Memory);
+        };
+        let lane = Lane { line };
         let words = first_words(alloc, layouts.as_slice())?;
         let slots = first_slots(alloc)?;
         let setup = Setup {
@@ -75,10 +82,13 @@ impl<L: Layout> Sys<L> {
             return Err(Memory);
         };
         let objects = setup.layouts.len();
+        tie_root(&lane.line, &mut root, &seat);
         let passes = deal_all(
             alloc,
             &board,
             &mut seat,
+            &lane.line,
+            &mut root,
             procs,
             objects,
             setup.callers.as_slice(),
@@ -88,6 +98,7 @@ impl<L: Layout> Sys<L> {
             board,
             layouts,
             procs,
+            lane,
         };
         Ok((sys, passes))
     }

@@ -44,7 +44,7 @@ fn layout_at(word: u64) -> Option<u32>
 }
 
 /// The object of a call that the mediator does not count.
-fn object_in(place: &Place) -> u32
+pub(crate) fn object_in(place: &Place) -> u32
     ensures { result ≡ object_of place.now }
 {
     match *place {
@@ -58,7 +58,7 @@ fn object_in(place: &Place) -> u32
 }
 
 /// The row of a call that is inside one.
-fn row_in(place: &Place) -> u32
+pub(crate) fn row_in(place: &Place) -> u32
     ensures { result ≡ row_of place.now }
 {
     match *place {

@@ -1,7 +1,6 @@
-use Rattle.std.proofs.Common.{ℕ, ◌+◌, ◌*◌, refl, arith}
+use Rattle.std.proofs.Common.{ℕ, ◌+◌, ◌*◌, arith}
 use mathlib.Core.Option.{none}
 use Rattle.atomic_table.specs.Table.{step}
-use Rattle.k42_rule.specs.Views.{pass_in}
 use Rattle.k42_rule.specs.Gracing.{ExitsFound}
 use Rattle.k42_rule.proofs.Moves.{seat_allowed_with, seat_is}
 use Rattle.k42_rule.proofs.Looks.{look_moves, look_finds}
@@ -13,7 +12,7 @@ load-requires g c =
       c.requires.ours.0,
       (let few = c.requires.few.0 in let two = c.requires.few.1 in let wide = c.requires.ours.1 in omega (arith, few, two, wide)),
       seat_allowed_with (look_moves _ c.requires.laws _ _ p b _ t.1) ExitsFound (look_finds _ c.requires.laws _ _ p b _ t.1)
-      c.args.seat.now.me t.0 slots (step slots (17 + 64 * p + b) 0 0 none),
+          c.args.seat.now.me t.0 slots (step slots (17 + 64 * p + b) 0 0 none),
     )
 
 pub returns-clause-event : goal.returns-clause-event

@@ -1,7 +1,6 @@
-use Rattle.std.proofs.Common.{ℕ, ◌+◌, ◌*◌, refl, arith}
+use Rattle.std.proofs.Common.{ℕ, ◌+◌, arith}
 use mathlib.Core.Option.{none}
 use Rattle.atomic_table.specs.Table.{step}
-use Rattle.k42_rule.specs.Views.{pass_in}
 use Rattle.k42_rule.proofs.Moves.{seat_is}
 use Rattle.k42_rule.proofs.Roles.{role_moves, role_allowed}
 use Rattle.k42_rule.proofs.grace_words.take_role_word.Goals as goal

@@ -1,4 +1,3 @@
-use Rattle.std.proofs.Common.{rules, ◌≡◌}
 use Rattle.k42_rule.proofs.gracing.generation_step.Goals as goal
 
 pub returns-clause-stays : goal.returns-clause-stays

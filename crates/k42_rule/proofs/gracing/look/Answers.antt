@@ -1,4 +1,3 @@
-use Rattle.std.proofs.Common.{rules, ◌≡◌}
 use Rattle.k42_rule.proofs.gracing.look.Goals as goal
 
 pub returns-in-Flipping-clause-event : goal.returns-in-Flipping-clause-event

@@ -1,9 +1,3 @@
-use Rattle.k42_rule.proofs.Gives.{give_moves}
-use Rattle.k42_rule.proofs.Flips.{flip_moves}
-use Rattle.k42_rule.proofs.Looks.{look_moves}
-use Rattle.k42_rule.proofs.Asking.{ask_stays}
-use Rattle.k42_rule.proofs.Roles.{role_moves}
-use Rattle.k42_rule.proofs.Notings.{numbers_noted}
 use Rattle.std.proofs.Common.{ℕ, ◌+◌, ◌*◌, refl, arith}
 use mathlib.Core.Option.{none}
 use Rattle.atomic_table.specs.Table.{step}
@@ -19,7 +13,7 @@ fetch_add-requires g c =
       c.requires.ours.0,
       (let few = c.requires.home.0 in let wide = c.requires.ours.1 in omega (arith, few, wide)),
       seat_allowed_with (enter_moves _ c.requires.laws _ _ home _ t.1 c.requires.home.1) EnteredFound (enter_finds _ c.requires.laws _ _ home _ t.1 c.requires.home.1)
-      c.args.seat.now.me t.0 slots (step slots (16 + 64 * home) 1 0 none),
+          c.args.seat.now.me t.0 slots (step slots (16 + 64 * home) 1 0 none),
     )
 
 pub returns-clause-event : goal.returns-clause-event

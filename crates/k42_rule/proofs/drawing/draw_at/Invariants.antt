@@ -1,0 +1,5 @@
+use Rattle.k42_rule.specs.Drawing.{draws_at}
+use Rattle.k42_rule.proofs.drawing.draw_at.Given as goal
+
+abbrev pub ghosts-call_word : goal.ghosts-call_word
+ghosts-call_word g a = record { becomes = draws_at a.cells.now a.entry.now }
