@@ -8,10 +8,10 @@ use Rattle.k42_places.specs.Places.{EachPlace}
 use Rattle.turn_core.specs.Names.{names}
 use Rattle.turn_core.specs.Stamps.{last_stamp}
 use Rattle.k42_rule.specs.Cells.{cells_noted}
-use Rattle.k42_rule.specs.Drawing.{history_noted, closed_noted, numbers_of, part_in, IsHeld, AreHeld, handed_note, untold_view, HasSmallStamp}
+use Rattle.k42_rule.specs.Drawing.{history_noted, closed_noted, numbers_of, part_in, IsHeld, AreHeld, IsTold, handed_note, untold_view, HasSmallStamp}
 use Rattle.k42_rule.specs.Handing.{hands_at}
 use Rattle.k42_rule.specs.Receipts.{IsDue, AreDue, closed_due, last_due}
-use Rattle.k42_rule.specs.Seats.{LAST_STAMP}
+use Rattle.k42_rule.specs.Seats.{LAST_STAMP, told_by}
 use Rattle.k42_rule.specs.Seen.{IsSeatOf}
 use Rattle.k42_rule.specs.Steps.{Seated}
 use Rattle.k42_rule.specs.Views.{pass_in}
@@ -147,3 +147,17 @@ module _ {P : Type 0} (v : PassView P) (from onto : List (Content P)) (entry : E
   hand_back me seated is cells told =
       ap (λ (m : Seated P). untold_view (numbers_of from ++ numbers_of onto) (pass_in m.0)) told
       ∙ ap (λ (m : Seated P). untold_view (numbers_of from ++ numbers_of onto) (pass_in m.0)) is ∙ sym (ap (λ (m : Seated P). pass_in m.0) is)
+
+-- the cells once they were told, for those who put them back
+module _ {P : Type 0} (from onto : List ℕ) (entry : Entry) (fresh : ℕ → Option P) (notes : List (Note P)) (old new : Content P)
+    (told : IsTold (handed_notes from onto entry fresh notes) old new) (noted : names (cells_noted notes) old.number ≡ true) where
+  pub closed_told : names from old.number ≡ true → new.closed ≡ true
+  closed_told e =
+      new.told.closed ∙ told.held.closed ∙ ap (closed_noted (handed_notes from onto entry fresh notes)) told.number ∙ closed_now from onto entry fresh notes old.number noted e
+
+  pub begun_told : names from old.number ≡ false → names onto old.number ≡ true → (new.closed ≡ false) × ((told_by new.badge.views).history ≡ entry ∷ [])
+  begun_told not e =
+      let begins = begun_now from onto entry fresh notes old.number noted not e in (
+        new.told.closed ∙ told.held.closed ∙ ap (closed_noted (handed_notes from onto entry fresh notes)) told.number ∙ begins.opened,
+        told.held.history ∙ ap (history_noted (handed_notes from onto entry fresh notes)) told.number ∙ begins.history,
+      )

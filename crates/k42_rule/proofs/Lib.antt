@@ -35,13 +35,14 @@ pub mod CellsTold
 pub mod Noted
 pub mod RowCells
 pub mod HandedNotes
+pub mod Listed
 pub mod HandedParts
 pub mod HandedCells
+pub mod HandedSeat
 pub mod HandedOn
 pub mod DrawnParts
 pub mod DrawnAt
 pub mod DrawnMark
-pub mod RowCells
 pub mod DrawnCall
 pub mod Beginning
 pub mod Staging

@@ -69,6 +69,44 @@ fn done_entry<L: Layout>(
     }
 }
 
+/// The same at cells that stand side by side.
+fn hand_at<L: Layout>(
+    sys: &Sys<L>,
+    pass: &mut Pass<L>,
+    cells: &mut [Cell<L>],
+    to: &L,
+    answer: Answer,
+) -> u64
+    requires ours { IsOf sys.now pass.old }
+    requires room { 0 < pass.old.room }
+    requires may { MayHandOn
+        (layouts_on L.object L.tag_of L.ways L.whole L.serves L.admitted L.act_of sys.now.procs sys.now.callers)
+        sys.now.layouts (take sys.now.procs cells.old) (drop sys.now.procs cells.old) to.now answer pass.old.view }
+    ensures stamp { result ≡ stamp_next pass.old.view (numbers_of cells.old) }
+    ensures same { IsDrawer pass.old pass.new }
+    ensures knows { pass.new.view ≡ handed_at
+        (take sys.now.procs cells.old) (drop sys.now.procs cells.old)
+        (entry_hand pass.old.view (numbers_of (take sys.now.procs cells.old)) (numbers_of (drop sys.now.procs cells.old)) (L.act_of to.now) answer)
+        (L.tag_of to.now) pass.old.view }
+    ensures told { AreTold pass.new.view.notes cells.old cells.new }
+    ensures event { (found : ℕ) → StepIs
+        (layouts_on L.object L.tag_of L.ways L.whole L.serves L.admitted L.act_of sys.now.procs sys.now.callers)
+        sys.now.layouts
+        (HandWith pass.old.view.number
+        (numbers_of (take sys.now.procs cells.old)) (numbers_of (drop sys.now.procs cells.old)) to.now
+        (entry_hand pass.old.view (numbers_of (take sys.now.procs cells.old)) (numbers_of (drop sys.now.procs cells.old)) (L.act_of to.now) answer))
+        (lock_word (first_cell (numbers_of cells.old))) (λ word. word)
+        pass.old.seat pass.old.view found (untold_view (numbers_of cells.old) pass.new.view) }
+{
+    let entry = done_entry(sys, pass, cells, to, answer);
+    let stamp = entry.stamp;
+    hand_word::<L, Brand>(&sys.board, &mut pass.seat, cells, to, &entry);
+    tell_all(&sys.board, &mut pass.seat, cells, sys.procs as usize, true, stamp);
+    pass.handed = Some(to.tag());
+    pass.entries.push_reserved(entry);
+    stamp
+}
+
 /// Closes the cells of the present row, which come first, and begins with the others the row of the new layout.
 pub fn draw_done<L: Layout>(
     sys: &Sys<L>,
@@ -99,12 +137,5 @@ pub fn draw_done<L: Layout>(
         (lock_word (first_cell (numbers_of cells.old.items))) (λ word. word)
         pass.old.seat pass.old.view found (untold_view (numbers_of cells.old.items) pass.new.view) }
 {
-    let entry = done_entry(sys, pass, cells.as_slice(), to, answer);
-    let stamp = entry.stamp;
-    hand_word::<L, Brand>(&sys.board, &mut pass.seat, cells.as_slice(), to, &entry);
-    let procs = sys.procs as usize;
-    tell_all(&sys.board, &mut pass.seat, cells.as_mut_slice(), procs, true, stamp);
-    pass.handed = Some(to.tag());
-    pass.entries.push_reserved(entry);
-    stamp
+    hand_at(sys, pass, cells.as_mut_slice(), to, answer)
 }

@@ -1,6 +1,6 @@
 use Rattle.std.specs.Prelude.{take, drop}
 use Rattle.k42_rule.specs.Handing.{hands_at}
-use Rattle.k42_rule.proofs.handing.draw_done.Given as goal
+use Rattle.k42_rule.proofs.handing.hand_at.Given as goal
 
 abbrev pub ghosts-hand_word : goal.ghosts-hand_word
 ghosts-hand_word g a = record {
