@@ -64,3 +64,4 @@ pub mod Carrying
 pub mod Naming
 pub mod Starting
 pub mod Plans
+pub mod Listed
