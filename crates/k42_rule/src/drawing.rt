@@ -43,7 +43,7 @@ fn object_begun_in(last: &Option<LastBegin>) -> u32
 }
 
 /// The incarnation that the last Begin found.
-fn incarnation_at(last: &Option<LastBegin>) -> u32
+pub(crate) fn incarnation_at(last: &Option<LastBegin>) -> u32
     ensures { result ≡ incarnation_in (word_begun last.now) }
 {
     match last {
@@ -53,6 +53,7 @@ fn incarnation_at(last: &Option<LastBegin>) -> u32
 }
 
 /// Draws, at no cell, that a swap or destroy was refused by another, or given up.
+#[tactic(auto, using(crate::proofs::Listed::list_drawn))]
 pub fn draw_alone<L: Layout>(sys: &Sys<L>, pass: &mut Pass<L>, act: Act, answer: Answer) -> u64
     requires ours { IsOf sys.now pass.old }
     requires room { 0 < pass.old.room }
@@ -86,6 +87,7 @@ pub fn draw_alone<L: Layout>(sys: &Sys<L>, pass: &mut Pass<L>, act: Act, answer:
 }
 
 /// Draws, at the first cell of the present row, that a swap or destroy found its object over.
+#[tactic(auto, using(crate::proofs::Listed::list_drawn))]
 pub fn draw_mark<L: Layout>(
     sys: &Sys<L>,
     pass: &mut Pass<L>,
@@ -128,6 +130,7 @@ pub fn draw_mark<L: Layout>(
 }
 
 /// Draws a call at cells that stand side by side.
+#[tactic(auto, using(crate::proofs::Listed::list_drawn))]
 fn draw_at<L: Layout>(
     sys: &Sys<L>,
     pass: &mut Pass<L>,
