@@ -1,11 +1,19 @@
 -- Each step of a call on the first object may be taken where the last one was.
-use Rattle.std.proofs.Common.{◌≡◌, ℕ, ◌<◌, ◌^◌, refl, ◌∙◌, arith, inl}
+use Rattle.std.proofs.Common.{◌≡◌, ℕ, zero, suc, ◌<◌, ◌^◌, true, List, [], ◌∷◌, Some, length, get_or, refl, sym, ap, subst, ◌∙◌, arith, inl}
+use Rattle.std.specs.List.{slice_get, slice_index}
+use Rattle.std.proofs.lemmas.Option.{same_Some, slice_get-get_or}
+use Rattle.k42_rule.specs.Finishing.{AreAtRest, IsPassAtRest}
+use Rattle.k42_rule.specs.Seen.{SysSeen, PassSeen, IsOf, is_at_rest}
+use Rattle.k42_rule.specs.Starting.{IsNewPass, IsStarted}
+use Rattle.k42_rule.specs.Views.{new_pass}
 use Rattle.k42_rule.specs.Generating.{MayEnter, CanLeave}
 use Rattle.k42_rule.specs.Tabling.{MayLookUp, MayLoadRoot, MayInstall, MayEndCall}
-use Rattle.k42_rule.specs.Taking.{MayLock, HoldsHome}
+use Rattle.k42_rule.specs.Taking.{MayLock, HoldsHome, noted, without}
+use Rattle.k42_rule.specs.Cells.{cells_noted}
+use Rattle.turn_core.specs.Names.{names}
 use Rattle.k42_rule.specs.declared.cell.Content.{Content}
 use Rattle.k42_rule.specs.declared.view.PassView.{PassView}
-use Rattle.rule_tests.specs.Walk.{new, entered, missed, rooted, inside, locked, back, unlocked, ended, left}
+use Rattle.rule_tests.specs.Walk.{new, entered, missed, rooted, inside, locked, back, unlocked, ended, left, IsOneStarted}
 
 -- what a step tells, once its word is known
 pub told : {A : Type 0} (f : ℕ → A → A) (w v a : A) (found n : ℕ) → w ≡ f found v → found ≡ n → v ≡ a → w ≡ f n a
@@ -39,3 +47,38 @@ module _ {P : Type 0} where
 
   pub may_leave : (content : Content P) → CanLeave (ended content)
   may_leave content = (0, record { active = refl; out = refl })
+
+  pub holds_back : (content : Content P) → content.number ≡ 1 → HoldsHome 1 (back content)
+  holds_back content number = record {
+    cell = omega arith;
+    held = refl;
+    home = ap (λ n. names (cells_noted (without 1 (record (noted content) { cell = n } ∷ []))) 1) number;
+  }
+
+pub one_started : {L P : Type 0} (layouts : List L) (callers : List ℕ) (sys : SysSeen L) (passes : List (PassSeen P)) (pass : PassSeen P)
+    → IsStarted layouts 2 callers sys passes → length layouts ≡ 1 → callers ≡ 1 ∷ [] → pass ≡ get_or passes 0 pass → IsOneStarted sys pass
+one_started layouts callers sys passes pass h one called first = record {
+  ours = is.ours;
+  procs = h.procs_are;
+  object = ap length h.layouts_are ∙ one;
+  caller = ap length (h.callers_are ∙ called);
+  knows = is.new ∙ (λ i. new_pass 2 (one i) 0 (slice_index (called i) 0));
+} where
+  lt : 0 < length passes
+  lt = let many = h.dealt.many in let only = ap length called in omega (arith, many, only)
+
+  is : IsNewPass sys.table sys.queue 2 (length layouts) 0 (slice_index callers 0) pass
+  is = h.dealt.each 0 pass (slice_get-get_or passes 0 pass lt ∙ ap Some (sym first))
+
+pub rests_alone : {L P : Type 0} (sys : SysSeen L) (pass : PassSeen P) → IsOf sys pass → length sys.callers ≡ 1 → (content : Content P) → pass.view ≡ left content
+    → AreAtRest sys (pass ∷ [])
+rests_alone {L} {P} sys pass ours one content is = record { many = sym one; each = each } where
+  each : (c : ℕ) (x : PassSeen P) → slice_get (pass ∷ []) c ≡ Some x → IsPassAtRest sys c x
+  each zero x e =
+      subst (IsPassAtRest sys 0) (same_Some pass x e)
+      (record {
+        ours = ours;
+        number = ap (λ (v : PassView P). v.number) is;
+        rests = ap (λ (v : PassView P). is_at_rest v) is;
+      })
+  each (suc c) x e = absurd (cc)

@@ -1,8 +1,9 @@
 -- What a pass on the second of two processors knows, one step of a call after the other, where nobody else steps.
-use Rattle.std.specs.Prelude.{ℕ, ◌+◌, ◌^◌}
+use Rattle.std.specs.Prelude.{◌≡◌, ℕ, ◌+◌, ◌^◌, length}
 use Rattle.k42_rule.specs.Generating.{entered_view, left_view}
 use Rattle.k42_rule.specs.Tabling.{looked_up_view, rooted_view, installed_view, ended_view}
 use Rattle.k42_rule.specs.Taking.{locked_view, unlocked_view, taken_view, put_view}
+use Rattle.k42_rule.specs.Seen.{SysSeen, PassSeen, IsOf}
 use Rattle.k42_rule.specs.Views.{new_pass}
 use Rattle.k42_rule.specs.declared.cell.Content.{Content}
 use Rattle.k42_rule.specs.declared.view.PassView.{PassView}
@@ -42,3 +43,11 @@ module _ {P : Type 0} where
 
   abbrev pub left : Content P → PassView P
   left content = left_view 0 (ended content)
+
+-- a system of one object, and the pass of its only caller
+pub record IsOneStarted {L P : Type 0} (sys : SysSeen L) (pass : PassSeen P) : Type 0 where
+  pub ours : IsOf sys pass
+  pub procs : sys.procs ≡ 2
+  pub object : length sys.layouts ≡ 1
+  pub caller : length sys.callers ≡ 1
+  pub knows : pass.view ≡ new

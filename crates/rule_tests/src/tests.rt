@@ -1,7 +1,7 @@
-ghost use Rattle.std.specs.Prelude.{◌≡◌, length};
+ghost use Rattle.std.specs.Prelude.{◌≡◌, length, IfOk};
 ghost use Rattle.k42_rule.specs.Seen.{IsOf, IsSamePass};
 ghost use Rattle.k42_rule.specs.declared.cell.Content.{Content};
-ghost use Rattle.rule_tests.specs.Walk.{new, inside, unlocked, left};
+ghost use Rattle.rule_tests.specs.Walk.{new, inside, unlocked, left, IsOneStarted};
 
 use co_any::AnyLayout;
 use k42_kinds::{KindName, Layout, LayoutName};
@@ -63,18 +63,29 @@ fn come_out<L: Layout>(rt: &impl Abort, sys: &Sys<L>, pass: &mut Pass<L>)
 }
 
 /// A system of one object, whose only caller is on the second processor.
+fn start_one<L: Layout>(alloc: Global, layout: L) -> Result<(Sys<L>, Pass<L>), Memory>
+    requires { L.tag_of layout ≡ 1 }
+    ensures { IfOk result (λ made. IsOneStarted made.0 made.1) }
+{
+    let mut layouts = Vec::new(alloc);
+    layouts.push(layout)?;
+    let mut callers = Vec::new(alloc);
+    callers.push(1)?;
+    let (sys, mut passes) = Sys::start(alloc, layouts, 2, callers)?;
+    let pass = passes.remove(0);
+    Ok((sys, pass))
+}
+
+/// One call, from the start of the system to its end.
 fn go_through<L: Layout>(rt: &impl Abort, alloc: Global, layout: L) -> Result<(), Memory>
     requires { L.tag_of layout ≡ 1 }
 {
-    let layouts = vec![in alloc; layout]?;
-    let (sys, mut passes) = Sys::start(alloc, layouts, 2, vec![in alloc; 1]?)?;
-    let mut pass = passes.remove(0);
-    assert_eq!(rt; (pass.caller(), pass.processor()), (0, 1));
+    let (sys, mut pass) = start_one(alloc, layout)?;
     go_in(rt, &sys, &mut pass);
     hold(rt, &sys, &mut pass);
     come_out(rt, &sys, &mut pass);
-    assert!(rt; pass.is_idle());
-    let passes = vec![in alloc; pass]?;
+    let mut passes = Vec::new(alloc);
+    passes.push(pass)?;
     let Ok(lists) = sys.finish(alloc, passes) else {
         panic!(rt; "no memory for the lists");
     };
