@@ -35,7 +35,6 @@ pub mod CellsTold
 pub mod Noted
 pub mod RowCells
 pub mod HandedNotes
-pub mod Listed
 pub mod HandedParts
 pub mod HandedCells
 pub mod HandedSeat
@@ -65,4 +64,3 @@ pub mod Carrying
 pub mod Naming
 pub mod Starting
 pub mod Plans
-pub mod Listed
