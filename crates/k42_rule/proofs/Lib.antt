@@ -44,6 +44,7 @@ pub mod DrawnParts
 pub mod DrawnAt
 pub mod DrawnMark
 pub mod DrawnCall
+pub mod Pushed
 pub mod Beginning
 pub mod Staging
 pub mod EntryTurns
