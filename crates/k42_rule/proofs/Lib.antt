@@ -35,7 +35,6 @@ pub mod CellsTold
 pub mod Noted
 pub mod RowCells
 pub mod HandedNotes
-pub mod Listed
 pub mod HandedParts
 pub mod HandedCells
 pub mod HandedSeat
