@@ -58,4 +58,3 @@ pub mod Carrying
 pub mod Naming
 pub mod Starting
 pub mod Plans
-pub mod Listed
