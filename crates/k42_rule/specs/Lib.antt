@@ -19,6 +19,7 @@ pub mod Tabling
 pub mod Seen
 pub mod Taking
 pub mod Drawing
+pub mod Handing
 pub mod Receipts
 pub mod Plan
 pub mod Starting

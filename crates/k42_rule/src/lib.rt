@@ -11,6 +11,8 @@ mod freeing;
 mod generating;
 mod grace_words;
 mod gracing;
+mod hand_words;
+mod handing;
 mod queueing;
 mod laws;
 mod noting;
@@ -43,6 +45,7 @@ pub use laws::{
     freed_rows_stay_freed, rows_have_one_name, rows_inside_are_present, shown_states_are_safe,
 };
 pub use gracing::{flip, generation_step, give_role, look, take_role};
+pub use handing::draw_done;
 pub use pass::{Pass, Walker};
 pub use retired::{Carried, Retired, Slip};
 pub use swap_begins::begin_step;

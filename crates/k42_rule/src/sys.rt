@@ -1,5 +1,6 @@
 //! A system.
-ghost use Rattle.std.specs.Prelude.{◌≡◌, ◌<◌, Some, length, map, slice_get, vec_items, IfOk, IfErr};
+ghost use Rattle.std.specs.Prelude.{◌≡◌, ◌<◌, ◌≤◌, Some, length, map, slice_get, vec_items, IfOk, IfErr};
+ghost use Rattle.k42_limits.specs.declared.TheConstants.{PROCESSORS};
 ghost use Rattle.k42_rule.specs.Finishing.{AreAtRest, AreLastLists, lists_in};
 ghost use Rattle.k42_rule.specs.Plan.{layouts_on};
 ghost use Rattle.k42_rule.specs.Starting.{IsStart, IsStarted};
@@ -20,7 +21,7 @@ pub struct Sys<L: Layout> {
     pub(crate) board: Board<L>,
     /// The layouts with which the objects were started.
     layouts: Vec<L>,
-    procs: u32,
+    pub(crate) procs: u32,
     pub(crate) lane: Lane<L::Part>,
 }
 
@@ -33,6 +34,7 @@ pub struct Unfinished<L: Layout> {
 
 impl<L: Layout> Model for Sys<L> {
     ghost use Rattle.std.specs.Prelude.{◌≡◌, ◌<◌, ◌≤◌, length};
+    ghost use Rattle.k42_limits.specs.declared.TheConstants.{PROCESSORS};
     ghost use Rattle.k42_stamp.specs.Laws.{AreLaws};
     ghost use Rattle.k42_rule.specs.Plan.{layouts_on};
     ghost use Rattle.k42_rule.specs.Seen.{SysSeen};
@@ -50,7 +52,8 @@ impl<L: Layout> Model for Sys<L> {
 
     ghost invariant = { λ s. (s.board.shared.table_id.words ≡ many_words) × (s.board.shared.table_id.slots ≡ many_slots) × (s.layouts.items ≡ s.board.shared.key.layouts.items) × (s.procs ≡ s.board.shared.key.procs) × (length s.layouts.items ≤ 16)
         × AreLaws (layouts_on L.object L.tag_of L.ways L.whole L.serves L.admitted L.act_of s.board.shared.key.procs s.board.shared.key.callers.items)
-        × (0 < length s.board.shared.key.callers.items) };
+        × (0 < length s.board.shared.key.callers.items)
+        × (s.board.shared.key.procs ≤ PROCESSORS) };
 }
 
 impl<L: Layout> Sys<L> {
@@ -127,7 +130,8 @@ impl<L: Layout> Sys<L> {
     }
 
     pub fn procs(&self) -> u32
-        ensures { result ≡ self.now.procs }
+        ensures is { result ≡ self.now.procs }
+        ensures few { result ≤ PROCESSORS }
     {
         self.procs
     }

@@ -1,5 +1,6 @@
 use Rattle.std.proofs.Common.{rules, ◌≡◌, ◌<◌, ◌≤◌, ℕ, List, length, arith, sym, refl, ap, ◌∙◌, subst}
 use Rattle.std.specs.List.{slice_index_or}
+use Rattle.k42_limits.specs.declared.TheConstants.{PROCESSORS}
 use Rattle.k42_places.specs.Places.{EachPlace}
 use Rattle.k42_stamp.specs.Layouts.{Layouts}
 use Rattle.k42_stamp.specs.Laws.{AreLaws}
@@ -58,6 +59,7 @@ invariant_of-sys g c =
           (λ k. AreLaws (layouts_on g.L.Kind.object g.L.Layout.tag_of g.L.Layout.ways g.L.Layout.whole g.L.Layout.serves g.L.Layout.admitted g.L.Layout.act_of k.procs k.callers.items))
           (sym made.5) (laws_at g procs callers c.requires.turns.limits.some_procs c.requires.turns.placed),
       subst (λ k. 0 < length k.callers.items) (sym made.5) c.requires.turns.limits.some_callers,
+      subst (λ k. k.procs ≤ PROCESSORS) (sym made.5) c.requires.turns.limits.few_procs,
     )
 
 pub returns : goal.returns
