@@ -7,8 +7,8 @@ ghost use Rattle.k42_rule.specs.Starting.{IsStart, IsStarted};
 
 use crate::board::{Board, Setup};
 use crate::finish::{close, gather};
-use crate::queueing::{Lane, Line, tie_root};
 use crate::pass::{Pass, Walker};
+use crate::queueing::{Lane, Line, tie_root};
 use crate::start::{deal_all, first_slots, first_words};
 use atomic_table::Table;
 use k42_kinds::{Entry, Layout};
@@ -121,7 +121,9 @@ impl<L: Layout> Sys<L> {
         };
         let Sys { board, .. } = self;
         let Walker {
-            mut seat, entries, ..
+            mut seat,
+            entries,
+            ..
         } = passes.remove(0);
         lists.push_reserved(entries);
         gather(&board, &mut seat, &mut lists, passes);
