@@ -2,6 +2,7 @@
 ghost use Rattle.std.specs.Prelude.{◌≡◌, ◌<◌, ◌≤◌, Some, length, map, slice_get, vec_items, IfOk, IfErr};
 ghost use Rattle.k42_limits.specs.declared.TheConstants.{PROCESSORS};
 ghost use Rattle.k42_rule.specs.Finishing.{AreAtRest, AreLastLists, lists_in};
+ghost use Rattle.k42_rule.specs.Opened.{IsOpened};
 ghost use Rattle.k42_rule.specs.Plan.{layouts_on};
 ghost use Rattle.k42_rule.specs.Starting.{IsStart, IsStarted};
 
@@ -65,7 +66,10 @@ impl<L: Layout> Sys<L> {
         callers: Vec<u32>,
     ) -> Result<(Sys<L>, Vec<Pass<L>>), Memory>
         requires { IsStart L.tag_of layouts.items procs callers.items }
-        ensures { IfOk result (λ made. IsStarted layouts.items procs callers.items made.0 made.1.items) }
+        ensures started { IfOk result (λ made. IsStarted layouts.items procs callers.items made.0 made.1.items) }
+        ensures opened { IfOk result (λ made. IsOpened
+            (layouts_on L.object L.tag_of L.ways L.whole L.serves L.admitted L.act_of procs callers.items)
+            layouts.items callers.items) }
     {
         let Ok((line, mut root)) = Line::<L::Part>::with_rule(alloc) else {
             return Err(Memory);
