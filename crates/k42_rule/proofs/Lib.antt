@@ -44,6 +44,7 @@ pub mod Blocking
 pub mod MovingOver
 pub mod TurningOver
 pub mod Clearing
+pub mod Fitting
 pub mod WordExamples
 pub mod FirstParts
 pub mod Opening

@@ -6,6 +6,7 @@ ghost use Rattle.phase_core.specs.Stages.{named_by};
 ghost use Rattle.phase_core.specs.State.{note_at};
 ghost use Rattle.k42_rule.specs.Phases.{is_served};
 ghost use Rattle.k42_rule.specs.Seen.{IsRoomier, inside_in, is_at_rest};
+ghost use Rattle.k42_rule.specs.Swapping.{FitsSwap};
 ghost use Rattle.k42_rule.specs.Values.{layout_in, incarnation_in};
 ghost use Rattle.k42_rule.specs.Views.{word_begun};
 
@@ -55,7 +56,7 @@ impl<P: Drop> Model for Walker<P> {
     ghost use Rattle.k42_rule.specs.Gracing.{FitsGrace};
     ghost use Rattle.k42_rule.specs.Seats.{LAST_STAMP};
     ghost use Rattle.k42_rule.specs.Seen.{PassSeen, Mirrors};
-    ghost use Rattle.k42_rule.specs.Swapping.{next_entry};
+    ghost use Rattle.k42_rule.specs.Swapping.{next_entry, FitsSwap};
     ghost use Rattle.k42_rule.specs.Values.{layout_in, incarnation_in};
     ghost use Rattle.k42_rule.specs.Views.{pass_in, word_begun};
 
@@ -93,7 +94,8 @@ impl<P: Drop> Model for Walker<P> {
         × (p.granted ≤ length p.rows.items)
         × FitsGrace p.grace p.base (length p.waits.items) × (unwrap_or p.base 0 + 1 < 2 ^ 32) × (unwrap_or p.coming 0 < 2 ^ 32)
         × IsListOf p.number p.entries.items
-        × (last_stamp p.entries.items ≤ LAST_STAMP) };
+        × (last_stamp p.entries.items ≤ LAST_STAMP)
+        × FitsSwap p.swap p.turned p.handed p.last };
 }
 
 impl<P: Drop> Walker<P> {
@@ -206,7 +208,8 @@ impl<P: Drop> Walker<P> {
 
     /// How far its swap is.
     pub fn swap(&self) -> SwapAt
-        ensures { result ≡ self.now.view.visitor.swap }
+        ensures is { result ≡ self.now.view.visitor.swap }
+        ensures linked { FitsSwap self.now.view.visitor.swap self.now.view.turned self.now.view.handed self.now.view.last }
     {
         self.swap
     }
