@@ -166,8 +166,8 @@ module _ (swap : SwapAt) (turned : Bool) (handed : Option ℕ) (last : Option La
   fits_moved e = fits_at (Moved (object_named swap)) (goes_moved swap e)
 
   -- its pass takes the role, and its pass's grace comes so far
-  pub fits_draining : FitsSwap (draining_from swap) turned handed last
-  fits_draining = fits_at (draining_from swap) (goes_draining swap)
+  pub fits_draining : (next : SwapAt) → next ≡ draining_from swap → FitsSwap next turned handed last
+  fits_draining next is = rw is (fits_at (draining_from swap) (goes_draining swap))
 
   pub fits_drained : (grace : GraceAt) → FitsSwap (drained_at grace swap) turned handed last
   fits_drained grace = fits_at (drained_at grace swap) (goes_drained grace swap)

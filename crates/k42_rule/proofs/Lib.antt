@@ -7,6 +7,7 @@ pub mod Leaving
 pub mod Moves
 pub mod Notings
 pub mod Roles
+pub mod RoleTaken
 pub mod Holding
 pub mod Asking
 pub mod Looks
