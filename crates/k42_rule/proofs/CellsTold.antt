@@ -1,6 +1,8 @@
 -- The seat of a pass may be parted from what a cell is told of an entry that was drawn at it.
 use Rattle.std.proofs.Common.{◌≡◌, ◌≢◌, ℕ, zero, suc, ◌+◌, ◌<◌, ◌⊎◌, Bool, true, false, eqb, cond, List, [], ◌∷◌, ◌++◌, Option, Some, None, length, set, inl, inr, sym, refl, ap, ◌∙◌, subst, ⊎_elim, arith, length-set}
 use Rattle.std.specs.List.{slice_get}
+use Rattle.std.specs.Prelude.{take, drop}
+use Rattle.std.proofs.Math.Seq.{take-append_seam}
 use Rattle.std.proofs.lemmas.Bool.{eqb-true}
 use Rattle.std.proofs.lemmas.Option.{same_Some}
 use mathlib.Core.Option.{some}
@@ -114,3 +116,8 @@ more_told notes x y xs ys one more = (ap suc more.0, pairs) where
   pairs : (i : ℕ) (a b : Content _) → slice_get (x ∷ xs) i ≡ Some a → slice_get (y ∷ ys) i ≡ Some b → IsTold notes a b
   pairs zero a b e f = subst (λ (z : Content _ × Content _). IsTold notes z.0 z.1) (λ i. (same_Some x a e i, same_Some y b f i)) one
   pairs (suc i) a b e f = more.1 i a b e f
+
+-- a list that was written back in the place of another one
+pub told_back : {P : Type 0} (notes : List (Note P)) (xs ys : List (Content P)) (n : ℕ) → n ≡ length xs → AreTold notes xs ys → AreTold notes xs (take n (ys ++ drop (length ys) xs))
+told_back notes xs ys n long told =
+    subst (AreTold notes xs) (sym (ap (λ m. take m (ys ++ drop (length ys) xs)) (long ∙ sym told.0) ∙ take-append_seam ys (drop (length ys) xs))) told

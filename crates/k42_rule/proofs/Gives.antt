@@ -118,7 +118,7 @@ module _ {S L P : Type 0} (F : Layouts S L P) (laws : AreLaws F) (declared : Lis
         let holds : r.sound.phases.scene.course.holder ≡ Some c = sym r.sound.phases.in_scene.in_course.role ∙ held_role in
         let note : note_at v.visitor.noted o ≡ Some look.incarnation =
         ap (λ (z : Visitor). note_at z.noted o) (sym mine.phases.visitor) ∙ its.frees_alone.noted holds o ∙ noted in
-        let freed = mine.phases.rows.swept o look.incarnation (may.swept o own) note in
+        let freed = mine.phases.rows.swept o look.incarnation (may.swept o look.incarnation own note) note in
         let same = known.bits_follow.incarnation in
         le-leb (object_at r.state.phases o).incarnation (object_at r.state.phases o).freed (omega (arith, freed, same))
     by_swap swap is = refl

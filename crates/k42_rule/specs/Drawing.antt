@@ -205,6 +205,9 @@ pub record IsDrawer {P : Type 0} (old new : PassSeen P) : Type 0 where
   pub seat : new.seat ≡ old.seat
   pub room : new.room + 1 ≡ old.room
   pub row_room : new.row_room ≡ old.row_room
+  pub queue : new.queue ≡ old.queue
+  pub pushed : new.pushed ≡ old.pushed
+  pub popped : new.popped ≡ old.popped
 
 -- Its last Begin found the object over, with this answer; the cell is the first of that row.
 pub record MayDrawMark {P : Type 0} (content : Content P) (act : Act) (answer : Answer) (v : PassView P) : Type 0 where

@@ -10,6 +10,7 @@ use Rattle.gen_core.specs.declared.state.GraceAt.{GraceAt}
 use Rattle.gen_core.specs.declared.state.GraceAt.TheVariants.{Idle, Flipping, Looking, Quiet}
 use Rattle.phase_core.specs.Effects.{drained_at, role_taken_with}
 use Rattle.phase_core.specs.Stages.{may_take}
+use Rattle.phase_core.specs.State.{note_at}
 use Rattle.phase_core.specs.declared.caller.SwapAt.TheVariants.{Drained}
 use Rattle.turn_core.specs.Names.{names}
 use Rattle.k42_joined.specs.Swapping.{holds_none}
@@ -133,11 +134,12 @@ turn_flipped x entered = record x {
 abbrev pub flipped_view : {P : Type 0} → ℕ → PassView P → PassView P
 flipped_view found v = hears found (record v { turn = turn_flipped v.turn (entries_in found) })
 
--- it is quiet and holds no cell; where its swap is drained it has freed the former rows of the object
+-- it is quiet and holds no cell; where its swap is drained it has freed the former rows of the object, which it noted
 pub record MayGiveRole {P : Type 0} (v : PassView P) : Type 0 where
   pub quiet : v.turn.grace ≡ Quiet
   pub free : holds_none v.taker.held ≡ true
-  pub swept : (o : ℕ) → v.visitor.swap ≡ Drained o → names v.swept o ≡ true
+  pub swept :
+      (o n : ℕ) → v.visitor.swap ≡ Drained o → note_at v.visitor.noted o ≡ Some n → names v.swept o ≡ true
 
 -- it no longer has the rows that it held as it took the role
 abbrev pub given_view : {P : Type 0} → PassView P → PassView P

@@ -19,8 +19,10 @@ pub mod Tabling
 pub mod Seen
 pub mod Taking
 pub mod Drawing
+pub mod Handing
 pub mod Receipts
 pub mod Plan
 pub mod Starting
 pub mod Dealing
+pub mod Queueing
 pub mod Laws

@@ -1,6 +1,8 @@
 -- Systems and passes, as contracts see them.
 use Rattle.std.specs.Prelude.{◌≡◌, ◌+◌, ◌<◌, ◌≤◌, ℕ, ◌&&◌, Bool, true, false, List, [], ◌∷◌, Option, None, is_none, length, unwrap_or}
+use Rattle.std.specs.Global.{Global}
 use Rattle.atomic_table.specs.Seated.{TableId}
+use Rattle.crossbeam_queue.specs.SegTies.{SegId}
 use Rattle.gen_core.specs.Events as graces
 use Rattle.gen_core.specs.Plain as gens
 use Rattle.phase_core.specs.Stages as swaps
@@ -18,9 +20,14 @@ use Rattle.k42_rule.specs.declared.view.Row.{Row}
 use Rattle.k42_rule.specs.declared.view.View.{View}
 use Rattle.k42_rule.specs.declared.view.View.TheVariants.{Crew}
 
--- a system: its table, and what it was told at the start
+-- which queue of rows
+abbrev pub QueueId : Type 0
+QueueId = SegId Global
+
+-- a system: its table and its queue, and what it was told at the start
 pub record SysSeen (L : Type 0) : Type 0 where
   pub table : TableId
+  pub queue : QueueId
   pub procs : ℕ
   pub layouts : List L
   pub callers : List ℕ
@@ -32,6 +39,10 @@ pub record PassSeen (P : Type 0) : Type 0 where
   pub view : PassView P
   pub room : ℕ
   pub row_room : ℕ
+  -- on which queue it is, and which rows it has pushed and popped there, the oldest first
+  pub queue : QueueId
+  pub pushed : List Row
+  pub popped : List Row
 
 -- what the pass keeps by itself of what it knows
 pub record Own : Type 0 where
@@ -94,6 +105,7 @@ pub record IsPassOf {L P : Type 0} (sys : SysSeen L) (pass : PassSeen P) : Type 
   pub waits : length pass.view.turn.waits ≡ sys.procs
   pub objects : length pass.view.visitor.noted ≡ length sys.layouts
   pub spans : length pass.view.visitor.freeing ≡ length sys.layouts
+  pub queue : pass.queue ≡ sys.queue
 
 -- it has the same seat, and the same room
 pub record IsSamePass {P : Type 0} (old new : PassSeen P) : Type 0 where
@@ -101,6 +113,9 @@ pub record IsSamePass {P : Type 0} (old new : PassSeen P) : Type 0 where
   pub seat : new.seat ≡ old.seat
   pub room : new.room ≡ old.room
   pub row_room : new.row_room ≡ old.row_room
+  pub queue : new.queue ≡ old.queue
+  pub pushed : new.pushed ≡ old.pushed
+  pub popped : new.popped ≡ old.popped
 
 -- it has the same seat, and the same room for entries; for rows it has room as before, less what they need that are new
 pub record HasSameRoom {P : Type 0} (old new : PassSeen P) : Type 0 where
@@ -108,6 +123,9 @@ pub record HasSameRoom {P : Type 0} (old new : PassSeen P) : Type 0 where
   pub seat : new.seat ≡ old.seat
   pub room : new.room ≡ old.room
   pub row_room : new.row_room + length new.view.rows ≡ old.row_room + length old.view.rows
+  pub queue : new.queue ≡ old.queue
+  pub pushed : new.pushed ≡ old.pushed
+  pub popped : new.popped ≡ old.popped
 
 -- it has room for no fewer entries and rows, and knows the same
 pub record IsRoomier {P : Type 0} (old new : PassSeen P) : Type 0 where
@@ -116,6 +134,9 @@ pub record IsRoomier {P : Type 0} (old new : PassSeen P) : Type 0 where
   pub view : new.view ≡ old.view
   pub room : old.room ≤ new.room
   pub row_room : old.row_room ≤ new.row_room
+  pub queue : new.queue ≡ old.queue
+  pub pushed : new.pushed ≡ old.pushed
+  pub popped : new.popped ≡ old.popped
 
 -- the mediator counts the call
 abbrev pub is_tracked : Place → Bool

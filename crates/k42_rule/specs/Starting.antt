@@ -5,7 +5,7 @@ use Rattle.k42_limits.specs.declared.TheConstants.{OBJECTS}
 use Rattle.k42_places.specs.Places.{EachPlace}
 use Rattle.k42_rule.specs.Cells.{IsCell, Slot}
 use Rattle.gen_core.specs.State as gens
-use Rattle.k42_rule.specs.Seen.{SysSeen, PassSeen, IsPassOf}
+use Rattle.k42_rule.specs.Seen.{QueueId, SysSeen, PassSeen, IsPassOf}
 use Rattle.k42_rule.specs.Steps.{Seated}
 use Rattle.k42_rule.specs.Views.{new_pass, new_passes}
 use Rattle.k42_rule.specs.Words.{object_word, many_words, many_slots}
@@ -37,15 +37,18 @@ pub record IsStart {L : Type 0} (tag_of : L → ℕ) (layouts : List L) (procs :
   pub live : EachPlace (λ o layout. tag_of layout ≤ 1) layouts
 
 -- a pass that has done nothing, with room for rows
-pub record IsNewPass {P : Type 0} (table : TableId) (procs objects number home : ℕ) (pass : PassSeen P) : Type 0 where
+pub record IsNewPass {P : Type 0} (table : TableId) (queue : QueueId) (procs objects number home : ℕ) (pass : PassSeen P) : Type 0 where
   pub ours : pass.table ≡ table
   pub new : pass.view ≡ new_pass procs objects number home
   pub rows : pass.row_room ≡ 64
+  pub posted : pass.queue ≡ queue
+  pub pushed : pass.pushed ≡ []
+  pub popped : pass.popped ≡ []
 
 -- a new pass for each of these processors
-pub record AreDealt {P : Type 0} (table : TableId) (procs objects : ℕ) (homes : List ℕ) (passes : List (PassSeen P)) : Type 0 where
+pub record AreDealt {P : Type 0} (table : TableId) (queue : QueueId) (procs objects : ℕ) (homes : List ℕ) (passes : List (PassSeen P)) : Type 0 where
   pub many : length passes ≡ length homes
-  pub each : EachPlace (λ c pass. IsNewPass table procs objects c (slice_index homes c) pass) passes
+  pub each : EachPlace (λ c pass. IsNewPass table queue procs objects c (slice_index homes c) pass) passes
 
 pub record IsStarted
     {L P : Type 0} (layouts : List L) (procs : ℕ) (callers : List ℕ) (sys : SysSeen L) (passes : List (PassSeen P))
@@ -53,12 +56,12 @@ pub record IsStarted
   pub procs_are : sys.procs ≡ procs
   pub layouts_are : sys.layouts ≡ layouts
   pub callers_are : sys.callers ≡ callers
-  pub dealt : AreDealt sys.table procs (length layouts) callers passes
+  pub dealt : AreDealt sys.table sys.queue procs (length layouts) callers passes
   pub passes_are : EachPlace (λ c pass. IsPassOf sys pass) passes
 
 -- the first passes are dealt, and the seat has the others
-pub record IsDealing {P : Type 0} (table : TableId) (procs objects : ℕ) (homes : List ℕ) (next : ℕ) (seat : TableId) (me : Seated P) (passes : List (PassSeen P)) : Type 0 where
+pub record IsDealing {P : Type 0} (table : TableId) (queue : QueueId) (procs objects : ℕ) (homes : List ℕ) (next : ℕ) (seat : TableId) (me : Seated P) (passes : List (PassSeen P)) : Type 0 where
   pub ours : seat ≡ table
   pub crew : me ≡ (Crew (new_passes procs objects next (drop next homes)), [])
   pub many : length passes ≡ next
-  pub each : EachPlace (λ c pass. IsNewPass table procs objects c (slice_index homes c) pass) passes
+  pub each : EachPlace (λ c pass. IsNewPass table queue procs objects c (slice_index homes c) pass) passes

@@ -43,7 +43,7 @@ fn object_begun_in(last: &Option<LastBegin>) -> u32
 }
 
 /// The incarnation that the last Begin found.
-fn incarnation_at(last: &Option<LastBegin>) -> u32
+pub(crate) fn incarnation_at(last: &Option<LastBegin>) -> u32
     ensures { result ≡ incarnation_in (word_begun last.now) }
 {
     match last {

@@ -56,7 +56,7 @@ fn draining(swap: SwapAt) -> SwapAt
     }
 }
 
-/// And whose caller's grace has come so far.
+/// The stage of a swap whose caller's grace has come so far.
 fn drained(grace: GraceAt, swap: SwapAt) -> SwapAt
     ensures { result ≡ drained_at grace swap }
 {

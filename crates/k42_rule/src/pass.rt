@@ -4,6 +4,7 @@ ghost use Rattle.k42_limits.specs.declared.TheConstants.{LAST_INCARNATION};
 ghost use Rattle.k42_stamp.specs.Lists.{IsListOf};
 ghost use Rattle.phase_core.specs.Stages.{named_by};
 ghost use Rattle.phase_core.specs.State.{note_at};
+ghost use Rattle.k42_rule.specs.Gracing.{FitsGrace};
 ghost use Rattle.k42_rule.specs.Phases.{is_served};
 ghost use Rattle.k42_rule.specs.Seen.{IsRoomier, inside_in, is_at_rest};
 ghost use Rattle.k42_rule.specs.Swapping.{FitsSwap};
@@ -11,8 +12,10 @@ ghost use Rattle.k42_rule.specs.Values.{layout_in, incarnation_in};
 ghost use Rattle.k42_rule.specs.Views.{word_begun};
 
 use crate::cell::Content;
+use crate::retired::{Carried, Slip};
 use crate::view::{Inside, LastBegin, Row, View};
 use atomic_table::Seat;
+use crossbeam_queue::SegPass;
 use gen_core::GraceAt;
 use k42_kinds::{Entry, Layout};
 use k42_memory::Memory;
@@ -22,6 +25,7 @@ use std::marker::Model;
 #[derive(Drop)]
 pub struct Walker<P: Drop> {
     pub(crate) seat: Seat<Option<Content<P>>, View<P>>,
+    pub(crate) post: SegPass<Slip<P>, Carried>,
     pub(crate) number: u32,
     pub(crate) home: u32,
     pub(crate) active: Option<u32>,
@@ -47,13 +51,14 @@ pub struct Walker<P: Drop> {
 pub type Pass<L> = Walker<<L as Layout>::Part>;
 
 impl<P: Drop> Model for Walker<P> {
-    ghost use Rattle.std.specs.Prelude.{ℕ, ◌+◌, ◌-◌, ◌^◌, ◌≡◌, ◌<◌, ◌≤◌, length, vec_capacity};
+    ghost use Rattle.std.specs.Prelude.{ℕ, ◌+◌, ◌-◌, ◌^◌, ◌≡◌, ◌<◌, ◌≤◌, None, length, vec_capacity};
     ghost use Rattle.std.specs.Option.{unwrap_or};
     ghost use Rattle.k42_limits.specs.declared.TheConstants.{LAST_INCARNATION};
     ghost use Rattle.phase_core.specs.Stages.{object_of, row_of, object_named};
     ghost use Rattle.turn_core.specs.Stamps.{last_stamp};
     ghost use Rattle.k42_stamp.specs.Lists.{IsListOf};
     ghost use Rattle.k42_rule.specs.Gracing.{FitsGrace};
+    ghost use Rattle.k42_rule.specs.Queueing.{IsTied};
     ghost use Rattle.k42_rule.specs.Seats.{LAST_STAMP};
     ghost use Rattle.k42_rule.specs.Seen.{PassSeen, Mirrors};
     ghost use Rattle.k42_rule.specs.Swapping.{next_entry, FitsSwap};
@@ -68,6 +73,9 @@ impl<P: Drop> Model for Walker<P> {
       view = pass_in p.seat.me.0;
       room = vec_capacity p.entries - length p.entries.items;
       row_room = vec_capacity p.rows - length p.rows.items;
+      queue = record { web = p.post.web; heap = p.post.heap };
+      pushed = p.post.me.view.client.pushed;
+      popped = p.post.me.view.client.popped;
     } };
 
     ghost invariant = { λ p. Mirrors p.seat.me (record {
@@ -95,7 +103,8 @@ impl<P: Drop> Model for Walker<P> {
         × FitsGrace p.grace p.base (length p.waits.items) × (unwrap_or p.base 0 + 1 < 2 ^ 32) × (unwrap_or p.coming 0 < 2 ^ 32)
         × IsListOf p.number p.entries.items
         × (last_stamp p.entries.items ≤ LAST_STAMP)
-        × FitsSwap p.swap p.turned p.handed p.last };
+        × FitsSwap p.swap p.turned p.handed p.last
+        × (p.post.me.hand ≡ None) × (p.post.me.spare ≡ None) × IsTied p.seat.table_id p.post.me.view.client };
 }
 
 impl<P: Drop> Walker<P> {
@@ -127,7 +136,8 @@ impl<P: Drop> Walker<P> {
 
     /// How far its grace is.
     pub fn grace(&self) -> GraceAt
-        ensures { result ≡ self.now.view.turn.grace }
+        ensures is { result ≡ self.now.view.turn.grace }
+        ensures fits { FitsGrace self.now.view.turn.grace self.now.view.base (length self.now.view.turn.waits) }
     {
         self.grace
     }

@@ -1,7 +1,9 @@
 //! How a system starts.
 ghost use Rattle.std.specs.Prelude.{◌≡◌, ◌<◌, ◌≤◌, ℕ, List, [], ◌∷◌, length, IfOk};
 ghost use Rattle.k42_places.specs.Places.{EachPlace};
+ghost use Rattle.crossbeam_queue.specs.SegTies.{IsSegPassOf};
 ghost use Rattle.k42_rule.specs.Dealing.{dealer};
+ghost use Rattle.k42_rule.specs.Queueing.{IsTied};
 ghost use Rattle.k42_rule.specs.Starting.{AreFirstWords, AreFirstSlots, IsNewPass, AreDealt};
 ghost use Rattle.k42_rule.specs.Views.{new_pass, new_passes};
 ghost use Rattle.k42_rule.specs.Words.{many_words, many_slots};
@@ -10,6 +12,7 @@ ghost use Rattle.k42_rule.specs.declared.view.View.TheVariants.{Crew};
 
 use crate::board::{Board, Place};
 use crate::cell::Content;
+use crate::queueing::{Another, Line, Post};
 use crate::pass::{Pass, Walker};
 use crate::plays::Deal;
 use atomic_table::Badge;
@@ -51,6 +54,8 @@ fn deal<L: Layout>(
     alloc: Global,
     board: &Board<L>,
     seat: &mut Place<L>,
+    line: &Line<L::Part>,
+    root: &mut Post<L::Part>,
     procs: u32,
     objects: usize,
     number: u32,
@@ -58,10 +63,13 @@ fn deal<L: Layout>(
 ) -> Result<Pass<L>, Memory>
     requires ours { (seat.old.table_id ≡ board.now.shared.table_id) × (board.now.shared.table_id.words ≡ many_words) }
     requires few { (procs ≤ 8) × (home < 8) }
+    requires post { IsSegPassOf line.now root.old × IsTied board.now.shared.table_id root.old.me.view.client }
     requires crew { (rest : List (PassView L.Part)) × (seat.old.me ≡ (Crew (new_pass procs objects number home ∷ rest), [])) }
     ensures ours { (seat.new.table_id ≡ seat.old.table_id) × (seat.new.me ≡ (dealer seat.old.me.0, [])) }
-    ensures dealt { IfOk result (λ pass. IsNewPass board.now.shared.table_id procs objects number home pass) }
+    ensures post { IsSegPassOf line.now root.new × IsTied board.now.shared.table_id root.new.me.view.client }
+    ensures dealt { IfOk result (λ pass. IsNewPass board.now.shared.table_id line.now procs objects number home pass) }
 {
+    let post = line.another::<Another>(root);
     let own = board.shared.split_seat::<Deal>(seat);
     let waits = Vec::from_elem(alloc, 0u32, procs as usize)?;
     let noted = Vec::from_elem(alloc, None, objects)?;
@@ -69,6 +77,7 @@ fn deal<L: Layout>(
     let rows = Vec::with_capacity(alloc, 64)?;
     Ok(Walker {
         seat: own,
+        post,
         number,
         home,
         active: None,
@@ -96,19 +105,32 @@ pub(crate) fn deal_all<L: Layout>(
     alloc: Global,
     board: &Board<L>,
     seat: &mut Place<L>,
+    line: &Line<L::Part>,
+    root: &mut Post<L::Part>,
     procs: u32,
     objects: usize,
     homes: &[u32],
 ) -> Result<Vec<Pass<L>>, Memory>
     requires ours { (seat.old.table_id ≡ board.now.shared.table_id) × (board.now.shared.table_id.words ≡ many_words) }
     requires few { procs ≤ 8 }
+    requires post { IsSegPassOf line.now root.old × IsTied board.now.shared.table_id root.old.me.view.client }
     requires crew { seat.old.me ≡ (Crew (new_passes procs objects 0 homes.now), []) }
     requires homes { (length homes.now ≤ 16) × EachPlace (λ c home. home < 8) homes.now }
-    ensures { IfOk result (λ passes. AreDealt board.now.shared.table_id procs objects homes.now passes.items) }
+    ensures { IfOk result (λ passes. AreDealt board.now.shared.table_id line.now procs objects homes.now passes.items) }
 {
     let mut passes = Vec::with_capacity(alloc, homes.len())?;
     for (number, home) in homes.iter().enumerate() {
-        let pass = deal(alloc, board, seat, procs, objects, number as u32, *home)?;
+        let pass = deal(
+            alloc,
+            board,
+            seat,
+            line,
+            root,
+            procs,
+            objects,
+            number as u32,
+            *home,
+        )?;
         passes.push(pass)?;
     }
     Ok(passes)

@@ -1,11 +1,13 @@
 //! A system.
-ghost use Rattle.std.specs.Prelude.{◌≡◌, ◌<◌, Some, length, map, slice_get, vec_items, IfOk, IfErr};
+ghost use Rattle.std.specs.Prelude.{◌≡◌, ◌<◌, ◌≤◌, Some, length, map, slice_get, vec_items, IfOk, IfErr};
+ghost use Rattle.k42_limits.specs.declared.TheConstants.{PROCESSORS};
 ghost use Rattle.k42_rule.specs.Finishing.{AreAtRest, AreLastLists, lists_in};
 ghost use Rattle.k42_rule.specs.Plan.{layouts_on};
 ghost use Rattle.k42_rule.specs.Starting.{IsStart, IsStarted};
 
 use crate::board::{Board, Setup};
 use crate::finish::{close, gather};
+use crate::queueing::{Lane, Line, tie_root};
 use crate::pass::{Pass, Walker};
 use crate::start::{deal_all, first_slots, first_words};
 use atomic_table::Table;
@@ -19,7 +21,8 @@ pub struct Sys<L: Layout> {
     pub(crate) board: Board<L>,
     /// The layouts with which the objects were started.
     layouts: Vec<L>,
-    procs: u32,
+    pub(crate) procs: u32,
+    pub(crate) lane: Lane<L::Part>,
 }
 
 /// There was no memory for the list of lists. The system and its passes are as they were.
@@ -31,6 +34,7 @@ pub struct Unfinished<L: Layout> {
 
 impl<L: Layout> Model for Sys<L> {
     ghost use Rattle.std.specs.Prelude.{◌≡◌, ◌<◌, ◌≤◌, length};
+    ghost use Rattle.k42_limits.specs.declared.TheConstants.{PROCESSORS};
     ghost use Rattle.k42_stamp.specs.Laws.{AreLaws};
     ghost use Rattle.k42_rule.specs.Plan.{layouts_on};
     ghost use Rattle.k42_rule.specs.Seen.{SysSeen};
@@ -40,6 +44,7 @@ impl<L: Layout> Model for Sys<L> {
 
     ghost view = { λ s. record {
       table = s.board.shared.table_id;
+      queue = s.lane.line;
       procs = s.board.shared.key.procs;
       layouts = s.board.shared.key.layouts.items;
       callers = s.board.shared.key.callers.items;
@@ -47,7 +52,8 @@ impl<L: Layout> Model for Sys<L> {
 
     ghost invariant = { λ s. (s.board.shared.table_id.words ≡ many_words) × (s.board.shared.table_id.slots ≡ many_slots) × (s.layouts.items ≡ s.board.shared.key.layouts.items) × (s.procs ≡ s.board.shared.key.procs) × (length s.layouts.items ≤ 16)
         × AreLaws (layouts_on L.object L.tag_of L.ways L.whole L.serves L.admitted L.act_of s.board.shared.key.procs s.board.shared.key.callers.items)
-        × (0 < length s.board.shared.key.callers.items) };
+        × (0 < length s.board.shared.key.callers.items)
+        × (s.board.shared.key.procs ≤ PROCESSORS) };
 }
 
 impl<L: Layout> Sys<L> {
@@ -61,6 +67,10 @@ impl<L: Layout> Sys<L> {
         requires { IsStart L.tag_of layouts.items procs callers.items }
         ensures { IfOk result (λ made. IsStarted layouts.items procs callers.items made.0 made.1.items) }
     {
+        let Ok((line, mut root)) = Line::<L::Part>::with_rule(alloc) else {
+            return Err(Memory);
+        };
+        let lane = Lane { line };
         let words = first_words(alloc, layouts.as_slice())?;
         let slots = first_slots(alloc)?;
         let setup = Setup {
@@ -72,10 +82,13 @@ impl<L: Layout> Sys<L> {
             return Err(Memory);
         };
         let objects = setup.layouts.len();
+        tie_root(&lane.line, &mut root, &seat);
         let passes = deal_all(
             alloc,
             &board,
             &mut seat,
+            &lane.line,
+            &mut root,
             procs,
             objects,
             setup.callers.as_slice(),
@@ -85,6 +98,7 @@ impl<L: Layout> Sys<L> {
             board,
             layouts,
             procs,
+            lane,
         };
         Ok((sys, passes))
     }
@@ -116,7 +130,8 @@ impl<L: Layout> Sys<L> {
     }
 
     pub fn procs(&self) -> u32
-        ensures { result ≡ self.now.procs }
+        ensures is { result ≡ self.now.procs }
+        ensures few { result ≤ PROCESSORS }
     {
         self.procs
     }

@@ -74,7 +74,7 @@ fn a_call_goes_through_the_table(rt: HostRuntime) -> Result<(), Fail> {
     come_out(&rt, &sys, &mut pass);
     assert!(rt; pass.is_idle());
     let Ok(lists) = sys.finish(alloc, vec![in alloc; pass]?) else {
-        return Err(Fail);
+        panic!(rt; "no memory for the lists");
     };
     assert_eq!(rt; lists.len(), 1);
     assert!(rt; lists[0].is_empty());

@@ -1,5 +1,37 @@
-use Rattle.std.proofs.Common.{rules, ◌≡◌}
+use Rattle.std.proofs.Common.{rules, ◌≡◌, ◌≤◌, refl, sym, subst}
+use Rattle.k42_rule.specs.Queueing.{IsTied}
+use Rattle.k42_rule.specs.Seats.{LAST_STAMP}
+use Rattle.k42_rule.specs.Views.{pass_in}
+use Rattle.k42_rule.proofs.Noted.{last_push}
+use Rattle.k42_rule.proofs.Pushed.{list_drawn, small_drawn, mirrors_drawn}
 use Rattle.k42_rule.proofs.drawing.draw_alone.Goals as goal
 
 pub returns-clause-event : goal.returns-clause-event
 returns-clause-event g c = rw (← c.pass.view_is, ← c.sys.view_is) c.alone_word.ensures.event
+
+-- what the pass keeps by itself
+pub invariant_of-pass : goal.invariant_of-pass
+invariant_of-pass g c =
+    let old = c.pass.invariant in let v = pass_in c.pass.inside.seat.me.0 in
+    let told = c.alone_word.ensures.told in let pushed = c.push_reserved.ensures.items in
+    let small = subst (λ z. z ≤ LAST_STAMP) (last_push v.taker.mine _) told.1 in (
+      mirrors_drawn _ c.pass.inside.seat.me c.alone_word.new.seat.me _ _ _ old.0 told.0 refl refl old.0.told pushed,
+      old.1,
+      old.2,
+      old.3,
+      old.4,
+      old.5,
+      old.6,
+      old.7,
+      old.8,
+      old.9,
+      old.10,
+      old.11,
+      old.12,
+      old.13,
+      list_drawn c.pass.inside.number c.pass.inside.entries.items c.as_slice.result.now c.push_reserved.new.self.items _ 0 old.14 c.as_slice.ensures.value c.stamp_after-stamp.ensures refl pushed,
+      small_drawn c.pass.inside.entries.items c.push_reserved.new.self.items _ pushed small,
+      old.16,
+      old.17,
+      subst (λ z. IsTied z c.pass.inside.post.me.view.client) (sym c.alone_word.ensures.ours.0) old.18,
+    )

@@ -1,18 +1,22 @@
-use Rattle.std.proofs.Common.{rules, ◌≡◌, ℕ, ◌<◌, [], ◌∷◌, List, length, ap, sym, subst, refl, ◌∙◌, arith}
+use Rattle.std.proofs.Common.{rules, ◌≡◌, ℕ, ◌<◌, ◌≤◌, [], ◌∷◌, List, length, ap, sym, subst, refl, ◌∙◌, arith}
 use Rattle.turn_core.specs.declared.event.TurnEvent.TheVariants.{Draw}
 use Rattle.k42_joined.specs.Drawing.{first_cell}
 use Rattle.k42_joined.specs.Event.{AtCells}
 use Rattle.k42_rule.specs.Drawing.{MayDrawAs, AreHeld, AreTold, entry_call, numbers_of, draws_at, drawn_at, untold_view, stamp_next}
 use Rattle.phase_core.specs.Stages.{object_of, row_of}
 use Rattle.k42_rule.specs.Plan.{layouts_on}
+use Rattle.k42_rule.specs.Queueing.{IsTied}
+use Rattle.k42_rule.specs.Seats.{LAST_STAMP}
 use Rattle.k42_rule.specs.Seen.{PassSeen, SysSeen, Own}
 use Rattle.k42_rule.specs.Steps.{Seated, StepIs}
 use Rattle.k42_rule.specs.Views.{pass_in}
 use Rattle.k42_rule.specs.Words.{lock_word}
+use Rattle.k42_rule.specs.declared.view.View.TheVariants.{Crew}
 use Rattle.k42_rule.specs.declared.view.Note.{Note}
 use Rattle.k42_rule.specs.declared.view.PassView.{PassView}
 use Rattle.k42_rule.proofs.DrawnCall.{drawn_held, drawn_call}
-use Rattle.k42_rule.proofs.Noted.{all_due, view_back, call_entry, stamp_held}
+use Rattle.k42_rule.proofs.Noted.{all_due, view_back, call_entry, stamp_held, last_push}
+use Rattle.k42_rule.proofs.Pushed.{list_drawn, small_drawn, mirrors_drawn}
 use Rattle.k42_rule.proofs.drawing.draw_at.Goals as goal
 
 pub call_word-requires-clause-next : goal.call_word-requires-clause-next
@@ -70,3 +74,31 @@ returns-clause-event g c = λ found.
     (subst (λ w. StepIs F key.layouts.items (AtCells (Draw v.number ns (entry_call v ns c.args.act c.args.answer))) (lock_word (first_cell ns)) (λ word. word) c.pass.inside.seat.id v found w)
     (sym (view_back v c.args.cells.now _ c.call_word.new.seat.me c.tell_all.new.seat.me c.call_word.ensures.told.0 _ c.tell_all.ensures.seated))
     (c.call_word.ensures.event found))
+
+-- what the pass keeps by itself
+pub invariant_of-pass : goal.invariant_of-pass
+invariant_of-pass g c =
+    let old = c.pass.invariant in let v = pass_in c.pass.inside.seat.me.0 in
+    let told = c.call_word.ensures.told in let pushed = c.push_reserved.ensures.items in
+    let small = subst (λ z. z ≤ LAST_STAMP) (last_push v.taker.mine _) told.1 in
+    let seated = c.tell_all.ensures.seated ∙ (λ i. (Crew (untold_view [] (pass_in (told.0 i).0) ∷ []), [])) in (
+      mirrors_drawn _ c.pass.inside.seat.me c.tell_all.new.seat.me _ _ _ old.0 seated refl refl refl pushed,
+      old.1,
+      old.2,
+      old.3,
+      old.4,
+      old.5,
+      old.6,
+      old.7,
+      old.8,
+      old.9,
+      old.10,
+      old.11,
+      old.12,
+      old.13,
+      list_drawn c.pass.inside.number c.pass.inside.entries.items c.as_slice.result.now c.push_reserved.new.self.items _ c.last_at.result old.14 c.as_slice.ensures.value c.stamp_after-stamp.ensures refl pushed,
+      small_drawn c.pass.inside.entries.items c.push_reserved.new.self.items _ pushed small,
+      old.16,
+      old.17,
+      subst (λ z. IsTied z c.pass.inside.post.me.view.client) (sym (c.tell_all.ensures.ours.0 ∙ c.call_word.ensures.ours.0)) old.18,
+    )

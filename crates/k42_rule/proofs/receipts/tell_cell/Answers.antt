@@ -1,4 +1,3 @@
-use Rattle.k42_rule.proofs.DrawnCall.{call_moves}
 use Rattle.std.proofs.Common.{◌≡◌, ℕ, ◌<◌, [], ◌∷◌, ap, arith}
 use Rattle.k42_rule.specs.Plan.{layouts_on}
 use Rattle.k42_rule.specs.Steps.{Seated}

@@ -5,6 +5,7 @@ use Rattle.k42_rule.specs.Rule.{Ruled}
 use Rattle.k42_rule.specs.Steps.{Seated}
 use Rattle.k42_rule.specs.Plan.{layouts_on}
 use Rattle.k42_rule.specs.declared.view.View.{View}
+use Rattle.k42_rule.proofs.Carrying.{forks_keep}
 use Rattle.k42_rule.proofs.Dealing.{deals}
 use Rattle.k42_rule.proofs.start.deal.Goals as goal
 
@@ -17,3 +18,6 @@ split_seat-own-requires g c =
       subst (λ (w : View _). Splits (Ruled F key.layouts.items (length key.callers.items)) id w (dealer w) (dealt w)) (sym (ap (λ (m : Seated _). m.0) crew.1))
           (deals F key.layouts.items (length key.callers.items) id _ crew.0 refl),
     )
+
+pub another-post-requires-clause-rule : goal.another-post-requires-clause-rule
+another-post-requires-clause-rule g c = forks_keep _ _ c.requires.post.1.0

@@ -1,10 +1,12 @@
 use Rattle.std.proofs.Common.{rules, ◌≡◌, ◌<◌, ◌≤◌, ℕ, List, length, arith, sym, refl, ap, ◌∙◌, subst}
 use Rattle.std.specs.List.{slice_index_or}
+use Rattle.k42_limits.specs.declared.TheConstants.{PROCESSORS}
 use Rattle.k42_places.specs.Places.{EachPlace}
 use Rattle.k42_stamp.specs.Layouts.{Layouts}
 use Rattle.k42_stamp.specs.Laws.{AreLaws}
 use Rattle.k42_rule.specs.Plan.{layouts_on}
 use Rattle.k42_rule.specs.Starting.{AreFirstWords, AreDealt}
+use Rattle.k42_rule.proofs.Carrying.{begins}
 use Rattle.k42_rule.proofs.Opening.{opens}
 use Rattle.k42_rule.proofs.Plans.{plan_of, on_processors}
 use Rattle.k42_rule.proofs.Starting.{is_started}
@@ -47,7 +49,7 @@ deal_all-requires-clause-homes g c κs within =
 
 pub invariant_of-sys : goal.invariant_of-sys
 invariant_of-sys g c =
-    let made = c.in-Ok.ensures.ok in let words = c.as_slice-2.ensures.value in let procs : ℕ = c.args.procs in let callers : List ℕ = c.args.callers.items in (
+    let made = c.in-Ok-new.ensures.ok in let words = c.as_slice-2.ensures.value in let procs : ℕ = c.args.procs in let callers : List ℕ = c.args.callers.items in (
       made.0 ∙ ap length words ∙ c.in_ok-words.ensures.many,
       made.1 ∙ c.in_ok-slots.ensures.0,
       ap (λ k. k.layouts.items) (sym made.5),
@@ -57,14 +59,19 @@ invariant_of-sys g c =
           (λ k. AreLaws (layouts_on g.L.Kind.object g.L.Layout.tag_of g.L.Layout.ways g.L.Layout.whole g.L.Layout.serves g.L.Layout.admitted g.L.Layout.act_of k.procs k.callers.items))
           (sym made.5) (laws_at g procs callers c.requires.turns.limits.some_procs c.requires.turns.placed),
       subst (λ k. 0 < length k.callers.items) (sym made.5) c.requires.turns.limits.some_callers,
+      subst (λ k. k.procs ≤ PROCESSORS) (sym made.5) c.requires.turns.limits.few_procs,
     )
 
 pub returns : goal.returns
 returns g c =
-    let key = c.in-Ok.ensures.ok.5 in let table = c.in-Ok.board.shared.table_id in let passes = c.in_ok-passes.passes.items in
+    let key = c.in-Ok-new.ensures.ok.5 in let table = c.in-Ok-new.board.shared.table_id in let passes = c.in_ok-passes.passes.items in
     let procs : ℕ = c.args.procs in let objects : ℕ = c.len-objects.result in
     let many : objects ≡ length c.args.layouts.items = c.len-objects.ensures ∙ c.args.layouts.ok.0 in
-    let dealt : AreDealt table procs (length c.args.layouts.items) c.args.callers.items passes =
-    subst (λ (z : ℕ × List ℕ). AreDealt table procs z.0 z.1 passes) (λ i. (many i, c.as_slice-3.ensures.value i)) c.in_ok-passes.ensures in
+    let queue = c.in-Ok.line in
+    let dealt : AreDealt table queue procs (length c.args.layouts.items) c.args.callers.items passes =
+    subst (λ (z : ℕ × List ℕ). AreDealt table queue procs z.0 z.1 passes) (λ i. (many i, c.as_slice-3.ensures.value i)) c.in_ok-passes.ensures in
     is_started c.args.layouts.items procs c.args.callers.items _ passes (ap (λ k. k.procs) key) (ap (λ k. k.layouts.items) key) (ap (λ k. k.callers.items) key)
     c.requires.turns.placed dealt
+
+pub with_rule-requires : goal.with_rule-requires
+with_rule-requires g c = begins

@@ -1,0 +1,74 @@
+-- The seat of a pass that has handed a row on, before and after its cells are told.
+use Rattle.std.proofs.Common.{◌≡◌, ℕ, ◌+◌, ◌<◌, ◌≤◌, true, List, [], ◌∷◌, ◌++◌, Some, None, length, take, drop, sym, refl, ap, ◌∙◌, subst, arith}
+use Rattle.std.specs.Prelude.{max}
+use Rattle.k42_kinds.specs.declared.entry.Act.{Act}
+use Rattle.k42_kinds.specs.declared.entry.Answer.{Answer}
+use Rattle.k42_kinds.specs.declared.entry.Entry.{Entry}
+use Rattle.turn_core.specs.Stamps.{last_stamp}
+use Rattle.k42_stamp.specs.Layouts.{Layouts}
+use Rattle.k42_stamp.specs.Lists.{IsListOf}
+use Rattle.k42_rule.specs.Drawing.{MayHandOn, entry_hand, numbers_of, stamp_next, last_noted, untold_view, HasSmallStamp}
+use Rattle.k42_rule.specs.Handing.{hands_at, handed_at}
+use Rattle.k42_rule.specs.Receipts.{AreDue}
+use Rattle.k42_rule.specs.Seats.{LAST_STAMP}
+use Rattle.k42_rule.specs.Seen.{IsSeatOf, Own, own_in, Mirrors}
+use Rattle.k42_rule.specs.Steps.{Seated}
+use Rattle.k42_rule.specs.Views.{pass_in}
+use Rattle.k42_rule.specs.declared.cell.Content.{Content}
+use Rattle.k42_rule.specs.declared.view.PassView.{PassView}
+use Rattle.k42_rule.specs.declared.view.View.{View}
+use Rattle.k42_rule.specs.declared.view.View.TheVariants.{Crew}
+use Rattle.k42_rule.proofs.HandedCells.{many_from, all_cells, all_numbers, parted}
+use Rattle.k42_rule.proofs.HandedNotes.{seat_due, hand_back}
+use Rattle.k42_rule.proofs.Pushed.{list_drawn}
+
+module _ {S L P : Type 0} (F : Layouts S L P) (declared : List L) (cells : List (Content P)) (to : L) (answer : Answer) (v : PassView P)
+    (may : MayHandOn F declared (take F.procs cells) (drop F.procs cells) to answer v) (entry : Entry) (tag : ℕ) where
+  abbrev from : List (Content P)
+  from = take F.procs cells
+
+  abbrev onto : List (Content P)
+  onto = drop F.procs cells
+
+  module _ (me : Seated P) (is : IsSeatOf me (hands_at from onto entry tag v)) where
+    pub untold_is : (pass_in me.0).untold ≡ numbers_of cells
+    untold_is = ap (λ (m : Seated P). (pass_in m.0).untold) is ∙ all_numbers F declared cells to answer v may
+
+    pub due_is : F.procs ≤ 8 → HasSmallStamp (hands_at from onto entry tag v) → AreDue (pass_in me.0).notes F.procs true entry.stamp cells
+    due_is few small =
+        subst (λ (z : ℕ × List (Content P)). AreDue (pass_in me.0).notes z.0 true entry.stamp z.1)
+        (λ j. (many_from F declared cells to answer v may j, all_cells F declared cells to answer v may j))
+        (seat_due v from onto entry tag me is small may.held_from may.held_onto (parted F declared cells to answer v may few))
+
+    -- once all cells were told
+    module _ (seated : Seated P) (told : IsSeatOf seated (untold_view [] (pass_in me.0))) where
+      pub knows_is : pass_in seated.0 ≡ handed_at from onto entry tag v
+      knows_is = ap (λ (m : Seated P). pass_in m.0) told ∙ ap (λ (m : Seated P). untold_view [] (pass_in m.0)) is
+
+      pub back_is : untold_view (numbers_of cells) (pass_in seated.0) ≡ pass_in me.0
+      back_is = ap (λ ns. untold_view ns (pass_in seated.0)) (sym (all_numbers F declared cells to answer v may)) ∙ hand_back v from onto entry tag me seated is [] told
+
+      pub mirrors_is : (before : Seated P) (own now : Own) → Mirrors before own → pass_in before.0 ≡ v
+          → now ≡ record own { mine = own.mine ++ entry ∷ []; handed = Some tag } → Mirrors seated now
+      mirrors_is before own now mirrors same becomes = record {
+        seat = told ∙ (λ j. (Crew (sym (ap (λ (m : Seated P). pass_in m.0) told) j ∷ []), []));
+        own_is =
+            becomes ∙ ap (λ (o : Own). record o { mine = o.mine ++ entry ∷ []; handed = Some tag }) (mirrors.own_is ∙ ap own_in same)
+            ∙ sym (ap own_in knows_is);
+        out = ap (λ (x : PassView P). x.out) knows_is ∙ ap (λ (x : PassView P). x.out) (sym same) ∙ mirrors.out;
+        told = ap (λ (x : PassView P). x.untold) knows_is;
+      }
+
+  module _ (act : Act) (is : entry ≡ entry_hand v (numbers_of from) (numbers_of onto) act answer) where
+    pub stamp_told : entry.stamp ≡ stamp_next v (numbers_of cells)
+    stamp_told = ap (λ (e : Entry). e.stamp) is ∙ ap (stamp_next v) (all_numbers F declared cells to answer v may)
+
+    pub list_is : (own : Own) → own ≡ own_in v → IsListOf own.number own.mine → IsListOf own.number (own.mine ++ entry ∷ [])
+    list_is own same list =
+        list_drawn own.number own.mine own.mine (own.mine ++ entry ∷ []) entry (last_noted v.notes (numbers_of cells)) list refl
+        (stamp_told ∙ (λ j. max (last_stamp (ap (λ (o : Own). o.mine) (sym same) j)) (last_noted v.notes (numbers_of cells)) + 1))
+        (ap (λ (e : Entry). e.caller) is ∙ ap (λ (o : Own). o.number) (sym same))
+        refl
+
+  pub small_is : HasSmallStamp (hands_at from onto entry tag v) → (own : Own) → own ≡ own_in v → last_stamp (own.mine ++ entry ∷ []) ≤ LAST_STAMP
+  small_is small own same = subst (λ (mine : List Entry). last_stamp (mine ++ entry ∷ []) ≤ LAST_STAMP) (ap (λ (o : Own). o.mine) (sym same)) small
