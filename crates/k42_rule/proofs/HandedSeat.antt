@@ -20,7 +20,7 @@ use Rattle.k42_rule.specs.declared.view.View.{View}
 use Rattle.k42_rule.specs.declared.view.View.TheVariants.{Crew}
 use Rattle.k42_rule.proofs.HandedCells.{many_from, all_cells, all_numbers, parted}
 use Rattle.k42_rule.proofs.HandedNotes.{seat_due, hand_back}
-use Rattle.k42_rule.proofs.Listed.{list_drawn}
+use Rattle.k42_rule.proofs.Pushed.{list_drawn}
 
 module _ {S L P : Type 0} (F : Layouts S L P) (declared : List L) (cells : List (Content P)) (to : L) (answer : Answer) (v : PassView P)
     (may : MayHandOn F declared (take F.procs cells) (drop F.procs cells) to answer v) (entry : Entry) (tag : ℕ) where
@@ -65,9 +65,10 @@ module _ {S L P : Type 0} (F : Layouts S L P) (declared : List L) (cells : List 
 
     pub list_is : (own : Own) → own ≡ own_in v → IsListOf own.number own.mine → IsListOf own.number (own.mine ++ entry ∷ [])
     list_is own same list =
-        list_drawn own.number own.mine entry (last_noted v.notes (numbers_of cells)) list
-        (ap (λ (e : Entry). e.caller) is ∙ ap (λ (o : Own). o.number) (sym same))
+        list_drawn own.number own.mine own.mine (own.mine ++ entry ∷ []) entry (last_noted v.notes (numbers_of cells)) list refl
         (stamp_told ∙ (λ j. max (last_stamp (ap (λ (o : Own). o.mine) (sym same) j)) (last_noted v.notes (numbers_of cells)) + 1))
+        (ap (λ (e : Entry). e.caller) is ∙ ap (λ (o : Own). o.number) (sym same))
+        refl
 
   pub small_is : HasSmallStamp (hands_at from onto entry tag v) → (own : Own) → own ≡ own_in v → last_stamp (own.mine ++ entry ∷ []) ≤ LAST_STAMP
   small_is small own same = subst (λ (mine : List Entry). last_stamp (mine ++ entry ∷ []) ≤ LAST_STAMP) (ap (λ (o : Own). o.mine) (sym same)) small

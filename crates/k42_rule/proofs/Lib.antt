@@ -7,6 +7,7 @@ pub mod Leaving
 pub mod Moves
 pub mod Notings
 pub mod Roles
+pub mod RoleTaken
 pub mod Holding
 pub mod Asking
 pub mod Looks
@@ -35,7 +36,6 @@ pub mod CellsTold
 pub mod Noted
 pub mod RowCells
 pub mod HandedNotes
-pub mod Listed
 pub mod HandedParts
 pub mod HandedCells
 pub mod HandedSeat
@@ -52,6 +52,7 @@ pub mod Blocking
 pub mod MovingOver
 pub mod TurningOver
 pub mod Clearing
+pub mod Fitting
 pub mod WordExamples
 pub mod FirstParts
 pub mod Opening
@@ -65,4 +66,3 @@ pub mod Carrying
 pub mod Naming
 pub mod Starting
 pub mod Plans
-pub mod Listed

@@ -53,7 +53,6 @@ pub(crate) fn incarnation_at(last: &Option<LastBegin>) -> u32
 }
 
 /// Draws, at no cell, that a swap or destroy was refused by another, or given up.
-#[tactic(auto, using(crate::proofs::Listed::list_drawn))]
 pub fn draw_alone<L: Layout>(sys: &Sys<L>, pass: &mut Pass<L>, act: Act, answer: Answer) -> u64
     requires ours { IsOf sys.now pass.old }
     requires room { 0 < pass.old.room }
@@ -87,7 +86,6 @@ pub fn draw_alone<L: Layout>(sys: &Sys<L>, pass: &mut Pass<L>, act: Act, answer:
 }
 
 /// Draws, at the first cell of the present row, that a swap or destroy found its object over.
-#[tactic(auto, using(crate::proofs::Listed::list_drawn))]
 pub fn draw_mark<L: Layout>(
     sys: &Sys<L>,
     pass: &mut Pass<L>,
@@ -130,7 +128,6 @@ pub fn draw_mark<L: Layout>(
 }
 
 /// Draws a call at cells that stand side by side.
-#[tactic(auto, using(crate::proofs::Listed::list_drawn))]
 fn draw_at<L: Layout>(
     sys: &Sys<L>,
     pass: &mut Pass<L>,

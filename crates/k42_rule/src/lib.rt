@@ -41,10 +41,10 @@ pub use drawing::{draw_alone, draw_call, draw_mark};
 pub use freeing::free;
 pub use generating::{enter_step, leave_step};
 pub use gracing::{flip, generation_step, give_role, look, take_role};
+pub use handing::draw_done;
 pub use laws::{
     freed_rows_stay_freed, rows_have_one_name, rows_inside_are_present, shown_states_are_safe,
 };
-pub use handing::draw_done;
 pub use pass::{Pass, Walker};
 pub use queueing::{Rows, pop_row, push_row};
 pub use retired::{Carried, Retired, Slip};
