@@ -135,13 +135,13 @@ begun_lives :
 begun_lives o word turned true is known last e = absurd (cc)
 begun_lives o word turned false is known last e =
     lives (layout_in word == 2) (incarnation_in word == LAST_INCARNATION) refl refl is where
-  lives : (dead spent : Bool) → (layout_in word == 2) ≡ dead → (incarnation_in word == LAST_INCARNATION) ≡ spent → (dead || spent) ≡ false → IsOfLiving word
-  lives true spent a b e = absurd (cc)
-  lives false true a b e = absurd (cc)
-  lives false false a b e = record {
-    layout = let not : layout_in word ≢ 2 = λ two. absurd (let so = eq-eqb (layout_in word) 2 two in cc) in omega (arith, known, not);
-    last = let not : incarnation_in word ≢ LAST_INCARNATION = λ is. absurd (let so = eq-eqb (incarnation_in word) LAST_INCARNATION is in cc) in omega (arith, last, not);
-  }
+      lives : (dead spent : Bool) → (layout_in word == 2) ≡ dead → (incarnation_in word == LAST_INCARNATION) ≡ spent → (dead || spent) ≡ false → IsOfLiving word
+      lives true spent a b e = absurd (cc)
+      lives false true a b e = absurd (cc)
+      lives false false a b e = record {
+        layout = let not : layout_in word ≢ 2 = λ two. absurd (let so = eq-eqb (layout_in word) 2 two in cc) in omega (arith, known, not);
+        last = let not : incarnation_in word ≢ LAST_INCARNATION = λ is. absurd (let so = eq-eqb (incarnation_in word) LAST_INCARNATION is in cc) in omega (arith, last, not);
+      }
 
 module _ (swap : SwapAt) (turned : Bool) (handed : Option ℕ) (last : Option LastBegin) (fits : FitsSwap swap turned handed last) where
   fits_at : (next : SwapAt) → GoesTo swap next → FitsSwap next turned handed last

@@ -21,7 +21,8 @@ pub record IsPresent {L P : Type 0} (v : PassView P) (s : Joined L) : Type 0 whe
 
 -- the seat names the row: it is that of a `Retired`, or of a pass that holds the row
 abbrev pub Names : {P : Type 0} → View P → Row → Type 0
-Names (Crew passes) row = (i j : ℕ) × (v : PassView _) × (slice_get passes i ≡ Some v) × (slice_get v.rows j ≡ Some row)
+Names (Crew passes) row =
+    (i j : ℕ) × (v : PassView _) × (slice_get passes i ≡ Some v) × (slice_get v.rows j ≡ Some row)
 Names (Named named) row = named ≡ row
 Names view row = ⊥
 

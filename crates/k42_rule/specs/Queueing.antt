@@ -68,7 +68,8 @@ pub record Carries {P : Type 0} (items : List (Slip P)) (views : List Carried) :
   pub items_are : EachPlace (λ place x. IsRetired table x) items
   pub tied : (i : ℕ) (v : Carried) → get_elem? views i ≡ some v → v.tied ≡ true → table_of v ≡ table
   -- but for the first pass, as long as it is the only one
-  pub untied : (i : ℕ) (v : Carried) → get_elem? views i ≡ some v → v.tied ≡ false → (items ≡ []) × (views ≡ v ∷ [])
+  pub untied :
+      (i : ℕ) (v : Carried) → get_elem? views i ≡ some v → v.tied ≡ false → (items ≡ []) × (views ≡ v ∷ [])
   pub counted : (row : Row) → pops_of row views + places_of row items ≡ pushes_of row views
 
 abbrev pub carried_none : Bool → TableId → Carried

@@ -13,7 +13,9 @@ use Rattle.k42_rule.specs.declared.view.View.TheVariants.{Crew}
 use Rattle.k42_rule.specs.declared.cell.Content.{Content}
 
 -- the words of the first objects have their layouts, and all other words are 0
-pub record AreFirstWords {L : Type 0} (tag_of : L → ℕ) (layouts : List L) (objects : ℕ) (words : List ℕ) : Type 0 where
+pub record AreFirstWords
+    {L : Type 0} (tag_of : L → ℕ) (layouts : List L) (objects : ℕ) (words : List ℕ)
+    : Type 0 where
   pub many : length words ≡ many_words
   pub told :
       (o : ℕ) (layout : L) → o < objects → slice_get layouts o ≡ Some layout
@@ -30,14 +32,18 @@ AreFirstSlots {P} slots =
     EachPlace (λ place slot. (c : Content P) × (slot ≡ Some c) × IsCell (number_in place) [] false None c) slots
 
 -- what is asked of a start: the limits, callers on processors that are there, and no object that starts dead
-pub record IsStart {L : Type 0} (tag_of : L → ℕ) (layouts : List L) (procs : ℕ) (callers : List ℕ) : Type 0 where
+pub record IsStart
+    {L : Type 0} (tag_of : L → ℕ) (layouts : List L) (procs : ℕ) (callers : List ℕ)
+    : Type 0 where
   pub turns : gens.IsPlan procs callers
   pub some_objects : 0 < length layouts
   pub few_objects : length layouts ≤ OBJECTS
   pub live : EachPlace (λ o layout. tag_of layout ≤ 1) layouts
 
 -- a pass that has done nothing, with room for rows
-pub record IsNewPass {P : Type 0} (table : TableId) (queue : QueueId) (procs objects number home : ℕ) (pass : PassSeen P) : Type 0 where
+pub record IsNewPass
+    {P : Type 0} (table : TableId) (queue : QueueId) (procs objects number home : ℕ) (pass : PassSeen P)
+    : Type 0 where
   pub ours : pass.table ≡ table
   pub new : pass.view ≡ new_pass procs objects number home
   pub rows : pass.row_room ≡ 64
@@ -46,7 +52,9 @@ pub record IsNewPass {P : Type 0} (table : TableId) (queue : QueueId) (procs obj
   pub popped : pass.popped ≡ []
 
 -- a new pass for each of these processors
-pub record AreDealt {P : Type 0} (table : TableId) (queue : QueueId) (procs objects : ℕ) (homes : List ℕ) (passes : List (PassSeen P)) : Type 0 where
+pub record AreDealt
+    {P : Type 0} (table : TableId) (queue : QueueId) (procs objects : ℕ) (homes : List ℕ) (passes : List (PassSeen P))
+    : Type 0 where
   pub many : length passes ≡ length homes
   pub each : EachPlace (λ c pass. IsNewPass table queue procs objects c (slice_index homes c) pass) passes
 
@@ -60,7 +68,10 @@ pub record IsStarted
   pub passes_are : EachPlace (λ c pass. IsPassOf sys pass) passes
 
 -- the first passes are dealt, and the seat has the others
-pub record IsDealing {P : Type 0} (table : TableId) (queue : QueueId) (procs objects : ℕ) (homes : List ℕ) (next : ℕ) (seat : TableId) (me : Seated P) (passes : List (PassSeen P)) : Type 0 where
+pub record IsDealing
+    {P : Type 0} (table : TableId) (queue : QueueId) (procs objects : ℕ) (homes : List ℕ) (next : ℕ)
+    (seat : TableId) (me : Seated P) (passes : List (PassSeen P))
+    : Type 0 where
   pub ours : seat ≡ table
   pub crew : me ≡ (Crew (new_passes procs objects next (drop next homes)), [])
   pub many : length passes ≡ next
