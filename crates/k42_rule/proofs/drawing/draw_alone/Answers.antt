@@ -1,4 +1,4 @@
-use Rattle.std.proofs.Common.{◌≤◌, refl, sym, subst}
+use Rattle.std.proofs.Common.{rules, ◌≡◌, ◌≤◌, refl, sym, subst}
 use Rattle.k42_rule.specs.Queueing.{IsTied}
 use Rattle.k42_rule.specs.Seats.{LAST_STAMP}
 use Rattle.k42_rule.specs.Views.{pass_in}
@@ -33,5 +33,6 @@ invariant_of-pass g c =
       small_drawn c.pass.inside.entries.items c.push_reserved.new.self.items _ pushed small,
       old.16,
       old.17,
-      subst (λ z. IsTied z c.pass.inside.post.me.view.client) (sym c.alone_word.ensures.ours.0) old.18,
+      old.18,
+      subst (λ z. IsTied z c.pass.inside.post.me.view.client) (sym c.alone_word.ensures.ours.0) old.19,
     )

@@ -1,4 +1,4 @@
-use Rattle.std.proofs.Common.{◌≤◌, [], ◌∷◌, refl, sym, subst, ◌∙◌}
+use Rattle.std.proofs.Common.{rules, ◌≡◌, ◌≤◌, [], ◌∷◌, refl, ap, sym, subst, ◌∙◌}
 use Rattle.turn_core.specs.declared.event.TurnEvent.TheVariants.{Draw}
 use Rattle.k42_joined.specs.Event.{AtCells}
 use Rattle.k42_rule.specs.Drawing.{IsHeld, entry_mark, untold_view}
@@ -55,5 +55,6 @@ invariant_of-pass g c =
       small_drawn c.pass.inside.entries.items c.push_reserved.new.self.items _ pushed small,
       old.16,
       old.17,
-      subst (λ z. IsTied z c.pass.inside.post.me.view.client) (sym (c.tell_cell.ensures.ours.0 ∙ c.mark_word.ensures.ours.0)) old.18,
+      old.18,
+      subst (λ z. IsTied z c.pass.inside.post.me.view.client) (sym (c.tell_cell.ensures.ours.0 ∙ c.mark_word.ensures.ours.0)) old.19,
     )

@@ -1,5 +1,6 @@
 use Rattle.std.proofs.Common.{rules, refl, ◌≡◌, ◌<◌, length, arith, sym, ap, ◌∙◌, subst}
 use Rattle.phase_core.specs.declared.caller.SwapAt.{SwapAt}
+use Rattle.k42_rule.specs.Queueing.{IsTied}
 use Rattle.k42_rule.specs.Seen.{Own}
 use Rattle.phase_core.specs.Stages.{object_named}
 use Rattle.k42_rule.specs.Swapping.{next_entry}
@@ -25,6 +26,8 @@ invariant_of-pass g c =
       (subst (λ (o : Own). 0 < length o.turn.waits) (sym was.0.own_is) c.take_role_word-found.ensures.found.procs, λ some. absurd (omega (arith, some))),
       omega arith, was.13, was.14, was.15,
       fits_draining pass.swap pass.turned pass.handed pass.last was.16 c.draining-pass-inside.result swap_is,
+      was.17, was.18,
+      subst (λ table. IsTied table pass.post.me.view.client) (sym c.take_role_word-found.ensures.ours.0) was.19,
     )
 
 pub returns-then-found-eq0-clause-event : goal.returns-then-found-eq0-clause-event
