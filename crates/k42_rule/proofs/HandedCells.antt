@@ -3,8 +3,7 @@ use Rattle.std.proofs.Common.{◌≡◌, ◌≢◌, ◌⊎◌, ℕ, zero, suc, �
 use Rattle.std.specs.List.{slice_get}
 use Rattle.std.specs.Prelude.{max}
 use Rattle.std.proofs.lemmas.List.{length-map, length-append, take-append-drop}
-use Rattle.std.proofs.lemmas.Option.{same_Some}
-use Rattle.k42_kinds.specs.Histories.{is_call}
+use Rattle.std.proofs.lemmas.Option.{slice_get_within}
 use Rattle.k42_kinds.specs.Rows.{made_from}
 use Rattle.k42_kinds.specs.declared.entry.Answer.{Answer}
 use Rattle.k42_kinds.specs.declared.entry.Entry.{Entry}
@@ -12,19 +11,20 @@ use Rattle.k42_places.specs.Places.{EachPlace}
 use Rattle.turn_core.specs.Names.{names}
 use Rattle.turn_core.specs.Stamps.{last_stamp}
 use Rattle.k42_stamp.specs.Layouts.{Layouts}
-use Rattle.k42_joined.specs.Drawing.{first_cell}
 use Rattle.k42_joined.specs.Numbers.{cell_of, row_cells}
 use Rattle.k42_joined.proofs.LocksHand.{apart_row}
-use Rattle.k42_rule.specs.Drawing.{MayHandOn, entry_hand, numbers_of, last_told, last_noted, stamp_next, IsHeld, AreHeld, AreTold}
-use Rattle.k42_rule.specs.Handing.{hands_at}
-use Rattle.k42_rule.specs.Receipts.{AreDue}
+use Rattle.k42_joined.proofs.RowsCalls.{some_at}
+use Rattle.k42_rule.specs.Drawing.{MayHandOn, numbers_of, part_in, last_told, last_noted, stamp_next, AreHeld, AreTold}
+use Rattle.k42_rule.specs.Cells.{cells_noted}
+use Rattle.k42_rule.specs.Handing.{handed_at}
+use Rattle.k42_rule.specs.Seats.{told_by}
 use Rattle.k42_rule.specs.Values.{incarnation_in}
-use Rattle.k42_rule.specs.Views.{word_begun, pass_in}
+use Rattle.k42_rule.specs.Views.{word_begun}
 use Rattle.k42_rule.specs.declared.cell.Content.{Content}
 use Rattle.k42_rule.specs.declared.view.Note.{Note}
 use Rattle.k42_rule.specs.declared.view.PassView.{PassView}
-use Rattle.k42_rule.proofs.HandedNotes.{numbers_more}
-use Rattle.k42_rule.proofs.Noted.{last_held}
+use Rattle.k42_rule.proofs.HandedNotes.{numbers_more, closed_told, begun_told}
+use Rattle.k42_rule.proofs.Noted.{last_held, each_named}
 use Rattle.k42_rule.proofs.RowCells.{place_in_row}
 
 length_made : {A : Type 0} (f : ℕ → A) (first many : ℕ) → length (made_from f first many) ≡ many
@@ -35,19 +35,6 @@ held_more : {P : Type 0} (notes : List (Note P)) (xs ys : List (Content P)) → 
 held_more notes [] ys one two i content e = two i content e
 held_more notes (x ∷ xs) ys one two zero content e = one zero content e
 held_more notes (x ∷ xs) ys one two (suc i) content e = held_more notes xs ys (λ j z f. one (suc j) z f) two i content e
-
--- the number of the cell at a place
-pub first_some : {P : Type 0} (cells : List (Content P)) (place : ℕ) (content : Content P) → slice_get cells place ≡ Some content
-    → first_cell (numbers_of (drop place cells)) ≡ content.number
-first_some [] place content e = absurd (cc)
-first_some (first ∷ cells) zero content e = ap (λ (z : Content _). z.number) (same_Some first content e)
-first_some (first ∷ cells) (suc place) content e = first_some cells place content e
-
-pub first_none : {P : Type 0} (cells : List (Content P)) (place : ℕ) → slice_get cells place ≡ None → first_cell (numbers_of (drop place cells)) ≡ 0
-first_none [] zero e = refl
-first_none [] (suc place) e = refl
-first_none (first ∷ cells) zero e = absurd (cc)
-first_none (first ∷ cells) (suc place) e = first_none cells place e
 
 module _ {S L P : Type 0} (F : Layouts S L P) (declared : List L) (cells : List (Content P)) (to : L) (answer : Answer) (v : PassView P)
     (may : MayHandOn F declared (take F.procs cells) (drop F.procs cells) to answer v) where
@@ -82,3 +69,47 @@ module _ {S L P : Type 0} (F : Layouts S L P) (declared : List L) (cells : List 
       let is = place_in_row onto F.procs o (i + 1) may.begins few place content e in
       ap (names (numbers_of from)) is.0 ∙ ap (λ ns. names ns (cell_of o (i + 1) place)) may.closes
       ∙ apart_row F.procs o i o (i + 1) place few is.1 (inr (λ same. omega (arith, same)))
+
+-- where a cell stands in two lists, one after the other
+at_left : {A : Type 0} (xs ys : List A) (k : ℕ) (x : A) → slice_get (xs ++ ys) k ≡ Some x → k < length xs → slice_get xs k ≡ Some x
+at_left [] ys k x e less = absurd (omega (arith, less))
+at_left (a ∷ xs) ys zero x e less = e
+at_left (a ∷ xs) ys (suc k) x e less = at_left xs ys k x e (omega (arith, less))
+
+at_right : {A : Type 0} (xs ys : List A) (k : ℕ) (x : A) → slice_get (xs ++ ys) k ≡ Some x → length xs ≤ k → (j : ℕ) × (slice_get ys j ≡ Some x)
+at_right [] ys k x e low = (k, e)
+at_right (a ∷ xs) ys zero x e low = absurd (omega (arith, low))
+at_right (a ∷ xs) ys (suc k) x e low = at_right xs ys k x e (omega (arith, low))
+
+-- what the cells tell after the hand
+module _ {S L P : Type 0} (F : Layouts S L P) (declared : List L) (cells : List (Content P)) (to : L) (answer : Answer) (v : PassView P)
+    (may : MayHandOn F declared (take F.procs cells) (drop F.procs cells) to answer v) (entry : Entry) (tag : ℕ) (now : List (Content P))
+    (told : AreTold (handed_at (take F.procs cells) (drop F.procs cells) entry tag v).notes cells now)
+    (k : ℕ) (content : Content P) (at : slice_get now k ≡ Some content) where
+  abbrev closing : List (Content P)
+  closing = take F.procs cells
+
+  abbrev opening : List (Content P)
+  opening = drop F.procs cells
+
+  before : (old : Content P) × (slice_get (closing ++ opening) k ≡ Some old) × (slice_get cells k ≡ Some old)
+  before =
+      let lt = slice_get_within now k content at in let long = told.0 in
+      let old = some_at cells k (omega (arith, lt, long)) in
+      (old.0, ap (λ xs. slice_get xs k) (all_cells F declared cells to answer v may) ∙ old.1, old.1)
+
+  noted : names (cells_noted v.notes) before.0.number ≡ true
+  noted = (held F declared cells to answer v may k before.0 before.2).noted
+
+  -- the first ones are closed
+  pub row_closed : k < F.procs → content.closed ≡ true
+  row_closed less =
+      closed_told (numbers_of closing) (numbers_of opening) entry (part_in (closing ++ opening)) v.notes before.0 content (told.1 k before.0 content before.2 at) noted
+      (each_named closing k before.0 (at_left closing opening k before.0 before.1 (let many = many_from F declared cells to answer v may in omega (arith, less, many))))
+
+  -- the others are open, and have the entry alone
+  pub row_begun : F.procs ≤ 8 → F.procs ≤ k → (content.closed ≡ false) × ((told_by content.badge.views).history ≡ entry ∷ [])
+  row_begun few low =
+      let there = at_right closing opening k before.0 before.1 (let many = many_from F declared cells to answer v may in omega (arith, low, many)) in
+      begun_told (numbers_of closing) (numbers_of opening) entry (part_in (closing ++ opening)) v.notes before.0 content (told.1 k before.0 content before.2 at) noted
+      (parted F declared cells to answer v may few there.0 before.0 there.1) (each_named opening there.0 before.0 there.1)
