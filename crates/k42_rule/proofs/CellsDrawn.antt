@@ -1,22 +1,20 @@
 -- An entry is drawn at cells that a pass has taken: what the step owes to the rule.
-use Rattle.std.proofs.Common.{◌≡◌, ◌≢◌, ℕ, ◌+◌, ◌<◌, ◌≤◌, Bool, true, false, not, cond, eqb, List, [], ◌∷◌, ◌++◌, Option, Some, None, length, get_or, set, sym, refl, ap, ◌∙◌, subst, inl, inr, ⊎_elim, zero, suc, arith, length-set, get_or-set_other, get_or-set_same}
-use Rattle.std.specs.List.{slice_get, slice_index}
-use Rattle.std.specs.Prelude.{map}
-use Rattle.std.proofs.lemmas.Option.{slice_get_within, slice_get-get_or, same_Some, get_or_from_slice_get}
+use Rattle.std.proofs.Common.{◌≡◌, ◌≢◌, ℕ, ◌<◌, ◌≤◌, Bool, true, false, not, cond, List, [], ◌∷◌, ◌++◌, Option, Some, None, length, get_or, set, sym, refl, ap, ◌∙◌, subst, zero, suc, arith, get_or-set_other, get_or-set_same}
+use Rattle.std.specs.List.{slice_get}
+use Rattle.std.proofs.lemmas.Option.{same_Some, get_or_from_slice_get}
 use Rattle.std.proofs.lemmas.List.{length_push, set-get_or}
-use Rattle.k42_places.proofs.Appended.{at_push}
 use mathlib.Core.Option.{some}
 use mathlib.Core.Option as maybe
 use lib.ListN.{get_elem?}
 use Rattle.atomic_table.specs.Table.{State}
 use Rattle.k42_kinds.specs.declared.entry.Entry.{Entry}
 use Rattle.k42_places.specs.Places.{EachPlace}
-use Rattle.k42_places.proofs.EachPlaces.{EachPlace-then, EachPlace-set}
+use Rattle.k42_places.proofs.EachPlaces.{EachPlace-set}
 use Rattle.turn_core.specs.Events as turns
 use Rattle.turn_core.specs.Events.{cell_told, caller_drawn}
 use Rattle.turn_core.specs.Names.{names, names_once}
 use Rattle.turn_core.specs.Plain.{Cell, Caller, Turns}
-use Rattle.turn_core.specs.State.{cell_at, caller_at, fresh_cell, fresh_caller, change_caller, change_cells}
+use Rattle.turn_core.specs.State.{cell_at, caller_at, fresh_cell, fresh_caller, change_caller}
 use Rattle.turn_core.specs.declared.event.TurnEvent.TheVariants.{Draw}
 use Rattle.turn_core.proofs.Changed.{callers-change_cells, length-change_cells, at_changed}
 use Rattle.k42_stamp.specs.Laws.{AreLaws}
@@ -25,21 +23,20 @@ use Rattle.k42_joined.specs.Effects.{effect, kept_drawn}
 use Rattle.k42_joined.specs.Event.{AtCells}
 use Rattle.k42_joined.specs.Plain.{Kept, Joined}
 use Rattle.k42_joined.specs.Possible.{IsPossible}
-use Rattle.k42_joined.specs.Sound.{IsSound}
-use Rattle.k42_joined.specs.State.{many_procs, kept_of, nothing_kept}
+use Rattle.k42_joined.specs.State.{many_procs, nothing_kept}
 use Rattle.k42_joined.proofs.CellChanges.{cell_at-else, cell_at-named}
 use Rattle.k42_joined.proofs.Kept.{joined_keeps}
-use Rattle.k42_rule.specs.Cells.{Slot, Contents, IsCellShown, IsSlot, IsNoted, IsOut, KnowsCells, cells_noted}
+use Rattle.k42_rule.specs.Cells.{Slot, Contents, IsCellShown, IsSlot, IsNoted, KnowsCells, cells_noted}
 use Rattle.k42_rule.specs.Drawing.{told_notes, told_note, drawn_view, untold_view}
 use Rattle.k42_rule.specs.Generations.{MOST}
 use Rattle.k42_rule.specs.Parts.{IsPart}
-use Rattle.k42_rule.specs.Trace.{KnowsTrace, IsOfTime}
-use Rattle.k42_rule.specs.Rule.{Beside, KnowsPass, Shows, Rule}
+use Rattle.k42_rule.specs.Trace.{IsOfTime}
+use Rattle.k42_rule.specs.Rule.{KnowsPass, Rule}
 use Rattle.k42_rule.specs.declared.view.Note.{Note}
 use Rattle.k42_rule.specs.declared.view.PassView.{PassView}
 use Rattle.k42_rule.specs.declared.view.View.{View}
 use Rattle.k42_rule.specs.declared.view.View.TheVariants.{Crew}
-use Rattle.k42_rule.proofs.CellsApart.{note_of, is_noted}
+use Rattle.k42_rule.proofs.CellsApart.{note_of}
 use Rattle.k42_rule.proofs.CellsMoved.{moved_to, with_contents, StaysAt, LeavesCells, others_stay}
 use Rattle.k42_rule.proofs.Drawers.{pass_drawn}
 use Rattle.k42_rule.proofs.OnePass.{with_pass, known, moved}

@@ -1,34 +1,29 @@
 -- The seat of a pass may be parted from what a cell is told of an entry that was drawn at it.
-use Rattle.std.proofs.Common.{◌≡◌, ◌≢◌, ℕ, zero, suc, ◌+◌, ◌<◌, ◌⊎◌, Bool, true, false, eqb, cond, List, [], ◌∷◌, ◌++◌, Option, Some, None, length, set, inl, inr, sym, refl, ap, ◌∙◌, subst, ⊎_elim, arith, length-set}
+use Rattle.std.proofs.Common.{◌≡◌, ℕ, zero, suc, Bool, List, [], ◌∷◌, ◌++◌, Some, length, set, sym, refl, ap, ◌∙◌, subst, ⊎_elim}
 use Rattle.std.specs.List.{slice_get}
 use Rattle.std.specs.Prelude.{take, drop}
 use Rattle.std.proofs.Math.Seq.{take-append_seam}
-use Rattle.std.proofs.lemmas.Bool.{eqb-true}
 use Rattle.std.proofs.lemmas.Option.{same_Some}
 use mathlib.Core.Option.{some}
 use lib.ListN.{get_elem?}
 use Rattle.atomic_table.specs.Table.{State, Splits}
 use Rattle.atomic_table.proofs.Lists.{at_set}
-use Rattle.k42_kinds.specs.declared.entry.Entry.{Entry}
 use Rattle.turn_core.specs.Names.{names}
-use Rattle.turn_core.specs.Stamps.{last_stamp}
 use Rattle.k42_stamp.specs.Layouts.{Layouts}
-use Rattle.k42_joined.specs.Plain.{Joined}
 use Rattle.k42_joined.specs.State.{many_callers}
 use Rattle.k42_rule.specs.Cells.{Slot, cells_noted}
-use Rattle.k42_rule.specs.Drawing.{IsTold, IsHeld, AreTold, untold_view, history_noted, closed_noted}
+use Rattle.k42_rule.specs.Drawing.{IsTold, AreTold, untold_view, history_noted, closed_noted}
 use Rattle.k42_rule.specs.Receipts.{telling, first_told, receipt, after_first, IsDue}
-use Rattle.k42_rule.specs.Rule.{Beside, KnowsPass, Knows, Rule, Ruled}
+use Rattle.k42_rule.specs.Rule.{KnowsPass, Knows, Rule, Ruled}
 use Rattle.k42_rule.specs.Seats.{told_by}
 use Rattle.k42_rule.specs.Seats as seats
 use Rattle.k42_rule.specs.Seen.{IsSeatOf}
 use Rattle.k42_rule.specs.Steps.{Seated}
-use Rattle.k42_rule.specs.Views.{pass_in}
 use Rattle.k42_rule.specs.declared.cell.Content.{Content}
 use Rattle.k42_rule.specs.declared.view.Note.{Note}
 use Rattle.k42_rule.specs.declared.view.PassView.{PassView}
 use Rattle.k42_rule.specs.declared.view.View.{View}
-use Rattle.k42_rule.specs.declared.view.View.TheVariants.{Crew, Kept, Named, Spent}
+use Rattle.k42_rule.specs.declared.view.View.TheVariants.{Crew, Kept}
 use Rattle.k42_rule.proofs.Dealing.{at_end}
 use Rattle.k42_rule.proofs.Drawers.{untold_known}
 use Rattle.k42_rule.proofs.OnePass.{known, apart_alone}

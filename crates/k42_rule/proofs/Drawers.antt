@@ -1,20 +1,16 @@
 -- A pass that draws an entry: what it knows after it, that its stamps are small, and what the step owes to the table.
-use Rattle.std.proofs.Common.{◌≡◌, ◌≢◌, ℕ, ◌+◌, ◌-◌, ◌*◌, ◌^◌, ◌<◌, ◌≤◌, Bool, true, false, List, [], ◌∷◌, ◌++◌, Option, Some, None, length, get_or, set, sym, refl, ap, ◌∙◌, subst, ⊎_elim, arith, length-set, zero, suc}
-use Rattle.std.specs.List.{slice_get, slice_index}
+use Rattle.std.proofs.Common.{◌≡◌, ℕ, ◌-◌, ◌^◌, ◌<◌, ◌≤◌, Bool, true, false, List, [], ◌∷◌, Option, Some, None, length, get_or, sym, refl, ap, ◌∙◌, subst, ⊎_elim, arith, zero, suc}
+use Rattle.std.specs.List.{slice_get}
 use Rattle.std.proofs.lemmas.Bool.{eq-eqb}
 use Rattle.std.proofs.lemmas.Option.{slice_get-get_or}
 use Rattle.std.proofs.lemmas.List.Sums.{sum_by-le}
 use mathlib.Core.Option.{some}
 use lib.ListN.{get_elem?}
-use Rattle.atomic_table.specs.Table.{State, Step, keeps, Allows}
+use Rattle.atomic_table.specs.Table.{State, Step, Allows}
 use Rattle.atomic_table.proofs.Lists.{set_here}
-use Rattle.k42_kinds.specs.declared.entry.Answer.{Answer}
 use Rattle.k42_kinds.specs.declared.entry.Entry.{Entry}
 use Rattle.k42_places.specs.Places.{EachPlace}
 use Rattle.k42_places.proofs.Appended.{at_push}
-use Rattle.k42_places.proofs.EachPlaces.{EachPlace-set}
-use Rattle.gen_core.specs.Plain.{Generations}
-use Rattle.phase_core.specs.Plain.{Phases}
 use Rattle.phase_core.specs.Stages.{is_moved, object_named}
 use Rattle.turn_core.specs.Events.{caller_drawn, is_next}
 use Rattle.turn_core.specs.Plain.{Caller, Turns}
@@ -28,20 +24,19 @@ use Rattle.k42_joined.specs.State.{kept_of, is_handed}
 use Rattle.k42_joined.specs.Swapping.{may_turn_over}
 use Rattle.k42_rule.specs.Cells.{Slot, Contents, KnowsCells}
 use Rattle.k42_rule.specs.Drawing.{HasSmallStamp, untold_view}
-use Rattle.k42_rule.specs.Generations.{Counts, MOST, KnowsGenerations}
 use Rattle.k42_rule.specs.Phases.{KnowsPhases}
 use Rattle.k42_rule.specs.Rule.{Beside, KnowsPass, Rule, Ruled}
 use Rattle.k42_rule.specs.Seats.{LAST_STAMP}
 use Rattle.k42_rule.specs.Seen.{IsSeatOf}
 use Rattle.k42_rule.specs.Steps.{Seated, on_pass, TellsWith, StepIs}
-use Rattle.k42_rule.specs.Trace.{KnowsTrace, IsOfTime}
+use Rattle.k42_rule.specs.Trace.{IsOfTime}
 use Rattle.k42_rule.specs.Views.{kept_in, pass_in}
 use Rattle.k42_rule.specs.declared.view.Note.{Note}
 use Rattle.k42_rule.specs.declared.view.PassView.{PassView}
 use Rattle.k42_rule.specs.declared.view.View.{View}
 use Rattle.k42_rule.specs.declared.view.View.TheVariants.{Crew}
 use Rattle.k42_rule.proofs.Moves.{Moves, Finds, seat_allowed_with, moves_is}
-use Rattle.k42_rule.proofs.OnePass.{with_pass, known}
+use Rattle.k42_rule.proofs.OnePass.{known}
 
 -- the pass after a draw: it has forgotten what its last Begin found
 abbrev pub drawer : {P : Type 0} → PassView P → Caller → List (Note P) → Bool → Option ℕ → List ℕ → ℕ → PassView P

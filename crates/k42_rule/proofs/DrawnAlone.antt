@@ -1,42 +1,38 @@
 -- An entry that is drawn at no cell: where it may be drawn, and what the step owes to the rule.
-use Rattle.std.proofs.Common.{◌≡◌, ◌≢◌, ℕ, zero, suc, ◌+◌, ◌-◌, ◌*◌, ◌^◌, ◌<◌, ◌≤◌, ◌&&◌, ◌||◌, Bool, true, false, not, cond, eqb, List, [], ◌∷◌, ◌++◌, Option, Some, None, length, get_or, set, sym, refl, ap, ◌∙◌, subst, inl, inr, ⊎_elim, arith, length-set, get_or-set_other, get_or-set_same}
-use Rattle.std.specs.List.{slice_get, slice_index}
+use Rattle.std.proofs.Common.{◌≡◌, ℕ, ◌+◌, ◌<◌, ◌≤◌, ◌||◌, Bool, true, false, cond, List, [], ◌∷◌, Option, Some, None, length, get_or, set, sym, refl, ap, ◌∙◌, subst, arith, get_or-set_other, get_or-set_same}
 use Rattle.std.specs.Prelude.{max}
 use Rattle.std.proofs.lemmas.Bool.{eq-eqb, not-true}
 use Rattle.std.proofs.lemmas.List.{length_push, set-get_or}
 use mathlib.Core.Option.{some}
 use lib.ListN.{get_elem?}
 use Rattle.atomic_table.specs.Table.{State}
-use Rattle.k42_kinds.specs.Histories.{is_call}
 use Rattle.k42_kinds.specs.declared.entry.Act.{Act}
 use Rattle.k42_kinds.specs.declared.entry.Answer.{Answer}
 use Rattle.k42_kinds.specs.declared.entry.Answer.TheVariants.{Replied, Swapped, Busy, Spent, Gone, Abandoned}
 use Rattle.k42_kinds.specs.declared.entry.Entry.{Entry}
-use Rattle.k42_places.specs.Places.{EachPlace}
 use Rattle.k42_places.proofs.EachPlaces.{EachPlace-set}
-use Rattle.gen_core.specs.State as gens
 use Rattle.phase_core.specs.Plain.{Object}
 use Rattle.phase_core.specs.Stages.{named_by, object_named}
 use Rattle.phase_core.specs.declared.caller.SwapAt.{SwapAt}
 use Rattle.phase_core.specs.declared.caller.SwapAt.TheVariants.{Idle, Refused, Begun, Interposing, Interposed, Draining, Drained, Blocking, Moved, Opening, Reopening, Opened}
 use Rattle.turn_core.specs.Events as turns
 use Rattle.turn_core.specs.Events.{caller_drawn, is_next}
-use Rattle.turn_core.specs.Plain.{Cell, Caller, Turns}
+use Rattle.turn_core.specs.Plain.{Caller, Turns}
 use Rattle.turn_core.specs.Stamps.{last_stamp}
 use Rattle.turn_core.specs.State.{cell_at, caller_at, fresh_caller}
 use Rattle.turn_core.specs.declared.event.TurnEvent.TheVariants.{Alone}
 use Rattle.k42_stamp.specs.Laws.{AreLaws}
 use Rattle.k42_stamp.specs.Layouts.{Layouts}
-use Rattle.k42_joined.specs.Answers.{is_turned, IsFound}
+use Rattle.k42_joined.specs.Answers.{is_turned}
 use Rattle.k42_joined.specs.Effects.{effect, kept_drawn}
 use Rattle.k42_joined.specs.Event.{AtCells}
 use Rattle.k42_joined.specs.Plain.{Kept, Joined}
 use Rattle.k42_joined.specs.Possible.{IsPossible}
-use Rattle.k42_joined.specs.Refusals.{MayDrawAlone as MayAlone, IsAnsweredAlone, is_given_up, tells_abandoned}
+use Rattle.k42_joined.specs.Refusals.{IsAnsweredAlone, is_given_up, tells_abandoned}
 use Rattle.k42_joined.specs.State.{object, incarnation, swap_of, kept_of, nothing_kept}
 use Rattle.k42_joined.proofs.Kept.{joined_keeps}
 use Rattle.k42_rule.specs.Cells.{Slot, KnowsCells}
-use Rattle.k42_rule.specs.Drawing.{MayDrawAlone, IsAnswerAlone, gives_up, entry_alone, number_told, alone_view}
+use Rattle.k42_rule.specs.Drawing.{MayDrawAlone, IsAnswerAlone, gives_up, entry_alone, alone_view}
 use Rattle.k42_rule.specs.Generations.{MOST}
 use Rattle.k42_rule.specs.Rule.{KnowsPass, Rule}
 use Rattle.k42_rule.specs.Values.{incarnation_in, answer_in}

@@ -1,8 +1,8 @@
 -- An entry that is drawn at cells which a pass has taken: where it may be drawn.
-use Rattle.std.proofs.Common.{◌≡◌, ◌≢◌, ℕ, zero, suc, ◌+◌, ◌-◌, ◌<◌, ◌≤◌, ◌&&◌, ◌||◌, Bool, true, false, not, cond, eqb, ltb, List, [], ◌∷◌, ◌++◌, Option, Some, None, length, sym, refl, ap, ◌∙◌, subst, ⊎_elim, arith}
-use Rattle.std.specs.List.{slice_get, list_all}
+use Rattle.std.proofs.Common.{◌≡◌, ℕ, ◌+◌, ◌<◌, ◌||◌, Bool, true, false, eqb, List, [], ◌∷◌, Some, length, sym, refl, ap, ◌∙◌, ⊎_elim, arith}
+use Rattle.std.specs.List.{list_all}
 use Rattle.std.specs.Prelude.{max, nat_lt}
-use Rattle.std.proofs.lemmas.Bool.{eq-eqb, ltb-true}
+use Rattle.std.proofs.lemmas.Bool.{eq-eqb}
 use Rattle.std.proofs.lemmas.Bool.Decides.{nat_tests}
 use mathlib.Core.Option.{some}
 use lib.ListN.{get_elem?}
@@ -10,10 +10,10 @@ use Rattle.atomic_table.specs.Table.{State}
 use Rattle.k42_kinds.specs.declared.entry.Entry.{Entry}
 use Rattle.phase_core.specs.Consequences.{IsReadyToMove}
 use Rattle.phase_core.proofs.InSound.{moved_is_ready}
-use Rattle.turn_core.specs.Events.{holds, has_taken, has_open, is_next, can_draw, names_some}
+use Rattle.turn_core.specs.Events.{has_open, is_next, can_draw, names_some}
 use Rattle.turn_core.specs.Names.{names, names_once}
 use Rattle.turn_core.specs.Plain.{Turns, Caller}
-use Rattle.turn_core.specs.Stamps.{last_stamp, last_stamp_at, next_stamp}
+use Rattle.turn_core.specs.Stamps.{last_stamp, last_stamp_at}
 use Rattle.turn_core.specs.State.{cell_at, caller_at}
 use Rattle.k42_stamp.specs.Laws.{AreLaws}
 use Rattle.k42_stamp.specs.Layouts.{Layouts}
@@ -24,8 +24,8 @@ use Rattle.k42_joined.specs.Sound.{IsSound}
 use Rattle.k42_joined.specs.State.{object, cell, incarnation, many_objects, many_procs, many_hands, is_handed}
 use Rattle.k42_joined.proofs.AnswersRows.{handed_moved}
 use Rattle.k42_rule.specs.Cells.{Slot, cells_noted}
-use Rattle.k42_rule.specs.Drawing.{history_noted, last_noted}
-use Rattle.k42_rule.specs.Rule.{KnowsPass, Rule}
+use Rattle.k42_rule.specs.Drawing.{last_noted}
+use Rattle.k42_rule.specs.Rule.{Rule}
 use Rattle.k42_rule.specs.declared.view.PassView.{PassView}
 use Rattle.k42_rule.specs.declared.view.View.{View}
 use Rattle.k42_rule.specs.declared.view.View.TheVariants.{Crew}

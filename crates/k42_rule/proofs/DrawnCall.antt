@@ -1,17 +1,15 @@
 -- A call is drawn: what the step owes to the rule.
-use Rattle.std.proofs.Common.{◌≡◌, ◌≢◌, ◌⊎◌, ℕ, zero, suc, ◌+◌, ◌-◌, ◌<◌, ◌≤◌, ◌||◌, ◌&&◌, Bool, true, false, not, cond, eqb, List, [], ◌∷◌, ◌++◌, Option, Some, None, length, get_or, set, sym, refl, ap, ◌∙◌, subst, inl, inr, ⊎_elim, arith}
-use Rattle.std.specs.List.{slice_get, list_all}
-use Rattle.std.specs.Prelude.{IsTrue, option_map, unwrap_or}
+use Rattle.std.proofs.Common.{◌≡◌, ◌≢◌, ℕ, ◌+◌, ◌-◌, ◌<◌, ◌≤◌, ◌||◌, Bool, true, false, not, cond, eqb, List, [], ◌∷◌, ◌++◌, Option, Some, None, length, get_or, set, sym, refl, ap, ◌∙◌, subst, ⊎_elim, arith}
+use Rattle.std.specs.List.{slice_get}
+use Rattle.std.specs.Prelude.{IsTrue, option_map}
 use Rattle.std.proofs.lemmas.Bool.{eqb-true, eq-eqb, cases_lt}
-use Rattle.std.proofs.lemmas.Option.{same_Some, slice_get_within, slice_get-get_or}
-use mathlib.Core.Logic.{dite}
-use native.Mathlib.Decide.{ℕ_discrete}
+use Rattle.std.proofs.lemmas.Option.{same_Some, slice_get-get_or}
 use mathlib.Core.Option.{some}
 use lib.ListN.{get_elem?}
 use Rattle.atomic_table.specs.Table.{State}
-use Rattle.gen_core.specs.Sound.{IsOfStep, generation_of, is_flipped, is_passed}
+use Rattle.gen_core.specs.Sound.{IsOfStep, generation_of, is_flipped}
 use Rattle.gen_core.specs.State as gens
-use Rattle.k42_kinds.specs.Rows.{Ways, part_at, changed_at, cells_of, row_moved, row_replied, IsWithin, made_from}
+use Rattle.k42_kinds.specs.Rows.{Ways, part_at, changed_at, cells_of, row_moved, row_replied, IsWithin}
 use Rattle.k42_kinds.specs.LayoutLaws.{StepsRow}
 use Rattle.k42_kinds.specs.Histories.{is_call}
 use Rattle.k42_kinds.specs.declared.entry.Act.{Act}
@@ -34,10 +32,10 @@ use Rattle.phase_core.proofs.Reached.{turn_there}
 use Rattle.turn_core.specs.Events.{has_open, names_some}
 use Rattle.turn_core.specs.Names.{names, names_once}
 use Rattle.turn_core.specs.declared.event.TurnEvent.TheVariants.{Draw}
-use Rattle.k42_stamp.specs.Chains.{Chain, Row, Turn, parts_of, part_of}
+use Rattle.k42_stamp.specs.Chains.{Chain, Row, parts_of}
 use Rattle.k42_stamp.specs.Laws.{AreLaws}
 use Rattle.k42_stamp.specs.Layouts.{Layouts}
-use Rattle.k42_stamp.specs.Parts.{part_steps, reach_of}
+use Rattle.k42_stamp.specs.Parts.{reach_of}
 use Rattle.k42_stamp.proofs.PartsAfter.{parts_whole, parts_sized}
 use Rattle.k42_joined.specs.Drawing.{IsCall, newest_layout, first_cell}
 use Rattle.k42_joined.specs.Effects.{effect}
@@ -46,7 +44,7 @@ use Rattle.k42_joined.specs.Locks.{other_life}
 use Rattle.k42_joined.specs.Numbers.{cell_of, object_of, place_of, row_cells}
 use Rattle.k42_joined.specs.Plain.{Joined}
 use Rattle.k42_joined.specs.Possible.{IsPossible}
-use Rattle.k42_joined.specs.Rows.{AreRowsOf, cells_reached, history_in, layouts_in}
+use Rattle.k42_joined.specs.Rows.{AreRowsOf, cells_reached, history_in}
 use Rattle.k42_joined.specs.State.{object, cell, incarnation, many_objects, many_procs, many_hands, is_handed, layouts_of}
 use Rattle.k42_joined.specs.Touching.{is_inside}
 use Rattle.k42_joined.proofs.CellNumbers.{object_of-cell, place_of-cell, named_in_row, row_names}
@@ -54,7 +52,6 @@ use Rattle.k42_joined.proofs.OneChain.{rows_are_one}
 use Rattle.k42_joined.proofs.SafeStates.{inside_there, handed_alone, read_row_kept}
 use Rattle.k42_rule.specs.Cells.{Slot, cells_noted}
 use Rattle.k42_rule.specs.Drawing.{AgreeOn, MayDrawCall, MayDrawAs, AreHeld, IsStepped, entry_call, draws_at, part_in, part_noted, part_due, parts_due, numbers_of, HaveParts}
-use Rattle.k42_rule.specs.Generations.{MOST}
 use Rattle.k42_rule.specs.Parts.{HasDue}
 use Rattle.k42_rule.specs.Rule.{KnowsPass, Rule}
 use Rattle.k42_rule.specs.Trace.{IsOfTime}
@@ -69,7 +66,7 @@ use Rattle.k42_rule.proofs.DrawnParts.{as_noted, here, rows_here, due_noted, par
 use Rattle.k42_rule.proofs.Moves.{Moves}
 use Rattle.k42_rule.proofs.Noted.{content_of, held_named, part_at_number}
 use Rattle.k42_rule.proofs.OnePass.{with_pass, known}
-use Rattle.k42_rule.proofs.RowCells.{row_once, row_some, place_in_row, of_parity, some_part, no_part, changed_here, changed_else, made_row, part_within, due_self, due_value, due_none, few_cells_of}
+use Rattle.k42_rule.proofs.RowCells.{row_once, row_some, place_in_row, of_parity, some_part, no_part, changed_here, changed_else, made_row, part_within, due_self, due_value, few_cells_of}
 
 inside_self : (place : Place) (o i : ℕ) → IsInside place o i → (places.object_of place ≡ o) × (row_of place ≡ i)
 inside_self (Missed q j) o i is = is
@@ -502,28 +499,11 @@ pub drawn_moves : {S L P : Type 0} (F : Layouts S L P) → AreLaws F → AgreeOn
 drawn_moves F laws agree declared id v contents (Call op) (Replied reply) may = call_moves F laws agree declared id v contents op reply may
 drawn_moves F laws agree declared id v contents act answer may = absurd may
 
--- the cells that it draws at are held, and there is one
+-- the cells that it draws at are held, and it is a call
 pub drawn_held : {S L P : Type 0} (F : Layouts S L P) (declared : List L) (v : PassView P) (contents : List (Content P)) (act : Act) (answer : Answer)
     → MayDrawAs F declared contents act answer v → AreHeld v.notes contents
 drawn_held F declared v contents (Call op) (Replied reply) may = may.held
 drawn_held F declared v contents act answer may = absurd may
-
-pub drawn_few : {S L P : Type 0} (F : Layouts S L P) (declared : List L) (v : PassView P) (contents : List (Content P)) (act : Act) (answer : Answer)
-    → MayDrawAs F declared contents act answer v → length v.taker.mine < MOST
-drawn_few F declared v contents (Call op) (Replied reply) may = may.few
-drawn_few F declared v contents act answer may = absurd may
-
-reached_some : (procs o i : ℕ) (reach : Reach) (n : ℕ) → 0 < procs → cells_reached procs o i reach ≡ [] → ⊥
-reached_some procs o i (One p) n low e = cc
-reached_some zero o i All n low e = omega (arith, low)
-reached_some (suc procs) o i All n low e = cc
-
-pub drawn_some : {S L P : Type 0} (F : Layouts S L P) (declared : List L) (v : PassView P) (contents : List (Content P)) (act : Act) (answer : Answer)
-    → AreLaws F → MayDrawAs F declared contents act answer v → 0 < length contents
-drawn_some F declared v [] (Call op) (Replied reply) laws may =
-    absurd (reached_some F.procs may.object may.row ((F.ways_of may.layout).reach F.procs op v.turn.proc) 0 laws.some (sym may.named))
-drawn_some F declared v (content ∷ contents) (Call op) (Replied reply) laws may = omega arith
-drawn_some F declared v contents act answer laws may = absurd may
 
 pub drawn_call : {S L P : Type 0} (F : Layouts S L P) (declared : List L) (v : PassView P) (contents : List (Content P)) (act : Act) (answer : Answer)
     → MayDrawAs F declared contents act answer v → is_call act ≡ true

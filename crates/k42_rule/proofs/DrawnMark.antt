@@ -1,12 +1,9 @@
 -- A swap or destroy that found its object over is drawn: what the step owes to the rule.
-use Rattle.std.proofs.Common.{◌≡◌, ◌≢◌, ℕ, zero, suc, ◌+◌, ◌-◌, ◌<◌, ◌≤◌, ◌||◌, Bool, true, false, not, cond, eqb, List, [], ◌∷◌, ◌++◌, Option, Some, None, length, get_or, set, sym, refl, ap, ◌∙◌, subst, arith}
-use Rattle.std.specs.List.{slice_get}
-use Rattle.std.specs.Prelude.{IsTrue}
+use Rattle.std.proofs.Common.{◌≡◌, ℕ, ◌<◌, ◌||◌, Bool, true, false, cond, eqb, List, [], ◌∷◌, Option, Some, None, length, get_or, set, sym, refl, ap, ◌∙◌, subst, arith}
 use Rattle.std.proofs.lemmas.Bool.{eqb-true, eq-eqb}
 use mathlib.Core.Option.{some}
 use lib.ListN.{get_elem?}
 use Rattle.atomic_table.specs.Table.{State}
-use Rattle.k42_limits.specs.declared.TheConstants.{LAST_INCARNATION}
 use Rattle.k42_kinds.specs.Histories.{is_call}
 use Rattle.k42_kinds.specs.Rows.{Ways, part_at}
 use Rattle.k42_kinds.specs.declared.entry.Act.{Act}
@@ -19,12 +16,11 @@ use Rattle.phase_core.specs.Consequences.{IsReadyToMove}
 use Rattle.phase_core.specs.Plain.{Object}
 use Rattle.turn_core.specs.Events.{has_open}
 use Rattle.turn_core.specs.Names.{names}
-use Rattle.turn_core.specs.Plain.{Caller}
 use Rattle.turn_core.specs.declared.event.TurnEvent.TheVariants.{Draw}
-use Rattle.k42_stamp.specs.Chains.{Row, parts_of, part_of}
+use Rattle.k42_stamp.specs.Chains.{Row, parts_of}
 use Rattle.k42_stamp.specs.Laws.{AreLaws}
 use Rattle.k42_stamp.specs.Layouts.{Layouts}
-use Rattle.k42_stamp.specs.Parts.{act_moves, reach_of, part_steps}
+use Rattle.k42_stamp.specs.Parts.{act_moves, reach_of}
 use Rattle.k42_joined.specs.Answers.{IsTrueOf}
 use Rattle.k42_joined.specs.Drawing.{IsDrawnAs, FoundOver}
 use Rattle.k42_joined.specs.Effects.{effect}
@@ -39,14 +35,14 @@ use Rattle.k42_rule.specs.Cells.{Slot, cells_noted}
 use Rattle.k42_rule.specs.Drawing.{MayDrawMark, entry_mark, draws_at, part_in}
 use Rattle.k42_rule.specs.Parts.{HasDue}
 use Rattle.k42_rule.specs.Rule.{KnowsPass, Rule}
-use Rattle.k42_rule.specs.Values.{incarnation_in, answer_in}
-use Rattle.k42_rule.specs.Views.{begun_of, object_begun, word_begun}
+use Rattle.k42_rule.specs.Values.{incarnation_in}
+use Rattle.k42_rule.specs.Views.{object_begun, word_begun}
 use Rattle.k42_rule.specs.Words.{lock_word}
 use Rattle.k42_rule.specs.declared.cell.Content.{Content}
 use Rattle.k42_rule.specs.declared.view.PassView.{PassView}
 use Rattle.k42_rule.specs.declared.view.View.{View}
 use Rattle.k42_rule.specs.declared.view.View.TheVariants.{Crew}
-use Rattle.k42_rule.proofs.CellsDrawn.{IsDraw, draws, drawn_long}
+use Rattle.k42_rule.proofs.CellsDrawn.{draws, drawn_long}
 use Rattle.k42_rule.proofs.DrawnAlone.{begun_found}
 use Rattle.k42_rule.proofs.DrawnAt.{open_is, can_draw_of, all_are, open_life, open_closed, handed_ready, next_noted}
 use Rattle.k42_rule.proofs.DrawnParts.{as_noted, here, parts_drawn}

@@ -1,7 +1,7 @@
 -- The parts that are due in the newest row of an object, as a pass has noted them, and those that are due after a draw.
-use Rattle.std.proofs.Common.{◌≡◌, ◌≢◌, ℕ, zero, suc, ◌+◌, ◌-◌, ◌*◌, ◌/◌, ◌%◌, ◌<◌, ◌≤◌, Bool, true, false, cond, eqb, List, [], ◌∷◌, ◌++◌, Option, Some, None, length, get_or, sym, refl, ap, ◌∙◌, subst, arith}
+use Rattle.std.proofs.Common.{◌≡◌, ◌≢◌, ℕ, ◌-◌, ◌<◌, ◌≤◌, Bool, true, false, cond, eqb, List, [], ◌∷◌, Option, Some, length, sym, refl, ap, ◌∙◌, subst, arith}
 use Rattle.std.specs.List.{slice_get}
-use Rattle.std.specs.Prelude.{option_map, unwrap_or}
+use Rattle.std.specs.Prelude.{option_map}
 use Rattle.std.proofs.lemmas.Bool.{eqb-true, eq-eqb}
 use Rattle.std.proofs.lemmas.Option.{same_Some, slice_get_within}
 use mathlib.Core.Logic.{dite}
@@ -9,7 +9,7 @@ use native.Mathlib.Decide.{ℕ_discrete}
 use mathlib.Core.Option.{some}
 use lib.ListN.{get_elem?}
 use Rattle.atomic_table.specs.Table.{State}
-use Rattle.k42_kinds.specs.Rows.{Ways, made_from, part_at}
+use Rattle.k42_kinds.specs.Rows.{part_at}
 use Rattle.k42_kinds.specs.declared.entry.Entry.{Entry}
 use Rattle.turn_core.specs.Events as turns
 use Rattle.turn_core.specs.Events.{cell_told, caller_drawn}
@@ -23,13 +23,11 @@ use Rattle.k42_stamp.specs.Layouts.{Layouts}
 use Rattle.k42_stamp.specs.Parts.{part_steps}
 use Rattle.k42_joined.specs.Effects.{effect}
 use Rattle.k42_joined.specs.Event.{AtCells}
-use Rattle.k42_joined.specs.Fitting.{HasRows}
-use Rattle.k42_joined.specs.Following.{FollowsDraw, drawn_at}
 use Rattle.k42_joined.specs.Numbers.{cell_of, object_of, place_of}
 use Rattle.k42_joined.specs.Plain.{Joined}
 use Rattle.k42_joined.specs.Possible.{IsPossible}
 use Rattle.k42_joined.specs.Rows.{AreRowsOf}
-use Rattle.k42_joined.specs.State.{object, cell, many_objects, many_procs, many_hands, incarnation}
+use Rattle.k42_joined.specs.State.{object, cell, many_objects, many_procs, many_hands}
 use Rattle.k42_joined.proofs.AnswersRows.{RowsAt, rows_at, many_past}
 use Rattle.k42_joined.proofs.CellChanges.{cell_at-else, cell_at-named}
 use Rattle.k42_joined.proofs.CellNumbers.{object_of-cell, place_of-cell}

@@ -1,7 +1,7 @@
 -- What a pass has noted of cells, and what becomes of its notes as it draws.
-use Rattle.std.proofs.Common.{◌≡◌, ◌≢◌, ℕ, zero, suc, ◌+◌, ◌-◌, ◌<◌, ◌≤◌, ◌||◌, ◌&&◌, Bool, true, false, not, cond, eqb, ltb, List, [], ◌∷◌, ◌++◌, Option, Some, None, length, sym, refl, ap, ◌∙◌, subst, arith}
+use Rattle.std.proofs.Common.{◌≡◌, ℕ, zero, suc, ◌+◌, ◌-◌, ◌≤◌, ◌||◌, Bool, true, false, not, cond, eqb, List, [], ◌∷◌, ◌++◌, Option, Some, None, length, sym, refl, ap, ◌∙◌, subst, arith}
 use Rattle.std.specs.List.{slice_get}
-use Rattle.std.specs.Prelude.{map, max}
+use Rattle.std.specs.Prelude.{max}
 use Rattle.std.proofs.lemmas.Bool.{eqb-true, eq-eqb, and_parts, not-true}
 use Rattle.std.proofs.lemmas.List.{length_push}
 use Rattle.std.proofs.lemmas.Option.{same_Some}
@@ -16,8 +16,8 @@ use Rattle.turn_core.specs.Names.{names, names_once}
 use Rattle.turn_core.specs.Stamps.{last_stamp, stamp_of}
 use Rattle.k42_rule.specs.Cells.{cells_noted}
 use Rattle.k42_rule.specs.Drawing.{history_noted, closed_noted, part_noted, last_noted, last_told, numbers_of, part_in, IsHeld, AreHeld, told_note, told_notes, draws_at, untold_view, HasSmallStamp, entry_call, stamp_next}
-use Rattle.k42_rule.specs.Receipts.{IsDue, AreDue, closed_due, last_due}
-use Rattle.k42_rule.specs.Seats.{LAST_STAMP, told_by}
+use Rattle.k42_rule.specs.Receipts.{IsDue, AreDue, closed_due}
+use Rattle.k42_rule.specs.Seats.{LAST_STAMP}
 use Rattle.k42_rule.specs.Seen.{IsSeatOf}
 use Rattle.k42_rule.specs.Steps.{Seated}
 use Rattle.k42_rule.specs.Views.{pass_in}

@@ -1,12 +1,11 @@
 -- A pass after a draw: its own list has the entry, as its view has.
-use Rattle.std.proofs.Common.{◌≡◌, ℕ, zero, suc, ◌+◌, ◌-◌, ◌<◌, ◌≤◌, List, [], ◌∷◌, ◌++◌, Option, Some, None, length, sym, refl, ap, ◌∙◌, subst, arith}
+use Rattle.std.proofs.Common.{◌≡◌, ℕ, suc, ◌+◌, ◌-◌, ◌<◌, ◌≤◌, List, [], ◌∷◌, ◌++◌, length, sym, ap, ◌∙◌, subst, arith}
 use Rattle.std.specs.List.{slice_get, AllByRecursion}
 use Rattle.std.specs.Prelude.{max}
 use Rattle.k42_kinds.specs.declared.entry.Entry.{Entry}
 use Rattle.turn_core.specs.Stamps.{last_stamp, stamp_of}
 use Rattle.k42_stamp.specs.Lists.{IsListOf}
 use Rattle.k42_stamp.specs.Orders.{Ordered}
-use Rattle.k42_rule.specs.Drawing.{HasSmallStamp}
 use Rattle.k42_rule.specs.Seats.{LAST_STAMP}
 use Rattle.k42_rule.specs.Seen.{IsSeatOf, Mirrors, Own, own_in}
 use Rattle.k42_rule.specs.Steps.{Seated}

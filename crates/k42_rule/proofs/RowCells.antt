@@ -1,9 +1,8 @@
 -- The cells of a row, and its parts one by one.
-use Rattle.std.proofs.Common.{◌≡◌, ◌≢◌, ◌⊎◌, ℕ, zero, suc, ◌+◌, ◌-◌, ◌*◌, ◌/◌, ◌%◌, ◌<◌, ◌≤◌, ◌||◌, ◌&&◌, Bool, true, false, not, cond, eqb, List, [], ◌∷◌, Option, Some, None, length, sym, refl, ap, ◌∙◌, subst, inl, inr, ⊎_elim, arith}
+use Rattle.std.proofs.Common.{◌≡◌, ◌≢◌, ◌⊎◌, ℕ, zero, suc, ◌+◌, ◌/◌, ◌%◌, ◌<◌, ◌≤◌, Bool, true, false, not, cond, eqb, List, [], ◌∷◌, Option, Some, None, length, sym, refl, ap, ◌∙◌, inl, inr, arith}
 use Rattle.std.specs.List.{slice_get}
-use Rattle.std.specs.Prelude.{map, unwrap_or}
-use Rattle.std.proofs.lemmas.Bool.{eqb-true, eq-eqb}
-use Rattle.std.proofs.lemmas.Option.{same_Some, slice_get_within}
+use Rattle.std.specs.Prelude.{unwrap_or}
+use Rattle.std.proofs.lemmas.Option.{same_Some}
 use mathlib.Core.Logic.{dite}
 use native.Mathlib.Decide.{ℕ_discrete}
 use Rattle.k42_kinds.specs.Rows.{Ways, made_from, part_at, changed_at, cells_of}
@@ -11,10 +10,9 @@ use Rattle.turn_core.specs.Names.{names, names_once}
 use Rattle.turn_core.specs.Events.{names_some}
 use Rattle.k42_joined.specs.Numbers.{cell_of, object_of, place_of, row_cells}
 use Rattle.k42_joined.proofs.CellNumbers.{among, place_of-cell}
-use Rattle.k42_rule.specs.Drawing.{numbers_of, part_in}
+use Rattle.k42_rule.specs.Drawing.{numbers_of}
 use Rattle.k42_rule.specs.Parts.{HasDue}
 use Rattle.k42_rule.specs.declared.cell.Content.{Content}
-use Rattle.k42_rule.proofs.Noted.{HasContent, content_of, part_at_number}
 
 -- each cell of a row is named once
 once_from : (o i first many : ℕ) → first + many ≤ 8 → names_once (made_from (cell_of o i) first many) ≡ true

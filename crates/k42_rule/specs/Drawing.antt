@@ -101,7 +101,8 @@ entry_alone v act answer = entry_next v [] (object_begun v.last) (number_told an
 
 abbrev pub entry_hand : {P : Type 0} → PassView P → List ℕ → List ℕ → Act → Answer → Entry
 entry_hand v from onto act answer =
-    entry_next v (from ++ onto) (object_named v.visitor.swap) (incarnation_in (word_begun v.last)) (first_cell onto) act answer
+    entry_next v (from ++ onto) (object_named v.visitor.swap) (incarnation_in (word_begun v.last)) (first_cell onto) act
+    answer
 
 -- cells that were taken
 
@@ -250,7 +251,8 @@ module _ {S L P : Type 0} (F : Layouts S L P) (declared : List L) where
   IsStepped layout notes o i contents op (One p) reply =
       let ways = F.ways_of layout in
       let part = part_due ways F.procs notes o i p in
-      (reply ≡ ways.part_reply part op) × EachPlace (λ place content. content.part ≡ Some (ways.part_after part op)) contents
+      (reply ≡ ways.part_reply part op)
+      × EachPlace (λ place content. content.part ≡ Some (ways.part_after part op)) contents
   IsStepped layout notes o i contents op All reply =
       let ways = F.ways_of layout in
       let parts = parts_due ways F.procs notes o i (F.tag_of layout) in

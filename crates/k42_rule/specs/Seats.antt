@@ -1,5 +1,5 @@
 -- What the seat of a cell tells.
-use Rattle.std.specs.Prelude.{◌≡◌, ℕ, ◌≤◌, ◌^◌, Bool, true, false, List, [], ◌∷◌}
+use Rattle.std.specs.Prelude.{◌≡◌, ℕ, ◌≤◌, ◌^◌, Bool, false, List, [], ◌∷◌}
 use Rattle.turn_core.specs.Stamps.{last_stamp}
 use Rattle.k42_rule.specs.declared.view.CellView.{CellView}
 use Rattle.k42_rule.specs.declared.view.View.{View}

@@ -1,15 +1,11 @@
-use Rattle.std.proofs.Common.{◌≡◌, ℕ, ◌+◌, sym, ap, ◌∙◌, subst, refl, arith}
+use Rattle.std.proofs.Common.{ℕ, ap, ◌∙◌, arith}
 use mathlib.Core.Option.{none}
 use Rattle.atomic_table.specs.Table.{step}
-use Rattle.k42_joined.specs.Event.{AtCells}
-use Rattle.k42_kinds.specs.declared.entry.Entry.{Entry}
-use Rattle.turn_core.specs.declared.event.TurnEvent.TheVariants.{Alone}
 use Rattle.k42_rule.specs.Drawing.{alone_view}
 use Rattle.k42_rule.specs.Views.{pass_in}
 use Rattle.k42_rule.specs.Words.{role_word}
 use Rattle.k42_rule.proofs.DrawnAlone.{alone_moves}
 use Rattle.k42_rule.proofs.Drawers.{draw_allowed, draw_told, draw_is}
-use Rattle.k42_rule.proofs.Moves.{Moves}
 use Rattle.k42_rule.proofs.draw_words.alone_word.Goals as goal
 
 pub load-requires : goal.load-requires

@@ -1,4 +1,4 @@
-use Rattle.std.proofs.Common.{◌≡◌, ℕ, [], ◌∷◌, List, ap, sym, subst}
+use Rattle.std.proofs.Common.{◌∷◌, List, ap, sym, subst}
 use Rattle.k42_rule.specs.Drawing.{AreTold}
 use Rattle.k42_rule.specs.Steps.{Seated}
 use Rattle.k42_rule.specs.Views.{pass_in}

@@ -1,4 +1,4 @@
-use Rattle.std.proofs.Common.{◌≡◌, ℕ, ◌<◌, [], ◌∷◌, ap, arith}
+use Rattle.std.proofs.Common.{ap, arith}
 use Rattle.k42_rule.specs.Plan.{layouts_on}
 use Rattle.k42_rule.specs.Steps.{Seated}
 use Rattle.k42_rule.specs.Views.{pass_in}
