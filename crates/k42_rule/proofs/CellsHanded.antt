@@ -293,8 +293,7 @@ module _ {S L P : Type 0} (F : Layouts S L P) (laws : AreLaws F) (declared : Lis
                   over = now.trace.over;
                   handed = λ tag e.
                       let old = was.trace.handed tag e in
-                      let q = object_named x.visitor.swap in
-                      (
+                      let q = object_named x.visitor.swap in (
                         old.0,
                         ap (λ layouts. ltb (incarnation s q) (length layouts) && is_newest_tag F.tag_of layouts tag) (layouts_else q (moves_other j x not was old.0)) ∙ old.1,
                       );

@@ -7,6 +7,7 @@ pub mod Leaving
 pub mod Moves
 pub mod Notings
 pub mod Roles
+pub mod RoleTaken
 pub mod Holding
 pub mod Asking
 pub mod Looks
@@ -51,6 +52,7 @@ pub mod Blocking
 pub mod MovingOver
 pub mod TurningOver
 pub mod Clearing
+pub mod Fitting
 pub mod WordExamples
 pub mod FirstParts
 pub mod Opening

@@ -300,34 +300,34 @@ module _ {S L P : Type 0} (F : Layouts S L P) (declared : List L) (callers id : 
       → Joins (Ruled F declared callers) id (Crew (v ∷ [])) other (Named row) (Crew (with_oldest row more v ∷ [])) Spent
   joins_oldest other row more granted none most =
       joins_row other row (row ∷ v.rows) (v.granted + more) among once grants where
-    among : (i : ℕ) (x : Row) → slice_get (row ∷ v.rows) i ≡ Some x → (x ≡ row) ⊎ ((place : ℕ) × (slice_get v.rows place ≡ Some x))
-    among zero x e = inl (sym (same_Some row x e))
-    among (suc i) x e = inr (i, e)
+        among : (i : ℕ) (x : Row) → slice_get (row ∷ v.rows) i ≡ Some x → (x ≡ row) ⊎ ((place : ℕ) × (slice_get v.rows place ≡ Some x))
+        among zero x e = inl (sym (same_Some row x e))
+        among (suc i) x e = inr (i, e)
 
-    once : AreOnce v.rows → ((place : ℕ) → slice_get v.rows place ≢ Some row) → AreOnce (row ∷ v.rows)
-    once rows absent zero zero x e f = refl
-    once rows absent zero (suc j) x e f = absurd (absent j (f ∙ sym e))
-    once rows absent (suc i) zero x e f = absurd (absent i (e ∙ sym f))
-    once rows absent (suc i) (suc j) x e f = ap suc (rows i j x e f)
+        once : AreOnce v.rows → ((place : ℕ) → slice_get v.rows place ≢ Some row) → AreOnce (row ∷ v.rows)
+        once rows absent zero zero x e f = refl
+        once rows absent zero (suc j) x e f = absurd (absent j (f ∙ sym e))
+        once rows absent (suc i) zero x e f = absurd (absent i (e ∙ sym f))
+        once rows absent (suc i) (suc j) x e f = ap suc (rows i j x e f)
 
-    as_many : (g : ℕ) → suc g ≡ v.granted + more → (more ≡ 0 → v.granted ≡ 0) → v.granted ≡ g
-    as_many g is all = by_more more refl where
-      by_more : (m : ℕ) → more ≡ m → v.granted ≡ g
-      by_more zero e = let none = all e in absurd (omega (arith, is, e, none))
-      by_more (suc m) e = omega (arith, is, e, most)
+        as_many : (g : ℕ) → suc g ≡ v.granted + more → (more ≡ 0 → v.granted ≡ 0) → v.granted ≡ g
+        as_many g is all = by_more more refl where
+          by_more : (m : ℕ) → more ≡ m → v.granted ≡ g
+          by_more zero e = let none = all e in absurd (omega (arith, is, e, none))
+          by_more (suc m) e = omega (arith, is, e, most)
 
-    granted_at : (g : ℕ) → g ≡ v.granted + more → EachPlace (λ place x. IsGranted v.visitor.noted x) (take v.granted v.rows)
-        → EachPlace (λ place x. IsGranted v.visitor.noted x) (take g (row ∷ v.rows))
-    granted_at zero is grants place x e = absurd (none_there place x e) where
-      none_there : (i : ℕ) (a : Row) → slice_get [] i ≡ Some a → ⊥
-      none_there i a e = cc
-    granted_at (suc g) is grants zero x e = subst (IsGranted v.visitor.noted) (same_Some row x e) (granted (omega (arith, is)))
-    granted_at (suc g) is grants (suc place) x e =
-        grants place x
-        (ap (λ n. slice_get (take n v.rows) place) (let all : more ≡ 0 → v.granted ≡ 0 = none in as_many g is all) ∙ e)
+        granted_at : (g : ℕ) → g ≡ v.granted + more → EachPlace (λ place x. IsGranted v.visitor.noted x) (take v.granted v.rows)
+            → EachPlace (λ place x. IsGranted v.visitor.noted x) (take g (row ∷ v.rows))
+        granted_at zero is grants place x e = absurd (none_there place x e) where
+          none_there : (i : ℕ) (a : Row) → slice_get [] i ≡ Some a → ⊥
+          none_there i a e = cc
+        granted_at (suc g) is grants zero x e = subst (IsGranted v.visitor.noted) (same_Some row x e) (granted (omega (arith, is)))
+        granted_at (suc g) is grants (suc place) x e =
+            grants place x
+            (ap (λ n. slice_get (take n v.rows) place) (let all : more ≡ 0 → v.granted ≡ 0 = none in as_many g is all) ∙ e)
 
-    grants : EachPlace (λ place x. IsGranted v.visitor.noted x) (take v.granted v.rows) → EachPlace (λ place x. IsGranted v.visitor.noted x) (take (v.granted + more) (row ∷ v.rows))
-    grants = granted_at (v.granted + more) refl
+        grants : EachPlace (λ place x. IsGranted v.visitor.noted x) (take v.granted v.rows) → EachPlace (λ place x. IsGranted v.visitor.noted x) (take (v.granted + more) (row ∷ v.rows))
+        grants = granted_at (v.granted + more) refl
 
 set_same : (words : List ℕ) (i : ℕ) → set words i (get_or words i 0) ≡ words
 set_same [] i = refl

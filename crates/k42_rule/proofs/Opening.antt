@@ -35,6 +35,7 @@ use Rattle.k42_rule.specs.Cells.{Slot, Contents, IsCell, IsCellShown}
 use Rattle.k42_rule.specs.Generations.{Counts, MOST, AreFew, AreGenerations, IsProcessorShown}
 use Rattle.k42_rule.specs.Phases.{AreObjects, IsObjectShown}
 use Rattle.k42_rule.specs.Rule.{Beside, KnowsPass, Knows, Shows, Ruled}
+use Rattle.k42_rule.specs.Opened.{IsOpened}
 use Rattle.k42_rule.specs.Starting.{AreFirstWords, AreFirstSlots, number_in}
 use Rattle.k42_rule.specs.Values.{local_value}
 use Rattle.k42_rule.specs.Views.{new_pass, new_passes, first_view}
@@ -249,15 +250,29 @@ module _ {S L P : Type 0} (F : Layouts S L P) (laws : AreLaws F) (declared : Lis
       )
   seats (suc id) view e = absurd (some-ne-none view (sym e))
 
-  pub opens : Ruled F declared (length callers) (opening words slots (first_view F.procs declared callers))
-  opens = record {
-    rule = record {
-      state = s;
-      sound = fresh_sound F declared callers plan;
-      beside = beside;
-      shows = shows;
-      parts = λ n lt. first_part F laws declared callers n;
-      seats = seats;
-    };
-    many = length-replicate (length callers) (new_visitor (length (map F.tag_of declared)));
+  pub opens : (ruled : Ruled F declared (length callers) (opening words slots (first_view F.procs declared callers))) × (ruled.rule.state ≡ s)
+  opens = (
+    record {
+      rule = record {
+        state = s;
+        sound = fresh_sound F declared callers plan;
+        beside = beside;
+        shows = shows;
+        parts = λ n lt. first_part F laws declared callers n;
+        seats = seats;
+      };
+      many = length-replicate (length callers) (new_visitor (length (map F.tag_of declared)));
+    },
+    refl,
+  )
+
+  pub is_opened : IsOpened F declared callers
+  is_opened = record {
+    words = words;
+    slots = slots;
+    told = first;
+    many = many;
+    filled = filled;
+    ruled = opens.0;
+    new = opens.1;
   }

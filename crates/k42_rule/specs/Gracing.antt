@@ -160,3 +160,6 @@ pub record HasGiven {P : Type 0} (old new : PassSeen P) : Type 0 where
   pub seat : new.seat ≡ old.seat
   pub room : new.room ≡ old.room
   pub row_room : new.row_room ≡ old.row_room + old.view.granted
+  pub queue : new.queue ≡ old.queue
+  pub pushed : new.pushed ≡ old.pushed
+  pub popped : new.popped ≡ old.popped

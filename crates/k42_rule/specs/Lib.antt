@@ -24,5 +24,6 @@ pub mod Receipts
 pub mod Plan
 pub mod Starting
 pub mod Dealing
+pub mod Opened
 pub mod Queueing
 pub mod Laws

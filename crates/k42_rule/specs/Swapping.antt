@@ -1,16 +1,17 @@
 -- The steps of a swap, for one pass: where each may be taken, and what the pass knows after it.
-use Rattle.std.specs.Prelude.{◌≡◌, ◌⊎◌, ℕ, ◌+◌, ◌-◌, ◌*◌, ◌<◌, ◌≤◌, ◌^◌, ◌==◌, if◌then◌else◌, Bool, true, false, List, [], ◌∷◌, ◌++◌, Option, Some, None, bit_and, length}
+use Rattle.std.specs.Prelude.{◌≡◌, ◌⊎◌, ℕ, ◌+◌, ◌-◌, ◌*◌, ◌<◌, ◌≤◌, ◌^◌, ◌==◌, if◌then◌else◌, Bool, true, false, List, [], ◌∷◌, ◌++◌, Option, Some, None, is_some, not, bit_and, length}
 use Rattle.gen_core.specs.Events as graces
 use Rattle.phase_core.specs.Effects.{at_stage, after_interpose, after_open, after_reopen}
 use Rattle.phase_core.specs.Event.{Event, Interpose, Open, Unblock, Clear}
-use Rattle.phase_core.specs.Stages.{object_named, is_interposing, is_drained, is_blocking, is_moved}
+use Rattle.phase_core.specs.Stages.{named_by, object_named, is_interposing, is_drained, is_blocking, is_moved}
 use Rattle.phase_core.specs.State.{empty_entry, mediator_entry}
 use Rattle.phase_core.specs.declared.caller.SwapAt.{SwapAt}
 use Rattle.phase_core.specs.declared.caller.SwapAt.TheVariants.{Idle, Refused, Begun, Interposing, Blocking, Moved, Opening, Reopening, Opened}
-use Rattle.k42_limits.specs.declared.TheConstants.{CALLERS}
+use Rattle.k42_limits.specs.declared.TheConstants.{CALLERS, LAST_INCARNATION}
 use Rattle.k42_joined.specs.Swapping.{holds_none}
 use Rattle.k42_rule.specs.Values.{local_value, count_in, layout_in, incarnation_in}
-use Rattle.k42_rule.specs.Views.{hears, word_begun}
+use Rattle.k42_rule.specs.Views.{hears, object_begun, word_begun}
+use Rattle.k42_rule.specs.declared.view.LastBegin.{LastBegin}
 use Rattle.k42_rule.specs.declared.view.PassView.{PassView}
 use Rattle.k42_rule.specs.declared.view.Row.{Row}
 
@@ -133,3 +134,36 @@ cleared_view found v =
     if is_moved v.visitor.swap
     then record (at_swap found v (Reopening (object_swapped v) 0)) { abandoned = false }
     else record (at_swap found v Idle) { turned = false; rows = rows_ended v }
+
+-- Stages that a swap comes to by turning its object over, and one that it comes to in no other way.
+
+abbrev pub follows_turn : SwapAt → Bool
+follows_turn (Opening o p) = true
+follows_turn (Opened o) = true
+follows_turn swap = false
+
+abbrev pub opens_next : SwapAt → Bool
+opens_next (Opening o p) = true
+opens_next swap = false
+
+-- the object is in the row in which the swap began: it has not turned over, or was given up
+abbrev pub is_in_begun_row : SwapAt → Bool → Bool
+is_in_begun_row Idle turned = false
+is_in_begun_row (Refused o) turned = false
+is_in_begun_row (Opening o p) turned = false
+is_in_begun_row (Opened o) turned = not turned
+is_in_begun_row swap turned = true
+
+-- the word says that its object is neither dead nor at its last incarnation
+pub record IsOfLiving (word : ℕ) : Type 0 where
+  pub layout : layout_in word ≤ 1
+  pub last : incarnation_in word < LAST_INCARNATION
+
+-- What a pass knows of its swap fits together: the stage, whether it has turned over, the layout with which it has
+-- handed on, and its last Begin.
+pub record FitsSwap (swap : SwapAt) (turned : Bool) (handed : Option ℕ) (last : Option LastBegin) : Type 0 where
+  pub after : turned ≡ true → follows_turn swap ≡ true
+  pub opens : opens_next swap ≡ true → turned ≡ true
+  pub moved : is_some handed ≡ true → is_moved swap ≡ true
+  pub object : (o : ℕ) → named_by swap ≡ Some o → object_begun last ≡ o
+  pub living : is_in_begun_row swap turned ≡ true → IsOfLiving (word_begun last)

@@ -33,7 +33,9 @@ pub(crate) fn gather<L: Layout>(
 {
     for pass in passes {
         let Walker {
-            seat: own, entries, ..
+            seat: own,
+            entries,
+            ..
         } = pass;
         board.shared.join_seat::<Gather>(seat, own);
         lists.push_reserved(entries);

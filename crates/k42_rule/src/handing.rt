@@ -101,7 +101,14 @@ fn hand_at<L: Layout>(
     let entry = done_entry(sys, pass, cells, to, answer);
     let stamp = entry.stamp;
     hand_word::<L, Brand>(&sys.board, &mut pass.seat, cells, to, &entry);
-    tell_all(&sys.board, &mut pass.seat, cells, sys.procs as usize, true, stamp);
+    tell_all(
+        &sys.board,
+        &mut pass.seat,
+        cells,
+        sys.procs as usize,
+        true,
+        stamp,
+    );
     pass.handed = Some(to.tag());
     pass.entries.push_reserved(entry);
     stamp

@@ -3,21 +3,21 @@
 
 mod board;
 mod cell;
-mod finish;
 mod draw_plays;
 mod draw_words;
 mod drawing;
+mod finish;
 mod freeing;
 mod generating;
 mod grace_words;
 mod gracing;
 mod hand_words;
 mod handing;
-mod queueing;
 mod laws;
 mod noting;
 mod pass;
 mod plays;
+mod queueing;
 mod receipts;
 mod retired;
 mod slot_plays;
@@ -40,13 +40,13 @@ pub use cell::{Cell, Content};
 pub use drawing::{draw_alone, draw_call, draw_mark};
 pub use freeing::free;
 pub use generating::{enter_step, leave_step};
-pub use queueing::{Rows, pop_row, push_row};
+pub use gracing::{flip, generation_step, give_role, look, take_role};
+pub use handing::draw_done;
 pub use laws::{
     freed_rows_stay_freed, rows_have_one_name, rows_inside_are_present, shown_states_are_safe,
 };
-pub use gracing::{flip, generation_step, give_role, look, take_role};
-pub use handing::draw_done;
 pub use pass::{Pass, Walker};
+pub use queueing::{Rows, pop_row, push_row};
 pub use retired::{Carried, Retired, Slip};
 pub use swap_begins::begin_step;
 pub use swapping::{block_step, clear_step, entry_step, move_step, turn_over};

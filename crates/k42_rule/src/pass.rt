@@ -7,6 +7,7 @@ ghost use Rattle.phase_core.specs.State.{note_at};
 ghost use Rattle.k42_rule.specs.Gracing.{FitsGrace};
 ghost use Rattle.k42_rule.specs.Phases.{is_served};
 ghost use Rattle.k42_rule.specs.Seen.{IsRoomier, inside_in, is_at_rest};
+ghost use Rattle.k42_rule.specs.Swapping.{FitsSwap};
 ghost use Rattle.k42_rule.specs.Values.{layout_in, incarnation_in};
 ghost use Rattle.k42_rule.specs.Views.{word_begun};
 
@@ -60,7 +61,7 @@ impl<P: Drop> Model for Walker<P> {
     ghost use Rattle.k42_rule.specs.Queueing.{IsTied};
     ghost use Rattle.k42_rule.specs.Seats.{LAST_STAMP};
     ghost use Rattle.k42_rule.specs.Seen.{PassSeen, Mirrors};
-    ghost use Rattle.k42_rule.specs.Swapping.{next_entry};
+    ghost use Rattle.k42_rule.specs.Swapping.{next_entry, FitsSwap};
     ghost use Rattle.k42_rule.specs.Values.{layout_in, incarnation_in};
     ghost use Rattle.k42_rule.specs.Views.{pass_in, word_begun};
 
@@ -102,6 +103,7 @@ impl<P: Drop> Model for Walker<P> {
         × FitsGrace p.grace p.base (length p.waits.items) × (unwrap_or p.base 0 + 1 < 2 ^ 32) × (unwrap_or p.coming 0 < 2 ^ 32)
         × IsListOf p.number p.entries.items
         × (last_stamp p.entries.items ≤ LAST_STAMP)
+        × FitsSwap p.swap p.turned p.handed p.last
         × (p.post.me.hand ≡ None) × (p.post.me.spare ≡ None) × IsTied p.seat.table_id p.post.me.view.client };
 }
 
@@ -216,7 +218,8 @@ impl<P: Drop> Walker<P> {
 
     /// How far its swap is.
     pub fn swap(&self) -> SwapAt
-        ensures { result ≡ self.now.view.visitor.swap }
+        ensures is { result ≡ self.now.view.visitor.swap }
+        ensures linked { FitsSwap self.now.view.visitor.swap self.now.view.turned self.now.view.handed self.now.view.last }
     {
         self.swap
     }

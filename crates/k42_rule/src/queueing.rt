@@ -231,11 +231,7 @@ fn take_in<L: Layout>(board: &Board<L>, seat: &mut Place<L>, named: Place<L>)
 }
 
 /// Hands on the oldest row that the pass holds. Where there is no memory it holds the row as before.
-pub fn push_row<L: Layout, R: Wait>(
-    rt: &R,
-    sys: &Sys<L>,
-    pass: &mut Pass<L>,
-) -> Result<(), Memory>
+pub fn push_row<L: Layout, R: Wait>(rt: &R, sys: &Sys<L>, pass: &mut Pass<L>) -> Result<(), Memory>
     requires ours { IsPassOf sys.now pass.old }
     requires holds { 0 < length pass.old.view.rows }
     ensures ok { OnOk result (HasPushed pass.old pass.new) }

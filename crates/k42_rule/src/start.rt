@@ -12,9 +12,9 @@ ghost use Rattle.k42_rule.specs.declared.view.View.TheVariants.{Crew};
 
 use crate::board::{Board, Place};
 use crate::cell::Content;
-use crate::queueing::{Another, Line, Post};
 use crate::pass::{Pass, Walker};
 use crate::plays::Deal;
+use crate::queueing::{Another, Line, Post};
 use atomic_table::Badge;
 use gen_core::GraceAt;
 use k42_kinds::Layout;

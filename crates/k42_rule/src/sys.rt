@@ -2,13 +2,14 @@
 ghost use Rattle.std.specs.Prelude.{◌≡◌, ◌<◌, ◌≤◌, Some, length, map, slice_get, vec_items, IfOk, IfErr};
 ghost use Rattle.k42_limits.specs.declared.TheConstants.{PROCESSORS};
 ghost use Rattle.k42_rule.specs.Finishing.{AreAtRest, AreLastLists, lists_in};
+ghost use Rattle.k42_rule.specs.Opened.{IsOpened};
 ghost use Rattle.k42_rule.specs.Plan.{layouts_on};
 ghost use Rattle.k42_rule.specs.Starting.{IsStart, IsStarted};
 
 use crate::board::{Board, Setup};
 use crate::finish::{close, gather};
-use crate::queueing::{Lane, Line, tie_root};
 use crate::pass::{Pass, Walker};
+use crate::queueing::{Lane, Line, tie_root};
 use crate::start::{deal_all, first_slots, first_words};
 use atomic_table::Table;
 use k42_kinds::{Entry, Layout};
@@ -65,7 +66,10 @@ impl<L: Layout> Sys<L> {
         callers: Vec<u32>,
     ) -> Result<(Sys<L>, Vec<Pass<L>>), Memory>
         requires { IsStart L.tag_of layouts.items procs callers.items }
-        ensures { IfOk result (λ made. IsStarted layouts.items procs callers.items made.0 made.1.items) }
+        ensures started { IfOk result (λ made. IsStarted layouts.items procs callers.items made.0 made.1.items) }
+        ensures opened { IfOk result (λ made. IsOpened
+            (layouts_on L.object L.tag_of L.ways L.whole L.serves L.admitted L.act_of procs callers.items)
+            layouts.items callers.items) }
     {
         let Ok((line, mut root)) = Line::<L::Part>::with_rule(alloc) else {
             return Err(Memory);
@@ -121,7 +125,9 @@ impl<L: Layout> Sys<L> {
         };
         let Sys { board, .. } = self;
         let Walker {
-            mut seat, entries, ..
+            mut seat,
+            entries,
+            ..
         } = passes.remove(0);
         lists.push_reserved(entries);
         gather(&board, &mut seat, &mut lists, passes);

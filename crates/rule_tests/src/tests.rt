@@ -1,20 +1,21 @@
-ghost use Rattle.std.specs.Prelude.{◌≡◌, Some, [], ◌∷◌, length, slice_get};
-ghost use Rattle.co_any.specs.declared.part.AnyPart.{AnyPart};
+ghost use Rattle.std.specs.Prelude.{◌≡◌, length};
 ghost use Rattle.k42_rule.specs.Seen.{IsOf, IsSamePass};
 ghost use Rattle.k42_rule.specs.declared.cell.Content.{Content};
-ghost use Rattle.rule_tests.specs.Walk.{new, inside, locked, unlocked, left};
+ghost use Rattle.rule_tests.specs.Walk.{new, inside, unlocked, left};
 
 use co_any::AnyLayout;
-use k42_kinds::{KindName, LayoutName};
+use k42_kinds::{KindName, Layout, LayoutName};
+use k42_memory::Memory;
 use k42_rule::{
     Pass, Sys, end_call, enter_step, install_step, leave_step, lock, look_up_step, put, root_step,
     take, unlock,
 };
+use std::alloc::Global;
 use std::process::Abort;
 use std::test::Fail;
 
 /// Goes into the row that the root names, and leads its processor's entry to the cell.
-fn go_in(rt: &impl Abort, sys: &Sys<AnyLayout>, pass: &mut Pass<AnyLayout>)
+fn go_in<L: Layout>(rt: &impl Abort, sys: &Sys<L>, pass: &mut Pass<L>)
     requires ours { IsOf sys.now pass.old }
     requires one { length sys.now.layouts ≡ 1 }
     requires new { pass.old.view ≡ new }
@@ -32,12 +33,12 @@ fn go_in(rt: &impl Abort, sys: &Sys<AnyLayout>, pass: &mut Pass<AnyLayout>)
 }
 
 /// Takes the cell, which has no part yet, and puts it back.
-fn hold(rt: &impl Abort, sys: &Sys<AnyLayout>, pass: &mut Pass<AnyLayout>)
+fn hold<L: Layout>(rt: &impl Abort, sys: &Sys<L>, pass: &mut Pass<L>)
     requires ours { IsOf sys.now pass.old }
     requires procs { sys.now.procs ≡ 2 }
     requires inside { pass.old.view ≡ inside }
     ensures same { IsSamePass pass.old pass.new }
-    ensures unlocked { (content : Content AnyPart) × (pass.new.view ≡ unlocked content) }
+    ensures unlocked { (content : Content L.Part) × (pass.new.view ≡ unlocked content) }
 {
     let found = lock(sys, pass, 1);
     assert_eq!(rt; found, 0);
@@ -49,11 +50,11 @@ fn hold(rt: &impl Abort, sys: &Sys<AnyLayout>, pass: &mut Pass<AnyLayout>)
 }
 
 /// Ends the call and the activity.
-fn come_out(rt: &impl Abort, sys: &Sys<AnyLayout>, pass: &mut Pass<AnyLayout>)
+fn come_out<L: Layout>(rt: &impl Abort, sys: &Sys<L>, pass: &mut Pass<L>)
     requires ours { IsOf sys.now pass.old }
-    requires unlocked { (content : Content AnyPart) × (pass.old.view ≡ unlocked content) }
+    requires unlocked { (content : Content L.Part) × (pass.old.view ≡ unlocked content) }
     ensures same { IsSamePass pass.old pass.new }
-    ensures left { (content : Content AnyPart) × (pass.new.view ≡ left content) }
+    ensures left { (content : Content L.Part) × (pass.new.view ≡ left content) }
 {
     let found = end_call(sys, pass);
     assert_eq!(rt; found, 0x0111);
@@ -61,22 +62,29 @@ fn come_out(rt: &impl Abort, sys: &Sys<AnyLayout>, pass: &mut Pass<AnyLayout>)
     assert_eq!(rt; found, 0);
 }
 
-#[test]
-fn a_call_goes_through_the_table(rt: HostRuntime) -> Result<(), Fail> {
-    let alloc = rt.alloc();
-    let counter = AnyLayout::of(KindName::Counter, LayoutName::Spread);
-    let layouts = vec![in alloc; counter]?;
+/// A system of one object, whose only caller is on the second processor.
+fn go_through<L: Layout>(rt: &impl Abort, alloc: Global, layout: L) -> Result<(), Memory>
+    requires { L.tag_of layout ≡ 1 }
+{
+    let layouts = vec![in alloc; layout]?;
     let (sys, mut passes) = Sys::start(alloc, layouts, 2, vec![in alloc; 1]?)?;
     let mut pass = passes.remove(0);
     assert_eq!(rt; (pass.caller(), pass.processor()), (0, 1));
-    go_in(&rt, &sys, &mut pass);
-    hold(&rt, &sys, &mut pass);
-    come_out(&rt, &sys, &mut pass);
+    go_in(rt, &sys, &mut pass);
+    hold(rt, &sys, &mut pass);
+    come_out(rt, &sys, &mut pass);
     assert!(rt; pass.is_idle());
-    let Ok(lists) = sys.finish(alloc, vec![in alloc; pass]?) else {
+    let passes = vec![in alloc; pass]?;
+    let Ok(lists) = sys.finish(alloc, passes) else {
         panic!(rt; "no memory for the lists");
     };
     assert_eq!(rt; lists.len(), 1);
-    assert!(rt; lists[0].is_empty());
+    Ok(())
+}
+
+#[test]
+fn a_call_goes_through_the_table(rt: HostRuntime) -> Result<(), Fail> {
+    let counter = AnyLayout::of(KindName::Counter, LayoutName::Spread);
+    go_through(&rt, rt.alloc(), counter)?;
     Ok(())
 }

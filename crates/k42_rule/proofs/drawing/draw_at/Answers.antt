@@ -99,5 +99,6 @@ invariant_of-pass g c =
       small_drawn c.pass.inside.entries.items c.push_reserved.new.self.items _ pushed small,
       old.16,
       old.17,
-      subst (λ z. IsTied z c.pass.inside.post.me.view.client) (sym (c.tell_all.ensures.ours.0 ∙ c.call_word.ensures.ours.0)) old.18,
+      old.18,
+      subst (λ z. IsTied z c.pass.inside.post.me.view.client) (sym (c.tell_all.ensures.ours.0 ∙ c.call_word.ensures.ours.0)) old.19,
     )

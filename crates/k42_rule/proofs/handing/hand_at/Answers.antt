@@ -2,6 +2,7 @@ use Rattle.std.proofs.Common.{◌≡◌, ℕ, ◌+◌, ◌<◌, ◌≤◌, true,
 use Rattle.k42_kinds.specs.declared.entry.Entry.{Entry}
 use Rattle.k42_joined.specs.Drawing.{first_cell}
 use Rattle.k42_joined.specs.Event.{HandWith}
+use Rattle.phase_core.specs.Stages.{is_moved}
 use Rattle.k42_rule.specs.Drawing.{AreTold, numbers_of, HasSmallStamp}
 use Rattle.k42_rule.specs.Handing.{hands_at, handed_at}
 use Rattle.k42_rule.specs.Plan.{layouts_on}
@@ -17,6 +18,7 @@ use Rattle.k42_rule.specs.Words.{lock_word}
 use Rattle.k42_rule.specs.declared.cell.Content.{Content}
 use Rattle.k42_rule.specs.declared.view.Note.{Note}
 use Rattle.k42_rule.specs.declared.view.PassView.{PassView}
+use Rattle.k42_rule.proofs.Fitting.{fits_handed}
 use Rattle.k42_rule.proofs.HandedSeat.{untold_is, due_is, knows_is, back_is, mirrors_is, stamp_told, list_is, small_is}
 use Rattle.k42_rule.proofs.handing.hand_at.Goals as goal
 
@@ -92,9 +94,11 @@ invariant_of-pass g c =
           (list_is F sys.layouts cells c.args.to.now c.args.answer v c.requires.may entry tag (g.L.Layout.act_of c.args.to.now) c.done_entry-entry.ensures _ own old.14),
       subst (λ (mine : List Entry). last_stamp mine ≤ LAST_STAMP) (sym pushed)
           (small_is F sys.layouts cells c.args.to.now c.args.answer v c.requires.may entry tag told.1 _ own),
-      old.16,
+      fits_handed c.pass.inside.swap c.pass.inside.turned c.pass.inside.handed c.pass.inside.last old.16 _
+          (ap (λ (o : Own). is_moved o.swap) own ∙ ap is_moved c.requires.may.moved),
       old.17,
-      subst (λ table. IsTied table c.pass.inside.post.me.view.client) (sym (c.tell_all.ensures.ours.0 ∙ c.hand_word.ensures.ours.0)) old.18,
+      old.18,
+      subst (λ table. IsTied table c.pass.inside.post.me.view.client) (sym (c.tell_all.ensures.ours.0 ∙ c.hand_word.ensures.ours.0)) old.19,
     )
 
 pub returns-clause-stamp : goal.returns-clause-stamp

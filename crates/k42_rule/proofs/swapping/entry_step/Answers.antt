@@ -1,4 +1,16 @@
+use Rattle.std.proofs.Common.{rules, ◌≡◌, length, sym, subst}
+use Rattle.phase_core.specs.declared.caller.SwapAt.{SwapAt}
+use Rattle.k42_rule.specs.Swapping.{FitsSwap}
+use Rattle.k42_rule.proofs.Fitting.{fits_entry}
 use Rattle.k42_rule.proofs.swapping.entry_step.Goals as goal
+
+pub invariant_of-pass : goal.invariant_of-pass
+invariant_of-pass g c =
+    let pass = c.pass.inside in
+    let fits : FitsSwap c.stage_after-pass-inside.result pass.turned pass.handed pass.last =
+    subst (λ (swap : SwapAt). FitsSwap swap pass.turned pass.handed pass.last) (sym c.stage_after-pass-inside.ensures)
+    (fits_entry pass.swap pass.turned pass.handed pass.last c.pass.invariant.16 _) in
+    search (rules, fits)
 
 pub returns-clause-event : goal.returns-clause-event
 returns-clause-event g c = rw (← c.pass.view_is, ← c.sys.view_is) c.change_entry_word-found.ensures.event

@@ -7,7 +7,7 @@ use Rattle.k42_stamp.specs.Laws.{AreLaws}
 use Rattle.k42_rule.specs.Plan.{layouts_on}
 use Rattle.k42_rule.specs.Starting.{AreFirstWords, AreDealt}
 use Rattle.k42_rule.proofs.Carrying.{begins}
-use Rattle.k42_rule.proofs.Opening.{opens}
+use Rattle.k42_rule.proofs.Opening.{opens, is_opened}
 use Rattle.k42_rule.proofs.Plans.{plan_of, on_processors}
 use Rattle.k42_rule.proofs.Starting.{is_started}
 use Rattle.k42_rule.proofs.sys.Sys.start.Goals as goal
@@ -37,7 +37,18 @@ new-requires g c =
     let F = layouts_on g.L.Kind.object g.L.Layout.tag_of g.L.Layout.ways g.L.Layout.whole g.L.Layout.serves g.L.Layout.admitted g.L.Layout.act_of procs callers in
     let told : AreFirstWords g.L.Layout.tag_of layouts (length layouts) c.in_ok-words.words.items =
     rw c.as_slice.ensures.value at c.in_ok-words.ensures in
-    opens F (laws_at g procs callers c.requires.turns.limits.some_procs c.requires.turns.placed) layouts callers (plan_of F layouts callers c.requires (λ d. refl))
+    (opens F (laws_at g procs callers c.requires.turns.limits.some_procs c.requires.turns.placed) layouts callers (plan_of F layouts callers c.requires (λ d. refl))
+    c.as_slice-2.result.now c.in_ok-slots.slots.items
+    (subst (λ (w : List ℕ). AreFirstWords g.L.Layout.tag_of layouts (length layouts) w) (sym c.as_slice-2.ensures.value) told)
+    c.in_ok-slots.ensures.0 c.in_ok-slots.ensures.1).0
+
+pub returns-clause-opened : goal.returns-clause-opened
+returns-clause-opened g c =
+    let procs : ℕ = c.args.procs in let callers : List ℕ = c.args.callers.items in let layouts = c.args.layouts.items in
+    let F = layouts_on g.L.Kind.object g.L.Layout.tag_of g.L.Layout.ways g.L.Layout.whole g.L.Layout.serves g.L.Layout.admitted g.L.Layout.act_of procs callers in
+    let told : AreFirstWords g.L.Layout.tag_of layouts (length layouts) c.in_ok-words.words.items =
+    rw c.as_slice.ensures.value at c.in_ok-words.ensures in
+    is_opened F (laws_at g procs callers c.requires.turns.limits.some_procs c.requires.turns.placed) layouts callers (plan_of F layouts callers c.requires (λ d. refl))
     c.as_slice-2.result.now c.in_ok-slots.slots.items
     (subst (λ (w : List ℕ). AreFirstWords g.L.Layout.tag_of layouts (length layouts) w) (sym c.as_slice-2.ensures.value) told)
     c.in_ok-slots.ensures.0 c.in_ok-slots.ensures.1
@@ -62,8 +73,8 @@ invariant_of-sys g c =
       subst (λ k. k.procs ≤ PROCESSORS) (sym made.5) c.requires.turns.limits.few_procs,
     )
 
-pub returns : goal.returns
-returns g c =
+pub returns-clause-started : goal.returns-clause-started
+returns-clause-started g c =
     let key = c.in-Ok-new.ensures.ok.5 in let table = c.in-Ok-new.board.shared.table_id in let passes = c.in_ok-passes.passes.items in
     let procs : ℕ = c.args.procs in let objects : ℕ = c.len-objects.result in
     let many : objects ≡ length c.args.layouts.items = c.len-objects.ensures ∙ c.args.layouts.ok.0 in

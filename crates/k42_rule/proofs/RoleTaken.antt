@@ -1,0 +1,51 @@
+-- What a pass keeps by itself as it takes the role.
+use Rattle.std.proofs.Common.{refl, ◌≡◌, ℕ, ◌+◌, ◌<◌, List, [], ◌∷◌, ◌++◌, Option, None, drop, length, take, sym, ap, ◌∙◌, subst}
+use Rattle.std.specs.Option.{unwrap_or}
+use Rattle.std.proofs.Math.Seq.{take-append_seam}
+use Rattle.gen_core.specs.declared.state.GraceAt.TheVariants.{Flipping}
+use Rattle.k42_kinds.specs.Rows.{made_from}
+use Rattle.phase_core.specs.Effects.{draining_from}
+use Rattle.phase_core.specs.Stages.{object_named}
+use Rattle.phase_core.specs.declared.caller.SwapAt.{SwapAt}
+use Rattle.phase_core.specs.declared.caller.SwapAt.TheVariants.{Interposed}
+use Rattle.k42_rule.specs.Gracing.{role_view}
+use Rattle.k42_rule.specs.Noting.{due_of, notes_due}
+use Rattle.k42_rule.specs.Seen.{Own, own_in, IsSeatOf, Mirrors}
+use Rattle.k42_rule.specs.Steps.{Seated}
+use Rattle.k42_rule.specs.Swapping.{next_entry}
+use Rattle.k42_rule.specs.declared.view.PassView.{PassView}
+use Rattle.k42_rule.specs.declared.view.Row.{Row}
+use Rattle.k42_rule.proofs.Notings.{made_length}
+
+pub draining_named : (swap : SwapAt) → object_named (draining_from swap) ≡ object_named swap
+draining_named (Interposed o) = refl
+draining_named swap = refl
+
+pub draining_next : (swap : SwapAt) → unwrap_or (next_entry (draining_from swap)) 0 ≡ unwrap_or (next_entry swap) 0
+draining_next (Interposed o) = refl
+draining_next swap = refl
+
+-- all the notes that it had are written anew
+all_new : {A : Type 0} (old new : List A) (many : ℕ) → many ≡ length old → length new ≡ length old → take many (new ++ drop (length new) old) ≡ new
+all_new old new many long same = ap (λ n. take n (new ++ drop (length new) old)) (long ∙ sym same) ∙ take-append_seam new (drop (length new) old)
+
+module _ {P : Type 0} (v : PassView P) (own : Own) (own_is : own ≡ own_in v) where
+  pub noted_anew :
+      (rows : List Row) (old was new : List (Option ℕ)) (many : ℕ) → rows ≡ own.rows → old ≡ own.noted → was ≡ own.noted → many ≡ length own.noted
+      → new ≡ made_from (due_of own.swap own.last rows) 0 (length was)
+      → take many (new ++ drop (length new) old) ≡ notes_due v
+  noted_anew rows old was new many rows_are old_is was_is long made =
+      all_new old new many (long ∙ sym (ap length old_is))
+      (ap length made ∙ made_length (due_of own.swap own.last rows) 0 (length was) ∙ ap length was_is ∙ sym (ap length old_is))
+      ∙ made ∙ due where
+    due : made_from (due_of own.swap own.last rows) 0 (length was) ≡ notes_due v
+    due = rw (rows_are, was_is, own_is) refl
+
+  pub role_mirrors :
+      (me : Seated P) (found : ℕ) (noted : List (Option ℕ)) (swap : SwapAt) (granted : ℕ) → IsSeatOf me (role_view found v) → found ≡ 0
+      → v.out ≡ None → v.untold ≡ [] → noted ≡ notes_due v → swap ≡ draining_from own.swap → granted ≡ length own.rows
+      → Mirrors me (record own { turn = record own.turn { grace = Flipping 0 }; noted = noted; swap = swap; graces = own.graces + 1; base = None; granted = granted })
+  role_mirrors me found noted swap granted seat zero out untold noted_is swap_is granted_is =
+      subst (λ (m : Seated P). Mirrors m (record own { turn = record own.turn { grace = Flipping 0 }; noted = noted; swap = swap; graces = own.graces + 1; base = None; granted = granted }))
+      (sym (subst (λ n. IsSeatOf me (role_view n v)) zero seat))
+      (record { seat = refl; own_is = rw (noted_is, swap_is, granted_is, own_is) refl; out = out; told = untold })
