@@ -1,14 +1,13 @@
 -- A word of one kind is none of another kind.
-use Rattle.std.proofs.Common.{◌≡◌, ◌≢◌, ℕ, ◌+◌, ◌*◌, ◌/◌, ◌%◌, ◌<◌, ◌≤◌, List, Some, length, get_or, set, sym, ◌∙◌, arith, get_or-set_other}
-use Rattle.std.specs.List.{slice_get}
+use Rattle.std.proofs.Common.{◌≢◌, ℕ, ◌+◌, ◌*◌, ◌<◌, ◌≤◌, List, length, set, ◌∙◌, arith, get_or-set_other}
 use Rattle.std.proofs.lemmas.Option.{slice_get_within}
 use mathlib.Core.Option as maybe
 use Rattle.turn_core.specs.Plain.{Cell}
 use Rattle.phase_core.specs.Plain.{Object}
 use Rattle.k42_places.specs.Places.{EachPlace}
 use Rattle.k42_rule.specs.Cells.{Slot, Contents, IsCellShown}
-use Rattle.k42_rule.specs.Phases.{IsObjectShown, AreObjects}
-use Rattle.k42_rule.specs.Words.{generation_word, exits_word, local_word, lock_word, object_word, freed_word, role_word}
+use Rattle.k42_rule.specs.Phases.{AreObjects}
+use Rattle.k42_rule.specs.Words.{local_word, lock_word, object_word, freed_word, role_word}
 
 -- a word of generations is no word of objects or locks
 pub record IsOfGenerations (i : ℕ) : Type 0 where

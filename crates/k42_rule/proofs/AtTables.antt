@@ -1,11 +1,11 @@
 -- An event of one caller at the tables, as a step of one pass.
-use Rattle.std.proofs.Common.{◌≡◌, ◌≢◌, ℕ, ◌+◌, ◌*◌, ◌/◌, ◌%◌, ◌<◌, ◌≤◌, Bool, true, false, List, [], ◌∷◌, Option, Some, None, length, get_or, set, sym, refl, ap, ◌∙◌, subst, arith, le_refl, take, length-set, get_or-set_same, get_or-set_other}
+use Rattle.std.proofs.Common.{◌≡◌, ◌≢◌, ℕ, ◌<◌, ◌≤◌, Bool, true, List, [], ◌∷◌, Option, Some, None, length, get_or, set, sym, refl, ap, ◌∙◌, subst, arith, le_refl, take, length-set, get_or-set_same, get_or-set_other}
 use Rattle.std.specs.List.{slice_get, slice_index}
 use mathlib.Core.Option.{some}
 use lib.ListN.{get_elem?}
 use Rattle.atomic_table.specs.Table.{State}
 use Rattle.k42_places.specs.Places.{EachPlace}
-use Rattle.phase_core.specs.Event.{Event, caller_of}
+use Rattle.phase_core.specs.Event.{Event}
 use Rattle.phase_core.specs.Plain.{Object, Visitor, Phases}
 use Rattle.phase_core.specs.Stages.{IsInside, named_by, is_moved, object_named}
 use Rattle.phase_core.specs.State.{object_at, visitor_at, note_at, span_at, fresh_object, fresh_visitor, put_entry}
@@ -24,7 +24,6 @@ use Rattle.k42_joined.specs.Plain.{Kept, Joined}
 use Rattle.k42_joined.specs.Possible.{IsPossible}
 use Rattle.k42_joined.specs.Sound.{IsSound}
 use Rattle.k42_joined.specs.State.{kept_of, is_handed, many_procs}
-use Rattle.k42_joined.specs.Swapping.{may_turn_over}
 use Rattle.k42_joined.proofs.Kept.{joined_keeps}
 use Rattle.k42_rule.specs.Cells.{Slot, Contents, IsCellShown}
 use Rattle.k42_rule.specs.Generations.{Counts, AreGenerations}

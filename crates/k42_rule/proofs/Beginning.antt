@@ -1,34 +1,21 @@
 -- Beginning a swap.
-use Rattle.std.proofs.Common.{length-set, get_or-set_same, get_or-set_other, ◌≡◌, ◌≢◌, ℕ, ◌+◌, ◌-◌, ◌*◌, ◌/◌, ◌%◌, ◌^◌, ◌<◌, ◌≤◌, Bool, true, false, cond, eqb, List, [], ◌∷◌, Option, Some, None, length, get_or, set, sym, refl, ap, ◌∙◌, subst, arith, le_refl}
-use Rattle.std.specs.Prelude.{◌&&◌}
-use Rattle.std.specs.List.{slice_get, slice_index}
-use Rattle.std.specs.Option.{is_some, unwrap_or}
-use Rattle.std.proofs.lemmas.Bool.{eqb-true, eq-eqb, and_parts}
+use Rattle.std.proofs.Common.{length-set, get_or-set_same, get_or-set_other, ◌≡◌, ℕ, ◌<◌, Bool, true, false, cond, List, [], ◌∷◌, Some, None, length, get_or, set, sym, refl, ap, ◌∙◌, subst, arith, le_refl}
 use Rattle.std.proofs.lemmas.List.{set-get_or}
 use Rattle.std.proofs.lemmas.Option.{slice_get-get_or, same_Some}
 use mathlib.Core.Option.{some}
 use lib.ListN.{get_elem?}
-use prog.Atomic.{either}
 use Rattle.atomic_table.specs.Table.{State, Step, Allows}
-use Rattle.gen_core.specs.State.{caller_at}
 use Rattle.phase_core.specs.Effects.{at_stage, begun_as, is_over}
 use Rattle.phase_core.specs.Event.{Begin}
 use Rattle.phase_core.specs.Plain.{Object, Visitor, Phases}
 use Rattle.phase_core.specs.Stages.{IsInside, is_idle, named_by, object_named, is_moved}
-use Rattle.phase_core.specs.State.{object_at, visitor_at, entry_at, proc_of, put_object, put_visitor, with_row, fresh_object}
-use Rattle.phase_core.specs.declared.caller.Place.TheVariants.{Out, Missed, Direct, AtMediator, Tracked, Blocked}
-use Rattle.phase_core.specs.declared.caller.Place.{Place}
-use Rattle.phase_core.proofs.Ranges.{tracked_there, blocked_there, tracked_some, blocked_some}
-use Rattle.phase_core.proofs.Reached.{turn_there}
+use Rattle.phase_core.specs.State.{object_at, visitor_at, fresh_object}
 use Rattle.k42_stamp.specs.Laws.{AreLaws}
 use Rattle.k42_stamp.specs.Layouts.{Layouts}
 use Rattle.k42_joined.specs.Effects.{effect}
 use Rattle.k42_joined.specs.Event.{AtPhases}
 use Rattle.k42_joined.specs.Plain.{Joined}
 use Rattle.k42_joined.specs.Possible.{IsPossible}
-use Rattle.k42_joined.specs.State.{held}
-use Rattle.k42_joined.specs.Swapping.{holds_none}
-use Rattle.turn_core.specs.Plain as turns
 use Rattle.k42_rule.specs.Cells.{Slot}
 use Rattle.k42_rule.specs.Phases.{is_served, KnowsSwap, KnowsRows}
 use Rattle.k42_rule.specs.Rule.{KnowsPass, Rule, Ruled}
@@ -36,7 +23,7 @@ use Rattle.k42_rule.specs.Seen.{IsSeatOf}
 use Rattle.k42_rule.specs.Views.{pass_in}
 use Rattle.k42_rule.specs.Steps.{Seated, Tells, TellsWith}
 use Rattle.k42_rule.specs.Tabling.{ObjectFound, word_object, MayBegin, is_over_in, stage_begun, begun_view}
-use Rattle.k42_rule.specs.Values.{object_value, layout_in, incarnation_in, has_bit, answer_in}
+use Rattle.k42_rule.specs.Values.{has_bit, answer_in}
 use Rattle.k42_rule.specs.Words.{object_word}
 use Rattle.k42_rule.specs.declared.view.PassView.{PassView}
 use Rattle.k42_rule.specs.declared.view.View.{View}
@@ -47,10 +34,9 @@ use Rattle.k42_rule.proofs.Looking.{object_shown, object_is_read}
 use Rattle.k42_rule.proofs.Knocking.{word_object_is, object_finds}
 use Rattle.std.specs.Int.RustNames.{bit_or}
 use Rattle.k42_joined.specs.Plain.{Kept}
-use Rattle.k42_joined.specs.State.{kept_of, keep, nothing_kept}
+use Rattle.k42_joined.specs.State.{kept_of, nothing_kept}
 use Rattle.k42_joined.specs.Found.{answer_found}
 use Rattle.k42_joined.specs.Answers.{is_turned}
-use Rattle.k42_rule.specs.declared.view.LastBegin.{LastBegin}
 use Rattle.gen_core.specs.Events.{is_free}
 use Rattle.phase_core.specs.declared.caller.SwapAt.{SwapAt}
 use Rattle.phase_core.specs.declared.caller.SwapAt.TheVariants.{Idle}

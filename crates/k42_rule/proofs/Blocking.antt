@@ -1,8 +1,6 @@
 -- Blocking the object that is swapped.
-use Rattle.std.proofs.Common.{◌≡◌, ◌≢◌, ℕ, ◌+◌, ◌-◌, ◌*◌, ◌/◌, ◌%◌, ◌^◌, ◌<◌, ◌≤◌, Bool, true, false, List, [], ◌∷◌, Option, Some, None, length, get_or, set, sym, refl, ap, ◌∙◌, subst, arith, length-set}
-use Rattle.std.specs.Prelude.{◌&&◌}
+use Rattle.std.proofs.Common.{◌≡◌, ℕ, true, false, List, [], ◌∷◌, Some, get_or, set, refl, ap, ◌∙◌, subst, length-set}
 use Rattle.std.specs.Int.RustNames.{bit_or}
-use Rattle.std.specs.List.{slice_get, slice_index}
 use Rattle.std.proofs.lemmas.Option.{slice_get-get_or}
 use mathlib.Core.Option.{some}
 use lib.ListN.{get_elem?}
@@ -39,7 +37,7 @@ use Rattle.k42_rule.proofs.Fields.{object_fits, block_set}
 use Rattle.k42_rule.proofs.Looking.{object_shown}
 use Rattle.k42_rule.proofs.Moves.{Moves, seat_allowed}
 use Rattle.k42_rule.proofs.OnePass.{with_pass, known}
-use Rattle.k42_rule.proofs.Staging.{IsStaged, stays_staged, stage_is, there, few, bits, staged_effect, staged_visit, KnowsStaged, swap_staged, rows_staged, rows_old, own_staged}
+use Rattle.k42_rule.proofs.Staging.{IsStaged, stays_staged, stage_is, there, few, bits, staged_effect, staged_visit, swap_staged, rows_staged, rows_old, own_staged}
 
 -- what a drained stage tells
 record IsDrained (swap : SwapAt) : Type 0 where

@@ -1,14 +1,14 @@
 -- Each move of a row keeps the rule of the queue.
-use Rattle.std.proofs.Common.{◌≡◌, ◌≢◌, ℕ, zero, suc, ◌+◌, ◌<◌, Bool, true, false, cond, List, [], ◌∷◌, ◌++◌, Some, length, get_or, set, sum_by, count_by, sym, refl, ap, ◌∙◌, subst, ⊎_elim, arith}
+use Rattle.std.proofs.Common.{◌≡◌, ℕ, zero, suc, ◌+◌, ◌<◌, Bool, true, false, cond, List, [], ◌∷◌, ◌++◌, Some, length, get_or, set, sum_by, sym, refl, ap, ◌∙◌, subst, ⊎_elim, arith}
 use Rattle.std.specs.List.{slice_get}
 use Rattle.std.proofs.lemmas.List.Sums.{sum_by-set, sum_by-append}
 use mathlib.Core.Option.{some, some-injective, some-ne-none}
 use lib.ListN.{get_elem?}
 use Rattle.atomic_table.specs.Seated.{TableId}
-use Rattle.atomic_table.proofs.Lists.{at_set, set_again, at_snoc}
+use Rattle.atomic_table.proofs.Lists.{at_set, at_snoc}
 use Rattle.crossbeam_queue.specs.Fifo.{Pushes, Pops, Forks, Learns}
 use Rattle.k42_places.proofs.Appended.{at_push}
-use Rattle.k42_rule.specs.Queueing.{is_row, times, pushes_of, pops_of, places_of, IsRetired, Carries, table_of, carried_none, no_table, tied_to, Pushed, Popped, IsRuled, fresh_carried}
+use Rattle.k42_rule.specs.Queueing.{is_row, times, IsRetired, Carries, table_of, carried_none, no_table, tied_to, Pushed, Popped, IsRuled, fresh_carried}
 use Rattle.k42_rule.specs.declared.retired.Carried.{Carried}
 use Rattle.k42_rule.specs.declared.retired.Slip.{Slip}
 use Rattle.k42_rule.specs.declared.view.Row.{Row}

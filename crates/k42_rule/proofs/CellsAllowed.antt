@@ -1,53 +1,37 @@
 -- The steps on cells, as the table asks for them, and as contracts tell them.
-use Rattle.std.proofs.Common.{◌≡◌, ◌≢◌, ◌⊎◌, ℕ, ◌+◌, ◌<◌, ◌≤◌, Bool, true, false, not, cond, eqb, List, [], ◌∷◌, Option, Some, None, length, get_or, set, sym, refl, ap, ◌∙◌, subst, inl, inr, arith, length-set, get_or-set_other, get_or-set_same}
-use Rattle.std.specs.List.{slice_get, slice_index}
-use Rattle.std.specs.Prelude.{is_some}
-use Rattle.std.proofs.lemmas.Bool.{eqb-true, eq-eqb}
-use Rattle.std.proofs.lemmas.List.{set-get_or}
-use Rattle.std.proofs.lemmas.Option.{slice_get-get_or, same_Some}
+use Rattle.std.proofs.Common.{◌≡◌, ℕ, ◌+◌, ◌<◌, Bool, true, false, cond, eqb, List, [], ◌∷◌, Some, None, sym, refl, ap, ◌∙◌, subst}
+use Rattle.std.specs.List.{slice_get}
+use Rattle.std.proofs.lemmas.Option.{same_Some}
 use mathlib.Core.Option.{none, some}
-use mathlib.Core.Option as maybe
-use lib.ListN.{get_elem?}
 use prog.Atomic.{either}
-use Rattle.atomic_table.specs.Table.{State, Step, step, rest, keeps, takes, gives, Allows}
-use Rattle.atomic_table.proofs.Lists.{set_here, set_else, set_again}
-use Rattle.k42_kinds.specs.declared.entry.Entry.{Entry}
-use Rattle.turn_core.specs.Events as turns
-use Rattle.turn_core.specs.Events.{holds, holds_home, has_taken, is_caller, cell_locked, cell_unlocked, cell_taken, cell_put, caller_locked, caller_unlocked, locked}
-use Rattle.turn_core.specs.Names.{names}
-use Rattle.turn_core.specs.Plain.{Cell, Caller, Turns}
-use Rattle.turn_core.specs.State.{cell_at, caller_at, fresh_cell, fresh_caller}
-use Rattle.turn_core.specs.declared.event.TurnEvent.{TurnEvent}
+use Rattle.atomic_table.specs.Table.{State, Step, step, rest, takes, gives, Allows}
+use Rattle.atomic_table.proofs.Lists.{set_here}
+use Rattle.turn_core.specs.State.{cell_at}
 use Rattle.turn_core.specs.declared.event.TurnEvent.TheVariants.{Lock, Take, Put, Unlock}
 use Rattle.k42_stamp.specs.Laws.{AreLaws}
 use Rattle.k42_stamp.specs.Layouts.{Layouts}
 use Rattle.k42_joined.specs.Effects.{effect}
 use Rattle.k42_joined.specs.Event.{AtCells}
-use Rattle.k42_joined.specs.Numbers.{place_of}
 use Rattle.k42_joined.specs.Plain.{Joined}
-use Rattle.k42_joined.specs.Possible.{IsPossible, MayTouch}
-use Rattle.k42_joined.specs.Sound.{IsSound}
-use Rattle.k42_joined.specs.State.{many_procs, many_callers, cell}
-use Rattle.k42_joined.proofs.Kept.{joined_keeps}
-use Rattle.k42_rule.specs.Cells.{Slot, Contents, IsCell, IsCellShown, IsSlot, IsNoted, IsOut, KnowsCells, cells_noted}
+use Rattle.k42_joined.specs.Possible.{IsPossible}
+use Rattle.k42_joined.specs.State.{many_callers}
+use Rattle.k42_rule.specs.Cells.{Slot}
 use Rattle.k42_rule.specs.Parts.{IsPart}
-use Rattle.k42_rule.specs.Rule.{Beside, KnowsPass, Shows, Rule, Ruled}
-use Rattle.k42_rule.specs.Taking.{cell_at_lock, HoldsHome, MayLock, LockFound, MayPut, IsWhole, AreRowsNoted, Lifts, GivesBack, GivesBackKnown, Reaches, Puts, given_view, noted, ActIs, locked_view, unlocked_view, reaching_view, lifted_view, taken_view, put_view, without}
-use Rattle.k42_rule.specs.Words.{lock_word, slot_of, many_words, many_slots}
-use Rattle.k42_rule.specs.Values.{holder_value}
+use Rattle.k42_rule.specs.Rule.{Rule, Ruled}
+use Rattle.k42_rule.specs.Taking.{cell_at_lock, HoldsHome, MayLock, LockFound, MayPut, IsWhole, AreRowsNoted, Lifts, GivesBackKnown, Reaches, Puts, given_view, noted, ActIs, locked_view, unlocked_view, reaching_view, lifted_view, taken_view, put_view}
+use Rattle.k42_rule.specs.Words.{lock_word, slot_of}
 use Rattle.k42_rule.specs.declared.cell.Content as code
 use Rattle.k42_rule.specs.declared.view.Note.{Note}
 use Rattle.k42_rule.specs.declared.view.PassView.{PassView}
 use Rattle.k42_rule.specs.declared.view.View.{View}
 use Rattle.k42_rule.specs.declared.view.View.TheVariants.{Crew}
-use Rattle.k42_rule.proofs.CellsApart.{written, written_here, written_else, each_first, first_noted, further_noted, note_of, is_noted, IsKept, each_without, still_noted, at_within, cell_of_lock}
+use Rattle.k42_rule.proofs.CellsApart.{at_within, cell_of_lock}
 use Rattle.k42_rule.specs.Steps.{Seated, on_pass, Always, Tells, TellsWith, StepIs}
 use Rattle.k42_rule.specs.Seen.{IsSeatOf}
 use Rattle.k42_rule.specs.Views.{pass_in}
 use Rattle.k42_rule.proofs.CellsEvents.{locks, lock_found, unlocks, may_take, may_put, take_found, takes_away, gives_back, reach_found, reaches, puts, note_there}
-use Rattle.k42_rule.proofs.CellsSteps.{free_word, held_word, some_one, stands, relock, take_move, slot_move, put_move, has_content, before}
 use Rattle.k42_rule.proofs.Moves.{Moves, Finds, seat_allowed, seat_allowed_with, seat_is}
-use Rattle.k42_rule.proofs.OnePass.{with_pass, known, LeavesOthers, moved}
+use Rattle.k42_rule.proofs.OnePass.{known}
 use Rattle.k42_rule.proofs.PartLaws.{rows_noted}
 
 abbrev pub lock_value : ℕ → ℕ → ℕ

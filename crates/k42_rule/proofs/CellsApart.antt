@@ -1,23 +1,20 @@
 -- A word of a lock is no word of generations or objects, and no lock of another cell.
-use Rattle.std.proofs.Common.{◌≡◌, ◌≢◌, ℕ, zero, suc, ◌||◌, Bool, ◌+◌, ◌-◌, ◌*◌, ◌/◌, ◌%◌, ◌<◌, ◌≤◌, true, false, not, cond, eqb, List, [], ◌∷◌, Option, Some, length, get_or, set, sym, refl, ap, ◌∙◌, subst, inl, inr, arith, get_or-set_other, get_or-set_same}
-use Rattle.std.specs.List.{slice_get, list_any, filter}
-use Rattle.std.specs.Prelude.{map}
+use Rattle.std.proofs.Common.{◌≡◌, ◌≢◌, ℕ, zero, suc, ◌||◌, Bool, ◌<◌, ◌≤◌, true, false, not, cond, eqb, List, [], ◌∷◌, Some, length, set, sym, refl, ap, ◌∙◌, subst, inl, inr, arith, get_or-set_other}
+use Rattle.std.specs.List.{slice_get}
 use Rattle.std.proofs.lemmas.Bool.Decides.{eqb_tells}
 use Rattle.std.proofs.lemmas.Bool.{eqb-true, eq-eqb}
 use Rattle.std.proofs.lemmas.Option.{slice_get_within, same_Some}
 use mathlib.Core.Option.{some}
-use mathlib.Core.Option as maybe
 use lib.ListN.{get_elem?}
 use Rattle.k42_places.specs.Places.{EachPlace}
 use Rattle.gen_core.specs.Plain.{Generations}
 use Rattle.phase_core.specs.Plain.{Object}
 use Rattle.turn_core.specs.Names.{names}
-use Rattle.turn_core.specs.Plain.{Cell}
-use Rattle.k42_rule.specs.Cells.{Slot, Contents, IsCellShown, cells_noted}
+use Rattle.k42_rule.specs.Cells.{cells_noted}
 use Rattle.k42_rule.specs.Generations.{Counts, AreGenerations}
-use Rattle.k42_rule.specs.Phases.{IsObjectShown, AreObjects}
+use Rattle.k42_rule.specs.Phases.{AreObjects}
 use Rattle.k42_rule.specs.Taking.{cell_at_lock, without}
-use Rattle.k42_rule.specs.Words.{generation_word, exits_word, local_word, lock_word, object_word, freed_word, role_word, slot_of}
+use Rattle.k42_rule.specs.Words.{local_word, lock_word, object_word, freed_word, role_word, slot_of}
 use Rattle.k42_rule.specs.declared.view.Note.{Note}
 use Rattle.k42_rule.proofs.Begun.{processor_stays}
 

@@ -1,8 +1,7 @@
 -- A row is handed on at cells that a pass has taken: what the step owes to the rule.
-use Rattle.std.proofs.Common.{◌≡◌, ◌≢◌, ℕ, zero, suc, ◌+◌, ◌-◌, ◌<◌, ◌≤◌, ◌^◌, ◌&&◌, ◌||◌, Bool, true, false, not, cond, eqb, ltb, List, [], ◌∷◌, ◌++◌, Option, Some, None, length, get_or, set, sym, refl, ap, ◌∙◌, subst, inl, inr, ⊎_elim, arith, length-set, get_or-set_other, get_or-set_same}
-use Rattle.std.specs.List.{slice_get, slice_index}
+use Rattle.std.proofs.Common.{◌≡◌, ◌≢◌, ℕ, zero, suc, ◌-◌, ◌<◌, ◌≤◌, ◌^◌, ◌&&◌, Bool, true, false, not, cond, ltb, List, [], ◌∷◌, ◌++◌, Option, Some, None, length, get_or, set, sym, refl, ap, ◌∙◌, subst, arith, get_or-set_other, get_or-set_same}
+use Rattle.std.specs.List.{slice_get}
 use Rattle.std.specs.Prelude.{map}
-use Rattle.std.proofs.lemmas.Bool.{eq-eqb, lt-ltb}
 use Rattle.std.proofs.lemmas.Option.{slice_get_within, slice_get-get_or, same_Some, get_or_from_slice_get}
 use Rattle.std.proofs.lemmas.List.{length_push, set-get_or}
 use mathlib.Core.Option.{some}
@@ -24,30 +23,29 @@ use Rattle.turn_core.specs.Names.{names, names_once}
 use Rattle.turn_core.specs.Plain.{Cell, Caller, Turns}
 use Rattle.turn_core.specs.State.{cell_at, caller_at, fresh_cell, fresh_caller, change_caller, change_cells}
 use Rattle.turn_core.specs.declared.event.TurnEvent.TheVariants.{Hand}
-use Rattle.turn_core.proofs.Changed.{callers-change_cells, length-change_cells, at_changed}
+use Rattle.turn_core.proofs.Changed.{callers-change_cells, length-change_cells}
 use Rattle.k42_stamp.specs.Laws.{AreLaws}
 use Rattle.k42_stamp.specs.Layouts.{Layouts}
 use Rattle.k42_joined.specs.Effects.{effect, kept_drawn, hands_with}
 use Rattle.k42_joined.specs.Event.{HandWith}
 use Rattle.k42_joined.specs.Plain.{Kept, Joined}
 use Rattle.k42_joined.specs.Possible.{IsPossible}
-use Rattle.k42_joined.specs.State.{many_procs, many_callers, many_objects, kept_of, nothing_kept, layouts_of, incarnation, is_handed}
+use Rattle.k42_joined.specs.State.{many_procs, many_objects, nothing_kept, layouts_of, incarnation}
 use Rattle.k42_joined.specs.Swapping.{may_turn_over, is_newest_tag}
 use Rattle.k42_joined.proofs.CellChanges.{cell_at-else, cell_at-named}
 use Rattle.k42_joined.proofs.Kept.{joined_keeps}
-use Rattle.k42_rule.specs.Cells.{Slot, Contents, IsCellShown, IsSlot, IsNoted, IsOut, KnowsCells, cells_noted}
+use Rattle.k42_rule.specs.Cells.{Slot, Contents, IsCellShown, IsSlot, IsNoted, KnowsCells, cells_noted}
 use Rattle.k42_rule.specs.Drawing.{handed_note, handed_view, untold_view}
 use Rattle.k42_rule.specs.Generations.{MOST}
 use Rattle.k42_rule.specs.Parts.{IsPart}
-use Rattle.k42_rule.specs.Trace.{KnowsTrace, IsOfTime}
 use Rattle.k42_rule.specs.Values.{holder_value}
-use Rattle.k42_rule.specs.Rule.{Beside, KnowsPass, Shows, Rule}
+use Rattle.k42_rule.specs.Rule.{KnowsPass, Rule}
 use Rattle.k42_rule.specs.declared.view.Note.{Note}
 use Rattle.k42_rule.specs.declared.view.PassView.{PassView}
 use Rattle.k42_rule.specs.declared.view.View.{View}
 use Rattle.k42_rule.specs.declared.view.View.TheVariants.{Crew}
-use Rattle.k42_rule.proofs.CellsApart.{note_of, is_noted}
-use Rattle.k42_rule.proofs.CellsMoved.{moved_to, with_contents, StaysAt, LeavesCells, others_stay}
+use Rattle.k42_rule.proofs.CellsApart.{note_of}
+use Rattle.k42_rule.proofs.CellsMoved.{with_contents, StaysAt, LeavesCells, others_stay}
 use Rattle.k42_rule.proofs.Drawers.{pass_drawn}
 use Rattle.k42_rule.proofs.OnePass.{with_pass, known, LeavesOthers, moved}
 

@@ -1,7 +1,6 @@
 -- One cell and one pass moved: what the steps on cells owe to the rule.
-use Rattle.std.proofs.Common.{◌≡◌, ◌≢◌, ◌⊎◌, ℕ, zero, suc, ◌+◌, ◌*◌, ◌/◌, ◌<◌, ◌≤◌, Bool, true, false, List, [], ◌∷◌, ◌++◌, Option, Some, None, length, get_or, set, sym, refl, ap, ◌∙◌, subst, inl, inr, ⊎_elim, arith, length-set, get_or-set_other, get_or-set_same}
-use Rattle.std.specs.List.{slice_get, slice_index}
-use Rattle.std.proofs.lemmas.Option.{slice_get_within, slice_get-get_or, get_or_from_slice_get}
+use Rattle.std.proofs.Common.{◌≡◌, ◌≢◌, ◌⊎◌, ℕ, zero, suc, ◌/◌, ◌<◌, ◌≤◌, Bool, true, false, List, [], ◌∷◌, ◌++◌, Option, Some, length, get_or, set, sym, refl, ap, ◌∙◌, subst, inl, inr, arith, length-set, get_or-set_other, get_or-set_same}
+use Rattle.std.proofs.lemmas.Option.{slice_get_within, get_or_from_slice_get}
 use mathlib.Core.Option.{some}
 use mathlib.Core.Option as maybe
 use lib.ListN.{get_elem?}
@@ -15,9 +14,8 @@ use Rattle.k42_places.specs.Places.{EachPlace}
 use Rattle.k42_places.proofs.Written.{get_or-set_related}
 use Rattle.phase_core.specs.State.{object_at}
 use Rattle.k42_stamp.specs.Fits.{Fits}
-use Rattle.k42_stamp.specs.Chains.{Chain, Row}
 use Rattle.k42_joined.specs.Numbers.{cell_of, object_of}
-use Rattle.k42_joined.specs.Rows.{AreRowsOf, history_in}
+use Rattle.k42_joined.specs.Rows.{history_in}
 use Rattle.k42_joined.proofs.LocksCells.{IsSameTold}
 use Rattle.k42_rule.specs.Generations.{Counts, MOST, KnowsGenerations}
 use Rattle.k42_places.proofs.EachPlaces.{EachPlace-set_else}
@@ -29,14 +27,13 @@ use Rattle.turn_core.specs.Sound.{histories_of}
 use Rattle.k42_stamp.specs.Layouts.{Layouts}
 use Rattle.k42_joined.specs.Plain.{Kept, Joined}
 use Rattle.k42_joined.specs.Sound.{IsSound}
-use Rattle.k42_joined.specs.State.{many_callers, many_procs, many_hands, kept_of, cell}
+use Rattle.k42_joined.specs.State.{many_procs, many_hands, kept_of}
 use Rattle.k42_rule.specs.Cells.{Slot, Contents, IsCellShown, IsSlot, IsNoted, IsOut, KnowsCells, cells_noted}
 use Rattle.k42_rule.specs.Parts.{IsPart, row_in}
 use Rattle.k42_rule.specs.Trace.{KnowsTrace, IsOfTime}
 use Rattle.k42_rule.specs.Phases.{KnowsPhases}
 use Rattle.k42_rule.specs.Rule.{Beside, KnowsPass, NamesRows, Shows, Rule}
 use Rattle.k42_rule.specs.Words.{lock_word, slot_of}
-use Rattle.k42_rule.specs.Values.{holder_value}
 use Rattle.k42_rule.specs.Views.{hears}
 use Rattle.k42_rule.specs.declared.view.Note.{Note}
 use Rattle.k42_rule.specs.declared.view.PassView.{PassView}

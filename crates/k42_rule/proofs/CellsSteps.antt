@@ -1,36 +1,26 @@
 -- Each step on a lock or a slot keeps the rule, as its event.
-use Rattle.std.proofs.Common.{◌≡◌, ◌≢◌, ◌⊎◌, ℕ, ◌+◌, ◌<◌, ◌≤◌, Bool, true, false, not, cond, eqb, List, [], ◌∷◌, Option, Some, None, length, get_or, set, sym, refl, ap, ◌∙◌, subst, inl, inr, arith, length-set, get_or-set_other, get_or-set_same}
-use Rattle.std.specs.List.{slice_get, slice_index}
-use Rattle.std.proofs.lemmas.Bool.Decides.{eqb_tells}
+use Rattle.std.proofs.Common.{◌≡◌, ◌≢◌, ◌⊎◌, ℕ, ◌<◌, Bool, true, false, not, List, [], ◌∷◌, Option, Some, None, length, get_or, set, sym, refl, ap, ◌∙◌, subst, inl, inr, arith, length-set, get_or-set_same}
+use Rattle.std.specs.List.{slice_get}
 use Rattle.std.proofs.lemmas.List.{set-get_or}
 use Rattle.std.proofs.lemmas.Option.{slice_get-get_or}
 use mathlib.Core.Option.{none, some}
 use mathlib.Core.Option as maybe
 use lib.ListN.{get_elem?}
-use Rattle.atomic_table.specs.Table.{State, keeps, takes, gives}
-use Rattle.atomic_table.proofs.Lists.{set_here, set_else, set_again}
-use Rattle.turn_core.specs.Events as turns
-use Rattle.turn_core.specs.Events.{holds, holds_home, has_taken, is_caller, cell_locked, cell_unlocked, cell_taken, cell_put, caller_locked, caller_unlocked, locked}
-use Rattle.turn_core.specs.Names.{names}
+use Rattle.atomic_table.specs.Table.{State}
+use Rattle.atomic_table.proofs.Lists.{set_here, set_else}
+use Rattle.turn_core.specs.Events.{cell_taken, cell_put}
 use Rattle.turn_core.specs.Plain.{Cell, Caller, Turns}
 use Rattle.turn_core.specs.State.{cell_at, caller_at, fresh_cell, fresh_caller}
-use Rattle.turn_core.specs.declared.event.TurnEvent.{TurnEvent}
-use Rattle.turn_core.specs.declared.event.TurnEvent.TheVariants.{Lock, Take, Put, Unlock}
 use Rattle.k42_stamp.specs.Laws.{AreLaws}
 use Rattle.k42_stamp.specs.Layouts.{Layouts}
-use Rattle.k42_joined.specs.Effects.{effect}
-use Rattle.k42_joined.specs.Event.{AtCells}
-use Rattle.k42_joined.specs.Numbers.{place_of}
 use Rattle.k42_joined.specs.Plain.{Joined}
-use Rattle.k42_joined.specs.Possible.{IsPossible, MayTouch}
-use Rattle.k42_joined.specs.Sound.{IsSound}
-use Rattle.k42_joined.specs.State.{many_procs, cell}
-use Rattle.k42_joined.proofs.Kept.{joined_keeps}
-use Rattle.k42_rule.specs.Cells.{Slot, Contents, IsCell, IsCellShown, IsSlot, IsNoted, IsOut, KnowsCells, cells_noted}
+use Rattle.k42_joined.specs.Possible.{MayTouch}
+use Rattle.k42_joined.specs.State.{many_procs}
+use Rattle.k42_rule.specs.Cells.{Slot, Contents, IsCell, IsCellShown, IsSlot, IsNoted, KnowsCells, cells_noted}
 use Rattle.k42_rule.specs.Parts.{IsPart}
-use Rattle.k42_rule.specs.Rule.{Beside, KnowsPass, Shows, Rule}
-use Rattle.k42_rule.specs.Taking.{HoldsHome, MayLock, MayPut, noted, locked_view, unlocked_view, reaching_view, lifted_view, taken_view, put_view, without}
-use Rattle.k42_rule.specs.Words.{lock_word, slot_of, many_words, many_slots}
+use Rattle.k42_rule.specs.Rule.{Rule}
+use Rattle.k42_rule.specs.Taking.{noted, without}
+use Rattle.k42_rule.specs.Words.{lock_word, slot_of}
 use Rattle.k42_rule.specs.Values.{holder_value}
 use Rattle.k42_rule.specs.Views.{hears}
 use Rattle.k42_rule.specs.declared.cell.Content as code
@@ -38,9 +28,9 @@ use Rattle.k42_rule.specs.declared.view.Note.{Note}
 use Rattle.k42_rule.specs.declared.view.PassView.{PassView}
 use Rattle.k42_rule.specs.declared.view.View.{View}
 use Rattle.k42_rule.specs.declared.view.View.TheVariants.{Crew}
-use Rattle.k42_rule.proofs.CellsApart.{written, written_here, written_else, each_first, first_noted, further_noted, note_of, is_noted, IsKept, each_without, still_noted}
-use Rattle.k42_rule.proofs.CellsMoved.{moved_to, same_told', OneCell, IsMove, cell_moved, few_cells, known_heard, shows_again}
-use Rattle.k42_rule.proofs.OnePass.{with_pass, known, LeavesOthers, moved}
+use Rattle.k42_rule.proofs.CellsApart.{written, written_here, written_else, each_first, first_noted, further_noted, each_without, still_noted}
+use Rattle.k42_rule.proofs.CellsMoved.{same_told', IsMove, few_cells, known_heard, shows_again}
+use Rattle.k42_rule.proofs.OnePass.{with_pass, known, moved}
 
 -- a word that is none but the holder's
 pub free_word : (lock : Option ℕ) → holder_value lock ≡ 0 → lock ≡ None

@@ -1,5 +1,5 @@
 -- Who touches a cell by its view may touch it in every state that the table shows.
-use Rattle.std.proofs.Common.{◌≡◌, ◌≢◌, ◌⊎◌, ℕ, zero, suc, ◌+◌, ◌-◌, ◌*◌, ◌/◌, ◌%◌, ◌<◌, ◌≤◌, Bool, true, false, ◌||◌, ◌&&◌, cond, eqb, leb, ltb, List, [], ◌∷◌, Option, Some, None, length, refl, sym, ap, ◌∙◌, subst, inl, inr, ⊎_elim, arith}
+use Rattle.std.proofs.Common.{◌≡◌, ◌⊎◌, ℕ, zero, suc, ◌+◌, ◌<◌, ◌≤◌, Bool, true, false, ◌||◌, ◌&&◌, eqb, leb, ltb, List, [], ◌∷◌, Option, Some, None, length, refl, sym, ap, ◌∙◌, subst, inl, inr, ⊎_elim, arith}
 use Rattle.std.proofs.lemmas.Bool.{and_parts, eqb-true, eq-eqb, leb-true, ltb-true, or_left}
 use Rattle.std.proofs.lemmas.Bool.Decides.{nat_tests}
 use mathlib.Core.Option.{some}
@@ -27,10 +27,9 @@ use Rattle.k42_joined.specs.Locks.{other_life}
 use Rattle.k42_joined.specs.Numbers.{cell_of, object_of, place_of}
 use Rattle.k42_joined.specs.Plain.{Kept, Joined}
 use Rattle.k42_joined.specs.Possible.{MayTouch}
-use Rattle.k42_joined.specs.Sound.{IsSound}
-use Rattle.k42_joined.specs.State.{many_procs, many_callers, many_objects, object, incarnation, cell, cell_in, kept_of, is_handed, swap_of}
+use Rattle.k42_joined.specs.State.{many_procs, many_callers, many_objects, object, incarnation, cell, cell_in, kept_of, is_handed}
 use Rattle.k42_joined.specs.Touching.{is_inside, is_moving, is_freeing, is_over_in, has_way, may_touch, IsAloneAt}
-use Rattle.k42_joined.proofs.AnswersRows.{IsMover, handed_moved}
+use Rattle.k42_joined.proofs.AnswersRows.{handed_moved}
 use Rattle.k42_joined.proofs.CellNumbers.{object_of-cell, place_of-cell, cell_of-parity}
 use Rattle.k42_joined.proofs.OneAtATime.{one_at_a_time}
 use Rattle.k42_joined.proofs.RowsCalls.{inside_is}
@@ -40,7 +39,7 @@ use Rattle.k42_rule.specs.Cells.{Slot}
 use Rattle.k42_rule.specs.Steps.{Always}
 use Rattle.k42_rule.specs.Taking.{Touches, TouchesInside, TouchesMoved, TouchesFreed, TouchesOver}
 use Rattle.k42_rule.specs.Values.{answer_in, incarnation_in}
-use Rattle.k42_rule.specs.Views.{begun_of, word_begun, object_begun, kept_in}
+use Rattle.k42_rule.specs.Views.{begun_of, word_begun, object_begun}
 use Rattle.k42_rule.specs.declared.view.LastBegin.{LastBegin}
 use Rattle.k42_rule.specs.declared.view.PassView.{PassView}
 use Rattle.k42_rule.specs.declared.view.View.{View}

@@ -1,8 +1,8 @@
 -- Giving up what is moved, and ending a swap.
-use Rattle.std.proofs.Common.{◌≡◌, ◌≢◌, ◌⊎◌, inl, inr, ⊎_elim, ℕ, zero, suc, ◌+◌, ◌-◌, ◌*◌, ◌/◌, ◌%◌, ◌^◌, ◌<◌, ◌≤◌, Bool, true, false, not, cond, ◌||◌, eqb, List, [], ◌∷◌, ◌++◌, Option, Some, None, length, get_or, set, sym, refl, ap, ◌∙◌, subst, arith, take, length-set, get_or-set_same, get_or-set_other}
+use Rattle.std.proofs.Common.{◌≡◌, ◌⊎◌, inl, inr, ⊎_elim, ℕ, zero, suc, ◌+◌, ◌-◌, ◌^◌, ◌<◌, ◌≤◌, Bool, true, false, cond, ◌||◌, eqb, List, [], ◌∷◌, ◌++◌, Some, None, length, get_or, set, sym, refl, ap, ◌∙◌, subst, arith, take, length-set, get_or-set_same, get_or-set_other}
 use Rattle.std.specs.Prelude.{◌&&◌}
 use Rattle.std.specs.Int.RustNames.{bit_and}
-use Rattle.std.specs.List.{slice_get, slice_index}
+use Rattle.std.specs.List.{slice_get}
 use Rattle.std.proofs.lemmas.Bool.{eqb-true, eq-eqb, and_parts}
 use Rattle.std.proofs.lemmas.List.{take-append-le}
 use Rattle.std.proofs.lemmas.Option.{slice_get-get_or, same_Some}
@@ -14,14 +14,13 @@ use Rattle.phase_core.specs.Effects.{at_stage, unblocked, cleared}
 use Rattle.phase_core.specs.Event.{Unblock, Clear}
 use Rattle.phase_core.specs.Plain.{Object, Phases}
 use Rattle.phase_core.specs.Stages.{named_by, object_named, is_moved, is_ended}
-use Rattle.phase_core.specs.State.{object_at, visitor_at, fresh_object}
+use Rattle.phase_core.specs.State.{object_at, fresh_object}
 use Rattle.phase_core.specs.declared.caller.SwapAt.{SwapAt}
 use Rattle.phase_core.specs.declared.caller.SwapAt.TheVariants.{Idle, Refused, Moved, Reopening, Opened}
 use Rattle.turn_core.specs.Plain as turns
 use Rattle.k42_stamp.specs.Laws.{AreLaws}
 use Rattle.k42_stamp.specs.Layouts.{Layouts}
 use Rattle.k42_joined.specs.Answers.{is_turned}
-use Rattle.k42_joined.specs.Effects.{effect}
 use Rattle.k42_joined.specs.Event.{AtPhases}
 use Rattle.k42_joined.specs.Plain.{Kept, Joined}
 use Rattle.k42_joined.specs.Possible.{IsPossible}

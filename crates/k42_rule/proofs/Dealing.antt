@@ -1,17 +1,14 @@
 -- A seat with several passes may be parted from its first, which holds no row.
-use Rattle.std.proofs.Common.{◌≡◌, ◌≢◌, ℕ, zero, suc, ◌+◌, ◌<◌, ◌≤◌, ◌⊎◌, List, [], ◌∷◌, ◌++◌, Some, length, set, inl, inr, sym, refl, ap, ◌∙◌, subst, ⊎_elim, arith, length-set}
+use Rattle.std.proofs.Common.{◌≡◌, ◌≢◌, ℕ, zero, suc, ◌⊎◌, List, [], ◌∷◌, ◌++◌, Some, length, set, inl, inr, sym, refl, ap, ◌∙◌, subst, ⊎_elim, arith, length-set}
 use Rattle.std.specs.List.{slice_get}
 use Rattle.std.proofs.lemmas.Option.{same_Some}
 use mathlib.Core.Option.{some, some-injective, some-ne-none}
 use lib.ListN.{get_elem?}
-use Rattle.atomic_table.specs.Table.{State, Splits}
+use Rattle.atomic_table.specs.Table.{Splits}
 use Rattle.atomic_table.proofs.Lists.{at_set}
-use Rattle.k42_places.specs.Places.{EachPlace}
 use Rattle.k42_stamp.specs.Layouts.{Layouts}
 use Rattle.k42_joined.specs.Plain.{Joined}
-use Rattle.k42_rule.specs.Cells.{Slot}
-use Rattle.k42_rule.specs.Dealing.{dealer, dealt}
-use Rattle.k42_rule.specs.Rule.{Beside, AreApart, NamesRows, KnowsPass, Knows, Shows, Rule, Ruled}
+use Rattle.k42_rule.specs.Rule.{Beside, NamesRows, KnowsPass, Knows, Rule, Ruled}
 use Rattle.k42_rule.specs.declared.view.PassView.{PassView}
 use Rattle.k42_rule.specs.declared.view.Row.{Row}
 use Rattle.k42_rule.specs.declared.view.View.{View}

@@ -1,5 +1,5 @@
 -- What the last state of a system tells of its passes.
-use Rattle.std.proofs.Common.{◌≡◌, ℕ, zero, suc, ◌<◌, ◌≤◌, true, List, [], ◌∷◌, Option, Some, None, map, length, get_or, sym, refl, ap, ◌∙◌, subst, arith}
+use Rattle.std.proofs.Common.{◌≡◌, ℕ, ◌<◌, true, List, [], ◌∷◌, Option, Some, None, length, get_or, sym, refl, ap, ◌∙◌, subst, arith}
 use Rattle.std.specs.List.{slice_get}
 use Rattle.std.specs.Prelude.{◌++◌, ◌&&◌, option_map, is_none}
 use Rattle.gen_core.specs.Events as graces
@@ -7,13 +7,10 @@ use Rattle.std.specs.List.{remove}
 use Rattle.std.proofs.lemmas.Bool.{and_parts}
 use Rattle.std.proofs.lemmas.List.{length-map, ext_get_or}
 use Rattle.std.proofs.Math.ListN.{get_or-map}
-use Rattle.std.proofs.lemmas.Option.{slice_get-map, slice_get-get_or, get_or_from_slice_get}
-use mathlib.Core.Option.{some}
-use lib.ListN.{get_elem?}
+use Rattle.std.proofs.lemmas.Option.{slice_get-map, get_or_from_slice_get}
 use Rattle.atomic_table.specs.Table.{State, Seen}
 use Rattle.gen_core.specs.State.{caller_at}
 use Rattle.phase_core.specs.Stages.{is_out, is_idle}
-use Rattle.phase_core.specs.State.{visitor_at}
 use Rattle.phase_core.proofs.InSound.{visitor_known}
 use Rattle.turn_core.specs.Plain.{Caller}
 use Rattle.turn_core.specs.State as turns
@@ -21,7 +18,7 @@ use Rattle.k42_kinds.specs.declared.entry.Entry.{Entry}
 use Rattle.k42_stamp.specs.Layouts.{Layouts}
 use Rattle.k42_joined.specs.Fitting.{lists_of}
 use Rattle.k42_joined.specs.Plain.{Joined}
-use Rattle.k42_joined.specs.State.{many_callers, mine}
+use Rattle.k42_joined.specs.State.{mine}
 use Rattle.k42_rule.specs.Cells.{Slot}
 use Rattle.k42_rule.specs.Dealing.{crew_in}
 use Rattle.k42_rule.specs.Finishing.{views_of, lists_in, AreAtRest, IsResting, AreLastLists}

@@ -1,13 +1,11 @@
 -- Changing the next entry of the object that is swapped: to a mediator, or to an empty one.
-use Rattle.std.proofs.Common.{◌≡◌, ◌≢◌, ℕ, ◌+◌, ◌-◌, ◌*◌, ◌/◌, ◌%◌, ◌^◌, ◌<◌, ◌≤◌, Bool, true, false, cond, ltb, List, [], ◌∷◌, Option, Some, None, length, get_or, set, sym, refl, ap, ◌∙◌, subst, arith, length-set}
-use Rattle.std.specs.List.{slice_get, slice_index}
+use Rattle.std.proofs.Common.{◌≡◌, ℕ, ◌+◌, ◌<◌, Bool, true, false, cond, ltb, List, [], ◌∷◌, Some, length, get_or, set, sym, refl, ap, ◌∙◌, subst, arith, length-set}
 use Rattle.std.proofs.lemmas.Option.{slice_get-get_or, same_Some}
 use mathlib.Core.Option.{some}
 use lib.ListN.{get_elem?}
 use Rattle.atomic_table.specs.Table.{State, Step, Allows}
 use Rattle.gen_core.proofs.Ranges.{length-waits}
 use Rattle.phase_core.specs.Effects.{at_stage}
-use Rattle.phase_core.specs.Event.{Event}
 use Rattle.phase_core.specs.Events as phase_events
 use Rattle.phase_core.specs.Objects.{BitsFollow, bits_of}
 use Rattle.phase_core.specs.Plain.{Object, Visitor, Phases}
@@ -22,14 +20,14 @@ use Rattle.k42_stamp.specs.Layouts.{Layouts}
 use Rattle.k42_joined.specs.Answers.{is_turned}
 use Rattle.k42_joined.specs.Effects.{effect}
 use Rattle.k42_joined.specs.Event.{AtPhases}
-use Rattle.k42_joined.specs.Plain.{Kept, Joined}
+use Rattle.k42_joined.specs.Plain.{Joined}
 use Rattle.k42_joined.specs.Possible.{IsPossible}
 use Rattle.k42_rule.specs.Cells.{Slot}
 use Rattle.k42_rule.specs.Rule.{KnowsPass, Rule, Ruled}
 use Rattle.k42_rule.specs.Seen.{IsSeatOf}
 use Rattle.k42_rule.specs.Steps.{Seated, Tells}
 use Rattle.k42_rule.specs.Swapping.{object_swapped, incarnation_swapped, next_entry, after_entry, MayChangeEntry, entry_after, entry_event, changed_view}
-use Rattle.k42_rule.specs.Values.{layout_in, incarnation_in}
+use Rattle.k42_rule.specs.Values.{incarnation_in}
 use Rattle.k42_rule.specs.Views.{pass_in, word_begun}
 use Rattle.k42_rule.specs.Words.{local_word}
 use Rattle.k42_rule.specs.declared.view.PassView.{PassView}
@@ -38,7 +36,7 @@ use Rattle.k42_rule.specs.declared.view.View.TheVariants.{Crew}
 use Rattle.k42_rule.proofs.AtTables.{visited, Steps, visits, of_entry, entry_written, few_entries, written_shows}
 use Rattle.k42_rule.proofs.Moves.{Moves, seat_allowed}
 use Rattle.k42_rule.proofs.OnePass.{with_pass, known}
-use Rattle.k42_rule.proofs.Staging.{IsStaged, StaysInRow, stays_staged, gen_there, stage_is, there, few, bits, objects_after, stage_after, staged_visit, KnowsStaged, swap_staged, rows_staged, rows_old, own_staged}
+use Rattle.k42_rule.proofs.Staging.{IsStaged, StaysInRow, stays_staged, gen_there, stage_is, there, few, bits, staged_visit, KnowsStaged, swap_staged, rows_staged, rows_old, own_staged}
 
 either : (Q : SwapAt → Type 0) (b : Bool) (x y : SwapAt) → Q x → Q y → Q (cond b x y)
 either Q true x y a b = a

@@ -1,8 +1,6 @@
 -- What is read of a word is what it was made of.
-use Rattle.std.proofs.Common.{◌≡◌, ◌≢◌, ℕ, zero, suc, ◌+◌, ◌-◌, ◌*◌, ◌/◌, ◌%◌, ◌^◌, ◌<◌, ◌≤◌, ◌⊎◌, Bool, true, false, cond, eqb, List, [], ◌∷◌, Option, Some, None, length, get_or, sym, refl, ap, ◌∙◌, subst, ⊎_elim, arith}
+use Rattle.std.proofs.Common.{◌≡◌, ℕ, zero, suc, ◌+◌, ◌-◌, ◌*◌, ◌/◌, ◌%◌, ◌^◌, ◌<◌, ◌≤◌, Bool, true, false, cond, eqb, length, sym, refl, ap, ◌∙◌, subst, ⊎_elim, arith}
 use Rattle.std.specs.Bool.{MatchBool}
-use Rattle.std.specs.List.{slice_get}
-use Rattle.std.proofs.lemmas.Bool.{eqb-true}
 use Rattle.std.proofs.lemmas.Nat.Bits.{bit_at_lowest, bit_at-suc}
 use Rattle.std.proofs.Math.Nat.{pow-suc}
 use Rattle.std.specs.Int.{bit_at}
@@ -13,7 +11,7 @@ use Rattle.std.proofs.lemmas.List.Sums.{count_by-le-length}
 use Rattle.std.proofs.lemmas.Option.{slice_get-get_or}
 use Rattle.k42_limits.specs.declared.TheConstants.{LAST_INCARNATION}
 use Rattle.phase_core.specs.Effects.{root_of, counted_in, counted_out, unblocked, cleared}
-use Rattle.phase_core.specs.Objects.{IsMediator, IsOpen, IsEntry, IsObject, counts_at}
+use Rattle.phase_core.specs.Objects.{IsMediator, IsOpen, IsEntry, counts_at}
 use Rattle.phase_core.specs.Outlooks.{is_mediated, behind}
 use Rattle.phase_core.specs.Plain.{Object, Phases}
 use Rattle.phase_core.specs.Sound.{IsSound}

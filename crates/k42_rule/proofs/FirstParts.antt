@@ -1,5 +1,5 @@
 -- No part is due in a new state but the empty one.
-use Rattle.std.proofs.Common.{◌≡◌, ℕ, zero, suc, ◌+◌, ◌-◌, ◌/◌, ◌<◌, ◌≤◌, Bool, true, false, cond, eqb, List, [], ◌∷◌, ◌++◌, Option, Some, None, map, length, get_or, replicate, sym, refl, ap, ◌∙◌, subst, arith}
+use Rattle.std.proofs.Common.{◌≡◌, ℕ, zero, suc, ◌+◌, ◌-◌, ◌/◌, Bool, true, false, cond, eqb, List, [], ◌∷◌, ◌++◌, Some, None, map, length, get_or, replicate, sym, refl, ap, ◌∙◌, subst, arith}
 use Rattle.std.specs.List.{slice_get, AllByRecursion}
 use Rattle.std.specs.Prelude.{option_map}
 use Rattle.std.proofs.lemmas.Option.{same_Some}
@@ -8,14 +8,14 @@ use Rattle.k42_kinds.specs.declared.entry.Entry.{Entry}
 use Rattle.k42_kinds.specs.Rows.{Ways, made_from, part_at, cells_of}
 use Rattle.turn_core.specs.State.{fresh_cell}
 use Rattle.turn_core.specs.Plain.{Cell}
-use Rattle.k42_stamp.specs.Chains.{Chain, Row, Turn, part_of, parts_of, start_of}
+use Rattle.k42_stamp.specs.Chains.{Chain, Row, Turn, part_of, start_of}
 use Rattle.k42_stamp.specs.Laws.{AreLaws}
 use Rattle.k42_stamp.specs.Layouts.{Layouts}
 use Rattle.k42_stamp.proofs.Needed.{entries_all}
 use Rattle.k42_joined.specs.Fresh.{first_lives, fresh}
 use Rattle.k42_joined.specs.Numbers.{object_of, place_of, cell_of}
 use Rattle.k42_joined.specs.Plain.{Joined}
-use Rattle.k42_joined.specs.Rows.{AreRowsOf, history_in}
+use Rattle.k42_joined.specs.Rows.{history_in}
 use Rattle.k42_joined.specs.State.{cell, layouts_of}
 use Rattle.k42_rule.specs.Parts.{row_in, HasDue, IsPart}
 

@@ -1,6 +1,6 @@
 -- Each step keeps together what a pass knows of its swap.
-use Rattle.std.proofs.Common.{◌≡◌, ◌≢◌, ℕ, ◌+◌, ◌<◌, ◌≤◌, if◌then◌else◌, Bool, true, false, ◌||◌, ◌==◌, eqb, Option, Some, None, is_some, nat_lt, sym, refl, ap, ◌∙◌, subst, arith}
-use Rattle.std.proofs.lemmas.Bool.{eqb-true, eq-eqb}
+use Rattle.std.proofs.Common.{◌≡◌, ◌≢◌, ℕ, ◌+◌, ◌≤◌, if◌then◌else◌, Bool, true, false, ◌||◌, ◌==◌, Option, Some, None, is_some, nat_lt, sym, refl, ap, ◌∙◌, subst, arith}
+use Rattle.std.proofs.lemmas.Bool.{eq-eqb}
 use Rattle.std.proofs.lemmas.Option.{same_Some}
 use Rattle.k42_limits.specs.declared.TheConstants.{LAST_INCARNATION}
 use Rattle.gen_core.specs.declared.state.GraceAt.{GraceAt}
@@ -8,11 +8,10 @@ use Rattle.gen_core.specs.declared.state.GraceAt.TheVariants.{Quiet}
 use Rattle.phase_core.specs.Effects.{begun_as, drained_at, draining_from}
 use Rattle.phase_core.specs.Stages.{named_by, object_named, is_idle, is_drained, is_blocking, is_moved}
 use Rattle.phase_core.specs.declared.caller.SwapAt.{SwapAt}
-use Rattle.phase_core.specs.declared.caller.SwapAt.TheVariants.{Idle, Refused, Begun, Interposing, Interposed, Draining, Drained, Blocking, Moved, Opening, Reopening, Opened}
+use Rattle.phase_core.specs.declared.caller.SwapAt.TheVariants.{Idle, Begun, Interposing, Interposed, Draining, Drained, Blocking, Moved, Opening, Reopening, Opened}
 use Rattle.k42_rule.specs.Swapping.{after_entry, follows_turn, opens_next, is_in_begun_row, FitsSwap, IsOfLiving}
 use Rattle.k42_rule.specs.Tabling.{is_over_in}
 use Rattle.k42_rule.specs.Values.{layout_in, incarnation_in}
-use Rattle.k42_rule.specs.Views.{object_begun, word_begun}
 use Rattle.k42_rule.specs.declared.view.LastBegin.{LastBegin}
 
 -- a pass that has begun no swap

@@ -1,5 +1,5 @@
 -- The cells of two rows in one list, the first of which a pass hands on to the second.
-use Rattle.std.proofs.Common.{◌≡◌, ◌≢◌, ◌⊎◌, ℕ, zero, suc, ◌+◌, ◌-◌, ◌*◌, ◌%◌, ◌<◌, ◌≤◌, Bool, true, false, cond, eqb, List, [], ◌∷◌, ◌++◌, Option, Some, None, length, take, drop, sym, refl, ap, ◌∙◌, subst, inl, inr, arith}
+use Rattle.std.proofs.Common.{◌≡◌, ℕ, zero, suc, ◌+◌, ◌<◌, ◌≤◌, true, false, List, [], ◌∷◌, ◌++◌, Some, length, take, drop, sym, refl, ap, ◌∙◌, subst, inr, arith}
 use Rattle.std.specs.List.{slice_get}
 use Rattle.std.specs.Prelude.{max}
 use Rattle.std.proofs.lemmas.List.{length-map, length-append, take-append-drop}
@@ -11,7 +11,7 @@ use Rattle.k42_places.specs.Places.{EachPlace}
 use Rattle.turn_core.specs.Names.{names}
 use Rattle.turn_core.specs.Stamps.{last_stamp}
 use Rattle.k42_stamp.specs.Layouts.{Layouts}
-use Rattle.k42_joined.specs.Numbers.{cell_of, row_cells}
+use Rattle.k42_joined.specs.Numbers.{cell_of}
 use Rattle.k42_joined.proofs.LocksHand.{apart_row}
 use Rattle.k42_joined.proofs.RowsCalls.{some_at}
 use Rattle.k42_rule.specs.Drawing.{MayHandOn, numbers_of, part_in, last_told, last_noted, stamp_next, AreHeld, AreTold}

@@ -1,6 +1,5 @@
 -- What a pass has noted of the cells of a row that it has handed on, and of those of the next.
-use Rattle.std.proofs.Common.{◌≡◌, ◌≢◌, ℕ, zero, suc, ◌+◌, ◌-◌, ◌<◌, ◌≤◌, ◌||◌, ◌&&◌, Bool, true, false, not, cond, eqb, ltb, List, [], ◌∷◌, ◌++◌, Option, Some, None, length, sym, refl, ap, ◌∙◌, subst, arith}
-use Rattle.std.specs.List.{slice_get}
+use Rattle.std.proofs.Common.{◌≡◌, ℕ, suc, ◌≤◌, ◌||◌, ◌&&◌, Bool, true, false, not, cond, eqb, List, [], ◌∷◌, ◌++◌, Option, length, sym, refl, ap, ◌∙◌, subst, arith}
 use Rattle.std.specs.Prelude.{map}
 use Rattle.std.proofs.lemmas.Bool.{eqb-true, lt-ltb}
 use Rattle.k42_kinds.specs.declared.entry.Entry.{Entry}
@@ -8,7 +7,7 @@ use Rattle.k42_places.specs.Places.{EachPlace}
 use Rattle.turn_core.specs.Names.{names}
 use Rattle.turn_core.specs.Stamps.{last_stamp}
 use Rattle.k42_rule.specs.Cells.{cells_noted}
-use Rattle.k42_rule.specs.Drawing.{history_noted, closed_noted, numbers_of, part_in, IsHeld, AreHeld, IsTold, handed_note, untold_view, HasSmallStamp}
+use Rattle.k42_rule.specs.Drawing.{history_noted, closed_noted, numbers_of, part_in, AreHeld, IsTold, handed_note, untold_view, HasSmallStamp}
 use Rattle.k42_rule.specs.Handing.{hands_at}
 use Rattle.k42_rule.specs.Receipts.{IsDue, AreDue, closed_due, last_due}
 use Rattle.k42_rule.specs.Seats.{LAST_STAMP, told_by}

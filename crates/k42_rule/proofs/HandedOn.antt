@@ -1,13 +1,12 @@
 -- A row is handed on: where it may be, and what the step owes to the rule.
-use Rattle.std.proofs.Common.{◌≡◌, ◌≢◌, ◌⊎◌, ℕ, zero, suc, ◌+◌, ◌-◌, ◌*◌, ◌%◌, ◌<◌, ◌≤◌, ◌^◌, ◌||◌, ◌&&◌, Bool, true, false, not, cond, eqb, ltb, List, [], ◌∷◌, ◌++◌, Option, Some, None, length, get_or, set, sym, refl, ap, ◌∙◌, subst, inl, inr, ⊎_elim, arith}
+use Rattle.std.proofs.Common.{◌≡◌, ◌⊎◌, ℕ, ◌+◌, ◌-◌, ◌<◌, ◌≤◌, ◌^◌, ◌||◌, ◌&&◌, Bool, true, false, not, cond, eqb, ltb, List, [], ◌∷◌, ◌++◌, Option, Some, None, length, get_or, set, sym, refl, ap, ◌∙◌, subst, inl, inr, ⊎_elim, arith}
 use Rattle.std.specs.List.{slice_get, list_all}
-use Rattle.std.specs.Prelude.{unwrap_or}
-use Rattle.std.proofs.lemmas.Bool.{eqb-true, eq-eqb, lt-ltb, and_parts, not-true}
+use Rattle.std.proofs.lemmas.Bool.{eq-eqb, lt-ltb, and_parts, not-true}
 use mathlib.Core.Option.{some}
 use lib.ListN.{get_elem?}
 use Rattle.atomic_table.specs.Table.{State}
 use Rattle.k42_limits.specs.declared.TheConstants.{LAST_INCARNATION}
-use Rattle.k42_kinds.specs.Rows.{Ways, part_at, cells_of}
+use Rattle.k42_kinds.specs.Rows.{part_at, cells_of}
 use Rattle.k42_kinds.specs.declared.entry.Answer.{Answer}
 use Rattle.k42_kinds.specs.declared.entry.Answer.TheVariants.{Swapped}
 use Rattle.k42_kinds.specs.declared.entry.Entry.{Entry}
@@ -17,7 +16,7 @@ use Rattle.phase_core.specs.Stages.{object_named}
 use Rattle.phase_core.specs.State.{visitor_at}
 use Rattle.phase_core.specs.declared.caller.SwapAt.TheVariants.{Moved}
 use Rattle.phase_core.proofs.InSound.{moved_is_ready}
-use Rattle.turn_core.specs.Events.{has_open, has_taken, has_beginning, may_begin, is_empty, is_next, can_hand}
+use Rattle.turn_core.specs.Events.{has_open, has_beginning, may_begin, is_empty, is_next, can_hand}
 use Rattle.turn_core.specs.Names.{names, names_once}
 use Rattle.turn_core.specs.Plain.{Cell, Turns}
 use Rattle.turn_core.specs.State.{cell_at}
@@ -38,21 +37,18 @@ use Rattle.k42_joined.proofs.CellNumbers.{IsAmong, named_in_row, row_names}
 use Rattle.k42_joined.proofs.LocksHand.{apart_row, hands_here, hands_after}
 use Rattle.k42_joined.proofs.LocksLives.{IsWaiting, waiting}
 use Rattle.k42_rule.specs.Cells.{Slot, cells_noted}
-use Rattle.k42_rule.specs.Drawing.{MayHandOn, entry_hand, numbers_of, part_in, part_noted, part_due, parts_due, parts_moved, history_noted}
+use Rattle.k42_rule.specs.Drawing.{MayHandOn, entry_hand, numbers_of, part_in, part_noted, part_due, parts_due, parts_moved}
 use Rattle.k42_rule.specs.Handing.{hands_at}
 use Rattle.k42_rule.specs.Parts.{HasDue}
 use Rattle.k42_rule.specs.Rule.{KnowsPass, Rule}
-use Rattle.k42_rule.specs.Values.{incarnation_in, layout_in}
-use Rattle.k42_rule.specs.Views.{word_begun}
-use Rattle.k42_rule.specs.Words.{lock_word}
 use Rattle.k42_rule.specs.declared.cell.Content.{Content}
 use Rattle.k42_rule.specs.declared.view.PassView.{PassView}
 use Rattle.k42_rule.specs.declared.view.View.{View}
 use Rattle.k42_rule.specs.declared.view.View.TheVariants.{Crew}
-use Rattle.k42_rule.proofs.CellsHanded.{IsHanding, hands, handed_long}
+use Rattle.k42_rule.proofs.CellsHanded.{hands, handed_long}
 use Rattle.k42_rule.proofs.DrawnAt.{open_is, all_are, open_closed, next_noted}
 use Rattle.k42_rule.proofs.DrawnParts.{as_noted, here, rows_here, past_here, due_noted}
-use Rattle.k42_rule.proofs.HandedParts.{Hands, parts_handed}
+use Rattle.k42_rule.proofs.HandedParts.{parts_handed}
 use Rattle.k42_rule.proofs.Moves.{Moves}
 use Rattle.k42_rule.proofs.Noted.{content_of, held_named, part_at_number}
 use Rattle.k42_rule.proofs.OnePass.{with_pass, known}

@@ -1,5 +1,5 @@
 -- The parts that are due once a row was handed on.
-use Rattle.std.proofs.Common.{◌≡◌, ◌≢◌, ◌⊎◌, ℕ, zero, suc, ◌+◌, ◌-◌, ◌*◌, ◌/◌, ◌%◌, ◌<◌, ◌≤◌, Bool, true, false, cond, eqb, List, [], ◌∷◌, ◌++◌, Option, Some, None, length, get_or, sym, refl, ap, ◌∙◌, subst, inl, inr, ⊎_elim, arith}
+use Rattle.std.proofs.Common.{◌≡◌, ◌≢◌, ℕ, suc, ◌+◌, ◌-◌, ◌<◌, ◌≤◌, Bool, true, false, cond, List, [], ◌∷◌, Option, Some, None, length, sym, refl, ap, ◌∙◌, subst, inr, ⊎_elim, arith}
 use Rattle.std.specs.List.{slice_get}
 use Rattle.std.specs.Prelude.{option_map}
 use Rattle.std.proofs.lemmas.Bool.{cases_lt}
@@ -9,9 +9,8 @@ use native.Mathlib.Decide.{ℕ_discrete}
 use mathlib.Core.Option.{some}
 use lib.ListN.{get_elem?}
 use Rattle.atomic_table.specs.Table.{State}
-use Rattle.k42_kinds.specs.Rows.{Ways, part_at, cells_of}
+use Rattle.k42_kinds.specs.Rows.{part_at}
 use Rattle.k42_kinds.specs.declared.entry.Entry.{Entry}
-use Rattle.turn_core.specs.Events.{cell_closed, cell_begun}
 use Rattle.turn_core.specs.Names.{names}
 use Rattle.turn_core.specs.Plain.{Cell}
 use Rattle.k42_stamp.specs.Chains.{Chain, Row, Turn, part_of, parts_of, state_of}
@@ -26,7 +25,7 @@ use Rattle.k42_joined.specs.Plain.{Joined}
 use Rattle.k42_joined.specs.Possible.{IsPossible}
 use Rattle.k42_joined.specs.Locks.{AreOfLives}
 use Rattle.k42_joined.specs.Rows.{AreRowsOf, history_in}
-use Rattle.k42_joined.specs.State.{object, cell, cell_in, incarnation, many_objects, many_procs, many_hands, is_handed}
+use Rattle.k42_joined.specs.State.{object, cell, cell_in, incarnation, many_objects, many_procs, many_hands}
 use Rattle.k42_joined.proofs.CellNumbers.{object_of-cell, place_of-cell, named_in_row, row_names}
 use Rattle.k42_joined.proofs.Following.{follows_hand, rows_stay}
 use Rattle.k42_joined.proofs.LocksHand.{apart_row, hands_now, at_present, at_next, at_unnamed, hands_else, hands_after}

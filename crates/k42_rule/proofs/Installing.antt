@@ -1,20 +1,16 @@
 -- Installing a direct entry.
-use Rattle.std.proofs.Common.{◌≡◌, ◌≢◌, ℕ, ◌+◌, ◌-◌, ◌*◌, ◌/◌, ◌%◌, ◌^◌, ◌<◌, ◌≤◌, Bool, true, false, cond, eqb, List, [], ◌∷◌, Option, Some, None, length, get_or, set, sym, refl, ap, ◌∙◌, subst, arith, le_refl}
-use Rattle.std.specs.Prelude.{◌&&◌}
-use Rattle.std.specs.List.{slice_get, slice_index}
+use Rattle.std.proofs.Common.{◌≡◌, ℕ, ◌<◌, Bool, true, false, cond, eqb, List, [], ◌∷◌, Option, Some, None, length, get_or, set, sym, refl, ap, ◌∙◌, subst, arith, le_refl}
 use Rattle.std.specs.Option.{is_some, unwrap_or}
 use Rattle.std.proofs.lemmas.Bool.{eqb-true, eq-eqb, and_parts}
-use Rattle.std.proofs.lemmas.List.{set-get_or}
-use Rattle.std.proofs.lemmas.Option.{slice_get-get_or, same_Some}
+use Rattle.std.proofs.lemmas.Option.{slice_get-get_or}
 use mathlib.Core.Option.{some}
 use lib.ListN.{get_elem?}
 use prog.Atomic.{either}
 use Rattle.atomic_table.specs.Table.{State, Step, Allows}
-use Rattle.gen_core.specs.State.{caller_at}
 use Rattle.phase_core.specs.Effects.{at_place, is_empty_at, direct_entry}
 use Rattle.phase_core.specs.Event.{Install}
 use Rattle.phase_core.specs.Plain.{Object, Visitor, Phases}
-use Rattle.phase_core.specs.Stages.{IsInside, is_missed, row_of}
+use Rattle.phase_core.specs.Stages.{IsInside, row_of}
 use Rattle.phase_core.specs.State.{object_at, visitor_at, entry_at, proc_of, put_object, put_visitor, put_entry, empty_entry, fresh_object}
 use Rattle.phase_core.specs.declared.caller.Place.TheVariants.{Out, Missed, Direct}
 use Rattle.phase_core.specs.declared.object.LocalEntry.{LocalEntry}
@@ -24,11 +20,9 @@ use Rattle.k42_joined.specs.Effects.{effect}
 use Rattle.k42_joined.specs.Event.{AtPhases}
 use Rattle.k42_joined.specs.Plain.{Joined}
 use Rattle.k42_joined.specs.Possible.{IsPossible}
-use Rattle.k42_joined.specs.State.{held}
 use Rattle.k42_joined.specs.Swapping.{holds_none}
 use Rattle.turn_core.specs.Plain as turns
 use Rattle.k42_rule.specs.Cells.{Slot}
-use Rattle.k42_rule.specs.Phases.{is_served}
 use Rattle.k42_rule.specs.Rule.{KnowsPass, Rule, Ruled}
 use Rattle.k42_rule.specs.Seen.{IsSeatOf}
 use Rattle.k42_rule.specs.Views.{pass_in}
@@ -39,7 +33,7 @@ use Rattle.k42_rule.specs.Words.{local_word}
 use Rattle.k42_rule.specs.declared.view.PassView.{PassView}
 use Rattle.k42_rule.specs.declared.view.View.{View}
 use Rattle.k42_rule.specs.declared.view.View.TheVariants.{Crew}
-use Rattle.k42_rule.proofs.AtTables.{visited, Steps, AreSameRows, same_visit, visits, goes, of_entry, entry_written, rows_same, few_entries, written_shows}
+use Rattle.k42_rule.proofs.AtTables.{Steps, AreSameRows, same_visit, visits, goes, of_entry, entry_written, rows_same, few_entries, written_shows}
 use Rattle.k42_rule.proofs.Fields.{IsEntryOf}
 use Rattle.k42_rule.proofs.Looking.{missed_is, place_is, reads, entry_at_home, home_there', object_is}
 use Rattle.k42_rule.proofs.Moves.{Moves, seat_allowed}

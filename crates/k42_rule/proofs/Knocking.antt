@@ -1,22 +1,15 @@
 -- Knocking at a mediator, and stepping out of it.
-use Rattle.std.proofs.Common.{◌≡◌, ◌≢◌, ℕ, ◌+◌, ◌-◌, ◌*◌, ◌/◌, ◌%◌, ◌^◌, ◌<◌, ◌≤◌, Bool, true, false, cond, eqb, List, [], ◌∷◌, Option, Some, None, length, get_or, set, sym, refl, ap, ◌∙◌, subst, arith, le_refl}
-use Rattle.std.specs.Prelude.{◌&&◌}
-use Rattle.std.specs.List.{slice_get, slice_index}
-use Rattle.std.specs.Option.{is_some, unwrap_or}
-use Rattle.std.proofs.lemmas.Bool.{eqb-true, eq-eqb, and_parts}
-use Rattle.std.proofs.lemmas.List.{set-get_or}
+use Rattle.std.proofs.Common.{◌≡◌, ◌≢◌, ℕ, ◌+◌, ◌-◌, ◌%◌, ◌^◌, ◌<◌, ◌≤◌, Bool, true, false, cond, List, [], ◌∷◌, Option, Some, None, length, get_or, set, sym, refl, ap, ◌∙◌, subst, arith, le_refl}
 use Rattle.std.proofs.lemmas.Option.{slice_get-get_or, same_Some}
 use mathlib.Core.Option.{some}
 use lib.ListN.{get_elem?}
-use prog.Atomic.{either}
 use Rattle.atomic_table.specs.Table.{State, Step, Allows}
-use Rattle.gen_core.specs.State.{caller_at}
 use Rattle.phase_core.specs.Effects.{at_place, knocked, counted_in, counted_out}
 use Rattle.phase_core.specs.Event.{Event, Knock, StepOut}
 use Rattle.phase_core.specs.Plain.{Object, Visitor, Phases}
-use Rattle.phase_core.specs.Stages.{IsInside, is_at_mediator, is_counted, object_of}
-use Rattle.phase_core.specs.State.{object_at, visitor_at, entry_at, proc_of, put_object, put_visitor, with_row, fresh_object}
-use Rattle.phase_core.specs.declared.caller.Place.TheVariants.{Out, Missed, Direct, AtMediator, Tracked, Blocked}
+use Rattle.phase_core.specs.Stages.{IsInside, is_counted, object_of}
+use Rattle.phase_core.specs.State.{object_at, visitor_at, put_object, put_visitor, with_row, fresh_object}
+use Rattle.phase_core.specs.declared.caller.Place.TheVariants.{Out, Tracked, Blocked}
 use Rattle.phase_core.specs.declared.caller.Place.{Place}
 use Rattle.phase_core.proofs.Ranges.{tracked_there, blocked_there, tracked_some, blocked_some}
 use Rattle.phase_core.proofs.Reached.{turn_there}
@@ -26,7 +19,6 @@ use Rattle.k42_joined.specs.Effects.{effect}
 use Rattle.k42_joined.specs.Event.{AtPhases}
 use Rattle.k42_joined.specs.Plain.{Joined}
 use Rattle.k42_joined.specs.Possible.{IsPossible}
-use Rattle.k42_joined.specs.State.{held}
 use Rattle.k42_joined.specs.Swapping.{holds_none}
 use Rattle.turn_core.specs.Plain as turns
 use Rattle.k42_rule.specs.Cells.{Slot}
@@ -41,7 +33,7 @@ use Rattle.k42_rule.specs.Words.{object_word}
 use Rattle.k42_rule.specs.declared.view.PassView.{PassView}
 use Rattle.k42_rule.specs.declared.view.View.{View}
 use Rattle.k42_rule.specs.declared.view.View.TheVariants.{Crew}
-use Rattle.k42_rule.proofs.AtTables.{visited, Steps, IsSameRow, AreSameRows, same_visit, visits, goes, of_object, object_written, rows_same, few_entries, written_shows}
+use Rattle.k42_rule.proofs.AtTables.{visited, Steps, IsSameRow, same_visit, visits, goes, of_object, object_written, rows_same, few_entries, written_shows}
 use Rattle.k42_rule.proofs.Fields.{IsRead, object_fits, counted_more, counted_less}
 use Rattle.k42_rule.proofs.Looking.{place_is, object_shown, object_is_read, object_seen}
 use Rattle.k42_rule.proofs.Moves.{Moves, Finds, seat_allowed_with}

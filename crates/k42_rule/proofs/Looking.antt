@@ -1,6 +1,5 @@
 -- Steps that only read a word: a look-up, the root's, and the end of a call.
-use Rattle.std.proofs.Common.{◌≡◌, ◌≢◌, ℕ, ◌+◌, ◌-◌, ◌*◌, ◌/◌, ◌%◌, ◌<◌, ◌≤◌, Bool, true, false, cond, eqb, List, [], ◌∷◌, Option, Some, None, length, get_or, set, sym, refl, ap, ◌∙◌, subst, arith}
-use Rattle.std.specs.List.{slice_get, slice_index}
+use Rattle.std.proofs.Common.{◌≡◌, ◌≢◌, ℕ, ◌<◌, ◌≤◌, Bool, true, false, cond, eqb, List, [], ◌∷◌, Option, Some, None, length, get_or, set, sym, refl, ap, ◌∙◌, subst, arith}
 use Rattle.std.specs.Option.{is_some}
 use Rattle.std.proofs.lemmas.Bool.{eqb-true}
 use Rattle.std.proofs.lemmas.List.{set-get_or}
@@ -15,8 +14,7 @@ use Rattle.phase_core.specs.Callers.{IsAtPlace}
 use Rattle.phase_core.specs.Effects.{root_of, at_place, looked_up, place_found}
 use Rattle.phase_core.specs.Event.{Event, RootLoad, LookUp, EndCall}
 use Rattle.phase_core.specs.Plain.{Object, Visitor, Phases}
-use Rattle.phase_core.specs.Sound.{IsSound}
-use Rattle.phase_core.specs.Stages.{IsInside, is_missed, is_out, is_uncounted, row_of}
+use Rattle.phase_core.specs.Stages.{IsInside, is_missed, is_out, row_of}
 use Rattle.phase_core.specs.State.{object_at, visitor_at, entry_at, fresh_object, fresh_visitor, empty_entry, with_row}
 use Rattle.phase_core.specs.declared.caller.Place.{Place}
 use Rattle.phase_core.specs.declared.caller.Place.TheVariants.{Out, Missed, Direct, AtMediator}
@@ -28,21 +26,19 @@ use Rattle.turn_core.specs.Plain as turns
 use Rattle.k42_stamp.specs.Laws.{AreLaws}
 use Rattle.k42_stamp.specs.Layouts.{Layouts}
 use Rattle.k42_joined.specs.Effects.{effect}
-use Rattle.k42_joined.specs.Event as joined
 use Rattle.k42_joined.specs.Event.{AtPhases}
 use Rattle.k42_joined.specs.Plain.{Joined}
 use Rattle.k42_joined.specs.Possible.{IsPossible}
-use Rattle.k42_joined.specs.State.{many_objects, held}
+use Rattle.k42_joined.specs.State.{held}
 use Rattle.k42_joined.specs.Swapping.{holds_none}
 use Rattle.k42_rule.specs.Cells.{Slot}
 use Rattle.k42_rule.specs.Phases.{is_served}
-use Rattle.k42_limits.specs.declared.TheConstants.{LAST_INCARNATION}
-use Rattle.k42_rule.specs.Rule.{Beside, KnowsPass, Shows, Rule, Ruled}
+use Rattle.k42_rule.specs.Rule.{KnowsPass, Rule, Ruled}
 use Rattle.k42_rule.specs.Seen.{IsSeatOf}
 use Rattle.k42_rule.specs.Views.{pass_in}
 use Rattle.k42_rule.specs.Steps.{Seated, Tells, TellsWith}
 use Rattle.k42_rule.specs.Tabling.{went, EntryFound, ObjectFound, RootFound, entry_in, entry_object, layout_told, MayLookUp, looked_up_view, MayLoadRoot, rooted_view, MayEndCall, ended_view}
-use Rattle.k42_rule.specs.Values.{layout_in, incarnation_in, local_value, object_value}
+use Rattle.k42_rule.specs.Values.{layout_in, local_value, object_value}
 use Rattle.k42_rule.specs.Words.{object_word, local_word}
 use Rattle.k42_rule.specs.declared.view.PassView.{PassView}
 use Rattle.k42_rule.specs.declared.view.View.{View}
@@ -50,7 +46,7 @@ use Rattle.k42_rule.specs.declared.view.View.TheVariants.{Crew}
 use Rattle.k42_rule.proofs.Fields.{IsEntryOf, IsRead, object_fits, object_read, entry_known, entry_read}
 use Rattle.k42_rule.proofs.Moves.{Moves, Finds, seat_allowed_with}
 use Rattle.k42_rule.proofs.OnePass.{with_pass, known}
-use Rattle.k42_rule.proofs.AtTables.{visited, Steps, same_row, AreSameRows, same_visit, visits, HasLearned, goes}
+use Rattle.k42_rule.proofs.AtTables.{visited, Steps, same_row, AreSameRows, same_visit, visits, goes}
 
 pub missed_is : (place : Place) (o : ℕ) → is_missed place o ≡ true → (i : ℕ) × (place ≡ Missed o i)
 missed_is (Missed q i) o e = (i, ap (λ z. Missed z i) (eqb-true q o e))

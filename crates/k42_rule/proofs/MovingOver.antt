@@ -1,7 +1,6 @@
 -- Beginning to move the object that is swapped, where nobody is counted.
-use Rattle.std.proofs.Common.{◌≡◌, ◌≢◌, ℕ, ◌+◌, ◌-◌, ◌*◌, ◌/◌, ◌%◌, ◌^◌, ◌<◌, ◌≤◌, Bool, true, false, cond, eqb, List, [], ◌∷◌, Option, Some, None, length, get_or, set, sym, refl, ap, ◌∙◌, subst, arith, length-set}
+use Rattle.std.proofs.Common.{◌≡◌, ℕ, ◌+◌, ◌*◌, ◌^◌, ◌<◌, Bool, true, false, cond, eqb, List, [], ◌∷◌, Some, length, get_or, set, sym, refl, ap, ◌∙◌, subst, arith, length-set}
 use Rattle.std.specs.Prelude.{nat_lt}
-use Rattle.std.specs.List.{slice_get, slice_index}
 use Rattle.std.proofs.lemmas.Bool.{eqb-true, eq-eqb}
 use Rattle.std.proofs.lemmas.List.{set-get_or}
 use Rattle.std.proofs.lemmas.Option.{slice_get-get_or}
@@ -9,7 +8,6 @@ use mathlib.Core.Option.{some}
 use lib.ListN.{get_elem?}
 use prog.Atomic.{either}
 use Rattle.atomic_table.specs.Table.{State, Step, Allows}
-use Rattle.k42_limits.specs.declared.TheConstants.{CALLERS}
 use Rattle.phase_core.specs.Effects.{at_stage}
 use Rattle.phase_core.specs.Event.{Move}
 use Rattle.phase_core.specs.Events as phase_events
@@ -31,16 +29,16 @@ use Rattle.k42_joined.proofs.AnswersMoves.{not_handed_yet}
 use Rattle.k42_rule.specs.Cells.{Slot}
 use Rattle.k42_rule.specs.Rule.{KnowsPass, Rule, Ruled}
 use Rattle.k42_rule.specs.Seen.{IsSeatOf}
-use Rattle.k42_rule.specs.Steps.{Seated, Tells, TellsWith}
+use Rattle.k42_rule.specs.Steps.{Seated, TellsWith}
 use Rattle.k42_rule.specs.Swapping.{object_swapped, at_swap, MayMove, blocked_word, moves, moved_view, CountFound}
-use Rattle.k42_rule.specs.Values.{bit, object_value, count_in, layout_in, incarnation_in}
+use Rattle.k42_rule.specs.Values.{bit, object_value, layout_in, incarnation_in}
 use Rattle.k42_rule.specs.Views.{hears, pass_in, word_begun}
 use Rattle.k42_rule.specs.Words.{object_word}
 use Rattle.k42_rule.specs.declared.view.PassView.{PassView}
 use Rattle.k42_rule.specs.declared.view.View.{View}
 use Rattle.k42_rule.specs.declared.view.View.TheVariants.{Crew}
 use Rattle.k42_rule.proofs.AtTables.{visited, Steps, visits, of_object, object_written, few_entries, written_shows}
-use Rattle.k42_rule.proofs.Fields.{bit_small, Fits, object_fits}
+use Rattle.k42_rule.proofs.Fields.{Fits, object_fits}
 use Rattle.k42_rule.proofs.Installing.{both_or_none}
 use Rattle.k42_rule.proofs.Looking.{reads, object_shown}
 use Rattle.k42_rule.proofs.Moves.{Moves, Finds, seat_allowed_with}

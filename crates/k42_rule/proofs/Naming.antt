@@ -1,20 +1,18 @@
 -- A row that a pass holds gets a seat of its own, or a pass takes in the seat of a row.
-use Rattle.std.proofs.Common.{◌≡◌, ◌≢◌, ℕ, zero, suc, ◌+◌, ◌-◌, ◌<◌, ◌≤◌, ◌⊎◌, Bool, true, false, cond, eqb, ◌&&◌, List, [], ◌∷◌, ◌++◌, Some, None, length, get_or, set, take, drop, inl, inr, sym, refl, ap, ◌∙◌, subst, ⊎_elim, arith, length-set}
+use Rattle.std.proofs.Common.{◌≡◌, ◌≢◌, ℕ, zero, suc, ◌+◌, ◌-◌, ◌<◌, ◌≤◌, ◌⊎◌, Bool, true, false, cond, eqb, ◌&&◌, List, [], ◌∷◌, ◌++◌, Some, length, get_or, set, take, drop, inl, inr, sym, refl, ap, ◌∙◌, subst, ⊎_elim, arith, length-set}
 use Rattle.std.specs.List.{slice_get}
 use Rattle.std.proofs.lemmas.Bool.{and_parts, eqb-true, eq-eqb}
 use Rattle.std.proofs.lemmas.List.{take-append-le}
 use Rattle.std.proofs.lemmas.Option.{same_Some}
-use mathlib.Core.Option.{some}
-use lib.ListN.{get_elem?}
 use Rattle.atomic_table.specs.Table.{State, Splits, Joins}
 use Rattle.atomic_table.proofs.Lists.{at_set, set_else, set_again}
 use Rattle.k42_places.specs.Places.{EachPlace}
 use Rattle.k42_places.proofs.Appended.{at_push}
 use Rattle.k42_stamp.specs.Layouts.{Layouts}
 use Rattle.k42_joined.specs.Plain.{Joined}
-use Rattle.k42_rule.specs.Queueing.{is_row, oldest, without_oldest, with_oldest, with_newest, keeps_younger, names_oldest, takes_back, takes_in, AreGranted}
+use Rattle.k42_rule.specs.Queueing.{is_row, oldest, with_oldest, with_newest, keeps_younger, names_oldest, takes_back, takes_in, AreGranted}
 use Rattle.k42_rule.specs.Phases.{IsOld, IsGranted}
-use Rattle.k42_rule.specs.Rule.{Beside, AreApart, AreOnce, NamesRows, KnowsPass, Knows, Shows, Rule, Ruled}
+use Rattle.k42_rule.specs.Rule.{Beside, AreOnce, NamesRows, KnowsPass, Knows, Rule, Ruled}
 use Rattle.k42_rule.specs.Seen.{IsSeatOf}
 use Rattle.k42_rule.specs.Steps.{Seated}
 use Rattle.k42_rule.specs.declared.view.PassView.{PassView}
@@ -24,7 +22,7 @@ use Rattle.k42_rule.specs.declared.view.View.TheVariants.{Crew, Kept, Named, Spe
 use Rattle.k42_rule.specs.Cells.{Slot}
 use Rattle.k42_rule.proofs.Dealing.{at_end}
 use Rattle.k42_rule.proofs.Moves.{Stays, Finds}
-use Rattle.k42_rule.proofs.OnePass.{with_pass, apart_alone, known}
+use Rattle.k42_rule.proofs.OnePass.{apart_alone, known}
 
 -- the test of rows is that of equality
 

@@ -1,12 +1,11 @@
 -- A new table shows the new state.
-use Rattle.std.proofs.Common.{◌≡◌, ◌≢◌, ℕ, zero, suc, ◌+◌, ◌*◌, ◌/◌, ◌%◌, ◌^◌, ◌<◌, ◌≤◌, Bool, true, false, eqb, ◌&&◌, List, [], ◌∷◌, Option, Some, None, map, length, get_or, replicate, sym, refl, ap, ◌∙◌, subst, arith}
+use Rattle.std.proofs.Common.{◌≡◌, ◌≢◌, ℕ, zero, suc, ◌+◌, ◌*◌, ◌<◌, ◌≤◌, Bool, true, false, eqb, ◌&&◌, List, [], ◌∷◌, Some, None, map, length, replicate, sym, refl, ap, ◌∙◌, subst, arith}
 use Rattle.std.specs.List.{slice_get, slice_index}
 use Rattle.std.specs.Prelude.{option_map}
 use Rattle.std.proofs.lemmas.List.{length-map, length-replicate, get_or-replicate}
 use Rattle.std.proofs.lemmas.Option.{same_Some, slice_get-map, slice_get_within, get_or_from_slice_get}
 use Rattle.std.proofs.Math.ListN.{get_or-map}
 use mathlib.Core.Option.{some, some-injective, some-ne-none}
-use mathlib.Core.Option as maybe
 use lib.ListN.{get_elem?}
 use Rattle.atomic_table.specs.Table.{opening}
 use Rattle.atomic_table.proofs.Lists.{at_map}
@@ -14,10 +13,9 @@ use Rattle.k42_places.specs.Places.{EachPlace}
 use Rattle.k42_places.proofs.EachPlaces.{EachPlace-map}
 use Rattle.k42_places.proofs.Counts.{count_by_none}
 use Rattle.gen_core.specs.Consequences.{entries_so_far, exits_so_far, is_active_on}
-use Rattle.gen_core.specs.State.{fresh_proc, fresh_caller, caller_at}
+use Rattle.gen_core.specs.State.{fresh_proc, fresh_caller}
 use Rattle.gen_core.specs.declared.state.GenProc.{GenProc}
-use Rattle.phase_core.specs.Plain.{Object}
-use Rattle.phase_core.specs.State.{new_object, new_visitor, visitor_at, empty_entry}
+use Rattle.phase_core.specs.State.{new_object, new_visitor, empty_entry}
 use Rattle.phase_core.specs.declared.object.LocalEntry.{LocalEntry}
 use Rattle.turn_core.specs.State.{fresh_cell}
 use Rattle.turn_core.specs.State as turns
@@ -27,24 +25,21 @@ use Rattle.k42_stamp.specs.Layouts.{Layouts}
 use Rattle.std.proofs.Math.ListN.{get_or-map}
 use Rattle.turn_core.specs.Plain as turns'
 use Rattle.k42_joined.specs.Fresh.{first_lives, fresh, IsPlan}
-use Rattle.k42_joined.specs.Numbers.{place_of}
 use Rattle.k42_joined.specs.Plain.{Joined}
-use Rattle.k42_joined.specs.State.{nothing_kept, many_callers, many_procs}
+use Rattle.k42_joined.specs.State.{nothing_kept, many_procs}
 use Rattle.k42_joined.proofs.Fresh.{fresh_sound}
-use Rattle.k42_rule.specs.Cells.{Slot, Contents, IsCell, IsCellShown}
-use Rattle.k42_rule.specs.Generations.{Counts, MOST, AreFew, AreGenerations, IsProcessorShown}
+use Rattle.k42_rule.specs.Cells.{Slot, IsCell, IsCellShown}
+use Rattle.k42_rule.specs.Generations.{AreFew, AreGenerations, IsProcessorShown}
 use Rattle.k42_rule.specs.Phases.{AreObjects, IsObjectShown}
 use Rattle.k42_rule.specs.Rule.{Beside, KnowsPass, Knows, Shows, Ruled}
 use Rattle.k42_rule.specs.Opened.{IsOpened}
-use Rattle.k42_rule.specs.Starting.{AreFirstWords, AreFirstSlots, number_in}
+use Rattle.k42_rule.specs.Starting.{AreFirstWords, AreFirstSlots}
 use Rattle.k42_rule.specs.Values.{local_value}
 use Rattle.k42_rule.specs.Views.{new_pass, new_passes, first_view}
-use Rattle.k42_rule.specs.Words.{generation_word, exits_word, local_word, lock_word, object_word, freed_word, role_word, many_words, many_slots, slot_of}
-use Rattle.k42_rule.specs.declared.cell.Content.{Content}
+use Rattle.k42_rule.specs.Words.{generation_word, exits_word, local_word, lock_word, object_word, freed_word, role_word, many_slots, slot_of}
 use Rattle.k42_rule.specs.declared.view.PassView.{PassView}
 use Rattle.k42_rule.specs.declared.view.View.{View}
-use Rattle.k42_rule.specs.declared.view.View.TheVariants.{Crew}
-use Rattle.k42_rule.proofs.FirstParts.{same_everywhere, first_part, cell_new}
+use Rattle.k42_rule.proofs.FirstParts.{same_everywhere, first_part}
 
 replicated : {A : Type 0} (n i : ℕ) (a b : A) → slice_get (replicate n a) i ≡ Some b → (i < n) × (a ≡ b)
 replicated zero i a b e = absurd (cc)

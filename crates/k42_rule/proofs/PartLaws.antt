@@ -1,7 +1,7 @@
 -- What a pass knows of parts: those that are due of cells, and those of whole rows.
-use Rattle.std.proofs.Common.{◌≡◌, ◌≢◌, ◌⊎◌, ℕ, zero, suc, ◌+◌, ◌-◌, ◌*◌, ◌/◌, ◌%◌, ◌<◌, ◌≤◌, Bool, true, false, ◌||◌, cond, eqb, ltb, List, [], ◌∷◌, ◌++◌, Option, Some, None, length, refl, sym, ap, ◌∙◌, subst, inl, inr, ⊎_elim, arith}
+use Rattle.std.proofs.Common.{◌≡◌, ℕ, zero, suc, ◌+◌, ◌-◌, ◌*◌, ◌<◌, ◌≤◌, Bool, true, false, eqb, List, [], ◌∷◌, ◌++◌, Option, Some, None, length, refl, sym, ap, ◌∙◌, subst, ⊎_elim, arith}
 use Rattle.std.specs.List.{slice_get}
-use Rattle.std.proofs.lemmas.Bool.{eqb-true, eq-eqb, ltb-true, lt-ltb}
+use Rattle.std.proofs.lemmas.Bool.{eqb-true, eq-eqb, lt-ltb}
 use Rattle.std.proofs.lemmas.Bool.Decides.{nat_tests}
 use Rattle.std.proofs.lemmas.List.{length-append, length-map}
 use Rattle.std.proofs.lemmas.Option.{same_Some}
@@ -12,21 +12,19 @@ use Rattle.k42_kinds.specs.Rows.{Ways, cells_of, part_at}
 use Rattle.phase_core.specs.Plain.{Visitor}
 use Rattle.phase_core.specs.Stages.{IsInside, named_by, object_named, is_moved}
 use Rattle.phase_core.specs.State.{object_at, visitor_at}
-use Rattle.phase_core.specs.declared.caller.SwapAt.{SwapAt}
 use Rattle.phase_core.specs.declared.caller.SwapAt.TheVariants.{Moved}
 use Rattle.phase_core.proofs.InSound.{inside_is_present, moved_is_ready}
-use Rattle.turn_core.specs.Plain.{Cell}
-use Rattle.k42_stamp.specs.Chains.{Chain, Row, Turn, parts_of, part_of}
+use Rattle.k42_stamp.specs.Chains.{Chain, Row, Turn, parts_of}
 use Rattle.k42_stamp.specs.Laws.{AreLaws}
 use Rattle.k42_stamp.specs.Layouts.{Layouts}
 use Rattle.k42_stamp.proofs.PartsAfter.{parts_whole, parts_sized}
 use Rattle.k42_joined.specs.Answers.{is_turned}
-use Rattle.k42_joined.specs.Fitting.{HasRows, HasItsTag}
+use Rattle.k42_joined.specs.Fitting.{HasItsTag}
 use Rattle.k42_joined.specs.Locks.{other_life}
 use Rattle.k42_joined.specs.Numbers.{cell_of, object_of, place_of}
 use Rattle.k42_joined.specs.Plain.{Joined}
-use Rattle.k42_joined.specs.Rows.{AreRowsOf, history_in, layouts_in}
-use Rattle.k42_joined.specs.State.{many_procs, many_callers, many_objects, object, incarnation, cell, cell_in, many_hands, is_handed, layouts_of}
+use Rattle.k42_joined.specs.Rows.{AreRowsOf, history_in}
+use Rattle.k42_joined.specs.State.{many_procs, many_objects, object, incarnation, cell, cell_in, many_hands, is_handed, layouts_of}
 use Rattle.k42_joined.proofs.AnswersRows.{RowsAt, rows_at, many_past}
 use Rattle.k42_joined.proofs.CellNumbers.{object_of-cell, place_of-cell, cell_there}
 use Rattle.k42_joined.proofs.SafeStates.{inside_there, handed_alone, sound_safe}

@@ -1,5 +1,5 @@
 -- What a pass has noted of a cell it may put back.
-use Rattle.std.proofs.Common.{◌≡◌, ℕ, ◌<◌, true, List, [], ◌∷◌, Some, refl, sym, ap, ◌∙◌, subst}
+use Rattle.std.proofs.Common.{◌≡◌, ℕ, ◌<◌, true, List, refl, ◌∙◌}
 use Rattle.std.proofs.lemmas.Bool.{eq-eqb}
 use Rattle.turn_core.specs.Names.{names}
 use Rattle.k42_stamp.specs.Layouts.{Layouts}
@@ -8,7 +8,7 @@ use Rattle.k42_rule.specs.Drawing.{part_noted, history_noted, closed_noted}
 use Rattle.k42_rule.specs.Parts.{IsPart}
 use Rattle.k42_rule.specs.Seats.{told_by}
 use Rattle.k42_rule.specs.Steps.{Always}
-use Rattle.k42_rule.specs.Taking.{CELLS, MayPut, noted, taken_view}
+use Rattle.k42_rule.specs.Taking.{CELLS, MayPut, taken_view}
 use Rattle.k42_rule.specs.declared.cell.Content.{Content}
 use Rattle.k42_rule.specs.declared.view.Note.{Note}
 use Rattle.k42_rule.specs.declared.view.PassView.{PassView}

@@ -1,5 +1,5 @@
 -- What a pass keeps by itself as it takes the role.
-use Rattle.std.proofs.Common.{refl, ◌≡◌, ℕ, ◌+◌, ◌<◌, List, [], ◌∷◌, ◌++◌, Option, None, drop, length, take, sym, ap, ◌∙◌, subst}
+use Rattle.std.proofs.Common.{refl, ◌≡◌, ℕ, ◌+◌, List, [], ◌++◌, Option, None, drop, length, take, sym, ap, ◌∙◌, subst}
 use Rattle.std.specs.Option.{unwrap_or}
 use Rattle.std.proofs.Math.Seq.{take-append_seam}
 use Rattle.gen_core.specs.declared.state.GraceAt.TheVariants.{Flipping}
@@ -38,8 +38,8 @@ module _ {P : Type 0} (v : PassView P) (own : Own) (own_is : own ≡ own_in v) w
       all_new old new many (long ∙ sym (ap length old_is))
       (ap length made ∙ made_length (due_of own.swap own.last rows) 0 (length was) ∙ ap length was_is ∙ sym (ap length old_is))
       ∙ made ∙ due where
-    due : made_from (due_of own.swap own.last rows) 0 (length was) ≡ notes_due v
-    due = rw (rows_are, was_is, own_is) refl
+        due : made_from (due_of own.swap own.last rows) 0 (length was) ≡ notes_due v
+        due = rw (rows_are, was_is, own_is) refl
 
   pub role_mirrors :
       (me : Seated P) (found : ℕ) (noted : List (Option ℕ)) (swap : SwapAt) (granted : ℕ) → IsSeatOf me (role_view found v) → found ≡ 0

@@ -1,6 +1,5 @@
 -- What the rule tells of every state that the table shows.
 use Rattle.std.proofs.Common.{◌≡◌, ℕ, ◌≤◌, Bool, true, false, cond, List, [], ◌∷◌, Option, Some, None, sym, refl, ap, ◌∙◌, subst}
-use Rattle.std.specs.List.{slice_get, slice_index}
 use Rattle.std.specs.Prelude.{unwrap_or, IsTrue}
 use Rattle.std.proofs.Common.{le_refl}
 use mathlib.Core.Option.{some}

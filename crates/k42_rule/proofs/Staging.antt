@@ -1,9 +1,8 @@
 -- A swap that goes to a stage, and whose object changes with it, as a step of one pass.
-use Rattle.std.proofs.Common.{◌≡◌, ◌≢◌, ℕ, ◌+◌, ◌<◌, ◌≤◌, Bool, true, false, ◌||◌, eqb, List, [], ◌∷◌, Option, Some, None, length, get_or, set, sym, refl, ap, ◌∙◌, subst, arith, le_refl, take, length-set, get_or-set_same, get_or-set_other}
-use Rattle.std.specs.List.{slice_get, slice_index}
+use Rattle.std.proofs.Common.{◌≡◌, ◌≢◌, ℕ, ◌+◌, ◌<◌, ◌≤◌, Bool, true, false, ◌||◌, eqb, List, [], ◌∷◌, Option, Some, None, length, set, sym, refl, ap, ◌∙◌, subst, arith, le_refl, take, length-set, get_or-set_same, get_or-set_other}
 use Rattle.std.specs.Option.{unwrap_or}
-use Rattle.std.proofs.lemmas.Bool.{eqb-true, eq-eqb}
-use Rattle.std.proofs.lemmas.Option.{slice_get-get_or, same_Some}
+use Rattle.std.proofs.lemmas.Bool.{eq-eqb}
+use Rattle.std.proofs.lemmas.Option.{same_Some}
 use mathlib.Core.Option.{some}
 use lib.ListN.{get_elem?}
 use native.Mathlib.Decide.{ℕ_discrete}
@@ -32,7 +31,7 @@ use Rattle.k42_joined.specs.Plain.{Kept, Joined}
 use Rattle.k42_joined.specs.Possible.{IsPossible}
 use Rattle.k42_joined.specs.State.{many_callers, kept_of, is_handed}
 use Rattle.k42_rule.specs.Cells.{Slot}
-use Rattle.k42_rule.specs.Phases.{AreObjects, IsOld, KnowsSwap, KnowsRows}
+use Rattle.k42_rule.specs.Phases.{IsOld, KnowsSwap, KnowsRows}
 use Rattle.k42_rule.specs.Rule.{NamesRows, KnowsPass, Rule}
 use Rattle.k42_rule.specs.Swapping.{object_swapped}
 use Rattle.k42_rule.specs.Values.{layout_in, incarnation_in, answer_in}
@@ -42,8 +41,8 @@ use Rattle.k42_rule.specs.declared.view.PassView.{PassView}
 use Rattle.k42_rule.specs.declared.view.Row.{Row}
 use Rattle.k42_rule.specs.declared.view.View.{View}
 use Rattle.k42_rule.specs.declared.view.View.TheVariants.{Crew}
-use Rattle.k42_rule.proofs.AtTables.{visited, Steps, told, GoesOn, IsLeft, IsSameRow, same_row, IsVisit, visits_naming, rows_stay, rows_told, own_after, IsOfTables, written_shows}
-use Rattle.k42_rule.proofs.OnePass.{with_pass, known}
+use Rattle.k42_rule.proofs.AtTables.{visited, told, GoesOn, IsLeft, IsSameRow, same_row, IsVisit, rows_stay, rows_told, own_after}
+use Rattle.k42_rule.proofs.OnePass.{known}
 
 -- what becomes of an object, of which the state is so
 pub record IsStaged {L : Type 0} (s : Joined L) (o : ℕ) (k' : Object) : Type 0 where

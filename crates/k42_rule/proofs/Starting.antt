@@ -1,5 +1,5 @@
 -- The words and slots of a start, one more at a time.
-use Rattle.std.proofs.Common.{◌≡◌, ◌≢◌, ℕ, ◌+◌, ◌*◌, ◌/◌, ◌%◌, ◌^◌, ◌<◌, ◌≤◌, false, List, [], ◌∷◌, ◌++◌, Some, None, length, get_or, set, replicate, sym, refl, ap, ◌∙◌, subst, ⊎_elim, arith, drop, length-append, length-set, get_or-set_same, get_or-set_other}
+use Rattle.std.proofs.Common.{◌≡◌, ◌≢◌, ℕ, ◌+◌, ◌*◌, ◌^◌, ◌<◌, false, List, [], ◌∷◌, ◌++◌, Some, None, length, get_or, set, replicate, sym, refl, ap, ◌∙◌, subst, ⊎_elim, arith, drop, length-append, length-set, get_or-set_same, get_or-set_other}
 use Rattle.std.specs.List.{slice_get, slice_index}
 use Rattle.std.proofs.lemmas.Bool.{cases_eq}
 use Rattle.std.proofs.lemmas.List.{length-replicate}
@@ -14,7 +14,7 @@ use Rattle.k42_rule.specs.Seen.{QueueId, SysSeen, PassSeen, IsPassOf}
 use Rattle.k42_rule.specs.Steps.{Seated}
 use Rattle.k42_rule.specs.Starting.{AreFirstWords, AreFirstSlots, IsNewPass, AreDealt, IsStarted, IsDealing, number_in}
 use Rattle.k42_rule.specs.Views.{new_passes}
-use Rattle.k42_rule.specs.Words.{object_word, many_words}
+use Rattle.k42_rule.specs.Words.{object_word}
 use Rattle.k42_rule.specs.declared.view.PassView.{PassView}
 use Rattle.k42_rule.specs.declared.view.View.{View}
 use Rattle.k42_rule.specs.declared.view.View.TheVariants.{Crew}

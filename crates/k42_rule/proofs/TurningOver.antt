@@ -1,16 +1,14 @@
 -- Turning over the object that is swapped.
-use Rattle.std.proofs.Common.{◌≡◌, ◌≢◌, ℕ, ◌+◌, ◌-◌, ◌*◌, ◌/◌, ◌%◌, ◌^◌, ◌<◌, ◌≤◌, Bool, true, false, ◌||◌, eqb, leb, List, [], ◌∷◌, Option, Some, None, length, get_or, set, sym, refl, ap, ◌∙◌, subst, arith, length-set}
-use Rattle.std.specs.Prelude.{◌&&◌}
-use Rattle.std.specs.List.{slice_get, slice_index}
+use Rattle.std.proofs.Common.{◌≡◌, ℕ, ◌+◌, ◌-◌, ◌*◌, ◌%◌, ◌^◌, ◌<◌, ◌≤◌, Bool, true, false, ◌||◌, eqb, List, [], ◌∷◌, Some, None, length, get_or, set, sym, refl, ap, ◌∙◌, subst, arith, length-set}
 use Rattle.std.proofs.lemmas.Bool.{eqb-true, le-leb}
-use Rattle.std.proofs.lemmas.Option.{slice_get-get_or, same_Some}
+use Rattle.std.proofs.lemmas.Option.{slice_get-get_or}
 use mathlib.Core.Option.{some}
 use lib.ListN.{get_elem?}
 use Rattle.atomic_table.specs.Table.{State, Step, Allows}
 use Rattle.k42_limits.specs.declared.TheConstants.{LAST_INCARNATION}
 use Rattle.phase_core.specs.Effects.{at_stage, is_over, turned_over}
 use Rattle.phase_core.specs.Event.{TurnOver}
-use Rattle.phase_core.specs.Objects.{Bits, BitsFollow, IsLive, StageNoted, bits_of}
+use Rattle.phase_core.specs.Objects.{Bits, BitsFollow, IsLive, StageNoted}
 use Rattle.phase_core.specs.Plain.{Object, Phases}
 use Rattle.phase_core.specs.Stages.{IsInside, named_by, object_named, is_moved}
 use Rattle.phase_core.specs.State.{object_at, visitor_at, span_at, fresh_object}
@@ -28,14 +26,13 @@ use Rattle.k42_joined.specs.Plain.{Joined}
 use Rattle.k42_joined.specs.Possible.{IsPossible}
 use Rattle.k42_joined.specs.State.{many_callers}
 use Rattle.k42_joined.specs.Swapping.{holds_none, may_turn_over}
-use Rattle.k42_joined.proofs.Lends.{from_is_moved}
 use Rattle.k42_rule.specs.Cells.{Slot}
 use Rattle.k42_rule.specs.Rule.{KnowsPass, Rule, Ruled}
 use Rattle.k42_rule.specs.Seen.{IsSeatOf}
 use Rattle.k42_rule.specs.Steps.{Seated, Tells}
 use Rattle.k42_rule.specs.Swapping.{object_swapped, MayTurnOver, turn_amount, turned_view}
-use Rattle.k42_rule.specs.Values.{bit, object_value, layout_in, incarnation_in}
-use Rattle.k42_rule.specs.Views.{pass_in, word_begun}
+use Rattle.k42_rule.specs.Values.{bit, object_value}
+use Rattle.k42_rule.specs.Views.{pass_in}
 use Rattle.k42_rule.specs.Words.{object_word}
 use Rattle.k42_rule.specs.declared.view.PassView.{PassView}
 use Rattle.k42_rule.specs.declared.view.View.{View}
@@ -45,7 +42,7 @@ use Rattle.k42_rule.proofs.Fields.{bit_small, Fits, object_fits}
 use Rattle.k42_rule.proofs.Looking.{object_shown}
 use Rattle.k42_rule.proofs.Moves.{Moves, seat_allowed}
 use Rattle.k42_rule.proofs.OnePass.{with_pass, known}
-use Rattle.k42_rule.proofs.Staging.{IsStaged, stage_is, gen_there, there, few, bits, staged_effect, staged_visit, swap_staged, rows_staged, rows_old, own_staged}
+use Rattle.k42_rule.proofs.Staging.{IsStaged, stage_is, there, few, bits, staged_effect, staged_visit, swap_staged, rows_staged, rows_old, own_staged}
 
 -- what a stage tells at which the object is moved
 pub record IsMoving (swap : SwapAt) : Type 0 where

@@ -1,7 +1,6 @@
 -- Computed words: of objects, entries and generations, and what is read of them.
-use Rattle.std.proofs.Common.{◌≡◌, ℕ, ◌+◌, ◌-◌, ◌*◌, ◌%◌, ◌^◌, true, false, eqb, [], None, Some, refl}
-use Rattle.std.specs.Int.RustNames.{bit_and, bit_or}
-use Rattle.gen_core.specs.declared.state.GenProc.{GenProc}
+use Rattle.std.proofs.Common.{◌≡◌, ◌+◌, ◌-◌, ◌*◌, ◌%◌, ◌^◌, true, false, eqb, [], None, Some, refl}
+use Rattle.std.specs.Int.RustNames.{bit_or}
 use Rattle.k42_kinds.specs.declared.entry.Answer.TheVariants.{Busy, Spent, Gone}
 use Rattle.phase_core.specs.Effects.{direct_entry}
 use Rattle.phase_core.specs.Plain.{Object}

@@ -1,8 +1,8 @@
 -- The part of a cell, as the histories of its row give it.
-use Rattle.std.specs.Prelude.{if◌then◌else◌, ◌≡◌, ℕ, ◌+◌, ◌-◌, ◌<◌, ◌≤◌, ◌==◌, ⊤, List, Option, Some, None, length, option_map, slice_get}
+use Rattle.std.specs.Prelude.{if◌then◌else◌, ◌≡◌, ℕ, ◌-◌, ◌<◌, ◌≤◌, ◌==◌, ⊤, List, Option, Some, None, length, option_map, slice_get}
 use Rattle.k42_kinds.specs.Rows.{Ways}
 use Rattle.k42_stamp.specs.Layouts.{Layouts}
-use Rattle.k42_stamp.specs.Chains.{Chain, Row, Turn, part_of}
+use Rattle.k42_stamp.specs.Chains.{Chain, Row, part_of}
 use Rattle.k42_joined.specs.Plain.{Joined}
 use Rattle.k42_joined.specs.State.{object, cell, many_hands}
 use Rattle.k42_joined.specs.Numbers.{object_of, place_of}

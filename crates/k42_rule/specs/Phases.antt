@@ -7,9 +7,6 @@ use Rattle.phase_core.specs.Stages.{IsInside, named_by, object_named}
 use Rattle.phase_core.specs.State.{object_at, visitor_at, note_at, span_at}
 use Rattle.phase_core.specs.declared.caller.Place.{Place}
 use Rattle.phase_core.specs.declared.caller.Place.TheVariants.{Direct, Tracked}
-use Rattle.phase_core.specs.declared.caller.SwapAt.{SwapAt}
-use Rattle.phase_core.specs.declared.caller.SwapAt.TheVariants.{Opening, Opened}
-use Rattle.phase_core.specs.declared.object.LocalEntry.{LocalEntry}
 use Rattle.k42_joined.specs.Answers.{is_turned}
 use Rattle.k42_rule.specs.Words.{object_word, freed_word, local_word}
 use Rattle.k42_rule.specs.Values.{object_value, local_value, layout_in, incarnation_in}

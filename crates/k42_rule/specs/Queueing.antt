@@ -1,5 +1,5 @@
 -- The queue of retired rows: each row's pops so far and its places in the queue are together as many as its pushes.
-use Rattle.std.specs.Prelude.{◌≡◌, ℕ, ◌+◌, ◌-◌, ◌==◌, ◌&&◌, Bool, true, false, List, [], ◌∷◌, ◌++◌, Option, None, count_by, sum_by, drop, take, length, map}
+use Rattle.std.specs.Prelude.{◌≡◌, ℕ, ◌+◌, ◌-◌, ◌==◌, ◌&&◌, Bool, true, false, List, [], ◌∷◌, ◌++◌, count_by, sum_by, drop, take}
 use mathlib.Core.Option.{some}
 use lib.ListN.{get_elem?}
 use Rattle.atomic_table.specs.Seated.{TableId}
@@ -14,7 +14,7 @@ use Rattle.k42_rule.specs.declared.retired.TableName.{TableName}
 use Rattle.k42_rule.specs.declared.view.PassView.{PassView}
 use Rattle.k42_rule.specs.declared.view.Row.{Row}
 use Rattle.k42_rule.specs.declared.view.View.{View}
-use Rattle.k42_rule.specs.declared.view.View.TheVariants.{Crew, Kept, Named, Spent}
+use Rattle.k42_rule.specs.declared.view.View.TheVariants.{Named}
 
 -- a table by its name
 abbrev pub name_of : TableId → TableName

@@ -6,7 +6,6 @@ use Rattle.crossbeam_queue.specs.SegTies.{SegId}
 use Rattle.gen_core.specs.Events as graces
 use Rattle.gen_core.specs.Plain as gens
 use Rattle.phase_core.specs.Stages as swaps
-use Rattle.gen_core.specs.declared.state.GraceAt.{GraceAt}
 use Rattle.k42_kinds.specs.declared.entry.Entry.{Entry}
 use Rattle.phase_core.specs.declared.caller.Place.{Place}
 use Rattle.phase_core.specs.declared.caller.Place.TheVariants.{Tracked}
@@ -17,7 +16,6 @@ use Rattle.k42_rule.specs.declared.view.Inside.{Inside}
 use Rattle.k42_rule.specs.declared.view.LastBegin.{LastBegin}
 use Rattle.k42_rule.specs.declared.view.PassView.{PassView}
 use Rattle.k42_rule.specs.declared.view.Row.{Row}
-use Rattle.k42_rule.specs.declared.view.View.{View}
 use Rattle.k42_rule.specs.declared.view.View.TheVariants.{Crew}
 
 -- which queue of rows

@@ -1,5 +1,5 @@
 -- The words and the slots with which a system starts.
-use Rattle.std.specs.Prelude.{◌≡◌, ◌≢◌, ℕ, ◌+◌, ◌*◌, ◌/◌, ◌%◌, ◌<◌, ◌≤◌, ◌^◌, false, List, [], Option, Some, None, drop, length, slice_get, slice_index}
+use Rattle.std.specs.Prelude.{◌≡◌, ◌≢◌, ℕ, ◌+◌, ◌*◌, ◌/◌, ◌%◌, ◌<◌, ◌≤◌, ◌^◌, false, List, [], Some, None, drop, length, slice_get, slice_index}
 use Rattle.atomic_table.specs.Seated.{TableId}
 use Rattle.k42_limits.specs.declared.TheConstants.{OBJECTS}
 use Rattle.k42_places.specs.Places.{EachPlace}
@@ -8,7 +8,7 @@ use Rattle.gen_core.specs.State as gens
 use Rattle.k42_rule.specs.Seen.{QueueId, SysSeen, PassSeen, IsPassOf}
 use Rattle.k42_rule.specs.Steps.{Seated}
 use Rattle.k42_rule.specs.Views.{new_pass, new_passes}
-use Rattle.k42_rule.specs.Words.{object_word, many_words, many_slots}
+use Rattle.k42_rule.specs.Words.{object_word, many_words}
 use Rattle.k42_rule.specs.declared.view.View.TheVariants.{Crew}
 use Rattle.k42_rule.specs.declared.cell.Content.{Content}
 

@@ -4,7 +4,7 @@ use Rattle.k42_places.specs.Places.{EachPlace}
 use Rattle.k42_kinds.specs.declared.entry.Answer.{Answer}
 use Rattle.k42_kinds.specs.declared.entry.Entry.{Entry}
 use Rattle.gen_core.specs.Plain.{Generations}
-use Rattle.gen_core.specs.State.{caller_at, proc_at}
+use Rattle.gen_core.specs.State.{proc_at}
 use Rattle.k42_joined.specs.Plain.{Joined}
 use Rattle.k42_joined.specs.Found.{tells_over}
 use Rattle.k42_joined.specs.State.{incarnation, kept_of, is_handed}

@@ -1,4 +1,4 @@
-use Rattle.std.proofs.Common.{rules, ◌≡◌, ◌≤◌, refl, sym, subst}
+use Rattle.std.proofs.Common.{◌≤◌, refl, sym, subst}
 use Rattle.k42_rule.specs.Queueing.{IsTied}
 use Rattle.k42_rule.specs.Seats.{LAST_STAMP}
 use Rattle.k42_rule.specs.Views.{pass_in}

@@ -1,19 +1,18 @@
-use Rattle.std.proofs.Common.{rules, ◌≡◌, ℕ, ◌<◌, ◌≤◌, [], ◌∷◌, List, length, ap, sym, subst, refl, ◌∙◌, arith}
+use Rattle.std.proofs.Common.{◌≡◌, ◌≤◌, [], ◌∷◌, List, length, ap, sym, subst, refl, ◌∙◌, arith}
 use Rattle.turn_core.specs.declared.event.TurnEvent.TheVariants.{Draw}
 use Rattle.k42_joined.specs.Drawing.{first_cell}
 use Rattle.k42_joined.specs.Event.{AtCells}
-use Rattle.k42_rule.specs.Drawing.{MayDrawAs, AreHeld, AreTold, entry_call, numbers_of, draws_at, drawn_at, untold_view, stamp_next}
+use Rattle.k42_rule.specs.Drawing.{AreHeld, AreTold, entry_call, numbers_of, drawn_at, untold_view, stamp_next}
 use Rattle.phase_core.specs.Stages.{object_of, row_of}
 use Rattle.k42_rule.specs.Plan.{layouts_on}
 use Rattle.k42_rule.specs.Queueing.{IsTied}
 use Rattle.k42_rule.specs.Seats.{LAST_STAMP}
-use Rattle.k42_rule.specs.Seen.{PassSeen, SysSeen, Own}
+use Rattle.k42_rule.specs.Seen.{PassSeen, Own}
 use Rattle.k42_rule.specs.Steps.{Seated, StepIs}
 use Rattle.k42_rule.specs.Views.{pass_in}
 use Rattle.k42_rule.specs.Words.{lock_word}
 use Rattle.k42_rule.specs.declared.view.View.TheVariants.{Crew}
 use Rattle.k42_rule.specs.declared.view.Note.{Note}
-use Rattle.k42_rule.specs.declared.view.PassView.{PassView}
 use Rattle.k42_rule.proofs.DrawnCall.{drawn_held, drawn_call}
 use Rattle.k42_rule.proofs.Noted.{all_due, view_back, call_entry, stamp_held, last_push}
 use Rattle.k42_rule.proofs.Pushed.{list_drawn, small_drawn, mirrors_drawn}

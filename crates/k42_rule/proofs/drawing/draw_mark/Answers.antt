@@ -1,4 +1,4 @@
-use Rattle.std.proofs.Common.{rules, ◌≡◌, ◌≤◌, [], ◌∷◌, refl, ap, sym, subst, ◌∙◌}
+use Rattle.std.proofs.Common.{◌≤◌, [], ◌∷◌, refl, sym, subst, ◌∙◌}
 use Rattle.turn_core.specs.declared.event.TurnEvent.TheVariants.{Draw}
 use Rattle.k42_joined.specs.Event.{AtCells}
 use Rattle.k42_rule.specs.Drawing.{IsHeld, entry_mark, untold_view}

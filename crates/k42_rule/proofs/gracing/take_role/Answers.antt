@@ -1,4 +1,4 @@
-use Rattle.std.proofs.Common.{rules, refl, ◌≡◌, ◌<◌, length, arith, sym, ap, ◌∙◌, subst}
+use Rattle.std.proofs.Common.{rules, refl, ◌<◌, length, arith, sym, ap, ◌∙◌, subst}
 use Rattle.phase_core.specs.declared.caller.SwapAt.{SwapAt}
 use Rattle.k42_rule.specs.Queueing.{IsTied}
 use Rattle.k42_rule.specs.Seen.{Own}
@@ -14,19 +14,27 @@ pub invariant_of-pass : goal.invariant_of-pass
 invariant_of-pass g c =
     let pass = c.pass.inside in let was = c.pass.invariant in let v = pass_in pass.seat.me.0 in
     let swap_is = c.draining-pass-inside.ensures in let many = c.len-pass-inside.ensures ∙ pass.rows.ok.0 in
-    let noted = noted_anew v _ was.0.own_is c.as_slice.result.now pass.noted.items c.as_mut_slice.result.now c.note_all.new.noted pass.noted.len c.as_slice.ensures.value refl c.as_mut_slice.ensures.value (search rules) c.note_all.ensures in
-    (
+    let noted = noted_anew v _ was.0.own_is c.as_slice.result.now pass.noted.items c.as_mut_slice.result.now c.note_all.new.noted pass.noted.len c.as_slice.ensures.value refl c.as_mut_slice.ensures.value (search rules) c.note_all.ensures in (
       role_mirrors v _ was.0.own_is c.take_role_word-found.new.seat.me c.take_role_word-found.result _ c.draining-pass-inside.result c.len-pass-inside.result c.take_role_word-found.ensures.told
           c.if-found-eq0.true was.0.out was.0.told noted swap_is many,
-      was.1, was.2, was.3,
+      was.1,
+      was.2,
+      was.3,
       (let same = ap object_named swap_is ∙ draining_named pass.swap in let few = was.4 in omega (arith, same, few)),
       (let same = ap (λ (swap : SwapAt). unwrap_or (next_entry swap) 0) swap_is ∙ draining_next pass.swap in let few = was.5 in omega (arith, same, few)),
-      was.6, was.7, was.8, was.9,
+      was.6,
+      was.7,
+      was.8,
+      was.9,
       omega (arith, many),
       (subst (λ (o : Own). 0 < length o.turn.waits) (sym was.0.own_is) c.take_role_word-found.ensures.found.procs, λ some. absurd (omega (arith, some))),
-      omega arith, was.13, was.14, was.15,
+      omega arith,
+      was.13,
+      was.14,
+      was.15,
       fits_draining pass.swap pass.turned pass.handed pass.last was.16 c.draining-pass-inside.result swap_is,
-      was.17, was.18,
+      was.17,
+      was.18,
       subst (λ table. IsTied table pass.post.me.view.client) (sym c.take_role_word-found.ensures.ours.0) was.19,
     )
 

@@ -1,4 +1,4 @@
-use Rattle.std.proofs.Common.{◌≡◌, ℕ, ◌+◌, cond, None, length, take, drop, sym, ap, ◌∙◌, refl}
+use Rattle.std.proofs.Common.{◌≡◌, ◌+◌, cond, None, length, drop, sym, ap, ◌∙◌}
 use Rattle.std.specs.Prelude.{max}
 use Rattle.phase_core.specs.Stages.{object_named}
 use Rattle.turn_core.specs.Stamps.{last_stamp}

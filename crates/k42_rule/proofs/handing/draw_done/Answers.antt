@@ -1,4 +1,4 @@
-use Rattle.std.proofs.Common.{◌≡◌, ℕ, List, take, drop, subst}
+use Rattle.std.proofs.Common.{◌≡◌, List, take, drop, subst}
 use Rattle.k42_joined.specs.Drawing.{first_cell}
 use Rattle.k42_joined.specs.Event.{HandWith}
 use Rattle.k42_rule.specs.Drawing.{AreTold, entry_hand, numbers_of, untold_view}

@@ -1,4 +1,3 @@
-use Rattle.std.proofs.Common.{rules, ◌≡◌}
 use Rattle.k42_rule.proofs.Showing.{step_keeps_freed}
 use Rattle.k42_rule.proofs.laws.freed_rows_stay_freed.Goals as goal
 

@@ -1,4 +1,3 @@
-use Rattle.std.proofs.Common.{rules, ◌≡◌}
 use Rattle.k42_rule.proofs.Showing.{one_name}
 use Rattle.k42_rule.proofs.laws.rows_have_one_name.Goals as goal
 

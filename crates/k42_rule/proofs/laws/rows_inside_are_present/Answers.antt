@@ -1,4 +1,3 @@
-use Rattle.std.proofs.Common.{rules, ◌≡◌}
 use Rattle.k42_rule.proofs.Showing.{present}
 use Rattle.k42_rule.proofs.laws.rows_inside_are_present.Goals as goal
 

@@ -1,4 +1,3 @@
-use Rattle.std.proofs.Common.{rules, ◌≡◌}
 use Rattle.k42_joined.proofs.SafeStates.{sound_safe}
 use Rattle.k42_rule.proofs.laws.shown_states_are_safe.Goals as goal
 

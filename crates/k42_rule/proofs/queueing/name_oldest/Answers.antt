@@ -1,12 +1,11 @@
-use Rattle.std.proofs.Common.{rules, ◌≡◌, ℕ, [], ◌∷◌, length, arith, refl, sym, ap, ◌∙◌, subst}
+use Rattle.std.proofs.Common.{ℕ, length, arith, ap, ◌∙◌}
 use mathlib.Core.Option.{none}
 use Rattle.atomic_table.specs.Table.{step}
-use Rattle.k42_rule.specs.Queueing.{AreGranted, without_oldest}
+use Rattle.k42_rule.specs.Queueing.{AreGranted}
 use Rattle.k42_rule.specs.Plan.{layouts_on}
 use Rattle.k42_rule.specs.Seen.{IsSeatOf}
 use Rattle.k42_rule.specs.Steps.{Seated, on_pass}
 use Rattle.k42_rule.specs.Views.{pass_in}
-use Rattle.k42_rule.specs.declared.view.View.{View}
 use Rattle.k42_rule.proofs.Moves.{seat_stays_allowed}
 use Rattle.k42_rule.proofs.Naming.{stays_so, finds_granted, splits_oldest}
 use Rattle.k42_rule.proofs.queueing.name_oldest.Goals as goal

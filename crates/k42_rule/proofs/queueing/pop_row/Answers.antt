@@ -1,4 +1,4 @@
-use Rattle.std.proofs.Common.{rules, ◌≡◌}
+use Rattle.std.proofs.Common.{rules}
 use Rattle.k42_rule.proofs.Carrying.{pops_keep, learns_rule}
 use Rattle.k42_rule.proofs.queueing.pop_row.Goals as goal
 

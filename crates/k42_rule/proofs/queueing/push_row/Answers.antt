@@ -1,12 +1,11 @@
-use Rattle.std.proofs.Common.{rules, ◌≡◌, ℕ, ◌<◌, List, [], Option, Some, length, refl, sym, ap, ◌∙◌, subst, arith}
+use Rattle.std.proofs.Common.{rules, ◌≡◌, ℕ, ◌<◌, List, [], Option, length, sym, ap, ◌∙◌, subst, arith}
 use Rattle.std.proofs.lemmas.Bool.{ltb-true}
-use Rattle.k42_rule.specs.Queueing.{table_of, oldest, row_named, IsTied}
+use Rattle.k42_rule.specs.Queueing.{oldest, row_named, IsTied}
 use Rattle.k42_rule.specs.Phases.{IsGranted}
 use Rattle.k42_rule.specs.Seen.{PassSeen, Own}
 use Rattle.k42_rule.specs.Steps.{Seated}
 use Rattle.k42_rule.specs.Views.{pass_in}
 use Rattle.k42_rule.specs.declared.retired.Slip.{Slip}
-use Rattle.k42_rule.specs.declared.view.PassView.{PassView}
 use Rattle.k42_rule.specs.declared.view.Row.{Row}
 use Rattle.k42_rule.specs.declared.view.View.TheVariants.{Named}
 use Rattle.k42_rule.proofs.Carrying.{pushes_keep}

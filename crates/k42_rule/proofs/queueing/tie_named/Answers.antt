@@ -1,4 +1,3 @@
-use Rattle.std.proofs.Common.{rules, ◌≡◌}
 use Rattle.k42_rule.proofs.Carrying.{ties_keep}
 use Rattle.k42_rule.proofs.queueing.tie_named.Goals as goal
 

@@ -1,12 +1,9 @@
-use Rattle.std.proofs.Common.{◌≡◌, ℕ, ◌+◌, sym, ap, ◌∙◌, subst, refl, arith}
+use Rattle.std.proofs.Common.{ℕ, ◌+◌, sym, ap, ◌∙◌, arith}
 use mathlib.Core.Option.{none}
 use Rattle.atomic_table.specs.Table.{step}
-use Rattle.turn_core.specs.declared.event.TurnEvent.TheVariants.{Lock}
-use Rattle.k42_joined.specs.Event.{AtCells}
 use Rattle.k42_rule.specs.Views.{pass_in}
-use Rattle.k42_rule.specs.Steps.{StepIs}
 use Rattle.k42_rule.specs.Words.{lock_word}
-use Rattle.k42_rule.proofs.CellsAllowed.{lock_allowed, lock_is, lock_value}
+use Rattle.k42_rule.proofs.CellsAllowed.{lock_allowed, lock_is}
 use Rattle.k42_rule.proofs.slots.lock_cell.Goals as goal
 
 pub compare_exchange-requires : goal.compare_exchange-requires

@@ -1,12 +1,10 @@
-use Rattle.std.proofs.Common.{◌≡◌, ℕ, ◌+◌, [], ◌∷◌, sym, ap, ◌∙◌, subst, refl, arith}
+use Rattle.std.proofs.Common.{ℕ, sym, ap, ◌∙◌, arith}
 use Rattle.std.specs.Prelude.{Some, None}
-use mathlib.Core.Option.{none}
-use Rattle.atomic_table.specs.Table.{step, rest}
+use Rattle.atomic_table.specs.Table.{rest}
 use Rattle.k42_rule.specs.Views.{pass_in}
 use Rattle.k42_rule.specs.Steps.{Seated, on_pass}
-use Rattle.k42_rule.specs.Taking.{cell_at_lock, reaching_view, put_view}
-use Rattle.k42_rule.specs.Words.{lock_word, slot_of}
-use Rattle.k42_rule.specs.declared.view.View.TheVariants.{Crew}
+use Rattle.k42_rule.specs.Taking.{reaching_view, put_view}
+use Rattle.k42_rule.specs.Words.{slot_of}
 use Rattle.k42_rule.proofs.CellsAllowed.{reach_seat, reached_seat, put_seat, slot_out, exchanged, reach_is, put_was, put_possible_always}
 use Rattle.k42_rule.proofs.CellsApart.{cell_of_lock}
 use Rattle.k42_rule.proofs.slots.put_cell.Goals as goal

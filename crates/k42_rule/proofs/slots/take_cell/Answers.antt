@@ -1,11 +1,10 @@
-use Rattle.std.proofs.Common.{◌≡◌, ℕ, ◌+◌, [], ◌∷◌, sym, ap, ◌∙◌, subst, refl, arith}
+use Rattle.std.proofs.Common.{ℕ, [], ◌∷◌, sym, ap, ◌∙◌, arith}
 use Rattle.std.specs.Prelude.{Some, None}
-use mathlib.Core.Option.{none}
-use Rattle.atomic_table.specs.Table.{step, rest}
+use Rattle.atomic_table.specs.Table.{rest}
 use Rattle.k42_rule.specs.Views.{pass_in}
 use Rattle.k42_rule.specs.Steps.{Seated, on_pass}
-use Rattle.k42_rule.specs.Taking.{cell_at_lock, lifted_view, taken_view, given_view}
-use Rattle.k42_rule.specs.Words.{lock_word, slot_of}
+use Rattle.k42_rule.specs.Taking.{lifted_view, taken_view, given_view}
+use Rattle.k42_rule.specs.Words.{slot_of}
 use Rattle.k42_rule.specs.declared.view.View.TheVariants.{Crew}
 use Rattle.k42_rule.proofs.CellsAllowed.{lift_seat, lifted_seat, give_seat, slot_out, slot_result, exchanged, same_content, take_is, given_is, given_known, taken_whole, take_possible_always}
 use Rattle.k42_rule.proofs.CellsApart.{cell_of_lock}

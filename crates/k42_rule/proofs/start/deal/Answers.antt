@@ -1,4 +1,4 @@
-use Rattle.std.proofs.Common.{ℕ, [], ◌∷◌, length, arith, sym, refl, ap, subst}
+use Rattle.std.proofs.Common.{ℕ, length, arith, sym, refl, ap, subst}
 use Rattle.atomic_table.specs.Table.{Splits}
 use Rattle.k42_rule.specs.Dealing.{dealer, dealt}
 use Rattle.k42_rule.specs.Rule.{Ruled}

@@ -1,5 +1,4 @@
-use Rattle.std.proofs.Common.{rules, ◌≡◌, ◌<◌, ◌≤◌, ℕ, ◌++◌, ◌∷◌, [], length, arith, sym, subst}
-use Rattle.k42_rule.specs.Starting.{IsDealing}
+use Rattle.std.proofs.Common.{ℕ, arith}
 use Rattle.k42_rule.proofs.Starting.{deals_more}
 use Rattle.k42_rule.proofs.start.deal_all.Goals as goal
 

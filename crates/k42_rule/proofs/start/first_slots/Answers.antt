@@ -1,5 +1,4 @@
-use Rattle.std.proofs.Common.{rules, ◌≡◌, ◌<◌, ◌≤◌, ℕ, List, [], ◌∷◌, ◌++◌, Some, None, length, ◌+◌, ◌-◌, ◌*◌, ◌/◌, ◌%◌, sym, refl, ap, ◌∙◌, subst, arith, length-append}
-use Rattle.k42_rule.specs.Cells.{Slot}
+use Rattle.std.proofs.Common.{length, sym, refl, ap, ◌∙◌, subst, arith, length-append}
 use Rattle.k42_rule.specs.Seats.{told_by}
 use Rattle.k42_rule.specs.Starting.{AreFirstSlots}
 use Rattle.k42_rule.proofs.Starting.{slots_more}

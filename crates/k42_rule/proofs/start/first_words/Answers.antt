@@ -1,4 +1,4 @@
-use Rattle.std.proofs.Common.{rules, ◌≡◌, ◌<◌, ◌≤◌, ℕ, List, [], ◌∷◌, length, ◌+◌, ◌-◌, ◌*◌, ◌/◌, ◌%◌, sym, refl, ap, ◌∙◌, subst, arith}
+use Rattle.std.proofs.Common.{ℕ, List, ◌+◌, ◌*◌, sym, refl, subst, arith}
 use Rattle.k42_rule.specs.Starting.{AreFirstWords}
 use Rattle.k42_rule.proofs.Starting.{words_blank, words_more, slice_get_here}
 use Rattle.k42_rule.proofs.start.first_words.Goals as goal

@@ -1,4 +1,4 @@
-use Rattle.std.proofs.Common.{rules, ◌≡◌, length, sym, subst}
+use Rattle.std.proofs.Common.{rules, sym, subst}
 use Rattle.phase_core.specs.declared.caller.SwapAt.{SwapAt}
 use Rattle.k42_rule.specs.Swapping.{FitsSwap}
 use Rattle.k42_rule.proofs.Fitting.{fits_entry}

@@ -1,4 +1,3 @@
-use Rattle.std.proofs.Common.{rules, ◌≡◌}
 use Rattle.k42_rule.proofs.taking.lock.Goals as goal
 
 pub returns-clause-event : goal.returns-clause-event

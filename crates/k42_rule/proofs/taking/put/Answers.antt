@@ -1,4 +1,3 @@
-use Rattle.std.proofs.Common.{rules, ◌≡◌}
 use Rattle.k42_rule.proofs.taking.put.Goals as goal
 
 pub returns-clause-reach : goal.returns-clause-reach

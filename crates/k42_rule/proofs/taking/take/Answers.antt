@@ -1,4 +1,3 @@
-use Rattle.std.proofs.Common.{rules, ◌≡◌}
 use Rattle.k42_rule.proofs.taking.take.Goals as goal
 
 pub returns-clause-whole : goal.returns-clause-whole

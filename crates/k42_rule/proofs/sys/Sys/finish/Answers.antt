@@ -1,18 +1,13 @@
-use Rattle.std.proofs.Common.{rules, ◌≡◌, ℕ, zero, suc, ◌+◌, ◌<◌, List, [], ◌∷◌, ◌++◌, Some, length, map, vec_items, sym, refl, ap, ◌∙◌, subst, arith}
+use Rattle.std.proofs.Common.{rules, ◌≡◌, ℕ, suc, ◌<◌, List, ◌∷◌, Some, length, map, vec_items, sym, ap, ◌∙◌, subst, arith}
 use Rattle.std.specs.List.{slice_get}
-use Rattle.std.proofs.lemmas.List.{map-append}
-use Rattle.k42_kinds.specs.declared.entry.Entry.{Entry}
 use Rattle.k42_rule.specs.Finishing.{AreAtRest, AreLastLists, lists_in}
 use Rattle.k42_rule.specs.Plan.{layouts_on}
 use Rattle.k42_rule.specs.Seen.{SysSeen, PassSeen, Own}
 use Rattle.k42_rule.specs.Views.{pass_in}
 use Rattle.k42_rule.specs.declared.view.PassView.{PassView}
-use Rattle.k42_rule.specs.declared.view.View.{View}
-use lib.ListN.{get_elem?}
 use mathlib.Core.Option.{some}
 use Rattle.k42_rule.proofs.Ending.{are_last, first_removed, all_views}
 use Rattle.k42_rule.proofs.sys.Sys.finish.Goals as goal
-use Rattle.k42_rule.proofs.sys.Sys.finish.Given as given
 
 -- the first pass was taken off the list
 parted : {L P : Type 0} (sys inside : SysSeen L) (passes rest : List (PassSeen P)) (first : PassSeen P) → inside ≡ sys → AreAtRest sys passes

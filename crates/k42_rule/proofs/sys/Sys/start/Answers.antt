@@ -1,8 +1,6 @@
-use Rattle.std.proofs.Common.{rules, ◌≡◌, ◌<◌, ◌≤◌, ℕ, List, length, arith, sym, refl, ap, ◌∙◌, subst}
-use Rattle.std.specs.List.{slice_index_or}
+use Rattle.std.proofs.Common.{◌≡◌, ◌<◌, ◌≤◌, ℕ, List, length, arith, sym, refl, ap, ◌∙◌, subst}
 use Rattle.k42_limits.specs.declared.TheConstants.{PROCESSORS}
 use Rattle.k42_places.specs.Places.{EachPlace}
-use Rattle.k42_stamp.specs.Layouts.{Layouts}
 use Rattle.k42_stamp.specs.Laws.{AreLaws}
 use Rattle.k42_rule.specs.Plan.{layouts_on}
 use Rattle.k42_rule.specs.Starting.{AreFirstWords, AreDealt}
