@@ -1,7 +1,7 @@
 -- How far a grace has gone on, for the pass that steps it.
-use Rattle.std.specs.Prelude.{◌≡◌, ◌≢◌, ℕ, ◌+◌, ◌<◌, Bool, true, false, ⊥, Option, Some, None, is_some, length, slice_index}
+use Rattle.std.specs.Prelude.{◌≡◌, ◌≢◌, ℕ, ◌+◌, ◌<◌, Bool, true, false, Option, Some, None, is_some, length, slice_index}
 use Rattle.k42_limits.specs.declared.TheConstants.{CALLERS}
-use Rattle.gen_core.specs.Events.{is_flipping, is_looking, is_quiet}
+use Rattle.gen_core.specs.Events.{is_looking}
 use Rattle.gen_core.specs.declared.state.GraceAt.TheVariants.{Looking}
 use Rattle.phase_core.specs.Effects.{drained_at}
 use Rattle.k42_rule.specs.Gracing.{MayTakeRole, role_view}

@@ -1,5 +1,5 @@
 //! Activities.
-ghost use Rattle.std.specs.Prelude.{◌≡◌, ◌+◌, ◌%◌, ◌^◌};
+ghost use Rattle.std.specs.Prelude.{◌≡◌, ℕ, ◌+◌, ◌%◌, ◌^◌};
 ghost use Rattle.gen_core.specs.declared.event.GenEvent.TheVariants as GenEvent;
 ghost use Rattle.phase_core.specs.Event.{Turn};
 ghost use Rattle.k42_joined.specs.Event.{AtPhases};
@@ -18,13 +18,12 @@ pub fn enter<L: Layout>(sys: &Sys<L>, pass: &mut Pass<L>)
     requires ours { IsOf sys.now pass.old }
     requires may { MayEnter pass.old.view }
     ensures same { IsSamePass pass.old pass.new }
-    ensures knows { pass.new.view ≡ entered_view pass.new.view.heard pass.old.view }
     ensures later { IsAfterEntries pass.new.view }
-    ensures event { StepIs
+    ensures event { (found : ℕ) × (pass.new.view ≡ entered_view found pass.old.view) × StepIs
         (layouts_on L.object L.tag_of L.ways L.whole L.serves L.admitted L.act_of sys.now.procs sys.now.callers)
         sys.now.layouts (AtPhases (Turn (GenEvent.Enter pass.old.view.number)))
         (generation_word pass.old.view.turn.proc) (λ word. (word + 1) % 2 ^ 64)
-        pass.old.seat pass.old.view pass.new.view.heard pass.new.view }
+        pass.old.seat pass.old.view found pass.new.view }
 {
     enter_step(sys, pass);
 }
@@ -34,12 +33,11 @@ pub fn leave<L: Layout>(sys: &Sys<L>, pass: &mut Pass<L>)
     requires ours { IsOf sys.now pass.old }
     requires may { CanLeave pass.old.view }
     ensures same { IsSamePass pass.old pass.new }
-    ensures knows { pass.new.view ≡ left_view pass.new.view.heard pass.old.view }
-    ensures event { StepIs
+    ensures event { (found : ℕ) × (pass.new.view ≡ left_view found pass.old.view) × StepIs
         (layouts_on L.object L.tag_of L.ways L.whole L.serves L.admitted L.act_of sys.now.procs sys.now.callers)
         sys.now.layouts (AtPhases (Turn (GenEvent.Leave pass.old.view.number)))
         (exits_word pass.old.view.turn.proc (active_in pass.old.view % 2)) (λ word. (word + 1) % 2 ^ 64)
-        pass.old.seat pass.old.view pass.new.view.heard pass.new.view }
+        pass.old.seat pass.old.view found pass.new.view }
 {
     leave_step(sys, pass);
 }

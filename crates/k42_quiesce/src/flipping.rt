@@ -1,10 +1,10 @@
 //! A grace flips all processors to their next generation.
-ghost use Rattle.std.specs.Prelude.{◌≡◌, ◌<◌, is_some, length};
+ghost use Rattle.std.specs.Prelude.{◌≡◌, ◌<◌, true, is_some, length};
+ghost use Rattle.gen_core.specs.Events.{after_flip};
 ghost use Rattle.gen_core.specs.declared.state.GraceAt.TheVariants.{Flipping, Looking};
 ghost use Rattle.k42_rule.specs.Seen.{IsPassOf, IsSamePass};
 ghost use Rattle.k42_quiesce.specs.Gracing.{GoesOn};
 
-use gen_core::GraceAt;
 use k42_kinds::Layout;
 use k42_rule::{Pass, Sys, flip, generation_step, look};
 

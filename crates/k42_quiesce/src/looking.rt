@@ -1,5 +1,5 @@
 //! A grace waits until all activities of the former generation have left.
-ghost use Rattle.std.specs.Prelude.{◌≡◌, ◌<◌, ℕ, Some, true, is_some, length};
+ghost use Rattle.std.specs.Prelude.{◌≡◌, ◌<◌, Some, None, true, length};
 ghost use Rattle.gen_core.specs.Events.{is_looking, after_look};
 ghost use Rattle.gen_core.specs.declared.state.GraceAt.TheVariants.{Looking, Quiet};
 ghost use Rattle.k42_rule.specs.Seen.{IsPassOf, IsSamePass};
