@@ -1,1 +1,3 @@
 pub mod Entered
+pub mod GoingOn
+pub mod PastFlips

@@ -1,5 +1,5 @@
 //! A grace flips all processors to their next generation.
-ghost use Rattle.std.specs.Prelude.{◌≡◌, ◌<◌, true, is_some, length};
+ghost use Rattle.std.specs.Prelude.{◌≡◌, true, None, is_some, length};
 ghost use Rattle.gen_core.specs.Events.{after_flip};
 ghost use Rattle.gen_core.specs.declared.state.GraceAt.TheVariants.{Flipping, Looking};
 ghost use Rattle.k42_rule.specs.Seen.{IsPassOf, IsSamePass};
@@ -27,7 +27,7 @@ fn flip_next<L: Layout>(sys: &Sys<L>, pass: &mut Pass<L>, proc: u32)
 /// Asks for the present generation, and ends it on all processors.
 pub(crate) fn flip_all<L: Layout>(sys: &Sys<L>, pass: &mut Pass<L>)
     requires ours { IsPassOf sys.now pass.old }
-    requires some { 0 < sys.now.procs }
+    requires unasked { pass.old.view.base ≡ None }
     requires grace { pass.old.view.turn.grace ≡ Flipping 0 }
     ensures same { IsSamePass pass.old pass.new }
     ensures goes { GoesOn pass.old.view pass.new.view }

@@ -1,5 +1,5 @@
 //! A grace waits until all activities of the former generation have left.
-ghost use Rattle.std.specs.Prelude.{◌≡◌, ◌<◌, Some, None, true, length};
+ghost use Rattle.std.specs.Prelude.{◌≡◌, ◌<◌, Some, None, true, is_some, length};
 ghost use Rattle.gen_core.specs.Events.{is_looking, after_look};
 ghost use Rattle.gen_core.specs.declared.state.GraceAt.TheVariants.{Looking, Quiet};
 ghost use Rattle.k42_rule.specs.Seen.{IsPassOf, IsSamePass};
@@ -15,6 +15,8 @@ use k42_rule::{Pass, Sys, look};
 fn look_back<L: Layout>(sys: &Sys<L>, pass: &mut Pass<L>, proc: u32) -> u32
     requires ours { IsPassOf sys.now pass.old }
     requires grace { pass.old.view.turn.grace ≡ Looking proc }
+    requires asked { is_some pass.old.view.base ≡ true }
+    requires there { proc < length pass.old.view.turn.waits }
     ensures same { IsSamePass pass.old pass.new }
     ensures goes { GoesOn pass.old.view pass.new.view }
     ensures left { 0 < result → IsLeft proc result pass.new.view }
