@@ -10,10 +10,12 @@ use Rattle.gen_core.proofs.Stages.{from_is_some}
 use Rattle.phase_core.specs.Effects.{drained_at}
 use Rattle.phase_core.specs.Plain.{Visitor}
 use Rattle.phase_core.specs.declared.caller.SwapAt.{SwapAt}
-use Rattle.k42_rule.specs.Gracing.{MayFlip, MayLook, looked_view, looked_at, asked_view}
+use Rattle.k42_rule.specs.Gracing.{MayFlip, MayLook, looked_view, looked_at, asked_view, role_view}
+use Rattle.k42_rule.specs.Noting.{due_note}
 use Rattle.k42_rule.specs.Seen.{SysSeen, PassSeen, IsPassOf, IsSamePass}
 use Rattle.k42_rule.specs.Views.{hears}
 use Rattle.k42_rule.specs.declared.view.PassView.{PassView}
+use Rattle.k42_rule.proofs.Notings.{made_length}
 use Rattle.k42_quiesce.specs.Gracing.{GoesOn}
 
 -- what a grace that is not quiet leaves of its pass's swap
@@ -79,3 +81,14 @@ module _ {P : Type 0} where
       let told : w ≡ hears found (looked_at (Flipping p) found v) = e ∙ ap (λ (g : GraceAt). hears found (looked_at g found v)) grace in
       may_flip p w (ap (λ (y : PassView P). is_some y.base) told ∙ asked) (ap (λ (y : PassView P). y.turn.grace) told ∙ grace)
       (ap (λ (y : PassView P). is_some y.turn.coming) told)
+
+  -- so is one that has taken the role
+  pub taken_of : {L : Type 0} (sys : SysSeen L) (old new : PassSeen P) → IsPassOf sys old → IsSamePass old new → new.view ≡ role_view 0 old.view → IsPassOf sys new
+  taken_of sys old new is same e = record {
+    table = same.table ∙ is.table;
+    proc = subst (λ n. n < sys.procs) (sym (ap (λ (v : PassView P). v.turn.proc) e)) is.proc;
+    waits = ap (λ (v : PassView P). length v.turn.waits) e ∙ is.waits;
+    objects = ap (λ (v : PassView P). length v.visitor.noted) e ∙ made_length (due_note old.view) 0 (length old.view.visitor.noted) ∙ is.objects;
+    spans = ap (λ (v : PassView P). length v.visitor.freeing) e ∙ is.spans;
+    queue = same.queue ∙ is.queue;
+  }

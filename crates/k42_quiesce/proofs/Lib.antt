@@ -1,3 +1,4 @@
 pub mod Entered
 pub mod GoingOn
 pub mod PastFlips
+pub mod Ended

@@ -34,7 +34,7 @@ pub(crate) fn look_on<L: Layout>(sys: &Sys<L>, pass: &mut Pass<L>) -> Option<Hel
     requires grace { is_looking pass.old.view.turn.grace ≡ true }
     ensures same { IsSamePass pass.old pass.new }
     ensures goes { GoesOn pass.old.view pass.new.view }
-    ensures quiet { result ≡ None → pass.new.view.turn.grace ≡ Quiet }
+    ensures quiet { result ≡ None → (pass.new.view.turn.grace ≡ Quiet) × (is_some pass.new.view.base ≡ true) }
     ensures left { (held : Held) → result ≡ Some held → IsLeftOf held pass.new.view }
 {
     while let GraceAt::Looking(proc) = pass.grace() {

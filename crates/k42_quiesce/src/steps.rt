@@ -1,5 +1,7 @@
 //! Grace periods.
 ghost use Rattle.std.specs.Prelude.{◌≡◌, ℕ, true, Some, None};
+ghost use Rattle.gen_core.specs.Events.{is_looking};
+ghost use Rattle.k42_rule.specs.Gracing.{MayTakeRole, role_view};
 ghost use Rattle.k42_rule.specs.Plan.{layouts_on};
 ghost use Rattle.k42_rule.specs.Seen.{IsPassOf, IsSamePass};
 ghost use Rattle.k42_quiesce.specs.Gracing.{MayStep, with_role, has_role, GoesOn, IsLeft, IsRoleHeld};
@@ -44,6 +46,23 @@ impl Model for Grace {
     ghost view = { λ g. g.holder };
 }
 
+/// Takes the role and flips all processors, or answers who has the role.
+fn begin<L: Layout>(sys: &Sys<L>, pass: &mut Pass<L>) -> Option<u32>
+    requires ours { IsPassOf sys.now pass.old }
+    requires may { MayTakeRole pass.old.view }
+    ensures ours { IsPassOf sys.now pass.new }
+    ensures same { IsSamePass pass.old pass.new }
+    ensures held { (holder : ℕ) → result ≡ Some holder → IsRoleHeld holder pass.old.view pass.new.view }
+    ensures goes { result ≡ None → GoesOn (role_view 0 pass.old.view) pass.new.view × (is_looking pass.new.view.turn.grace ≡ true) }
+{
+    let found = take_role(sys, pass);
+    if found > 0 {
+        return Some(found as u32 - 1);
+    }
+    flip_all(sys, pass);
+    None
+}
+
 impl Grace {
     /// A grace that has not begun.
     pub fn new() -> Grace
@@ -68,13 +87,10 @@ impl Grace {
             → GoesOn (with_role self.old pass.old.view) pass.new.view × (self.new ≡ Some pass.new.view.number) }
     {
         if self.holder.is_none() {
-            let found = take_role(sys, pass);
-            if found > 0 {
-                let holder = found as u32 - 1;
+            if let Some(holder) = begin(sys, pass) {
                 return GraceStep::Again(Held::RoleHeld { holder });
             }
             self.holder = Some(pass.caller());
-            flip_all(sys, pass);
         }
         match look_on(sys, pass) {
             None => GraceStep::Quiet,
