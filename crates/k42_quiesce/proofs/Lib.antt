@@ -2,3 +2,4 @@ pub mod Entered
 pub mod GoingOn
 pub mod PastFlips
 pub mod Ended
+pub mod HandedRows
