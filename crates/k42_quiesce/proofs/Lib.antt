@@ -3,3 +3,4 @@ pub mod GoingOn
 pub mod PastFlips
 pub mod Ended
 pub mod HandedRows
+pub mod Tries

@@ -29,9 +29,11 @@ fn look_back<L: Layout>(sys: &Sys<L>, pass: &mut Pass<L>, proc: u32) -> u32
 }
 
 /// Looks at one processor after the other, as far as all have left, and answers who is left then.
+#[tactic(auto, using(crate::proofs::GoingOn::still_of))]
 pub(crate) fn look_on<L: Layout>(sys: &Sys<L>, pass: &mut Pass<L>) -> Option<Held>
     requires ours { IsPassOf sys.now pass.old }
     requires grace { is_looking pass.old.view.turn.grace ≡ true }
+    ensures ours { IsPassOf sys.now pass.new }
     ensures same { IsSamePass pass.old pass.new }
     ensures goes { GoesOn pass.old.view pass.new.view }
     ensures quiet { result ≡ None → (pass.new.view.turn.grace ≡ Quiet) × (is_some pass.new.view.base ≡ true) }

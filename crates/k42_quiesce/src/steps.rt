@@ -76,6 +76,7 @@ impl Grace {
     pub fn step<L: Layout>(&mut self, sys: &Sys<L>, pass: &mut Pass<L>) -> GraceStep
         requires ours { IsPassOf sys.now pass.old }
         requires may { MayStep self.old pass.old.view }
+        ensures ours { IsPassOf sys.now pass.new }
         ensures same { IsSamePass pass.old pass.new }
         ensures quiet { result ≡ GraceStep.Quiet → IsQuiet
             (layouts_on L.object L.tag_of L.ways L.whole L.serves L.admitted L.act_of sys.now.procs sys.now.callers)

@@ -16,6 +16,7 @@ use std::sync::Wait;
 pub fn grace<L: Layout, R: Wait>(rt: &R, sys: &Sys<L>, pass: &mut Pass<L>)
     requires ours { IsPassOf sys.now pass.old }
     requires may { MayTakeRole pass.old.view }
+    ensures ours { IsPassOf sys.now pass.new }
     ensures same { IsSamePass pass.old pass.new }
     ensures quiet { IsQuiet
         (layouts_on L.object L.tag_of L.ways L.whole L.serves L.admitted L.act_of sys.now.procs sys.now.callers)

@@ -1,10 +1,7 @@
-use Rattle.std.proofs.Common.{◌≡◌, ℕ, ◌+◌, ◌-◌, ◌*◌, ◌<◌, ◌≤◌, length}
-use Rattle.k42_rule.specs.Gracing.{MayTakeRole, role_view}
-use Rattle.k42_rule.specs.Plan.{layouts_on}
 use Rattle.k42_rule.specs.Seen.{IsPassOf, IsSamePass}
-use Rattle.k42_quiesce.specs.Gracing.{GoesOn}
-use Rattle.k42_quiesce.specs.Quiet.{IsQuiet}
+use Rattle.k42_quiesce.proofs.Tries.{IsTried}
 use Rattle.k42_quiesce.proofs.waiting.grace.Given as goal
 
 abbrev pub invariant-loop : goal.invariant-loop
-invariant-loop g l = ?
+invariant-loop g l =
+    IsPassOf l.sys l.pass × IsSamePass l.initial.pass l.pass × IsTried l.initial.pass.view l.pass.view l.grace
