@@ -4,3 +4,4 @@ pub mod PastFlips
 pub mod Ended
 pub mod HandedRows
 pub mod Tries
+pub mod Emptied

@@ -1,5 +1,6 @@
 //! The cells of rows that were freed.
 ghost use Rattle.std.specs.Prelude.{◌≡◌, ◌<◌, ◌≤◌, ℕ, true};
+ghost use Rattle.k42_stamp.specs.Laws.{AreLaws};
 ghost use Rattle.k42_joined.specs.Numbers.{cell_of};
 ghost use Rattle.k42_joined.specs.Touching.{is_freeing};
 ghost use Rattle.k42_rule.specs.Plan.{layouts_on};
@@ -7,12 +8,12 @@ ghost use Rattle.k42_rule.specs.Seen.{IsPassOf, IsSamePass};
 ghost use Rattle.k42_quiesce.specs.Reclaiming.{HoldsNoCell, WasEmptied, emptied_view};
 
 use k42_kinds::Layout;
-use k42_limits::OBJECTS;
 use k42_rule::{Pass, Sys, lock, put, take, unlock};
 
 /// Drops the part of a cell. Nobody else has its lock, so this does not wait.
 fn empty_cell<L: Layout>(sys: &Sys<L>, pass: &mut Pass<L>, object: u32, row: u32, place: u32)
     requires ours { IsPassOf sys.now pass.old }
+    requires laws { AreLaws (layouts_on L.object L.tag_of L.ways L.whole L.serves L.admitted L.act_of sys.now.procs sys.now.callers) }
     requires there { (object < 16) × (place < sys.now.procs) × (sys.now.procs ≤ 8) }
     requires freed { is_freeing pass.old.view.visitor.freeing object row ≡ true }
     requires free { HoldsNoCell pass.old.view }
@@ -33,6 +34,7 @@ fn empty_cell<L: Layout>(sys: &Sys<L>, pass: &mut Pass<L>, object: u32, row: u32
 /// Drops the parts of a row.
 pub(crate) fn empty_row<L: Layout>(sys: &Sys<L>, pass: &mut Pass<L>, object: u32, row: u32)
     requires ours { IsPassOf sys.now pass.old }
+    requires laws { AreLaws (layouts_on L.object L.tag_of L.ways L.whole L.serves L.admitted L.act_of sys.now.procs sys.now.callers) }
     requires there { (object < 16) × (0 < sys.now.procs) }
     requires freed { is_freeing pass.old.view.visitor.freeing object row ≡ true }
     requires free { HoldsNoCell pass.old.view }

@@ -1,8 +1,6 @@
 //! Rows are freed once a grace is quiet.
 ghost use Rattle.std.specs.Prelude.{◌≡◌, ◌<◌, ℕ, ◌-◌, ◌+◌, true, Some, length, take};
-ghost use Rattle.gen_core.specs.declared.state.GraceAt.TheVariants.{Quiet};
-ghost use Rattle.phase_core.specs.State.{note_at};
-ghost use Rattle.turn_core.specs.Names.{names};
+ghost use Rattle.k42_stamp.specs.Laws.{AreLaws};
 ghost use Rattle.k42_rule.specs.Gracing.{HasGiven};
 ghost use Rattle.k42_rule.specs.Plan.{layouts_on};
 ghost use Rattle.k42_rule.specs.Seen.{IsPassOf, IsSamePass};
@@ -16,7 +14,8 @@ use k42_rule::{Pass, Sys, free, give_role};
 /// Frees what the grace noted of one object, and answers how many rows that are.
 fn sweep<L: Layout>(sys: &Sys<L>, pass: &mut Pass<L>, object: u32) -> u32
     requires ours { IsPassOf sys.now pass.old }
-    requires there { object < length sys.now.layouts }
+    requires laws { AreLaws (layouts_on L.object L.tag_of L.ways L.whole L.serves L.admitted L.act_of sys.now.procs sys.now.callers) }
+    requires there { (object < length sys.now.layouts) × (object < 16) }
     requires may { MayReclaim pass.old.view }
     ensures same { IsSamePass pass.old pass.new }
     ensures sweeps { Sweeps object pass.old.view pass.new.view }
