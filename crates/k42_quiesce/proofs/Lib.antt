@@ -5,3 +5,4 @@ pub mod Ended
 pub mod HandedRows
 pub mod Tries
 pub mod Emptied
+pub mod Sweeping

@@ -67,7 +67,8 @@ module _ {S L P : Type 0} (F : Layouts S L P) (declared : List L) where
     pub before : PassView P
     pub after : PassView P
     pub noted : note_at before.visitor.noted o ≡ Some number
-    pub step : StepIs F declared (AtPhases (Free before.number o)) (freed_word o) (λ word. max word number)
+    pub step : StepIs F declared (AtPhases (Free before.number o)) (freed_word o)
+        (λ word. max word (number_noted before o))
         id before found after
 
   -- Of an object that the grace noted, the rows from the mark found up to the noted number: these its step freed, and
