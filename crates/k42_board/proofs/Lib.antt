@@ -46,6 +46,7 @@ pub mod MovingOver
 pub mod TurningOver
 pub mod Clearing
 pub mod WordExamples
+pub mod NoteExamples
 pub mod FirstParts
 pub mod Replaced
 pub mod Dealing
