@@ -1,11 +1,11 @@
 //! Records that are judged: lawful ones, and the first line and rule of others.
 use super::conditions::has_text;
 use super::name;
-use crate::*;
 use k42_items::Items;
 use k42_kinds::{Act, Answer, KindName, LayoutName, Op, Reply};
 use k42_limits::{CALLERS, OBJECTS};
 use k42_memory::Memory;
+use record_text::*;
 use script_text::{CallLine, Item, ObjectLine, Script, WorkerLines};
 use std::alloc::Global;
 use std::process::Abort;

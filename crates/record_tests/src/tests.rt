@@ -1,11 +1,11 @@
 mod conditions;
 mod judging;
 
-use super::*;
 use conditions::{has_lines, has_text, is_version};
 use k42_items::Items;
 use k42_kinds::{Act, Answer, Entry, KindName, LayoutName, Name, Op, Reply, Text};
 use k42_limits::{CALLERS, OBJECTS};
+use record_text::*;
 use script_text::{CallLine, Item, ObjectLine, Script, WorkerLines};
 use std::alloc::Global;
 use std::process::Abort;

@@ -2,7 +2,7 @@ use Rattle.std.proofs.Common.{◌<◌, ◌≤◌, length, arith, refl}
 use Rattle.std.proofs.lemmas.List.{take_all}
 use Rattle.std.proofs.lemmas.List.Elements.{All-more}
 use Rattle.record_text.specs.Spelling.{IsOfVersion}
-use Rattle.record_text.proofs.tests.conditions.all_of_version.Goals as goal
+use Rattle.record_tests.proofs.tests.conditions.all_of_version.Goals as goal
 
 pub loop-line-preserved : goal.loop-line-preserved
 loop-line-preserved c =

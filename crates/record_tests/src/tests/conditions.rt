@@ -5,12 +5,11 @@ ghost use Rattle.script_text.specs.Sound.{NamesPage, IsActOn};
 ghost use Rattle.record_text.specs.Histories.{HasLine};
 ghost use Rattle.record_text.specs.Printer.LineNumbers.{HasNumber};
 
-use crate::history::numbers_of_all;
-use crate::record::{Record, RecordLine};
 use k42_items::Items;
 use k42_kinds::{Act, Answer, Entry, KindName, Op, kind_of};
 use k42_limits::PAGES;
 use k42_memory::Memory;
+use record_text::{Record, RecordLine, numbers_of_all};
 use script_text::Script;
 use std::alloc::Global;
 
