@@ -5,14 +5,14 @@ use Rattle.k42_stamp.specs.Laws.{AreLaws}
 use Rattle.k42_stamp.specs.Layouts.{Layouts}
 use Rattle.k42_joined.specs.Numbers.{cell_of}
 use Rattle.k42_joined.specs.Touching.{is_freeing}
-use Rattle.k42_rule.specs.Cells.{IsCell}
-use Rattle.k42_rule.specs.Parts.{IsPart}
-use Rattle.k42_rule.specs.Seats.{told_by}
-use Rattle.k42_rule.specs.Steps.{Always}
-use Rattle.k42_rule.specs.Taking.{CELLS, MayPut, noted, taken_view, locked_view}
-use Rattle.k42_rule.specs.declared.cell.Content.{Content}
-use Rattle.k42_rule.specs.declared.view.PassView.{PassView}
-use Rattle.k42_rule.proofs.PartLaws.{freed_always}
+use Rattle.k42_board.specs.Cells.{IsCell}
+use Rattle.k42_board.specs.Parts.{IsPart}
+use Rattle.k42_board.specs.Seats.{told_by}
+use Rattle.k42_board.specs.Steps.{Always}
+use Rattle.k42_board.specs.Taking.{CELLS, MayPut, noted, taken_view, locked_view}
+use Rattle.k42_board.specs.declared.cell.Content.{Content}
+use Rattle.k42_board.specs.declared.view.PassView.{PassView}
+use Rattle.k42_board.proofs.PartLaws.{freed_always}
 
 module _ {S L P : Type 0} (F : Layouts S L P) (laws : AreLaws F) (declared : List L) (id : ℕ) where
   pub may_put_empty : (o i p found : ℕ) (v w x : PassView P) (content emptied : Content P) → content.number ≡ cell_of o i p → cell_of o i p < CELLS

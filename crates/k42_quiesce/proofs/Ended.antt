@@ -18,13 +18,13 @@ use Rattle.gen_core.proofs.Ranges.{home_there}
 use Rattle.phase_core.proofs.Ranges.{turns_sound}
 use Rattle.phase_core.proofs.Reached.{turn_there}
 use Rattle.k42_stamp.specs.Layouts.{Layouts}
-use Rattle.k42_rule.specs.Cells.{Slot}
-use Rattle.k42_rule.specs.Rule.{Rule}
-use Rattle.k42_rule.specs.Steps.{Always}
-use Rattle.k42_rule.specs.declared.view.PassView.{PassView}
-use Rattle.k42_rule.specs.declared.view.View.{View}
-use Rattle.k42_rule.specs.declared.view.View.TheVariants.{Crew}
-use Rattle.k42_rule.proofs.OnePass.{known}
+use Rattle.k42_board.specs.Cells.{Slot}
+use Rattle.k42_board.specs.Rule.{Rule}
+use Rattle.k42_board.specs.Steps.{Always}
+use Rattle.k42_board.specs.declared.view.PassView.{PassView}
+use Rattle.k42_board.specs.declared.view.View.{View}
+use Rattle.k42_board.specs.declared.view.View.TheVariants.{Crew}
+use Rattle.k42_board.proofs.OnePass.{known}
 use Rattle.k42_quiesce.specs.Quiet.{HaveEnded}
 
 -- who is active is one of the callers

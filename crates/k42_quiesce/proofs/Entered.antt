@@ -1,8 +1,8 @@
 -- What a pass knows of the activity that it has begun.
 use Rattle.std.proofs.Common.{◌≡◌, ℕ, ap, refl, subst, sym}
-use Rattle.k42_rule.specs.Generating.{EnteredFound, entered_view}
-use Rattle.k42_rule.specs.Values.{generation_in}
-use Rattle.k42_rule.specs.declared.view.PassView.{PassView}
+use Rattle.k42_board.specs.Generating.{EnteredFound, entered_view}
+use Rattle.k42_board.specs.Values.{generation_in}
+use Rattle.k42_board.specs.declared.view.PassView.{PassView}
 use Rattle.k42_quiesce.specs.Activities.{IsAfterEntries}
 
 pub after_entries : {P : Type 0} (v w : PassView P) (found : ℕ) → w ≡ entered_view found v → EnteredFound v found → IsAfterEntries w

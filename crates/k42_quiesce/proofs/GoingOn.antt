@@ -10,12 +10,12 @@ use Rattle.gen_core.proofs.Stages.{from_is_some}
 use Rattle.phase_core.specs.Effects.{drained_at}
 use Rattle.phase_core.specs.Plain.{Visitor}
 use Rattle.phase_core.specs.declared.caller.SwapAt.{SwapAt}
-use Rattle.k42_rule.specs.Gracing.{MayFlip, MayLook, looked_view, looked_at, asked_view, role_view}
-use Rattle.k42_rule.specs.Noting.{due_note}
-use Rattle.k42_rule.specs.Seen.{SysSeen, PassSeen, IsPassOf, IsSamePass}
-use Rattle.k42_rule.specs.Views.{hears}
-use Rattle.k42_rule.specs.declared.view.PassView.{PassView}
-use Rattle.k42_rule.proofs.Notings.{made_length}
+use Rattle.k42_board.specs.Gracing.{MayFlip, MayLook, looked_view, looked_at, asked_view, role_view}
+use Rattle.k42_board.specs.Noting.{due_note}
+use Rattle.k42_board.specs.Seen.{SysSeen, PassSeen, IsPassOf, IsSamePass}
+use Rattle.k42_board.specs.Views.{hears}
+use Rattle.k42_board.specs.declared.view.PassView.{PassView}
+use Rattle.k42_board.proofs.Notings.{made_length}
 use Rattle.k42_quiesce.specs.Gracing.{GoesOn}
 
 -- what a grace that is not quiet leaves of its pass's swap

@@ -1,10 +1,10 @@
 -- One more row is handed over.
 use Rattle.std.proofs.Common.{◌≡◌, ℕ, zero, suc, ◌+◌, ◌-◌, ◌<◌, ◌≤◌, List, [], ◌∷◌, ◌++◌, drop, length, take, refl, sym, ap, ◌∙◌, subst, arith, append_assoc}
 use Rattle.std.proofs.lemmas.List.{length-drop}
-use Rattle.k42_rule.specs.Queueing.{HasPushed, oldest, without_oldest}
-use Rattle.k42_rule.specs.Seen.{SysSeen, PassSeen, IsPassOf}
-use Rattle.k42_rule.specs.declared.view.PassView.{PassView}
-use Rattle.k42_rule.specs.declared.view.Row.{Row}
+use Rattle.k42_board.specs.Queueing.{HasPushed, oldest, without_oldest}
+use Rattle.k42_board.specs.Seen.{SysSeen, PassSeen, IsPassOf}
+use Rattle.k42_board.specs.declared.view.PassView.{PassView}
+use Rattle.k42_board.specs.declared.view.Row.{Row}
 use Rattle.k42_quiesce.specs.Collecting.{HasHandedOver}
 
 drop_one : (k : ℕ) (rows : List Row) → drop 1 (drop k rows) ≡ drop (suc k) rows

@@ -3,10 +3,10 @@ use Rattle.std.proofs.Common.{◌≡◌, ℕ, ◌+◌, Bool, true, false, Option
 use Rattle.gen_core.specs.Events.{is_looking, is_quiet}
 use Rattle.gen_core.specs.declared.state.GraceAt.{GraceAt}
 use Rattle.gen_core.specs.declared.state.GraceAt.TheVariants.{Looking}
-use Rattle.k42_rule.specs.Gracing.{MayTakeRole, role_view}
-use Rattle.k42_rule.specs.Seen.{PassSeen, IsSamePass}
-use Rattle.k42_rule.specs.Views.{hears}
-use Rattle.k42_rule.specs.declared.view.PassView.{PassView}
+use Rattle.k42_board.specs.Gracing.{MayTakeRole, role_view}
+use Rattle.k42_board.specs.Seen.{PassSeen, IsSamePass}
+use Rattle.k42_board.specs.Views.{hears}
+use Rattle.k42_board.specs.declared.view.PassView.{PassView}
 use Rattle.k42_quiesce.specs.Gracing.{MayStep, MayGoOn, with_role, has_role, GoesOn, IsLeft, IsRoleHeld}
 use Rattle.k42_quiesce.specs.declared.steps.GraceStep.{GraceStep}
 use Rattle.k42_quiesce.specs.declared.steps.GraceStep.TheVariants.{Again, Quiet}

@@ -1,7 +1,7 @@
 -- The activity that a pass has begun.
 use Rattle.std.specs.Prelude.{◌≡◌, ℕ, ◌≤◌, Some}
 use Rattle.k42_places.specs.Places.{EachPlace}
-use Rattle.k42_rule.specs.declared.view.PassView.{PassView}
+use Rattle.k42_board.specs.declared.view.PassView.{PassView}
 
 -- the pass has an activity, whose generation is not below that of any of its entries
 pub record IsAfterEntries {P : Type 0} (v : PassView P) : Type 0 where

@@ -1,8 +1,8 @@
 -- Rows on their way through the queue, for the pass that hands them on or takes them in.
 use Rattle.std.specs.Prelude.{◌≡◌, ◌⊎◌, ℕ, ◌+◌, ◌-◌, ◌<◌, ◌≤◌, ◌++◌, List, drop, length, min, take}
-use Rattle.k42_rule.specs.Queueing.{WasEmpty}
-use Rattle.k42_rule.specs.Seen.{PassSeen}
-use Rattle.k42_rule.specs.declared.view.Row.{Row}
+use Rattle.k42_board.specs.Queueing.{WasEmpty}
+use Rattle.k42_board.specs.Seen.{PassSeen}
+use Rattle.k42_board.specs.declared.view.Row.{Row}
 
 -- the pass has pushed so many of its rows, the oldest first
 pub record HasHandedOver {P : Type 0} (count : ℕ) (old new : PassSeen P) : Type 0 where

@@ -4,9 +4,9 @@ use Rattle.k42_limits.specs.declared.TheConstants.{CALLERS}
 use Rattle.gen_core.specs.Events.{is_looking}
 use Rattle.gen_core.specs.declared.state.GraceAt.TheVariants.{Looking}
 use Rattle.phase_core.specs.Effects.{drained_at}
-use Rattle.k42_rule.specs.Gracing.{MayTakeRole, role_view}
-use Rattle.k42_rule.specs.Views.{hears}
-use Rattle.k42_rule.specs.declared.view.PassView.{PassView}
+use Rattle.k42_board.specs.Gracing.{MayTakeRole, role_view}
+use Rattle.k42_board.specs.Views.{hears}
+use Rattle.k42_board.specs.declared.view.PassView.{PassView}
 use Rattle.k42_quiesce.specs.declared.steps.GraceStep.{GraceStep}
 use Rattle.k42_quiesce.specs.declared.steps.GraceStep.TheVariants.{Again, Quiet}
 use Rattle.k42_quiesce.specs.declared.steps.Held.{Held}

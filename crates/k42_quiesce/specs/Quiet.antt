@@ -13,12 +13,12 @@ use Rattle.k42_joined.specs.Event.{Event, AtPhases}
 use Rattle.k42_joined.specs.Plain.{Joined}
 use Rattle.k42_joined.specs.Runs.{Leads}
 use Rattle.k42_joined.specs.State.{many_callers}
-use Rattle.k42_rule.specs.Cells.{Slot}
-use Rattle.k42_rule.specs.Rule.{Rule}
-use Rattle.k42_rule.specs.Steps.{Always}
-use Rattle.k42_rule.specs.declared.view.PassView.{PassView}
-use Rattle.k42_rule.specs.declared.view.View.{View}
-use Rattle.k42_rule.specs.declared.view.View.TheVariants.{Crew}
+use Rattle.k42_board.specs.Cells.{Slot}
+use Rattle.k42_board.specs.Rule.{Rule}
+use Rattle.k42_board.specs.Steps.{Always}
+use Rattle.k42_board.specs.declared.view.PassView.{PassView}
+use Rattle.k42_board.specs.declared.view.View.{View}
+use Rattle.k42_board.specs.declared.view.View.TheVariants.{Crew}
 
 -- the generation of a caller's activity, where it has one
 abbrev pub IsActiveIn : {L : Type 0} → Joined L → ℕ → ℕ → Type 0

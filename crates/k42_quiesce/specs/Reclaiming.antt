@@ -15,14 +15,14 @@ use Rattle.k42_joined.specs.Numbers.{cell_of}
 use Rattle.k42_joined.specs.Plain.{Joined}
 use Rattle.k42_joined.specs.State.{object, incarnation}
 use Rattle.k42_joined.specs.Swapping.{holds_none}
-use Rattle.k42_rule.specs.Freeing.{number_noted}
-use Rattle.k42_rule.specs.Gracing.{given_view}
-use Rattle.k42_rule.specs.Steps.{StepIs}
-use Rattle.k42_rule.specs.Taking.{ActIs, reaching_view}
-use Rattle.k42_rule.specs.Words.{freed_word, lock_word, slot_of}
-use Rattle.k42_rule.specs.declared.cell.Content.{Content}
-use Rattle.k42_rule.specs.declared.view.PassView.{PassView}
-use Rattle.k42_rule.specs.declared.view.Row.{Row}
+use Rattle.k42_board.specs.Freeing.{number_noted}
+use Rattle.k42_board.specs.Gracing.{given_view}
+use Rattle.k42_board.specs.Steps.{StepIs}
+use Rattle.k42_board.specs.Taking.{ActIs, reaching_view}
+use Rattle.k42_board.specs.Words.{freed_word, lock_word, slot_of}
+use Rattle.k42_board.specs.declared.cell.Content.{Content}
+use Rattle.k42_board.specs.declared.view.PassView.{PassView}
+use Rattle.k42_board.specs.declared.view.Row.{Row}
 
 -- it holds no cell
 pub record HoldsNoCell {P : Type 0} (v : PassView P) : Type 0 where

@@ -3,11 +3,11 @@ ghost use Rattle.std.specs.Prelude.{◌≡◌, ℕ, ◌+◌, ◌%◌, ◌^◌};
 ghost use Rattle.gen_core.specs.declared.event.GenEvent.TheVariants as GenEvent;
 ghost use Rattle.phase_core.specs.Event.{Turn};
 ghost use Rattle.k42_joined.specs.Event.{AtPhases};
-ghost use Rattle.k42_rule.specs.Generating.{MayEnter, CanLeave, entered_view, left_view, active_in};
-ghost use Rattle.k42_rule.specs.Plan.{layouts_on};
-ghost use Rattle.k42_rule.specs.Seen.{IsOf, IsSamePass};
-ghost use Rattle.k42_rule.specs.Steps.{StepIs};
-ghost use Rattle.k42_rule.specs.Words.{generation_word, exits_word};
+ghost use Rattle.k42_board.specs.Generating.{MayEnter, CanLeave, entered_view, left_view, active_in};
+ghost use Rattle.k42_board.specs.Plan.{layouts_on};
+ghost use Rattle.k42_board.specs.Seen.{IsOf, IsSamePass};
+ghost use Rattle.k42_board.specs.Steps.{StepIs};
+ghost use Rattle.k42_board.specs.Words.{generation_word, exits_word};
 ghost use Rattle.k42_quiesce.specs.Activities.{IsAfterEntries};
 
 use k42_kinds::Layout;

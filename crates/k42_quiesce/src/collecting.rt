@@ -1,7 +1,7 @@
 //! Rows are handed over to whoever collects them.
 ghost use Rattle.std.specs.Prelude.{◌≡◌, ◌<◌, ◌^◌, ◌-◌, ℕ, List, length, min, OnOk, OnErr};
-ghost use Rattle.k42_rule.specs.Seen.{IsPassOf};
-ghost use Rattle.k42_rule.specs.declared.view.Row.{Row};
+ghost use Rattle.k42_board.specs.Seen.{IsPassOf};
+ghost use Rattle.k42_board.specs.declared.view.Row.{Row};
 ghost use Rattle.k42_quiesce.specs.Collecting.{HasHandedOver, HasCollected, CollectsAll};
 
 use k42_kinds::Layout;

@@ -3,8 +3,8 @@ ghost use Rattle.std.specs.Prelude.{◌≡◌, ◌<◌, ◌≤◌, ℕ, true};
 ghost use Rattle.k42_stamp.specs.Laws.{AreLaws};
 ghost use Rattle.k42_joined.specs.Numbers.{cell_of};
 ghost use Rattle.k42_joined.specs.Touching.{is_freeing};
-ghost use Rattle.k42_rule.specs.Plan.{layouts_on};
-ghost use Rattle.k42_rule.specs.Seen.{IsPassOf, IsSamePass};
+ghost use Rattle.k42_board.specs.Plan.{layouts_on};
+ghost use Rattle.k42_board.specs.Seen.{IsPassOf, IsSamePass};
 ghost use Rattle.k42_quiesce.specs.Reclaiming.{HoldsNoCell, WasEmptied, emptied_view};
 
 use k42_kinds::Layout;

@@ -2,7 +2,7 @@
 ghost use Rattle.std.specs.Prelude.{◌≡◌, true, None, is_some, length};
 ghost use Rattle.gen_core.specs.Events.{after_flip};
 ghost use Rattle.gen_core.specs.declared.state.GraceAt.TheVariants.{Flipping, Looking};
-ghost use Rattle.k42_rule.specs.Seen.{IsPassOf, IsSamePass};
+ghost use Rattle.k42_board.specs.Seen.{IsPassOf, IsSamePass};
 ghost use Rattle.k42_quiesce.specs.Gracing.{GoesOn};
 
 use k42_kinds::Layout;

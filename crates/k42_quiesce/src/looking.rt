@@ -2,7 +2,7 @@
 ghost use Rattle.std.specs.Prelude.{◌≡◌, ◌<◌, Some, None, true, is_some, length};
 ghost use Rattle.gen_core.specs.Events.{is_looking, after_look};
 ghost use Rattle.gen_core.specs.declared.state.GraceAt.TheVariants.{Looking, Quiet};
-ghost use Rattle.k42_rule.specs.Seen.{IsPassOf, IsSamePass};
+ghost use Rattle.k42_board.specs.Seen.{IsPassOf, IsSamePass};
 ghost use Rattle.k42_quiesce.specs.Gracing.{GoesOn, IsLeft, IsLeftOf};
 ghost use Rattle.k42_quiesce.specs.declared.steps.Held.{Held};
 

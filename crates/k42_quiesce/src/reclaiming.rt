@@ -1,10 +1,10 @@
 //! Rows are freed once a grace is quiet.
 ghost use Rattle.std.specs.Prelude.{◌≡◌, ◌<◌, ℕ, ◌-◌, ◌+◌, true, Some, length, take};
 ghost use Rattle.k42_stamp.specs.Laws.{AreLaws};
-ghost use Rattle.k42_rule.specs.Gracing.{HasGiven};
-ghost use Rattle.k42_rule.specs.Plan.{layouts_on};
-ghost use Rattle.k42_rule.specs.Seen.{IsPassOf, IsSamePass};
-ghost use Rattle.k42_rule.specs.Steps.{Always};
+ghost use Rattle.k42_board.specs.Gracing.{HasGiven};
+ghost use Rattle.k42_board.specs.Plan.{layouts_on};
+ghost use Rattle.k42_board.specs.Seen.{IsPassOf, IsSamePass};
+ghost use Rattle.k42_board.specs.Steps.{Always};
 ghost use Rattle.k42_quiesce.specs.Reclaiming.{MayReclaim, IsSwept, Sweeps, Reclaims, AreFreed, AreRowsFreed, IsSwapFreed, reclaimed_view};
 
 use crate::emptying::empty_row;

@@ -1,9 +1,9 @@
 //! Grace periods.
 ghost use Rattle.std.specs.Prelude.{◌≡◌, ℕ, true, Some, None};
 ghost use Rattle.gen_core.specs.Events.{is_looking};
-ghost use Rattle.k42_rule.specs.Gracing.{MayTakeRole, role_view};
-ghost use Rattle.k42_rule.specs.Plan.{layouts_on};
-ghost use Rattle.k42_rule.specs.Seen.{IsPassOf, IsSamePass};
+ghost use Rattle.k42_board.specs.Gracing.{MayTakeRole, role_view};
+ghost use Rattle.k42_board.specs.Plan.{layouts_on};
+ghost use Rattle.k42_board.specs.Seen.{IsPassOf, IsSamePass};
 ghost use Rattle.k42_quiesce.specs.Gracing.{MayStep, with_role, has_role, GoesOn, IsLeft, IsRoleHeld};
 ghost use Rattle.k42_quiesce.specs.Quiet.{IsQuiet};
 ghost use Rattle.k42_quiesce.specs.declared.steps.GraceStep.TheVariants as GraceStep;

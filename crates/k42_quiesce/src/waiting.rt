@@ -1,8 +1,8 @@
 //! Waiting for a grace.
 ghost use Rattle.std.specs.Prelude.{◌≡◌};
-ghost use Rattle.k42_rule.specs.Gracing.{MayTakeRole, role_view};
-ghost use Rattle.k42_rule.specs.Plan.{layouts_on};
-ghost use Rattle.k42_rule.specs.Seen.{IsPassOf, IsSamePass};
+ghost use Rattle.k42_board.specs.Gracing.{MayTakeRole, role_view};
+ghost use Rattle.k42_board.specs.Plan.{layouts_on};
+ghost use Rattle.k42_board.specs.Seen.{IsPassOf, IsSamePass};
 ghost use Rattle.k42_quiesce.specs.Gracing.{GoesOn};
 ghost use Rattle.k42_quiesce.specs.Quiet.{IsQuiet};
 

@@ -24,7 +24,7 @@ fn numbers_of(alloc: Global, items: &[Item]) -> Result<Items<u32>, Memory>
     Ok(numbers)
 }
 
-/// The same of each worker.
+/// The numbers of the lines that ask something, in the order of each worker.
 pub fn numbers_of_all(alloc: Global, script: &Script) -> Result<Items<Items<u32>>, Memory>
     ensures { IfOk result (λ all. all ≡ all_line_numbers script.now) }
 {

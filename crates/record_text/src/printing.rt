@@ -10,8 +10,8 @@ mod answers;
 mod tokens;
 
 use crate::history::{line_at, number_of, numbers_of_all};
-use crate::printing::acts::put_act;
-use crate::printing::answers::put_answer;
+pub use crate::printing::acts::put_act;
+pub use crate::printing::answers::put_answer;
 use crate::printing::tokens::{put_digits, put_marked, put_number, put_token};
 use crate::record::{Extra, Record, RecordLine};
 use crate::version::Version;
@@ -59,7 +59,7 @@ fn object_name(script: &Script, object: u32) -> &[u8]
 }
 
 /// Adds the line of an entry.
-fn put_line(out: &mut Vec<u8>, script: &Script, line: &RecordLine) -> Result<(), Memory>
+pub fn put_line(out: &mut Vec<u8>, script: &Script, line: &RecordLine) -> Result<(), Memory>
     requires { HasSpelling script.now line.now }
     ensures { OnOk result (
         out.new.items ≡ out.old.items ++ spelling.line_text script.now line.now) }

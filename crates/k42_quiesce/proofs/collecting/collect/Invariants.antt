@@ -1,6 +1,6 @@
 use Rattle.std.proofs.Common.{◌≡◌, ◌-◌, ◌^◌, List, length, min}
-use Rattle.k42_rule.specs.Seen.{IsPassOf}
-use Rattle.k42_rule.specs.declared.view.Row.{Row}
+use Rattle.k42_board.specs.Seen.{IsPassOf}
+use Rattle.k42_board.specs.declared.view.Row.{Row}
 use Rattle.k42_quiesce.specs.Collecting.{HasCollected}
 use Rattle.k42_quiesce.proofs.collecting.collect.Given as goal
 

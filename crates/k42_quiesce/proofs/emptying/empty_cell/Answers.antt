@@ -1,8 +1,8 @@
 use Rattle.std.proofs.Common.{rules, ◌≡◌, ◌<◌, ◌∙◌, ap, None, subst}
 use Rattle.k42_joined.specs.Numbers.{cell_of}
-use Rattle.k42_rule.specs.Taking.{CELLS}
-use Rattle.k42_rule.specs.declared.cell.Content.{Content}
-use Rattle.k42_rule.specs.Plan.{layouts_on}
+use Rattle.k42_board.specs.Taking.{CELLS}
+use Rattle.k42_board.specs.declared.cell.Content.{Content}
+use Rattle.k42_board.specs.Plan.{layouts_on}
 use Rattle.k42_quiesce.specs.Reclaiming.{WasEmptied}
 use Rattle.k42_quiesce.proofs.Emptied.{may_put_empty}
 use Rattle.k42_quiesce.proofs.emptying.empty_cell.Goals as goal

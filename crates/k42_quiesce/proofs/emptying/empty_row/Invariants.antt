@@ -1,7 +1,7 @@
 use Rattle.std.proofs.Common.{◌≡◌, ◌⊎◌, ◌<◌, ℕ}
 use Rattle.k42_joined.specs.Numbers.{cell_of}
-use Rattle.k42_rule.specs.Plan.{layouts_on}
-use Rattle.k42_rule.specs.Seen.{IsSamePass}
+use Rattle.k42_board.specs.Plan.{layouts_on}
+use Rattle.k42_board.specs.Seen.{IsSamePass}
 use Rattle.k42_quiesce.specs.Reclaiming.{WasEmptied, emptied_view}
 use Rattle.k42_quiesce.proofs.emptying.empty_row.Given as goal
 

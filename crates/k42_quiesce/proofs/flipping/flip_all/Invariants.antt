@@ -1,7 +1,7 @@
 use Rattle.std.proofs.Common.{◌≡◌, true, length}
 use Rattle.std.specs.Prelude.{is_some, nat_lt, if◌then◌else◌}
 use Rattle.gen_core.specs.declared.state.GraceAt.TheVariants.{Flipping, Looking}
-use Rattle.k42_rule.specs.Seen.{IsSamePass}
+use Rattle.k42_board.specs.Seen.{IsSamePass}
 use Rattle.k42_quiesce.specs.Gracing.{GoesOn}
 use Rattle.k42_quiesce.proofs.flipping.flip_all.Given as goal
 

@@ -1,7 +1,7 @@
 use Rattle.std.proofs.Common.{◌≡◌, true, sym, ap, ◌∙◌, subst}
 use Rattle.std.specs.Prelude.{is_some, not}
-use Rattle.k42_rule.specs.Gracing.{MayFlip}
-use Rattle.k42_rule.specs.Seen.{PassSeen}
+use Rattle.k42_board.specs.Gracing.{MayFlip}
+use Rattle.k42_board.specs.Seen.{PassSeen}
 use Rattle.k42_quiesce.proofs.GoingOn.{may_flip, may_flip_looked}
 use Rattle.k42_quiesce.proofs.flipping.flip_next.Goals.{then-is_none, else-is_none}
 use Rattle.k42_quiesce.proofs.flipping.flip_next.Goals as goal

@@ -1,5 +1,5 @@
 use Rattle.std.proofs.Common.{◌≡◌, true, length}
-use Rattle.k42_rule.specs.Seen.{IsSamePass}
+use Rattle.k42_board.specs.Seen.{IsSamePass}
 use Rattle.k42_quiesce.specs.Gracing.{GoesOn}
 use Rattle.k42_quiesce.proofs.PastFlips.{is_past_flips, left_of}
 use Rattle.k42_quiesce.proofs.looking.look_on.Given as goal

@@ -1,5 +1,5 @@
 use Rattle.std.proofs.Common.{◌≡◌, ℕ, ◌≤◌, ◌∙◌, ap, arith}
-use Rattle.k42_rule.specs.Gracing.{role_view}
+use Rattle.k42_board.specs.Gracing.{role_view}
 use Rattle.k42_quiesce.proofs.GoingOn.{still_of, taken_of}
 use Rattle.k42_quiesce.proofs.steps.begin.Goals as goal
 

@@ -1,5 +1,5 @@
 use Rattle.std.proofs.Common.{rules, ◌≡◌}
-use Rattle.k42_rule.specs.Seen.{IsSamePass}
+use Rattle.k42_board.specs.Seen.{IsSamePass}
 use Rattle.k42_quiesce.specs.declared.steps.GraceStep.TheVariants.{Quiet}
 use Rattle.k42_quiesce.proofs.Tries.{again}
 use Rattle.k42_quiesce.proofs.waiting.grace.Goals as goal

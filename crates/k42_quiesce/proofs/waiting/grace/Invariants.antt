@@ -1,4 +1,4 @@
-use Rattle.k42_rule.specs.Seen.{IsPassOf, IsSamePass}
+use Rattle.k42_board.specs.Seen.{IsPassOf, IsSamePass}
 use Rattle.k42_quiesce.proofs.Tries.{IsTried}
 use Rattle.k42_quiesce.proofs.waiting.grace.Given as goal
 

@@ -1,0 +1,515 @@
+mod conditions;
+mod judging;
+
+use conditions::{has_lines, has_text, is_version};
+use k42_items::Items;
+use k42_kinds::{Act, Answer, Entry, KindName, LayoutName, Name, Op, Reply, Text};
+use k42_limits::{CALLERS, OBJECTS};
+use record_text::*;
+use script_text::{CallLine, Item, ObjectLine, Script, WorkerLines};
+use std::alloc::Global;
+use std::process::Abort;
+use std::test::Fail;
+
+/// An entry: its caller, the index of its line, and what came of it.
+#[derive(Drop)]
+struct Told {
+    caller: u32,
+    index: u32,
+    act: Act,
+    answer: Answer,
+    incarnation: u32,
+    generation: Option<u32>,
+}
+
+/// A script of one object, and the text of a history of it.
+#[derive(Drop)]
+struct Case {
+    shows: &'static str,
+    object: &'static [u8],
+    kind: KindName,
+    /// Each worker's name is one letter.
+    workers: &'static [u8],
+    version: u32,
+    text: &'static [u8],
+}
+
+/// A line of a script: its worker, its number and its act.
+type Line = (u32, u32, Act);
+
+fn name(bytes: &[u8]) -> Result<Name, Fail> {
+    Ok(Name::of(bytes).ok_or("no name")?)
+}
+
+fn worker_of(
+    alloc: Global,
+    lines: &[Line],
+    number: usize,
+    letter: u8,
+) -> Result<WorkerLines, Fail> {
+    let mut items = Items::new(alloc);
+    items.push(Item::Begin)?;
+    for (worker, line, act) in lines {
+        if *worker as usize == number {
+            items.push(Item::Line(CallLine {
+                line: *line,
+                object: 0,
+                act: *act,
+            }))?;
+        }
+    }
+    items.push(Item::End)?;
+    Ok(WorkerLines {
+        name: name(&[letter])?,
+        proc: 0,
+        items,
+    })
+}
+
+fn script_of(alloc: Global, case: &Case, lines: &[Line]) -> Result<Script, Fail> {
+    let mut workers = Items::new(alloc);
+    for (number, letter) in case.workers.iter().enumerate() {
+        workers.push(worker_of(alloc, lines, number, *letter)?)?;
+    }
+    let mut objects = Items::new(alloc);
+    objects.push(ObjectLine {
+        name: name(case.object)?,
+        kind: case.kind,
+        layout: LayoutName::Shared,
+    })?;
+    Ok(Script {
+        procs: 1,
+        objects,
+        workers,
+    })
+}
+
+fn entries_of(alloc: Global, told: &[Told]) -> Result<Vec<Entry>, Fail> {
+    let mut entries = Vec::new(alloc);
+    for (i, told) in told.iter().enumerate() {
+        entries.push(Entry {
+            stamp: i as u64 + 1,
+            caller: told.caller,
+            index: told.index,
+            object: 0,
+            incarnation: told.incarnation,
+            cell: 0,
+            act: told.act,
+            answer: told.answer,
+            proc: 0,
+            generation: told.generation,
+        })?;
+    }
+    Ok(entries)
+}
+
+/// The text of a record is read as this record.
+fn expect_read_back(
+    rt: &impl Abort,
+    alloc: Global,
+    script: &Script,
+    lines: &Record,
+    text: &[u8],
+) -> Result<(), Fail> {
+    assert!(rt; script.objects.len() <= OBJECTS && script.workers.len() <= CALLERS);
+    assert!(rt; text.len() < 1 << 31);
+    let again = read(alloc, script, text)?;
+    assert_eq!(rt; again.version, lines.version);
+    assert!(rt; again.lines.as_slice() == lines.lines.as_slice());
+    Ok(())
+}
+
+fn text_of(
+    rt: &impl Abort,
+    alloc: Global,
+    case: &Case,
+    lines: &[Line],
+    told: &[Told],
+) -> Result<Vec<u8>, Fail> {
+    let script = script_of(alloc, case, lines)?;
+    let entries = entries_of(alloc, told)?;
+    let version = case.version;
+    assert!(rt; is_version(version), "{}", case.shows);
+    assert!(rt;
+        has_lines(alloc, &script, entries.as_slice())?,
+        "{}",
+        case.shows
+    );
+    let lines = lines_of(alloc, &script, &entries, version)?;
+    assert!(rt; has_text(&script, &lines), "{}", case.shows);
+    let text = print(alloc, &script, &lines)?;
+    expect_read_back(rt, alloc, &script, &lines, text.as_slice())?;
+    Ok(text)
+}
+
+fn expect_text(
+    rt: &impl Abort,
+    alloc: Global,
+    case: &Case,
+    lines: &[Line],
+    told: &[Told],
+) -> Result<(), Fail> {
+    let text = text_of(rt, alloc, case, lines, told)?;
+    assert_eq!(rt; text.as_slice(), case.text, "{}", case.shows);
+    Ok(())
+}
+
+fn call(op: Op) -> Act {
+    Act::Call(op)
+}
+
+fn add(amount: u32) -> Act {
+    call(Op::Add(amount))
+}
+
+fn swap(layout: LayoutName) -> Act {
+    Act::Swap(layout)
+}
+
+/// The reply to a call in an activity of the first generation.
+fn reply(caller: u32, index: u32, act: Act, reply: Reply, incarnation: u32) -> Told {
+    Told {
+        caller,
+        index,
+        act,
+        answer: Answer::Replied(reply),
+        incarnation,
+        generation: Some(0),
+    }
+}
+
+/// The end of a swap or destroy.
+fn end(caller: u32, index: u32, act: Act, answer: Answer, incarnation: u32) -> Told {
+    Told {
+        caller,
+        index,
+        act,
+        answer,
+        incarnation,
+        generation: None,
+    }
+}
+
+#[test]
+fn calls_of_a_counter(rt: HostRuntime) -> Result<(), Fail> {
+    let alloc = rt.alloc();
+    expect_text(
+        &rt,
+        alloc,
+        &Case {
+            shows: "two workers in turns, each with its name and its own line numbers",
+            object: b"hits",
+            kind: KindName::Counter,
+            workers: b"ab",
+            version: 1,
+            text: b"k42 record 1\n\
+                1 a 4 hits add 5 = ok @0\n\
+                2 b 7 hits add 7 = ok @0\n\
+                3 b 8 hits get = 12 @0\n\
+                4 a 5 hits get = 12 @0\n\
+                end 4\n",
+        },
+        &[
+            (0, 4, add(5)),
+            (0, 5, call(Op::Get)),
+            (1, 7, add(7)),
+            (1, 8, call(Op::Get)),
+        ],
+        &[
+            reply(0, 0, add(5), Reply::Done, 0),
+            reply(1, 0, add(7), Reply::Done, 0),
+            reply(1, 1, call(Op::Get), Reply::Number(12), 0),
+            reply(0, 1, call(Op::Get), Reply::Number(12), 0),
+        ],
+    )?;
+    Ok(())
+}
+
+#[test]
+fn swaps_and_destroys(rt: HostRuntime) -> Result<(), Fail> {
+    let alloc = rt.alloc();
+    let get_after = Told {
+        caller: 0,
+        index: 2,
+        act: call(Op::Get),
+        answer: Answer::Replied(Reply::Number(5)),
+        incarnation: 1,
+        generation: Some(1),
+    };
+    let swapped: &[Told] = &[
+        reply(0, 0, add(5), Reply::Done, 0),
+        end(0, 1, swap(LayoutName::Spread), Answer::Swapped(1), 0),
+        get_after,
+    ];
+    let swap_lines: &[(u32, u32, Act)] = &[
+        (0, 4, add(5)),
+        (0, 5, swap(LayoutName::Spread)),
+        (0, 6, call(Op::Get)),
+    ];
+    expect_text(
+        &rt,
+        alloc,
+        &Case {
+            shows: "the same in version 2",
+            object: b"hits",
+            kind: KindName::Counter,
+            workers: b"a",
+            version: 2,
+            text: b"k42 record 2\n\
+                1 a 4 hits add 5 = ok @0 p0 g0\n\
+                2 a 5 swap hits spread = done 1 @0 p0 g-\n\
+                3 a 6 hits get = 5 @1 p0 g1\n\
+                end 3\n",
+        },
+        swap_lines,
+        swapped,
+    )?;
+    expect_text(
+        &rt,
+        alloc,
+        &Case {
+            shows: "an object that is dead",
+            object: b"hits",
+            kind: KindName::Counter,
+            workers: b"a",
+            version: 1,
+            text: b"k42 record 1\n\
+                1 a 4 destroy hits = done 1 @0\n\
+                2 a 5 hits get = gone @1\n\
+                3 a 6 swap hits shared = gone @1\n\
+                4 a 7 destroy hits = gone @1\n\
+                end 4\n",
+        },
+        &[
+            (0, 4, Act::Destroy),
+            (0, 5, call(Op::Get)),
+            (0, 6, swap(LayoutName::Shared)),
+            (0, 7, Act::Destroy),
+        ],
+        &[
+            end(0, 0, Act::Destroy, Answer::Swapped(1), 0),
+            reply(0, 1, call(Op::Get), Reply::Gone, 1),
+            end(0, 2, swap(LayoutName::Shared), Answer::Gone, 1),
+            end(0, 3, Act::Destroy, Answer::Gone, 1),
+        ],
+    )?;
+    expect_text(
+        &rt,
+        alloc,
+        &Case {
+            shows: "a swap that is refused",
+            object: b"hits",
+            kind: KindName::Counter,
+            workers: b"ab",
+            version: 1,
+            text: b"k42 record 1\n\
+                1 a 4 swap hits spread = done 1 @0\n\
+                2 b 6 swap hits spread = busy 1 @0\n\
+                3 b 7 swap hits shared = spent @1\n\
+                end 3\n",
+        },
+        &[
+            (0, 4, swap(LayoutName::Spread)),
+            (1, 6, swap(LayoutName::Spread)),
+            (1, 7, swap(LayoutName::Shared)),
+        ],
+        &[
+            end(0, 0, swap(LayoutName::Spread), Answer::Swapped(1), 0),
+            end(1, 0, swap(LayoutName::Spread), Answer::Busy(1), 0),
+            end(1, 1, swap(LayoutName::Shared), Answer::Spent, 1),
+        ],
+    )?;
+    Ok(())
+}
+
+#[test]
+fn calls_of_a_directory(rt: HostRuntime) -> Result<(), Fail> {
+    let x = name(b"x")?;
+    let acts = [
+        (0, 4, Act::Call(Op::Bind(x, 1))),
+        (0, 5, Act::Call(Op::Bind(x, 2))),
+        (0, 6, Act::Call(Op::Find(x))),
+        (0, 7, Act::Call(Op::Unbind(x))),
+        (0, 8, Act::Call(Op::Unbind(x))),
+        (0, 9, Act::Call(Op::Size)),
+    ];
+    let case = Case {
+        shows: "a name is bound, found and unbound",
+        object: b"d",
+        kind: KindName::Directory,
+        workers: b"a",
+        version: 1,
+        text: b"k42 record 1\n\
+            1 a 4 d bind x 1 = ok @0\n\
+            2 a 5 d bind x 2 = taken @0\n\
+            3 a 6 d find x = 1 @0\n\
+            4 a 7 d unbind x = 1 @0\n\
+            5 a 8 d unbind x = none @0\n\
+            6 a 9 d size = 0 @0\n\
+            end 6\n",
+    };
+    expect_text(
+        &rt,
+        rt.alloc(),
+        &case,
+        &acts,
+        &[
+            reply(0, 0, acts[0].2, Reply::Done, 0),
+            reply(0, 1, acts[1].2, Reply::Taken, 0),
+            reply(0, 2, acts[2].2, Reply::Number(1), 0),
+            reply(0, 3, acts[3].2, Reply::Number(1), 0),
+            reply(0, 4, acts[4].2, Reply::None, 0),
+            reply(0, 5, acts[5].2, Reply::Number(0), 0),
+        ],
+    )
+}
+
+#[test]
+fn calls_of_pages(rt: HostRuntime) -> Result<(), Fail> {
+    let hello = Text::of(b"hello").ok_or("no text")?;
+    let acts = [
+        (0, 4, Act::Call(Op::Read(0))),
+        (0, 5, Act::Call(Op::Write(0, hello))),
+        (0, 6, Act::Call(Op::Read(0))),
+        (0, 7, Act::Call(Op::Dirty)),
+        (0, 8, Act::Call(Op::Clean)),
+        (0, 9, Act::Call(Op::Dirty)),
+    ];
+    let case = Case {
+        shows: "a page is written, read and cleaned",
+        object: b"p",
+        kind: KindName::Pages,
+        workers: b"a",
+        version: 1,
+        text: b"k42 record 1\n\
+            1 a 4 p read 0 = zero @0\n\
+            2 a 5 p write 0 hello = ok @0\n\
+            3 a 6 p read 0 = text hello @0\n\
+            4 a 7 p dirty = 1 @0\n\
+            5 a 8 p clean = 1 @0\n\
+            6 a 9 p dirty = 0 @0\n\
+            end 6\n",
+    };
+    expect_text(
+        &rt,
+        rt.alloc(),
+        &case,
+        &acts,
+        &[
+            reply(0, 0, acts[0].2, Reply::Zero, 0),
+            reply(0, 1, acts[1].2, Reply::Done, 0),
+            reply(0, 2, acts[2].2, Reply::Text(hello), 0),
+            reply(0, 3, acts[3].2, Reply::Number(1), 0),
+            reply(0, 4, acts[4].2, Reply::Number(1), 0),
+            reply(0, 5, acts[5].2, Reply::Number(0), 0),
+        ],
+    )
+}
+
+#[test]
+fn a_record_of_65536_lines(rt: HostRuntime) -> Result<(), Fail> {
+    let alloc = rt.alloc();
+    let mut lines = Vec::new(alloc);
+    let mut entries = Vec::new(alloc);
+    for i in 0u32..65536 {
+        lines.push((0, i + 4, add(7)))?;
+        entries.push(reply(0, i, add(7), Reply::Done, 0))?;
+    }
+    let case = Case {
+        shows: "many lines",
+        object: b"hits",
+        kind: KindName::Counter,
+        workers: b"a",
+        version: 2,
+        text: b"65536 a 65539 hits add 7 = ok @0 p0 g0\nend 65536\n",
+    };
+    let text = text_of(&rt, alloc, &case, lines.as_slice(), entries.as_slice())?;
+    assert!(rt; text.as_slice().ends_with(case.text));
+    Ok(())
+}
+
+/// Two objects and one worker, whose names are as long as a name can be.
+fn script_of_long_names(alloc: Global) -> Result<Script, Fail> {
+    let mut objects = Items::new(alloc);
+    for (object, kind) in [
+        (b"directory_______", KindName::Directory),
+        (b"pages_2_________", KindName::Pages),
+    ] {
+        objects.push(ObjectLine {
+            name: name(object)?,
+            kind,
+            layout: LayoutName::Spread,
+        })?;
+    }
+    let mut workers = Items::new(alloc);
+    workers.push(WorkerLines {
+        name: name(b"worker_of_record")?,
+        proc: 7,
+        items: Items::new(alloc),
+    })?;
+    Ok(Script {
+        procs: 8,
+        objects,
+        workers,
+    })
+}
+
+/// A line whose numbers are the greatest of their types.
+fn widest(object: u32, act: Act, answer: Answer) -> RecordLine {
+    RecordLine {
+        stamp: u64::MAX,
+        worker: 0,
+        line: u32::MAX,
+        object,
+        act,
+        answer,
+        incarnation: u32::MAX,
+        extra: Some(Extra {
+            proc: u32::MAX,
+            generation: match act {
+                Act::Call(_) => Some(u32::MAX),
+                _ => None,
+            },
+        }),
+    }
+}
+
+#[test]
+fn the_widest_lines(rt: HostRuntime) -> Result<(), Fail> {
+    let alloc = rt.alloc();
+    let script = script_of_long_names(alloc)?;
+    let key = name(b"abcdefghijklmnop")?;
+    let text = Text::of(b"abcdefghijklmnopqrstuvwxyz012345").ok_or("no text")?;
+    let mut lines = Items::new(alloc);
+    for line in [
+        widest(
+            0,
+            call(Op::Bind(key, u64::MAX)),
+            Answer::Replied(Reply::Taken),
+        ),
+        widest(1, call(Op::Write(1023, text)), Answer::Replied(Reply::Done)),
+        widest(1, call(Op::Read(1023)), Answer::Replied(Reply::Text(text))),
+        widest(0, call(Op::Size), Answer::Replied(Reply::Number(u64::MAX))),
+        widest(1, Act::Destroy, Answer::Busy(u32::MAX)),
+    ] {
+        lines.push(line)?;
+    }
+    let record = Record { lines, version: 2 };
+    assert!(rt; has_text(&script, &record));
+    let text = print(alloc, &script, &record)?;
+    let want = b"k42 record 2\n\
+        18446744073709551615 worker_of_record 4294967295 directory_______ bind \
+        abcdefghijklmnop 18446744073709551615 = taken @4294967295 p4294967295 g4294967295\n\
+        18446744073709551615 worker_of_record 4294967295 pages_2_________ write 1023 \
+        abcdefghijklmnopqrstuvwxyz012345 = ok @4294967295 p4294967295 g4294967295\n\
+        18446744073709551615 worker_of_record 4294967295 pages_2_________ read 1023 = \
+        text abcdefghijklmnopqrstuvwxyz012345 @4294967295 p4294967295 g4294967295\n\
+        18446744073709551615 worker_of_record 4294967295 directory_______ size = \
+        18446744073709551615 @4294967295 p4294967295 g4294967295\n\
+        18446744073709551615 worker_of_record 4294967295 destroy pages_2_________ = \
+        busy 4294967295 @4294967295 p4294967295 g-\n\
+        end 5\n";
+    assert_eq!(rt; text.as_slice(), want.as_slice());
+    expect_read_back(&rt, alloc, &script, &record, text.as_slice())?;
+    Ok(())
+}
