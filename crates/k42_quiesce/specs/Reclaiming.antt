@@ -24,14 +24,10 @@ use Rattle.k42_board.specs.declared.cell.Content.{Content}
 use Rattle.k42_board.specs.declared.view.PassView.{PassView}
 use Rattle.k42_board.specs.declared.view.Row.{Row}
 
--- it holds no cell
-pub record HoldsNoCell {P : Type 0} (v : PassView P) : Type 0 where
-  pub held : holds_none v.taker.held ≡ true
-  pub notes : v.notes ≡ []
-
+-- it is quiet, and holds no cell
 pub record MayReclaim {P : Type 0} (v : PassView P) : Type 0 where
   pub quiet : v.turn.grace ≡ Quiet
-  pub free : HoldsNoCell v
+  pub free : holds_none v.taker.held ≡ true
 
 -- the pass after it has emptied cells
 abbrev pub emptied_view : {P : Type 0} → ℕ → PassView P → PassView P

@@ -4,7 +4,7 @@ use Rattle.k42_board.specs.Taking.{CELLS}
 use Rattle.k42_board.specs.declared.cell.Content.{Content}
 use Rattle.k42_board.specs.Plan.{layouts_on}
 use Rattle.k42_quiesce.specs.Reclaiming.{WasEmptied}
-use Rattle.k42_quiesce.proofs.Emptied.{may_put_empty}
+use Rattle.k42_quiesce.proofs.Emptied.{may_put_empty, holds_back, cell_back}
 use Rattle.k42_quiesce.proofs.emptying.empty_cell.Goals as goal
 
 pub put-requires-clause-may : goal.put-requires-clause-may
@@ -28,3 +28,16 @@ returns-clause-emptied g c =
       none = ap (λ (x : Content _). x.part) c.take_part.ensures.same;
       put = c.put.ensures.event;
     })
+
+pub returns-clause-knows : goal.returns-clause-knows
+returns-clause-knows g c =
+    let free : c.lock.result ≡ 0 = search rules in
+    cell_back _ _ c.args.pass.now.view _ _ _ _ c.take-content.result c.requires.free free c.lock.ensures.found.unnoted c.take-content.ensures.number
+    c.lock.ensures.knows c.take-content.ensures.knows c.put.ensures.knows c.unlock.ensures.knows
+
+pub unlock-requires-clause-may : goal.unlock-requires-clause-may
+unlock-requires-clause-may g c κs within =
+    let few : cell_of c.args.object c.args.row c.args.place < CELLS = search rules in
+    let free : c.lock.result ≡ 0 = search rules in
+    holds_back _ _ c.args.pass.now.view _ _ _ c.take-content.result few c.requires.free free c.lock.ensures.found.unnoted c.take-content.ensures.number
+    c.lock.ensures.knows c.take-content.ensures.knows c.put.ensures.knows
