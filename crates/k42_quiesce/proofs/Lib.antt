@@ -6,3 +6,5 @@ pub mod HandedRows
 pub mod Tries
 pub mod Emptied
 pub mod Sweeping
+pub mod SweptObjects
+pub mod Reclaimed

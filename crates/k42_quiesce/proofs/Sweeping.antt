@@ -12,7 +12,7 @@ use Rattle.k42_joined.specs.Touching.{is_freeing}
 use Rattle.k42_board.specs.Freeing.{number_noted, visitor_freed, freed_view}
 use Rattle.k42_board.specs.Seen.{SysSeen, PassSeen, IsPassOf, IsSamePass}
 use Rattle.k42_board.specs.declared.view.PassView.{PassView}
-use Rattle.k42_quiesce.specs.Reclaiming.{HoldsNoCell, Sweeps, WasEmptied, HasFreed, IsSwept, emptied_view}
+use Rattle.k42_quiesce.specs.Reclaiming.{Sweeps, WasEmptied, HasFreed, IsSwept}
 
 pub swept_still : {L P : Type 0} (sys : SysSeen L) (o : ℕ) (old new : PassSeen P) → IsPassOf sys old → IsSamePass old new → Sweeps o old.view new.view
     → IsPassOf sys new

@@ -9,7 +9,7 @@ ghost use Rattle.k42_quiesce.specs.Reclaiming.{MayReclaim, IsSwept, Sweeps, Recl
 
 use crate::emptying::empty_row;
 use k42_kinds::Layout;
-use k42_rule::{Pass, Sys, free, give_role};
+use k42_rule::{Pass, Sys, free, give_role, layouts_are_lawful};
 
 /// Frees what the grace noted of one object, and answers how many rows that are.
 fn sweep<L: Layout>(sys: &Sys<L>, pass: &mut Pass<L>, object: u32) -> u32
@@ -56,6 +56,7 @@ pub fn reclaim<L: Layout>(sys: &Sys<L>, pass: &mut Pass<L>) -> u32
         (layouts_on L.object L.tag_of L.ways L.whole L.serves L.admitted L.act_of sys.now.procs sys.now.callers)
         sys.now.layouts pass.old.seat pass.new.view (IsSwapFreed pass.new.view) }
 {
+    layouts_are_lawful(sys);
     let mut count = 0;
     for object in 0..sys.objects() {
         count += sweep(sys, pass, object);
