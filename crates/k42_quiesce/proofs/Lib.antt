@@ -8,3 +8,5 @@ pub mod Emptied
 pub mod Sweeping
 pub mod SweptObjects
 pub mod Reclaimed
+pub mod TurnsOfEvents
+pub mod OpenedBefore

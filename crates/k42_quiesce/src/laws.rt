@@ -16,7 +16,7 @@ ghost use Rattle.k42_board.specs.declared.view.View.TheVariants.{Crew};
 ghost use Rattle.k42_quiesce.specs.Quiet.{IsActiveIn, HaveEnded, IsGrace};
 
 use k42_kinds::Layout;
-use k42_rule::Sys;
+use k42_rule::{Sys, layouts_are_lawful};
 
 /// Each activity that is open in a state in which a pass takes the free role ends before the grace of that pass is
 /// quiet: whatever events of whatever callers lie between the two states, its Leave is one of them.
@@ -29,7 +29,7 @@ pub fn activities_open_at_the_taking_end<L: Layout>(sys: &Sys<L>)
         taking.state quiet.state holder notes events
         → (caller generation : ℕ) → IsActiveIn taking.state caller generation → Leaves caller events }
 {
-    let _ = sys.procs();
+    layouts_are_lawful(sys);
 }
 
 /// While the grace of a pass is quiet, no activity is under way but those that began after it flipped their processor.
