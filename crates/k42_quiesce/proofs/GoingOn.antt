@@ -1,7 +1,7 @@
 -- The steps of a grace, one after the other.
-use Rattle.std.proofs.Common.{◌≡◌, ℕ, ◌+◌, ◌-◌, ◌<◌, Bool, true, false, Option, Some, None, length, refl, sym, ap, ◌∙◌, subst, arith}
+use Rattle.std.proofs.Common.{◌≡◌, ℕ, ◌+◌, ◌-◌, ◌<◌, Bool, true, false, List, Option, Some, None, length, refl, sym, ap, ◌∙◌, subst, arith}
 use Rattle.std.proofs.lemmas.Option.{same_Some}
-use Rattle.std.specs.Prelude.{is_some, unwrap_or, ◌%◌}
+use Rattle.std.specs.Prelude.{is_some, ◌==◌, if◌then◌else◌}
 use Rattle.gen_core.specs.Events.{is_quiet}
 use Rattle.gen_core.specs.Plain.{Caller}
 use Rattle.gen_core.specs.declared.state.GraceAt.{GraceAt}
@@ -10,13 +10,18 @@ use Rattle.gen_core.proofs.Stages.{from_is_some}
 use Rattle.phase_core.specs.Effects.{drained_at}
 use Rattle.phase_core.specs.Plain.{Visitor}
 use Rattle.phase_core.specs.declared.caller.SwapAt.{SwapAt}
-use Rattle.k42_board.specs.Gracing.{MayFlip, MayLook, looked_view, looked_at, asked_view, role_view}
-use Rattle.k42_board.specs.Noting.{due_note}
+use Rattle.phase_core.specs.Event.{TakeRoleWith}
+use Rattle.k42_stamp.specs.Layouts.{Layouts}
+use Rattle.k42_joined.specs.Event.{AtPhases}
+use Rattle.k42_board.specs.Gracing.{MayFlip, MayLook, looked_view, looked_at, asked_view, role_view, RoleFound}
+use Rattle.k42_board.specs.Noting.{due_note, notes_due, pairs_from}
 use Rattle.k42_board.specs.Seen.{SysSeen, PassSeen, IsPassOf, IsSamePass}
+use Rattle.k42_board.specs.Steps.{StepIs}
 use Rattle.k42_board.specs.Views.{hears}
+use Rattle.k42_board.specs.Words.{role_word}
 use Rattle.k42_board.specs.declared.view.PassView.{PassView}
 use Rattle.k42_board.proofs.Notings.{made_length}
-use Rattle.k42_quiesce.specs.Gracing.{GoesOn}
+use Rattle.k42_quiesce.specs.Gracing.{GoesOn, TakesRole}
 
 -- what a grace that is not quiet leaves of its pass's swap
 undrained : (grace : GraceAt) (swap : SwapAt) → is_quiet grace ≡ false → drained_at grace swap ≡ swap
@@ -92,3 +97,18 @@ module _ {P : Type 0} where
     spans = ap (λ (v : PassView P). length v.visitor.freeing) e ∙ is.spans;
     queue = same.queue ∙ is.queue;
   }
+
+-- what it tells that the role was found free
+pub takes_role : {S L P : Type 0} (F : Layouts S L P) (declared : List L) (id : ℕ) (v w : PassView P) (found : ℕ) → found ≡ 0 → w ≡ role_view found v
+    → StepIs F declared (AtPhases (TakeRoleWith v.number (pairs_from 0 (notes_due v)))) role_word (λ word. if word == 0 then v.number + 1 else word) id v found w
+    → RoleFound v found → TakesRole F declared id v
+takes_role {P = P} F declared id v w found free e step is = record {
+  step =
+      subst
+      (λ n. StepIs F declared (AtPhases (TakeRoleWith v.number (pairs_from 0 (notes_due v)))) role_word (λ word. if word == 0 then v.number + 1 else word)
+      id v n (role_view n v)) free
+      (subst
+      (λ (x : PassView P). StepIs F declared (AtPhases (TakeRoleWith v.number (pairs_from 0 (notes_due v)))) role_word
+      (λ word. if word == 0 then v.number + 1 else word) id v found x) e step);
+  noted = is.granted;
+}

@@ -4,7 +4,7 @@ ghost use Rattle.gen_core.specs.Events.{is_looking};
 ghost use Rattle.k42_board.specs.Gracing.{MayTakeRole, role_view};
 ghost use Rattle.k42_board.specs.Plan.{layouts_on};
 ghost use Rattle.k42_board.specs.Seen.{IsPassOf, IsSamePass};
-ghost use Rattle.k42_quiesce.specs.Gracing.{MayStep, with_role, has_role, GoesOn, IsLeft, IsRoleHeld};
+ghost use Rattle.k42_quiesce.specs.Gracing.{MayStep, with_role, has_role, GoesOn, IsLeft, IsRoleHeld, TakesRole};
 ghost use Rattle.k42_quiesce.specs.Quiet.{IsQuiet};
 ghost use Rattle.k42_quiesce.specs.declared.steps.GraceStep.TheVariants as GraceStep;
 ghost use Rattle.k42_quiesce.specs.declared.steps.Held.TheVariants as Held;
@@ -54,6 +54,9 @@ fn begin<L: Layout>(sys: &Sys<L>, pass: &mut Pass<L>) -> Option<u32>
     ensures same { IsSamePass pass.old pass.new }
     ensures held { (holder : ℕ) → result ≡ Some holder → IsRoleHeld holder pass.old.view pass.new.view }
     ensures goes { result ≡ None → GoesOn (role_view 0 pass.old.view) pass.new.view × (is_looking pass.new.view.turn.grace ≡ true) }
+    ensures takes { result ≡ None → TakesRole
+        (layouts_on L.object L.tag_of L.ways L.whole L.serves L.admitted L.act_of sys.now.procs sys.now.callers)
+        sys.now.layouts pass.old.seat pass.old.view }
 {
     let found = take_role(sys, pass);
     if found > 0 {
@@ -86,6 +89,9 @@ impl Grace {
             → IsRoleHeld holder pass.old.view pass.new.view × (self.old ≡ None) × (self.new ≡ None) }
         ensures goes { has_role result ≡ true
             → GoesOn (with_role self.old pass.old.view) pass.new.view × (self.new ≡ Some pass.new.view.number) }
+        ensures takes { self.old ≡ None → has_role result ≡ true → TakesRole
+            (layouts_on L.object L.tag_of L.ways L.whole L.serves L.admitted L.act_of sys.now.procs sys.now.callers)
+            sys.now.layouts pass.old.seat pass.old.view }
     {
         if self.holder.is_none() {
             if let Some(holder) = begin(sys, pass) {
