@@ -8,7 +8,7 @@ ghost use Rattle.k42_board.specs.Plan.{layouts_on};
 ghost use Rattle.k42_board.specs.Seen.{IsOf, IsSamePass};
 ghost use Rattle.k42_board.specs.Steps.{StepIs};
 ghost use Rattle.k42_board.specs.Words.{generation_word, exits_word};
-ghost use Rattle.k42_quiesce.specs.Activities.{IsAfterEntries};
+ghost use Rattle.k42_quiesce.specs.Activities.{HasEntered};
 
 use k42_kinds::Layout;
 use k42_rule::{Pass, Sys, enter_step, leave_step};
@@ -18,7 +18,7 @@ pub fn enter<L: Layout>(sys: &Sys<L>, pass: &mut Pass<L>)
     requires ours { IsOf sys.now pass.old }
     requires may { MayEnter pass.old.view }
     ensures same { IsSamePass pass.old pass.new }
-    ensures later { IsAfterEntries pass.new.view }
+    ensures entered { HasEntered pass.new.view }
     ensures event { (found : ℕ) × (pass.new.view ≡ entered_view found pass.old.view) × StepIs
         (layouts_on L.object L.tag_of L.ways L.whole L.serves L.admitted L.act_of sys.now.procs sys.now.callers)
         sys.now.layouts (AtPhases (Turn (GenEvent.Enter pass.old.view.number)))
