@@ -62,9 +62,11 @@ fn wait_for_one(
 #[test]
 fn a_grace_waits_for_the_activity_that_was_open(rt: HostRuntime) -> Result<(), Fail> {
     let (sys, mut passes) = start(rt.alloc())?;
-    let (Some(mut two), Some(mut one), Some(mut zero)) =
-        (last(&sys, &mut passes), last(&sys, &mut passes), last(&sys, &mut passes))
-    else {
+    let (Some(mut two), Some(mut one), Some(mut zero)) = (
+        last(&sys, &mut passes),
+        last(&sys, &mut passes),
+        last(&sys, &mut passes),
+    ) else {
         return Err("no passes")?;
     };
     zero.reserve()?;
