@@ -1,5 +1,5 @@
 -- A cell whose row was freed may be put back without a part.
-use Rattle.std.proofs.Common.{◌≡◌, ℕ, ◌<◌, Bool, true, false, not, eqb, ◌||◌, List, [], ◌∷◌, ◌++◌, Option, Some, None, refl, sym, ap, ◌∙◌, subst}
+use Rattle.std.proofs.Common.{◌≡◌, ℕ, ◌<◌, Bool, true, false, not, eqb, ◌||◌, List, [], ◌∷◌, ◌++◌, None, refl, sym, ap, ◌∙◌, subst}
 use Rattle.std.specs.List.{filter, slice_get}
 use Rattle.std.proofs.lemmas.Bool.{eq-eqb, or_left}
 use Rattle.turn_core.specs.Events.{caller_locked, caller_unlocked}
@@ -12,7 +12,6 @@ use Rattle.k42_joined.specs.Swapping.{holds_none}
 use Rattle.k42_joined.specs.Touching.{is_freeing}
 use Rattle.k42_board.specs.Cells.{IsCell, cells_noted}
 use Rattle.k42_board.specs.Parts.{IsPart}
-use Rattle.k42_board.specs.Seats.{told_by}
 use Rattle.k42_board.specs.Steps.{Always}
 use Rattle.k42_board.specs.Taking.{CELLS, HoldsHome, MayPut, noted, without, locked_view, taken_view, put_view, unlocked_view}
 use Rattle.k42_board.specs.declared.cell.Content.{Content}

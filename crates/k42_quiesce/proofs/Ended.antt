@@ -1,11 +1,8 @@
 -- While a grace is quiet, the activities of the generation in which it took the role have ended.
-use Rattle.std.proofs.Common.{◌≡◌, ℕ, ◌+◌, ◌<◌, Bool, true, false, ltb, List, [], Option, Some, None, length, refl, sym, ap, ◌∙◌, subst, arith}
+use Rattle.std.proofs.Common.{◌≡◌, ℕ, ◌+◌, ◌<◌, Bool, true, false, ltb, List, [], Some, None, length, refl, ap, ◌∙◌, arith}
 use Rattle.std.proofs.lemmas.Bool.{ltb-true, ltb-false}
 use Rattle.std.proofs.lemmas.List.{get_or_past}
 use Rattle.std.proofs.lemmas.Option.{slice_get-get_or}
-use mathlib.Core.Option.{some}
-use lib.ListN.{get_elem?}
-use Rattle.atomic_table.specs.Table.{State}
 use Rattle.gen_core.specs.Events.{is_idle}
 use Rattle.gen_core.specs.Plain.{Caller, Generations}
 use Rattle.gen_core.specs.Sound as gen
@@ -18,12 +15,8 @@ use Rattle.gen_core.proofs.Ranges.{home_there}
 use Rattle.phase_core.proofs.Ranges.{turns_sound}
 use Rattle.phase_core.proofs.Reached.{turn_there}
 use Rattle.k42_stamp.specs.Layouts.{Layouts}
-use Rattle.k42_board.specs.Cells.{Slot}
-use Rattle.k42_board.specs.Rule.{Rule}
 use Rattle.k42_board.specs.Steps.{Always}
 use Rattle.k42_board.specs.declared.view.PassView.{PassView}
-use Rattle.k42_board.specs.declared.view.View.{View}
-use Rattle.k42_board.specs.declared.view.View.TheVariants.{Crew}
 use Rattle.k42_board.proofs.OnePass.{known}
 use Rattle.k42_quiesce.specs.Quiet.{HaveEnded}
 

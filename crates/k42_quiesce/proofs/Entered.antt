@@ -1,5 +1,5 @@
 -- What a pass knows of the activity that it has begun.
-use Rattle.std.proofs.Common.{◌≡◌, ℕ, ap, refl, subst, sym}
+use Rattle.std.proofs.Common.{◌≡◌, ℕ, refl, subst, sym}
 use Rattle.k42_board.specs.Generating.{EnteredFound, entered_view}
 use Rattle.k42_board.specs.Values.{generation_in}
 use Rattle.k42_board.specs.declared.view.PassView.{PassView}

@@ -1,6 +1,5 @@
 -- The steps of a grace, one after the other.
-use Rattle.std.proofs.Common.{◌≡◌, ℕ, ◌+◌, ◌-◌, ◌<◌, Bool, true, false, List, Option, Some, None, length, refl, sym, ap, ◌∙◌, subst, arith}
-use Rattle.std.proofs.lemmas.Option.{same_Some}
+use Rattle.std.proofs.Common.{◌≡◌, ℕ, ◌+◌, ◌<◌, true, false, List, None, length, refl, sym, ap, ◌∙◌, subst}
 use Rattle.std.specs.Prelude.{is_some, unwrap_or, ◌%◌, ◌==◌, if◌then◌else◌}
 use Rattle.gen_core.specs.Events.{is_quiet}
 use Rattle.gen_core.specs.Plain.{Caller}
@@ -14,7 +13,7 @@ use Rattle.phase_core.specs.declared.caller.SwapAt.{SwapAt}
 use Rattle.phase_core.specs.Event.{Turn, TakeRoleWith}
 use Rattle.k42_stamp.specs.Layouts.{Layouts}
 use Rattle.k42_joined.specs.Event.{AtPhases}
-use Rattle.k42_board.specs.Gracing.{MayFlip, MayLook, looked_view, looked_at, asked_view, role_view, look_event}
+use Rattle.k42_board.specs.Gracing.{MayFlip, looked_view, looked_at, asked_view, role_view, look_event}
 use Rattle.k42_board.specs.Noting.{due_note, notes_due, pairs_from}
 use Rattle.k42_board.specs.Seen.{SysSeen, PassSeen, IsPassOf, IsSamePass}
 use Rattle.k42_board.specs.Steps.{StepIs}

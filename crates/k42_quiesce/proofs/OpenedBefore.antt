@@ -1,5 +1,5 @@
 -- An activity that is open as a role is taken ends before that grace is quiet.
-use Rattle.std.proofs.Common.{◌≡◌, ℕ, ◌<◌, true, List, [], ◌∷◌, ◌++◌, Option, Some, None, length, refl, sym, ap, ◌∙◌, subst, inl}
+use Rattle.std.proofs.Common.{◌≡◌, ℕ, ◌<◌, true, List, ◌∷◌, length, refl, sym, ap, ◌∙◌, subst, inl}
 use Rattle.std.specs.Prelude.{is_some}
 use Rattle.std.proofs.lemmas.Bool.{and_parts}
 use Rattle.gen_core.specs.Events as gens
@@ -8,10 +8,9 @@ use Rattle.gen_core.specs.Runs.{run, AreInRange, Occurs, IsQuietGrace}
 use Rattle.gen_core.specs.State.{caller_at}
 use Rattle.gen_core.specs.declared.event.GenEvent.{GenEvent}
 use Rattle.gen_core.specs.declared.event.GenEvent.TheVariants.{Leave, TakeRole, GiveRole}
-use Rattle.gen_core.specs.declared.state.GraceAt.TheVariants.{Quiet}
 use Rattle.gen_core.proofs.Alone.{happens_only}
 use Rattle.gen_core.proofs.Ended.{quiet_means_ended}
-use Rattle.phase_core.specs.Event.{Turn, TakeRoleWith}
+use Rattle.phase_core.specs.Event.{TakeRoleWith}
 use Rattle.phase_core.proofs.Ranges.{turns_sound}
 use Rattle.phase_core.proofs.Reached.{turn_there}
 use Rattle.k42_stamp.specs.Laws.{AreLaws}

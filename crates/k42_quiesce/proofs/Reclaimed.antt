@@ -1,15 +1,11 @@
 -- What is so in every state once the role was given back.
-use Rattle.std.proofs.Common.{◌≡◌, ℕ, ◌+◌, ◌<◌, ◌≤◌, Bool, true, false, ltb, List, [], ◌∷◌, Option, Some, None, length, take, refl, sym, ap, ◌∙◌, subst, arith}
+use Rattle.std.proofs.Common.{◌≡◌, ℕ, ◌<◌, Bool, true, false, ltb, List, Option, Some, None, length, refl, ap, ◌∙◌, arith}
 use Rattle.std.specs.Prelude.{is_some}
 use Rattle.std.proofs.lemmas.Bool.{ltb-true, ltb-false}
 use Rattle.std.proofs.lemmas.List.{get_or_past}
-use mathlib.Core.Option.{some}
-use lib.ListN.{get_elem?}
-use Rattle.atomic_table.specs.Table.{State}
 use Rattle.k42_places.specs.Places.{EachPlace}
 use Rattle.gen_core.specs.Events.{is_idle}
 use Rattle.gen_core.specs.Plain.{Caller}
-use Rattle.gen_core.specs.State.{caller_at}
 use Rattle.gen_core.specs.declared.state.GraceAt.TheVariants.{Idle}
 use Rattle.phase_core.specs.Plain.{Visitor}
 use Rattle.phase_core.specs.Stages.{named_by}
@@ -18,14 +14,10 @@ use Rattle.phase_core.specs.declared.caller.SwapAt.TheVariants.{Drained}
 use Rattle.phase_core.proofs.InSound.{object_known, visitor_known}
 use Rattle.turn_core.specs.Names.{names}
 use Rattle.k42_stamp.specs.Layouts.{Layouts}
-use Rattle.k42_board.specs.Cells.{Slot}
 use Rattle.k42_board.specs.Phases.{IsGranted}
-use Rattle.k42_board.specs.Rule.{Rule}
 use Rattle.k42_board.specs.Steps.{Always}
 use Rattle.k42_board.specs.declared.view.PassView.{PassView}
 use Rattle.k42_board.specs.declared.view.Row.{Row}
-use Rattle.k42_board.specs.declared.view.View.{View}
-use Rattle.k42_board.specs.declared.view.View.TheVariants.{Crew}
 use Rattle.k42_board.proofs.OnePass.{known}
 use Rattle.k42_quiesce.specs.Reclaiming.{AreFreed, AreRowsFreed, IsSwapFreed}
 

@@ -1,15 +1,9 @@
 -- What the step that frees leaves, for one object.
-use Rattle.std.proofs.Common.{◌≡◌, ℕ, ◌+◌, ◌-◌, ◌<◌, ◌≤◌, Bool, true, false, cond, eqb, leb, ltb, ◌||◌, List, [], ◌∷◌, Option, Some, None, length, set, refl, sym, ap, ◌∙◌, subst, arith, length-set}
-use Rattle.std.specs.Prelude.{is_some, unwrap_or, slice_set}
-use Rattle.std.proofs.lemmas.Bool.{or_left, eq-eqb, le-leb, lt-ltb, ltb-true, ltb-false}
-use Rattle.std.proofs.lemmas.List.{get_or-set_same}
-use Rattle.phase_core.specs.Plain.{Visitor}
-use Rattle.phase_core.specs.State.{note_at, span_at}
-use Rattle.turn_core.specs.Names.{names}
+use Rattle.std.proofs.Common.{◌≡◌, ℕ, ◌+◌, ◌<◌, ◌≤◌, List, Option, Some, None, length, refl, sym, ap, ◌∙◌, subst, arith}
+use Rattle.std.specs.Prelude.{unwrap_or}
+use Rattle.phase_core.specs.State.{note_at}
 use Rattle.k42_stamp.specs.Layouts.{Layouts}
 use Rattle.k42_joined.specs.Numbers.{cell_of}
-use Rattle.k42_joined.specs.Touching.{is_freeing}
-use Rattle.k42_board.specs.Freeing.{number_noted, visitor_freed, freed_view}
 use Rattle.k42_board.specs.Seen.{SysSeen, PassSeen, IsPassOf, IsSamePass}
 use Rattle.k42_board.specs.declared.view.PassView.{PassView}
 use Rattle.k42_quiesce.specs.Reclaiming.{Sweeps, WasEmptied, HasFreed, IsSwept}

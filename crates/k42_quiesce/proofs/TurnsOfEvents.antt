@@ -1,5 +1,5 @@
 -- What the joined events are for the machine of generations.
-use Rattle.std.proofs.Common.{◌≡◌, ◌⊎◌, ℕ, ◌<◌, Bool, true, false, cond, List, [], ◌∷◌, ◌++◌, Option, Some, None, length, refl, sym, ap, ◌∙◌, subst, inl, inr, ⊎_elim}
+use Rattle.std.proofs.Common.{◌≡◌, ℕ, ◌<◌, Bool, true, false, cond, List, [], ◌∷◌, ◌++◌, Option, Some, None, length, refl, sym, ap, ◌∙◌, subst, inl, inr, ⊎_elim}
 use Rattle.std.proofs.lemmas.Bool.{and_parts}
 use Rattle.gen_core.specs.Events as gens
 use Rattle.gen_core.specs.Plain.{Generations}
@@ -7,7 +7,6 @@ use Rattle.gen_core.specs.Runs.{run, AreInRange}
 use Rattle.gen_core.specs.declared.event.GenEvent.{GenEvent}
 use Rattle.gen_core.specs.declared.event.GenEvent.TheVariants.{TakeRole}
 use Rattle.gen_core.proofs.Alone.{happens_only}
-use Rattle.phase_core.specs.Effects.{is_empty_at}
 use Rattle.phase_core.specs.Event as phases
 use Rattle.phase_core.specs.Event.{Turn, TakeRoleWith, LookUp, RootLoad, Install, Knock, StepOut, EndCall, Begin, Interpose, Block, Move, TurnOver, Unblock, Open, Clear, Free}
 use Rattle.phase_core.specs.Events.{is_possible, effect, taken_with, interposed, opened}
@@ -21,9 +20,8 @@ use Rattle.k42_stamp.specs.Layouts.{Layouts}
 use Rattle.k42_stamp.specs.Orders.{In}
 use Rattle.k42_stamp.proofs.Elements.{in-append}
 use Rattle.k42_joined.specs.Effects as joined
-use Rattle.k42_joined.specs.Event.{Event, AtPhases, AtCells, HandWith, caller_of}
+use Rattle.k42_joined.specs.Event.{Event, AtPhases, AtCells, HandWith}
 use Rattle.k42_joined.specs.Plain.{Joined}
-use Rattle.k42_joined.specs.Possible.{IsPossible}
 use Rattle.k42_joined.specs.Runs.{Leads}
 use Rattle.k42_joined.specs.Sound.{IsSound}
 use Rattle.k42_joined.proofs.Kept.{joined_keeps}

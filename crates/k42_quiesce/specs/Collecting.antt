@@ -1,5 +1,5 @@
 -- Rows on their way through the queue, for the pass that hands them on or takes them in.
-use Rattle.std.specs.Prelude.{◌≡◌, ◌⊎◌, ℕ, ◌+◌, ◌-◌, ◌<◌, ◌≤◌, ◌++◌, List, drop, length, min, take}
+use Rattle.std.specs.Prelude.{◌≡◌, ◌⊎◌, ℕ, ◌+◌, ◌-◌, ◌≤◌, ◌++◌, List, drop, length, take}
 use Rattle.k42_board.specs.Queueing.{WasEmpty}
 use Rattle.k42_board.specs.Seen.{PassSeen}
 use Rattle.k42_board.specs.declared.view.Row.{Row}

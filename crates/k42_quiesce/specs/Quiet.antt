@@ -1,8 +1,5 @@
 -- What a quiet grace promises.
 use Rattle.std.specs.Prelude.{◌≡◌, ℕ, ◌<◌, List, ◌∷◌, Some, None}
-use mathlib.Core.Option.{some}
-use lib.ListN.{get_elem?}
-use Rattle.atomic_table.specs.Table.{State}
 use Rattle.gen_core.specs.declared.event.GenEvent.TheVariants.{GiveRole}
 use Rattle.gen_core.specs.declared.state.GraceAt.TheVariants.{Quiet}
 use Rattle.gen_core.specs.State.{caller_at}
@@ -12,13 +9,8 @@ use Rattle.k42_stamp.specs.Orders.{In}
 use Rattle.k42_joined.specs.Event.{Event, AtPhases}
 use Rattle.k42_joined.specs.Plain.{Joined}
 use Rattle.k42_joined.specs.Runs.{Leads}
-use Rattle.k42_joined.specs.State.{many_callers}
-use Rattle.k42_board.specs.Cells.{Slot}
-use Rattle.k42_board.specs.Rule.{Rule}
 use Rattle.k42_board.specs.Steps.{Always}
 use Rattle.k42_board.specs.declared.view.PassView.{PassView}
-use Rattle.k42_board.specs.declared.view.View.{View}
-use Rattle.k42_board.specs.declared.view.View.TheVariants.{Crew}
 
 -- the generation of a caller's activity, where it has one
 abbrev pub IsActiveIn : {L : Type 0} → Joined L → ℕ → ℕ → Type 0

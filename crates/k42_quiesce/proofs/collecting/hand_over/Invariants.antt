@@ -1,4 +1,4 @@
-use Rattle.std.proofs.Common.{◌≡◌, ◌-◌, length}
+use Rattle.std.proofs.Common.{◌-◌, length}
 use Rattle.k42_board.specs.Seen.{IsPassOf}
 use Rattle.k42_quiesce.specs.Collecting.{HasHandedOver}
 use Rattle.k42_quiesce.proofs.collecting.hand_over.Given as goal

@@ -1,4 +1,4 @@
-use Rattle.std.proofs.Common.{◌≡◌, true, length}
+use Rattle.std.proofs.Common.{◌≡◌, true}
 use Rattle.std.specs.Prelude.{is_some, nat_lt, if◌then◌else◌}
 use Rattle.gen_core.specs.declared.state.GraceAt.TheVariants.{Flipping, Looking}
 use Rattle.k42_board.specs.Seen.{IsSamePass}

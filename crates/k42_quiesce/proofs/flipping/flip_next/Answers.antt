@@ -1,4 +1,4 @@
-use Rattle.std.proofs.Common.{◌≡◌, true, sym, ap, ◌∙◌, subst}
+use Rattle.std.proofs.Common.{sym, ap, ◌∙◌, subst}
 use Rattle.std.specs.Prelude.{is_some, not}
 use Rattle.k42_board.specs.Gracing.{MayFlip}
 use Rattle.k42_board.specs.Seen.{PassSeen}

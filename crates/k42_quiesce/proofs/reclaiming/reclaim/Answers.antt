@@ -1,4 +1,4 @@
-use Rattle.std.proofs.Common.{rules, ◌≡◌, ◌≤◌, ◌<◌, ◌+◌, ℕ, true, length, sym, ap, ◌∙◌, subst, arith}
+use Rattle.std.proofs.Common.{rules, ◌≡◌, ◌≤◌, ◌<◌, ◌+◌, ℕ, true, length, ap, ◌∙◌, subst, arith}
 use Rattle.phase_core.specs.State.{note_at}
 use Rattle.std.specs.Prelude.{is_some, take}
 use Rattle.k42_places.specs.Places.{EachPlace}

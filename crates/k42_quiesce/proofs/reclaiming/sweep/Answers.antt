@@ -1,4 +1,4 @@
-use Rattle.std.proofs.Common.{◌≡◌, ℕ, ◌+◌, ◌-◌, ◌≤◌, ◌<◌, Some, None, refl, sym, ap, ◌∙◌, subst, arith}
+use Rattle.std.proofs.Common.{◌≡◌, ℕ, ◌+◌, ◌-◌, ◌≤◌, ◌<◌, Some, refl, sym, ap, ◌∙◌, subst, arith}
 use Rattle.phase_core.specs.State.{note_at}
 use Rattle.k42_joined.specs.Numbers.{cell_of}
 use Rattle.k42_board.specs.Freeing.{number_noted}

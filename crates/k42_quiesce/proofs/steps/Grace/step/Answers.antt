@@ -1,9 +1,8 @@
-use Rattle.std.proofs.Common.{◌≡◌, ℕ, subst}
+use Rattle.std.proofs.Common.{◌≡◌, subst}
 use Rattle.gen_core.proofs.Stages.{from_is_some}
 use Rattle.k42_board.specs.Plan.{layouts_on}
 use Rattle.k42_quiesce.specs.Gracing.{IsLeftOf, HasLookedOf}
 use Rattle.k42_quiesce.specs.declared.steps.Held.{Held}
-use Rattle.k42_quiesce.specs.declared.steps.Held.TheVariants as Held
 use Rattle.k42_quiesce.specs.declared.steps.GraceStep.TheVariants as GraceStep
 use Rattle.k42_quiesce.proofs.Ended.{quiet_always}
 use Rattle.k42_quiesce.proofs.steps.Grace.step.Goals as goal
