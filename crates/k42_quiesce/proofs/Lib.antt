@@ -1,0 +1,12 @@
+pub mod Entered
+pub mod GoingOn
+pub mod PastFlips
+pub mod Ended
+pub mod HandedRows
+pub mod Tries
+pub mod Emptied
+pub mod Sweeping
+pub mod SweptObjects
+pub mod Reclaimed
+pub mod TurnsOfEvents
+pub mod OpenedBefore

@@ -1,0 +1,75 @@
+-- How far a grace has gone on, for the pass that steps it.
+use Rattle.std.specs.Prelude.{◌≡◌, ◌≢◌, ℕ, ◌+◌, ◌<◌, ◌==◌, if◌then◌else◌, Bool, true, false, List, Option, Some, None, is_some, length, slice_index}
+use Rattle.k42_limits.specs.declared.TheConstants.{CALLERS}
+use Rattle.k42_places.specs.Places.{EachPlace}
+use Rattle.gen_core.specs.Events.{is_looking}
+use Rattle.gen_core.specs.declared.state.GraceAt.TheVariants.{Looking}
+use Rattle.phase_core.specs.Effects.{drained_at}
+use Rattle.phase_core.specs.Event.{TakeRoleWith}
+use Rattle.k42_stamp.specs.Layouts.{Layouts}
+use Rattle.k42_joined.specs.Event.{AtPhases}
+use Rattle.k42_board.specs.Gracing.{MayTakeRole, role_view}
+use Rattle.k42_board.specs.Noting.{notes_due, pairs_from}
+use Rattle.k42_board.specs.Phases.{IsGranted}
+use Rattle.k42_board.specs.Steps.{StepIs}
+use Rattle.k42_board.specs.Views.{hears}
+use Rattle.k42_board.specs.Words.{role_word}
+use Rattle.k42_board.specs.declared.view.PassView.{PassView}
+use Rattle.k42_quiesce.specs.declared.steps.GraceStep.{GraceStep}
+use Rattle.k42_quiesce.specs.declared.steps.GraceStep.TheVariants.{Again, Quiet}
+use Rattle.k42_quiesce.specs.declared.steps.Held.{Held}
+use Rattle.k42_quiesce.specs.declared.steps.Held.TheVariants.{Left, RoleHeld}
+
+-- its grace has taken the role and is not quiet yet; it looks at the processors
+pub record MayGoOn {P : Type 0} (holder : ℕ) (v : PassView P) : Type 0 where
+  pub own : v.number ≡ holder
+  pub looking : is_looking v.turn.grace ≡ true
+
+-- A grace that nobody has taken the role for may begin; another goes on with the same pass.
+abbrev pub MayStep : {P : Type 0} → Option ℕ → PassView P → Type 0
+MayStep None v = MayTakeRole v
+MayStep (Some holder) v = MayGoOn holder v
+
+-- the pass as its grace has the role: where it has not, it takes it
+abbrev pub with_role : {P : Type 0} → Option ℕ → PassView P → PassView P
+with_role None v = role_view 0 v
+with_role (Some holder) v = v
+
+-- By steps of its grace alone the one view has become the other; a swap that drains is drained as the grace is quiet.
+pub record GoesOn {P : Type 0} (v w : PassView P) : Type 0 where
+  pub turn :
+      w.turn ≡ record v.turn { grace = w.turn.grace; coming = w.turn.coming; waits = w.turn.waits }
+  pub procs : length w.turn.waits ≡ length v.turn.waits
+  pub visitor : w.visitor ≡ record v.visitor { swap = drained_at w.turn.grace v.visitor.swap }
+  pub base : is_some v.base ≡ true → w.base ≡ v.base
+  pub rest : w ≡ record v { turn = w.turn; visitor = w.visitor; base = w.base; heard = w.heard }
+
+-- the last look found fewer exits on the processor than the entries that the grace noted there, by so many
+pub record IsLeft {P : Type 0} (proc left : ℕ) (v : PassView P) : Type 0 where
+  pub at : v.turn.grace ≡ Looking proc
+  pub there : proc < length v.turn.waits
+  pub some : 0 < left
+  pub exits : v.heard + left ≡ slice_index v.turn.waits proc
+
+abbrev pub IsLeftOf : {P : Type 0} → Held → PassView P → Type 0
+IsLeftOf (Left proc left) v = IsLeft proc left v
+IsLeftOf (RoleHeld holder) v = ⊥
+
+-- by the answer to a step the pass has the role
+abbrev pub has_role : GraceStep → Bool
+has_role Quiet = true
+has_role (Again (Left proc left)) = true
+has_role (Again (RoleHeld holder)) = false
+
+-- the word of the role was found to be that of another caller, and nothing else is known
+pub record IsRoleHeld {P : Type 0} (holder : ℕ) (v w : PassView P) : Type 0 where
+  pub another : holder ≢ v.number
+  pub caller : holder < CALLERS
+  pub knows : w ≡ hears (holder + 1) v
+
+-- A step of the pass finds the role free and takes it. What its grace notes then is above the rows that it holds.
+pub record TakesRole {S L P : Type 0} (F : Layouts S L P) (declared : List L) (id : ℕ) (v : PassView P) : Type 0 where
+  pub step :
+      StepIs F declared (AtPhases (TakeRoleWith v.number (pairs_from 0 (notes_due v)))) role_word
+      (λ word. if word == 0 then v.number + 1 else word) id v 0 (role_view 0 v)
+  pub noted : EachPlace (λ place row. IsGranted (notes_due v) row) v.rows

@@ -1,0 +1,35 @@
+//! Rows are handed over to whoever collects them.
+ghost use Rattle.std.specs.Prelude.{◌≡◌, ◌<◌, ◌^◌, ◌-◌, ℕ, List, length, min, OnOk, OnErr};
+ghost use Rattle.k42_board.specs.Seen.{IsPassOf};
+ghost use Rattle.k42_board.specs.declared.view.Row.{Row};
+ghost use Rattle.k42_quiesce.specs.Collecting.{HasHandedOver, HasCollected, CollectsAll};
+
+use k42_kinds::Layout;
+use k42_memory::Memory;
+use k42_rule::{Pass, Sys, pop_row, push_row};
+use std::sync::Wait;
+
+/// Pushes the rows that the pass holds, the oldest first. Where there is no memory for one, it and the younger ones stay.
+pub fn hand_over<L: Layout, R: Wait>(rt: &R, sys: &Sys<L>, pass: &mut Pass<L>) -> Result<(), Memory>
+    requires ours { IsPassOf sys.now pass.old }
+    ensures ok { OnOk result (HasHandedOver (length pass.old.view.rows) pass.old pass.new) }
+    ensures err { OnErr result ((count : ℕ) × (count < length pass.old.view.rows) × HasHandedOver count pass.old pass.new) }
+{
+    while !pass.rows().is_empty() {
+        push_row(rt, sys, pass)?;
+    }
+    Ok(())
+}
+
+/// Pops rows for the pass, and answers how many, or `u32::MAX` where they are more.
+pub fn collect<L: Layout, R: Wait>(rt: &R, sys: &Sys<L>, pass: &mut Pass<L>) -> u32
+    requires ours { IsPassOf sys.now pass.old }
+    ensures collected { (rows : List Row) × (result ≡ min (length rows) (2 ^ 32 - 1)) × HasCollected rows pass.old pass.new }
+    ensures all { CollectsAll L.Part pass.new.row_room }
+{
+    let mut count: u32 = 0;
+    while pass.row_room() > 1 && pop_row(rt, sys, pass) {
+        count = count.saturating_add(1);
+    }
+    count
+}

@@ -1,0 +1,39 @@
+//! Waiting for a grace.
+ghost use Rattle.std.specs.Prelude.{◌≡◌, ℕ};
+ghost use Rattle.k42_board.specs.Gracing.{MayTakeRole, role_view};
+ghost use Rattle.k42_board.specs.Plan.{layouts_on};
+ghost use Rattle.k42_board.specs.Seen.{IsPassOf, IsSamePass};
+ghost use Rattle.k42_board.specs.Views.{hears};
+ghost use Rattle.k42_quiesce.specs.Gracing.{GoesOn, TakesRole};
+ghost use Rattle.k42_quiesce.specs.Quiet.{IsQuiet};
+
+use crate::steps::{Grace, GraceStep};
+use crossbeam_utils::Backoff;
+use k42_kinds::Layout;
+use k42_rule::{Pass, Sys};
+use std::sync::Wait;
+
+/// Steps a grace until it is quiet.
+pub fn grace<L: Layout, R: Wait>(rt: &R, sys: &Sys<L>, pass: &mut Pass<L>)
+    requires ours { IsPassOf sys.now pass.old }
+    requires may { MayTakeRole pass.old.view }
+    ensures ours { IsPassOf sys.now pass.new }
+    ensures same { IsSamePass pass.old pass.new }
+    ensures quiet { IsQuiet
+        (layouts_on L.object L.tag_of L.ways L.whole L.serves L.admitted L.act_of sys.now.procs sys.now.callers)
+        sys.now.layouts pass.new.seat pass.new.view }
+    ensures takes { (heard : ℕ) × TakesRole
+        (layouts_on L.object L.tag_of L.ways L.whole L.serves L.admitted L.act_of sys.now.procs sys.now.callers)
+        sys.now.layouts pass.old.seat (hears heard pass.old.view) }
+    ensures goes { GoesOn (role_view 0 pass.old.view) pass.new.view }
+{
+    let mut grace = Grace::new();
+    let backoff = Backoff::new();
+    for _ in rt.forever() {
+        if grace.step(sys, pass) == GraceStep::Quiet {
+            return;
+        }
+        backoff.snooze();
+    }
+    unreachable!()
+}

@@ -1,0 +1,47 @@
+-- Lists of passes.
+use Rattle.std.proofs.Common.{◌≡◌, ℕ, zero, suc, ◌≤◌, leb, true, List, [], ◌∷◌, ◌++◌, Some, length, refl, sym, ap, ◌∙◌, subst}
+use Rattle.std.specs.List.{slice_get}
+use Rattle.std.proofs.lemmas.Bool.{le-leb}
+use Rattle.std.proofs.lemmas.Option.{same_Some}
+use Rattle.co_any.specs.declared.layout.AnyLayout.{AnyLayout}
+use Rattle.k42_places.specs.Places.{EachPlace}
+use Rattle.k42_places.proofs.Appended.{slice_get-append_left, slice_get-append_seam}
+use Rattle.k42_joined.specs.Swapping.{holds_none}
+use Rattle.k42_board.specs.Seen.{SysSeen, PassSeen}
+use Rattle.k42_board.specs.Starting.{IsStarted}
+use Rattle.k42_board.specs.declared.view.PassView.{PassView}
+use Rattle.k42_rule.specs.Finishing.{AreAtRest, IsPassAtRest}
+use Rattle.k42_rule.specs.Tags.{HaveTags}
+use Rattle.quiesce_tests.specs.Ready.{IsFree, AreFree, RestsAt}
+
+module _ {A : Type 0} where
+  pub each_front : (Q : A → Type 0) (xs ys : List A) → EachPlace (λ i y. Q y) (xs ++ ys) → EachPlace (λ i y. Q y) xs
+  each_front Q xs ys each i y e = each i y (slice_get-append_left xs ys i y e)
+
+  pub each_last : (Q : A → Type 0) (xs : List A) (x : A) → EachPlace (λ i y. Q y) (xs ++ x ∷ []) → Q x
+  each_last Q xs x each = each (length xs) x (slice_get-append_seam xs x [])
+
+-- all layouts of this type have all tags
+pub any_tags : (layouts : List AnyLayout) → HaveTags (λ (layout : AnyLayout) tag. leb tag 2) layouts
+any_tags layouts o layout e tag few = le-leb tag 2 few
+
+-- the passes of a system that has started hold no cell
+pub new_crew : {L P : Type 0} (layouts : List L) (procs : ℕ) (callers : List ℕ) (sys : SysSeen L) (passes : List (PassSeen P))
+    → IsStarted layouts procs callers sys passes → AreFree sys passes
+new_crew layouts procs callers sys passes is c pass e = record {
+  ours = is.passes_are c pass e;
+  held = ap (λ (v : PassView _). holds_none v.taker.held) (is.dealt.each c pass e).new;
+}
+
+module _ {L P : Type 0} (sys : SysSeen L) where
+  rests : (c : ℕ) (pass : PassSeen P) → IsFree sys pass → RestsAt c pass → IsPassAtRest sys c pass
+  rests c pass free is = record { ours = free.ours.table; number = is.number; rests = is.rests }
+
+  pub at_rest : (one two three : PassSeen P) → length sys.callers ≡ 3 → IsFree sys one → IsFree sys two → IsFree sys three
+      → RestsAt 0 one → RestsAt 1 two → RestsAt 2 three → AreAtRest sys (one ∷ two ∷ three ∷ [])
+  at_rest one two three callers a b c x y z = record { many = sym callers; each = each } where
+    each : (i : ℕ) (pass : PassSeen P) → slice_get (one ∷ two ∷ three ∷ []) i ≡ Some pass → IsPassAtRest sys i pass
+    each zero pass e = subst (IsPassAtRest sys 0) (same_Some one pass e) (rests 0 one a x)
+    each (suc zero) pass e = subst (IsPassAtRest sys 1) (same_Some two pass e) (rests 1 two b y)
+    each (suc (suc zero)) pass e = subst (IsPassAtRest sys 2) (same_Some three pass e) (rests 2 three c z)
+    each (suc (suc (suc i))) pass e = absurd (cc)

@@ -1,0 +1,76 @@
+ghost use Rattle.std.specs.Prelude.{◌≡◌, true, None, Some, IfOk};
+ghost use Rattle.gen_core.specs.declared.state.GraceAt.TheVariants.{Looking, Quiet};
+ghost use Rattle.k42_board.specs.Generating.{CanLeave};
+ghost use Rattle.k42_board.specs.Gracing.{MayTakeRole};
+ghost use Rattle.k42_quiesce.specs.Gracing.{MayStep};
+ghost use Rattle.quiesce_tests.specs.Ready.{IsFree};
+
+use crate::tests::crews::{Walk, finish, last, start};
+use co_any::AnyLayout;
+use k42_memory::Memory;
+use k42_quiesce::{Grace, GraceStep, Held, collect, enter, grace, hand_over, leave, reclaim};
+use k42_rule::Sys;
+use std::process::Abort;
+use std::test::Fail;
+use std::thread;
+
+mod crews;
+
+/// Begins an activity.
+fn begin(rt: &impl Abort, sys: &Sys<AnyLayout>, pass: &mut Walk)
+    requires free { IsFree sys.now pass.old }
+    ensures free { IsFree sys.now pass.new }
+    ensures entered { CanLeave pass.new.view }
+{
+    assert!(rt; pass.is_idle() && pass.activities() < 1_048_576);
+    enter(sys, pass);
+}
+
+/// Whether the pass may begin a grace.
+fn may_begin(pass: &Walk) -> bool
+    ensures { result ≡ true → MayTakeRole pass.now.view }
+{
+    pass.is_idle() && pass.graces() < 1_048_576
+}
+
+/// One pass is in an activity. The grace of another waits for it, and holds that of a third up.
+fn wait_for_one(
+    rt: &impl Abort,
+    sys: &Sys<AnyLayout>,
+    zero: &mut Walk,
+    one: &mut Walk,
+    two: &mut Walk,
+)
+    requires free { IsFree sys.now zero.old × IsFree sys.now one.old × IsFree sys.now two.old }
+    ensures free { IsFree sys.now zero.new × IsFree sys.now one.new × IsFree sys.now two.new }
+{
+    begin(rt, sys, zero);
+    assert!(rt; may_begin(one) && may_begin(two));
+    let mut first = Grace::new();
+    let left = Held::Left { proc: 0, left: 1 };
+    assert_eq!(rt; first.step(sys, one), GraceStep::Again(left));
+    let mut second = Grace::new();
+    let held = Held::RoleHeld { holder: 1 };
+    assert_eq!(rt; second.step(sys, two), GraceStep::Again(held));
+    leave(sys, zero);
+    assert_eq!(rt; first.step(sys, one), GraceStep::Quiet);
+    assert_eq!(rt; reclaim(sys, one), 0);
+}
+
+#[test]
+fn a_grace_waits_for_the_activity_that_was_open(rt: HostRuntime) -> Result<(), Fail> {
+    let (sys, mut passes) = start(rt.alloc())?;
+    let (Some(mut two), Some(mut one), Some(mut zero)) =
+        (last(&sys, &mut passes), last(&sys, &mut passes), last(&sys, &mut passes))
+    else {
+        return Err("no passes")?;
+    };
+    zero.reserve()?;
+    wait_for_one(&rt, &sys, &mut zero, &mut one, &mut two);
+    let Some(lists) = finish(rt.alloc(), sys, zero, one, two)? else {
+        return Err("a pass does not rest")?;
+    };
+    assert_eq!(rt; lists.len(), 3);
+    assert!(rt; lists.iter().all(|list| list.is_empty()));
+    Ok(())
+}
