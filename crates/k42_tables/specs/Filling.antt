@@ -1,0 +1,23 @@
+-- The cell of a representative.
+use Rattle.std.specs.Prelude.{◌≡◌, ℕ, ◌<◌, ◌≤◌, List, Some, slice_get}
+use Rattle.k42_kinds.specs.Rows.{cells_of}
+use Rattle.phase_core.specs.Stages.{IsInside}
+use Rattle.k42_stamp.specs.Layouts.{Layouts}
+use Rattle.k42_joined.specs.Numbers.{cell_of}
+use Rattle.k42_rule.specs.declared.view.PassView.{PassView}
+
+-- the cell is at this place of the row that the pass is inside, and the row has this layout
+pub record IsOfItsRow
+    {S L P : Type 0} (F : Layouts S L P) (declared : List L) (n place : ℕ) (layout : L) (v : PassView P)
+    : Type 0 where
+  pub object : ℕ
+  pub row : ℕ
+  pub inside : IsInside v.visitor.place object row
+  pub cell : n ≡ cell_of object row place
+  pub declaration : L
+  pub declares : slice_get declared object ≡ Some declaration
+  pub kind : F.object_of layout ≡ F.object_of declaration
+  pub learned : v.layout ≡ Some (F.tag_of layout)
+  pub known : F.tag_of layout ≤ 2
+  pub there : place < cells_of (F.tag_of layout) F.procs
+  pub few : place < F.procs

@@ -1,0 +1,5 @@
+pub mod Entries
+pub mod Walks
+pub mod Serving
+pub mod Filling
+pub mod Missing
