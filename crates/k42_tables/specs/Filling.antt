@@ -4,7 +4,7 @@ use Rattle.k42_kinds.specs.Rows.{cells_of}
 use Rattle.phase_core.specs.Stages.{IsInside}
 use Rattle.k42_stamp.specs.Layouts.{Layouts}
 use Rattle.k42_joined.specs.Numbers.{cell_of}
-use Rattle.k42_rule.specs.declared.view.PassView.{PassView}
+use Rattle.k42_board.specs.declared.view.PassView.{PassView}
 
 -- the cell is at this place of the row that the pass is inside, and the row has this layout
 pub record IsOfItsRow

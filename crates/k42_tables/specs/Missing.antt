@@ -8,12 +8,12 @@ use Rattle.turn_core.specs.declared.event.TurnEvent.TheVariants.{Lock}
 use Rattle.k42_stamp.specs.Layouts.{Layouts}
 use Rattle.k42_joined.specs.Event.{AtPhases, AtCells}
 use Rattle.k42_joined.specs.Numbers.{cell_of}
-use Rattle.k42_rule.specs.Steps.{StepIs}
-use Rattle.k42_rule.specs.Tabling.{layout_learned, installs, installed_view, ended_view}
-use Rattle.k42_rule.specs.Taking.{LockFound, locked_view}
-use Rattle.k42_rule.specs.Values.{local_value}
-use Rattle.k42_rule.specs.Words.{local_word, lock_word}
-use Rattle.k42_rule.specs.declared.view.PassView.{PassView}
+use Rattle.k42_board.specs.Steps.{StepIs}
+use Rattle.k42_board.specs.Tabling.{layout_learned, installs, installed_view, ended_view}
+use Rattle.k42_board.specs.Taking.{LockFound, locked_view}
+use Rattle.k42_board.specs.Values.{local_value}
+use Rattle.k42_board.specs.Words.{local_word, lock_word}
+use Rattle.k42_board.specs.declared.view.PassView.{PassView}
 use Rattle.k42_tables.specs.Serving.{HoldsNone}
 use Rattle.k42_tables.specs.Walks.{WalksAside}
 use Rattle.k42_tables.specs.declared.answers.Filled.{Filled}

@@ -6,8 +6,8 @@ use Rattle.k42_joined.specs.Plain.{Joined}
 use Rattle.k42_joined.specs.Safe.{IsOpenRow}
 use Rattle.k42_joined.specs.State.{object, incarnation}
 use Rattle.k42_joined.specs.Swapping.{holds_none}
-use Rattle.k42_rule.specs.Phases.{is_served}
-use Rattle.k42_rule.specs.declared.view.PassView.{PassView}
+use Rattle.k42_board.specs.Phases.{is_served}
+use Rattle.k42_board.specs.declared.view.PassView.{PassView}
 
 -- The pass is inside the present row of the object, whose layout it has learned, and this is the cell that the root of
 -- the layout names for its processor; the cell is of that row, and open.

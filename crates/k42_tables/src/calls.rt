@@ -3,11 +3,11 @@ ghost use Rattle.std.specs.Prelude.{◌≡◌, ◌+◌, ◌-◌, ◌%◌, ◌^�
 ghost use Rattle.phase_core.specs.Event as phases;
 ghost use Rattle.phase_core.specs.Stages.{object_of};
 ghost use Rattle.k42_joined.specs.Event.{AtPhases};
-ghost use Rattle.k42_rule.specs.Plan.{layouts_on};
-ghost use Rattle.k42_rule.specs.Seen.{IsOf, IsPassOf, IsSamePass, is_tracked};
-ghost use Rattle.k42_rule.specs.Steps.{StepIs, Always};
-ghost use Rattle.k42_rule.specs.Tabling.{EntryFound, entry_in, MayLookUp, looked_up_view, ended_view};
-ghost use Rattle.k42_rule.specs.Words.{local_word, object_word};
+ghost use Rattle.k42_board.specs.Plan.{layouts_on};
+ghost use Rattle.k42_board.specs.Seen.{IsOf, IsPassOf, IsSamePass, is_tracked};
+ghost use Rattle.k42_board.specs.Steps.{StepIs, Always};
+ghost use Rattle.k42_board.specs.Tabling.{EntryFound, entry_in, MayLookUp, looked_up_view, ended_view};
+ghost use Rattle.k42_board.specs.Words.{local_word, object_word};
 ghost use Rattle.k42_tables.specs.Entries.{entered_by, IfDirect};
 ghost use Rattle.k42_tables.specs.Serving.{IsServed, MayFinish};
 

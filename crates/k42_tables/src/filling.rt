@@ -1,9 +1,9 @@
 //! Representatives, which are made on first use.
 ghost use Rattle.std.specs.Prelude.{◌≡◌, ◌<◌, ◌≤◌, Some, [], unwrap_or, OnOk, OnErr};
 ghost use Rattle.k42_limits.specs.declared.TheConstants.{PROCESSORS};
-ghost use Rattle.k42_rule.specs.Plan.{layouts_on};
-ghost use Rattle.k42_rule.specs.Seen.{IsPassOf, IsSamePass};
-ghost use Rattle.k42_rule.specs.Taking.{HoldsHome, unlocked_view};
+ghost use Rattle.k42_board.specs.Plan.{layouts_on};
+ghost use Rattle.k42_board.specs.Seen.{IsPassOf, IsSamePass};
+ghost use Rattle.k42_board.specs.Taking.{HoldsHome, unlocked_view};
 ghost use Rattle.k42_tables.specs.Filling.{IsOfItsRow};
 ghost use Rattle.k42_tables.specs.Walks.{WalksAside};
 

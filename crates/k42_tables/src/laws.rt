@@ -1,8 +1,8 @@
 ghost use Rattle.std.specs.Prelude.{◌≡◌, ◌<◌, ℕ};
 ghost use Rattle.k42_joined.specs.Safe.{IsOpenRow};
-ghost use Rattle.k42_rule.specs.Plan.{layouts_on};
-ghost use Rattle.k42_rule.specs.Steps.{Always};
-ghost use Rattle.k42_rule.specs.declared.view.PassView.{PassView};
+ghost use Rattle.k42_board.specs.Plan.{layouts_on};
+ghost use Rattle.k42_board.specs.Steps.{Always};
+ghost use Rattle.k42_board.specs.declared.view.PassView.{PassView};
 ghost use Rattle.phase_core.specs.Stages.{IsInside};
 
 use k42_kinds::Layout;

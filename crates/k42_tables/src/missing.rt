@@ -1,8 +1,8 @@
 //! The handler of a miss.
 ghost use Rattle.std.specs.Prelude.{◌≡◌, length, IfOk, OnErr};
-ghost use Rattle.k42_rule.specs.Plan.{layouts_on};
-ghost use Rattle.k42_rule.specs.Seen.{IsPassOf, IsSamePass};
-ghost use Rattle.k42_rule.specs.Steps.{Always};
+ghost use Rattle.k42_board.specs.Plan.{layouts_on};
+ghost use Rattle.k42_board.specs.Seen.{IsPassOf, IsSamePass};
+ghost use Rattle.k42_board.specs.Steps.{Always};
 ghost use Rattle.k42_tables.specs.Entries.{IfInstalled, IfFilled, IfHeld};
 ghost use Rattle.k42_tables.specs.Missing.{HasTags, MayMiss, filled_in, HasFilled, HasGivenUp, IsHeldUp, HasFoundHeld};
 ghost use Rattle.k42_tables.specs.Serving.{IsServed};
