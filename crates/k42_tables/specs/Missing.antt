@@ -8,26 +8,22 @@ use Rattle.turn_core.specs.declared.event.TurnEvent.TheVariants.{Lock}
 use Rattle.k42_stamp.specs.Layouts.{Layouts}
 use Rattle.k42_joined.specs.Event.{AtPhases, AtCells}
 use Rattle.k42_joined.specs.Numbers.{cell_of}
+use Rattle.k42_joined.specs.Swapping.{holds_none}
 use Rattle.k42_board.specs.Steps.{StepIs}
 use Rattle.k42_board.specs.Tabling.{layout_learned, installs, installed_view, ended_view}
 use Rattle.k42_board.specs.Taking.{LockFound, locked_view}
 use Rattle.k42_board.specs.Values.{local_value}
 use Rattle.k42_board.specs.Words.{local_word, lock_word}
 use Rattle.k42_board.specs.declared.view.PassView.{PassView}
-use Rattle.k42_tables.specs.Serving.{HoldsNone}
 use Rattle.k42_tables.specs.Walks.{WalksAside}
 use Rattle.k42_tables.specs.declared.answers.Filled.{Filled}
 use Rattle.k42_tables.specs.declared.answers.Filled.TheVariants.{Installed, Elsewhere}
-
--- the type of the declared layout has the tags of all
-abbrev pub HasTags : {L : Type 0} → (L → ℕ → Bool) → List L → ℕ → Type 0
-HasTags has_tag declared o = (layout : _) (tag : ℕ) → slice_get declared o ≡ Some layout → tag ≤ 2 → IsTrue (has_tag layout tag)
 
 -- its last look-up was of this object and found the entry empty, and it holds no cell
 pub record MayMiss {P : Type 0} (objects o : ℕ) (v : PassView P) : Type 0 where
   pub missed : is_missed v.visitor.place o ≡ true
   pub there : o < objects
-  pub free : HoldsNone v
+  pub free : holds_none v.taker.held ≡ true
 
 -- a pass that may have learned a layout since, and have found other words
 abbrev pub IsStillThere : {P : Type 0} → PassView P → PassView P → Type 0

@@ -17,11 +17,6 @@ pub record IsServed {L P : Type 0} (o cell : ℕ) (v : PassView P) (s : Joined L
   pub named : cell ≡ root_of (object s o).layout v.turn.proc
   pub is_open : IsOpenRow s o (incarnation s o) cell
 
--- it holds no cell
-pub record HoldsNone {P : Type 0} (v : PassView P) : Type 0 where
-  pub held : holds_none v.taker.held ≡ true
-  pub noted : v.notes ≡ []
-
 -- its call is a direct or a tracked one, and it holds no cell
 pub record MayFinish {P : Type 0} (v : PassView P) : Type 0 where
   pub served : is_served v.visitor.place ≡ true

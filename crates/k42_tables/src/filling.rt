@@ -44,7 +44,6 @@ pub(crate) fn represent<L: Layout>(
 ) -> Result<(), Memory>
     requires ours { IsPassOf sys.now pass.old }
     requires holds { HoldsHome cell pass.old.view }
-    requires alone { pass.old.view.notes ≡ [] }
     requires row { IsOfItsRow
         (layouts_on L.object L.tag_of L.ways L.whole L.serves L.admitted L.act_of sys.now.procs sys.now.callers)
         sys.now.layouts cell place layout.now pass.old.view }

@@ -4,7 +4,7 @@ ghost use Rattle.k42_board.specs.Plan.{layouts_on};
 ghost use Rattle.k42_board.specs.Seen.{IsPassOf, IsSamePass};
 ghost use Rattle.k42_board.specs.Steps.{Always};
 ghost use Rattle.k42_tables.specs.Entries.{IfInstalled, IfFilled, IfHeld};
-ghost use Rattle.k42_tables.specs.Missing.{HasTags, MayMiss, filled_in, HasFilled, HasGivenUp, IsHeldUp, HasFoundHeld};
+ghost use Rattle.k42_tables.specs.Missing.{MayMiss, filled_in, HasFilled, HasGivenUp, IsHeldUp, HasFoundHeld};
 ghost use Rattle.k42_tables.specs.Serving.{IsServed};
 
 use crate::answers::{Filled, Tried};
@@ -38,7 +38,6 @@ fn try_fill<L: Layout>(
 ) -> Result<Tried, Memory>
     requires ours { IsPassOf sys.now pass.old }
     requires may { MayMiss (length sys.now.layouts) object pass.old.view }
-    requires tagged { HasTags L.has_tag sys.now.layouts object }
     ensures same { IsSamePass pass.old pass.new }
     ensures filled { IfOk result (λ tried. IfFilled tried (HasFilled
         (layouts_on L.object L.tag_of L.ways L.whole L.serves L.admitted L.act_of sys.now.procs sys.now.callers)
@@ -87,7 +86,6 @@ pub fn miss<L: Layout, R: Wait>(
 ) -> Result<Filled, Memory>
     requires ours { IsPassOf sys.now pass.old }
     requires may { MayMiss (length sys.now.layouts) object pass.old.view }
-    requires tagged { HasTags L.has_tag sys.now.layouts object }
     ensures same { IsSamePass pass.old pass.new }
     ensures filled { IfOk result (HasFilled
         (layouts_on L.object L.tag_of L.ways L.whole L.serves L.admitted L.act_of sys.now.procs sys.now.callers)
@@ -118,7 +116,6 @@ pub fn try_miss<L: Layout>(
 ) -> Result<Tried, Memory>
     requires ours { IsPassOf sys.now pass.old }
     requires may { MayMiss (length sys.now.layouts) object pass.old.view }
-    requires tagged { HasTags L.has_tag sys.now.layouts object }
     ensures same { IsSamePass pass.old pass.new }
     ensures filled { IfOk result (λ tried. IfFilled tried (HasFilled
         (layouts_on L.object L.tag_of L.ways L.whole L.serves L.admitted L.act_of sys.now.procs sys.now.callers)
