@@ -50,6 +50,13 @@ filled_in row place found = if found == local_value (empty_entry row) then Insta
 abbrev pub filled_by : {P : Type 0} → PassView P → ℕ → Filled
 filled_by v found = filled_in (row_of v.visitor.place) (place_named v) found
 
+-- it has changed no object and no entry, and is inside no call
+pub record HasGivenUp
+    {S L P : Type 0} (F : Layouts S L P) (declared : List L) (id : ℕ) (old new : PassView P)
+    : Type 0 where
+  pub walk : WalksAside F declared id old new
+  pub out : new ≡ ended_view new.heard old
+
 module _ {S L P : Type 0} (F : Layouts S L P) (declared : List L) (id o : ℕ) where
   -- The last step is an Install. What it found is the word that the pass knows, and decides the answer: the pass is at
   -- its cell where it found the empty entry, and inside no call where it found another word.
@@ -62,11 +69,6 @@ module _ {S L P : Type 0} (F : Layouts S L P) (declared : List L) (id o : ℕ) w
         before new.heard new
     pub view : new ≡ installed_view o new.heard before
     pub answered : answer ≡ filled_by before new.heard
-
-  -- it has changed no object and no entry, and is inside no call
-  pub record HasGivenUp (old new : PassView P) : Type 0 where
-    pub walk : WalksAside F declared id old new
-    pub out : new ≡ ended_view new.heard old
 
   -- a step of it, before which it was as in `before`, has found this word in the lock of its cell: that of a caller of
   -- another number

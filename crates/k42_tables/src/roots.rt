@@ -2,6 +2,7 @@
 ghost use Rattle.std.specs.Prelude.{◌≡◌, ◌<◌, ◌≤◌, ℕ};
 ghost use Rattle.k42_kinds.specs.Rows.{cells_of};
 ghost use Rattle.phase_core.specs.Effects.{root_of};
+ghost use Rattle.k42_tables.specs.RootLaws.{shared_serves};
 
 pub trait Root {
     /// The cell for a processor, and how many cells so many processors have.
@@ -40,7 +41,7 @@ impl Root for SharedRoot {
         1
     }
 
-    ghost serves = { λ root proc procs there. one_cell_serves proc procs there };
+    ghost serves = { λ root proc procs there. shared_serves proc procs };
 }
 
 impl Root for SpreadRoot {
