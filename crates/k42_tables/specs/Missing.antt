@@ -15,6 +15,7 @@ use Rattle.k42_board.specs.Taking.{LockFound, locked_view}
 use Rattle.k42_board.specs.Values.{local_value}
 use Rattle.k42_board.specs.Words.{local_word, lock_word}
 use Rattle.k42_board.specs.declared.view.PassView.{PassView}
+use Rattle.k42_tables.specs.Filling.{HasRepresented}
 use Rattle.k42_tables.specs.Walks.{WalksAside}
 use Rattle.k42_tables.specs.declared.answers.Filled.{Filled}
 use Rattle.k42_tables.specs.declared.answers.Filled.TheVariants.{Installed, Elsewhere}
@@ -58,12 +59,13 @@ pub record HasGivenUp
   pub out : new ≡ ended_view new.heard old
 
 module _ {S L P : Type 0} (F : Layouts S L P) (declared : List L) (id o : ℕ) where
-  -- The last step is an Install. What it found is the word that the pass knows, and decides the answer: the pass is at
-  -- its cell where it found the empty entry, and inside no call where it found another word.
+  -- Its cell has a part then, and the last step is an Install. What this found is the word that the pass knows, and
+  -- decides the answer: the pass is at its cell where it found the empty entry, and inside no call where it found another
+  -- word.
   pub record HasFilled (old new : PassView P) (answer : Filled) : Type 0 where
     pub before : PassView P
     pub rooted : IsRooted old before
-    pub walk : WalksAside F declared id old before
+    pub represented : HasRepresented F declared id (cell_named o before) old before
     pub install :
         StepIs F declared (AtPhases (phases.Install old.number o)) (local_word old.turn.proc o) (installs before) id
         before new.heard new

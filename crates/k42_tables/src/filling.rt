@@ -4,7 +4,7 @@ ghost use Rattle.k42_limits.specs.declared.TheConstants.{PROCESSORS};
 ghost use Rattle.k42_board.specs.Plan.{layouts_on};
 ghost use Rattle.k42_board.specs.Seen.{IsPassOf, IsSamePass};
 ghost use Rattle.k42_board.specs.Taking.{HoldsHome, unlocked_view};
-ghost use Rattle.k42_tables.specs.Filling.{IsOfItsRow};
+ghost use Rattle.k42_tables.specs.Filling.{IsOfItsRow, HasRepresented};
 ghost use Rattle.k42_tables.specs.Walks.{WalksAside};
 
 use k42_kinds::Layout;
@@ -52,6 +52,9 @@ pub(crate) fn represent<L: Layout>(
     ensures walk { WalksAside
         (layouts_on L.object L.tag_of L.ways L.whole L.serves L.admitted L.act_of sys.now.procs sys.now.callers)
         sys.now.layouts pass.old.seat pass.old.view pass.new.view }
+    ensures made { OnOk result (HasRepresented
+        (layouts_on L.object L.tag_of L.ways L.whole L.serves L.admitted L.act_of sys.now.procs sys.now.callers)
+        sys.now.layouts pass.old.seat cell pass.old.view pass.new.view) }
 {
     layouts_are_lawful(sys);
     let procs = sys.procs();
