@@ -1,3 +1,4 @@
 pub mod Walking
 pub mod ServedCells
 pub mod Represented
+pub mod Missed

@@ -1,9 +1,11 @@
 -- Steps that change no object, one after the other.
-use Rattle.std.proofs.Common.{◌≡◌, ℕ, List, [], ◌∷◌, ◌++◌, Some, None, refl, sym, ap, subst}
+use Rattle.std.proofs.Common.{◌≡◌, ℕ, ◌+◌, cond, eqb, List, [], ◌∷◌, ◌++◌, Some, None, refl, sym, ap, subst}
 use Rattle.std.proofs.lemmas.Option.{same_Some}
 use Rattle.atomic_table.specs.Table.{State, Act, keeps, stepped}
 use Rattle.phase_core.specs.Event as phases
+use Rattle.phase_core.specs.Stages.{object_of}
 use Rattle.turn_core.specs.declared.event.TurnEvent.{TurnEvent}
+use Rattle.turn_core.specs.declared.event.TurnEvent.TheVariants.{Lock}
 use Rattle.k42_stamp.specs.Layouts.{Layouts}
 use Rattle.k42_joined.specs.Effects.{effect}
 use Rattle.k42_joined.specs.Event.{Event, AtPhases, AtCells}
@@ -12,6 +14,7 @@ use Rattle.k42_board.specs.Cells.{Slot}
 use Rattle.k42_board.specs.Rule.{Rule}
 use Rattle.k42_board.specs.Steps.{StepIs}
 use Rattle.k42_board.specs.Taking.{ActIs}
+use Rattle.k42_board.specs.Words.{local_word, object_word, lock_word}
 use Rattle.k42_board.specs.declared.view.PassView.{PassView}
 use Rattle.k42_board.specs.declared.view.View.{View}
 use Rattle.k42_board.specs.declared.view.View.TheVariants.{Crew}
@@ -73,3 +76,24 @@ module _ {S L P : Type 0} (F : Layouts S L P) (declared : List L) (id : ℕ) whe
 
   pub walk_on : (v u w : PassView P) → WalksAside F declared id v u → WalksAside F declared id u w → WalksAside F declared id v w
   walk_on v u w first more = record { through = first.through ++ more.through; steps = further v u w first.through more.through first.steps more.steps }
+
+  -- the steps of a call that change no object, each from a seat and a view that are those of the pass
+
+  pub root_walk : (o : ℕ) (v w : PassView P) (found : ℕ) → StepIs F declared (AtPhases (phases.RootLoad v.number o)) (object_word o) (λ word. word) id v found w → WalksAside F declared id v w
+  root_walk o v w found step =
+      walk_one v w (step_aside (AtPhases (phases.RootLoad v.number o)) (object_word o) (λ word. word) v found w (root_aside v.number o) step)
+
+  pub lock_walk : (n : ℕ) (v w : PassView P) (found : ℕ)
+      → StepIs F declared (AtCells (Lock v.number n)) (lock_word n) (λ word. cond (eqb word 0) (v.number + 1) word) id v found w → WalksAside F declared id v w
+  lock_walk n v w found step =
+      walk_one v w (step_aside (AtCells (Lock v.number n)) (lock_word n) (λ word. cond (eqb word 0) (v.number + 1) word) v found w (cells_aside (Lock v.number n)) step)
+
+  pub end_walk : (v w : PassView P) (found : ℕ)
+      → StepIs F declared (AtPhases (phases.EndCall v.number)) (local_word v.turn.proc (object_of v.visitor.place)) (λ word. word) id v found w → WalksAside F declared id v w
+  end_walk v w found step =
+      walk_one v w
+      (step_aside (AtPhases (phases.EndCall v.number)) (local_word v.turn.proc (object_of v.visitor.place)) (λ word. word) v found w (end_aside v.number) step)
+
+  -- a walk of another name of the seat
+  pub walk_at : (seat : ℕ) (v w : PassView P) → seat ≡ id → WalksAside F declared seat v w → WalksAside F declared id v w
+  walk_at seat v w same walk = subst (λ i. WalksAside F declared i v w) same walk

@@ -67,10 +67,10 @@ fn try_fill<L: Layout>(
         });
     }
     let layout = sys.declared(object).with_tag(tag);
-    if let Err(Memory) = represent(alloc, sys, pass, cell, place, &layout) {
+    let Ok(()) = represent(alloc, sys, pass, cell, place, &layout) else {
         end_call(sys, pass);
         return Err(Memory);
-    }
+    };
     let found = install_step(sys, pass, object, place);
     Ok(Tried::Filled(filled_at(row, place, found)))
 }
