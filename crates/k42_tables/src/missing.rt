@@ -99,10 +99,10 @@ pub fn miss<L: Layout, R: Wait>(
 {
     let backoff = Backoff::new();
     for _ in rt.forever() {
-        if let Tried::Filled(answer) = try_fill(alloc, sys, pass, object)? {
-            return Ok(answer);
+        match try_fill(alloc, sys, pass, object)? {
+            Tried::Filled(answer) => return Ok(answer),
+            Tried::Held { .. } => backoff.snooze(),
         }
-        backoff.snooze();
     }
     unreachable!()
 }
