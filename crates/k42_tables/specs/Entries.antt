@@ -1,6 +1,9 @@
 -- What a look-up answers by the entry that it found, and what is so of an answer.
-use Rattle.std.specs.Prelude.{ℕ, ◌==◌, if◌then◌else◌, ⊤}
+use Rattle.std.specs.Prelude.{◌≡◌, ℕ, ◌==◌, true, if◌then◌else◌, ⊤}
+use Rattle.phase_core.specs.Stages.{is_out, is_missed, is_at_mediator, object_of}
+use Rattle.phase_core.specs.declared.caller.Place.{Place}
 use Rattle.phase_core.specs.declared.object.LocalEntry.{LocalEntry}
+use Rattle.k42_board.specs.Phases.{is_served}
 use Rattle.k42_tables.specs.declared.answers.Entered.{Entered}
 use Rattle.k42_tables.specs.declared.answers.Entered.TheVariants.{Direct, Missed, Mediated}
 use Rattle.k42_tables.specs.declared.answers.Filled.{Filled}
@@ -11,6 +14,16 @@ use Rattle.k42_tables.specs.declared.answers.Tried.TheVariants as tried
 -- the tag of the entry decides
 abbrev pub entered_by : LocalEntry → Entered
 entered_by e = if e.tag == 0 then Missed else if e.tag == 1 then Direct e.cell else Mediated
+
+-- where a pass is after an answer of a look-up, and after one of the handler
+abbrev pub LeadsTo : Entered → ℕ → Place → Type 0
+LeadsTo (Direct cell) o place = (is_served place ≡ true) × (object_of place ≡ o)
+LeadsTo Missed o place = is_missed place o ≡ true
+LeadsTo Mediated o place = is_at_mediator place o ≡ true
+
+abbrev pub EndsAt : Filled → ℕ → Place → Type 0
+EndsAt (Installed cell) o place = (is_served place ≡ true) × (object_of place ≡ o)
+EndsAt (Elsewhere word) o place = is_out place ≡ true
 
 abbrev pub IfDirect : Entered → (ℕ → Type 0) → Type 0
 IfDirect (Direct cell) Q = Q cell

@@ -8,7 +8,7 @@ ghost use Rattle.k42_board.specs.Seen.{IsOf, IsPassOf, IsSamePass, is_tracked};
 ghost use Rattle.k42_board.specs.Steps.{StepIs, Always};
 ghost use Rattle.k42_board.specs.Tabling.{EntryFound, entry_in, MayLookUp, looked_up_view, ended_view};
 ghost use Rattle.k42_board.specs.Words.{local_word, object_word};
-ghost use Rattle.k42_tables.specs.Entries.{entered_by, IfDirect};
+ghost use Rattle.k42_tables.specs.Entries.{entered_by, LeadsTo, IfDirect};
 ghost use Rattle.k42_tables.specs.Serving.{IsServed, MayFinish};
 
 use crate::answers::Entered;
@@ -35,6 +35,7 @@ pub fn look_up<L: Layout>(sys: &Sys<L>, pass: &mut Pass<L>, object: u32) -> Ente
     requires may { MayLookUp (length sys.now.layouts) object pass.old.view }
     ensures same { IsSamePass pass.old pass.new }
     ensures answered { result ≡ entered_by (entry_in pass.new.view.heard) }
+    ensures there { LeadsTo result object pass.new.view.visitor.place }
     ensures knows { pass.new.view ≡ looked_up_view object pass.new.view.heard pass.old.view }
     ensures found { EntryFound pass.old.view pass.new.view.heard }
     ensures served { IfDirect result (λ cell. Always

@@ -3,7 +3,7 @@ ghost use Rattle.std.specs.Prelude.{◌≡◌, length, IfOk, OnErr};
 ghost use Rattle.k42_board.specs.Plan.{layouts_on};
 ghost use Rattle.k42_board.specs.Seen.{IsPassOf, IsSamePass};
 ghost use Rattle.k42_board.specs.Steps.{Always};
-ghost use Rattle.k42_tables.specs.Entries.{IfInstalled, IfFilled, IfHeld};
+ghost use Rattle.k42_tables.specs.Entries.{EndsAt, IfInstalled, IfFilled, IfHeld};
 ghost use Rattle.k42_tables.specs.Missing.{MayMiss, filled_in, HasFilled, HasGivenUp, IsHeldUp, HasFoundHeld};
 ghost use Rattle.k42_tables.specs.Serving.{IsServed};
 
@@ -42,6 +42,7 @@ fn try_fill<L: Layout>(
     ensures filled { IfOk result (λ tried. IfFilled tried (HasFilled
         (layouts_on L.object L.tag_of L.ways L.whole L.serves L.admitted L.act_of sys.now.procs sys.now.callers)
         sys.now.layouts pass.old.seat object pass.old.view pass.new.view)) }
+    ensures there { IfOk result (λ tried. IfFilled tried (λ answer. EndsAt answer object pass.new.view.visitor.place)) }
     ensures served { IfOk result (λ tried. IfFilled tried (λ answer. IfInstalled answer (λ cell. Always
         (layouts_on L.object L.tag_of L.ways L.whole L.serves L.admitted L.act_of sys.now.procs sys.now.callers)
         sys.now.layouts pass.old.seat pass.new.view (IsServed object cell pass.new.view)))) }
@@ -90,6 +91,7 @@ pub fn miss<L: Layout, R: Wait>(
     ensures filled { IfOk result (HasFilled
         (layouts_on L.object L.tag_of L.ways L.whole L.serves L.admitted L.act_of sys.now.procs sys.now.callers)
         sys.now.layouts pass.old.seat object pass.old.view pass.new.view) }
+    ensures there { IfOk result (λ answer. EndsAt answer object pass.new.view.visitor.place) }
     ensures served { IfOk result (λ answer. IfInstalled answer (λ cell. Always
         (layouts_on L.object L.tag_of L.ways L.whole L.serves L.admitted L.act_of sys.now.procs sys.now.callers)
         sys.now.layouts pass.old.seat pass.new.view (IsServed object cell pass.new.view))) }
@@ -120,6 +122,7 @@ pub fn try_miss<L: Layout>(
     ensures filled { IfOk result (λ tried. IfFilled tried (HasFilled
         (layouts_on L.object L.tag_of L.ways L.whole L.serves L.admitted L.act_of sys.now.procs sys.now.callers)
         sys.now.layouts pass.old.seat object pass.old.view pass.new.view)) }
+    ensures there { IfOk result (λ tried. IfFilled tried (λ answer. EndsAt answer object pass.new.view.visitor.place)) }
     ensures served { IfOk result (λ tried. IfFilled tried (λ answer. IfInstalled answer (λ cell. Always
         (layouts_on L.object L.tag_of L.ways L.whole L.serves L.admitted L.act_of sys.now.procs sys.now.callers)
         sys.now.layouts pass.old.seat pass.new.view (IsServed object cell pass.new.view)))) }
