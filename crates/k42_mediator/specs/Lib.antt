@@ -1,0 +1,6 @@
+pub mod Answers
+pub mod Entries
+pub mod Knocks
+pub mod Swaps
+pub mod Parts
+pub mod Taken
