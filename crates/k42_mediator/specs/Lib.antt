@@ -4,3 +4,5 @@ pub mod Knocks
 pub mod Swaps
 pub mod Parts
 pub mod Taken
+pub mod Transfers
+pub mod Marks

@@ -1,15 +1,23 @@
 //! What the running table tells of a system and its passes.
-ghost use Rattle.std.specs.Prelude.{◌≡◌, ◌<◌, ◌≤◌, None, []};
-ghost use Rattle.k42_stamp.specs.Laws.{AreLaws};
-ghost use Rattle.k42_limits.specs.declared.TheConstants.{PROCESSORS};
+ghost use Rattle.std.specs.Prelude.{◌≡◌, ℕ, ◌<◌, ◌≤◌, ◌+◌, ◌==◌, if◌then◌else◌, None, false, []};
+ghost use Rattle.k42_limits.specs.declared.TheConstants.{PROCESSORS, LAST_INCARNATION};
 ghost use Rattle.phase_core.specs.Stages.{object_named};
+ghost use Rattle.turn_core.specs.Names.{names};
+ghost use Rattle.turn_core.specs.declared.event.TurnEvent.TheVariants as TurnEvent;
+ghost use Rattle.k42_joined.specs.Event.{AtCells};
+ghost use Rattle.k42_stamp.specs.Laws.{AreLaws};
+ghost use Rattle.k42_rule.specs.Cells.{cells_noted};
 ghost use Rattle.k42_rule.specs.Plan.{layouts_on};
-ghost use Rattle.k42_rule.specs.Views.{object_begun, word_begun};
+ghost use Rattle.k42_rule.specs.Seen.{IsOf, IsSamePass};
+ghost use Rattle.k42_rule.specs.Steps.{StepIs};
 ghost use Rattle.k42_rule.specs.Swapping.{FitsSwap};
-ghost use Rattle.k42_rule.specs.Values.{incarnation_in, layout_in};
+ghost use Rattle.k42_rule.specs.Taking.{MayLock, LockFound, locked_view};
+ghost use Rattle.k42_rule.specs.Values.{incarnation_in};
+ghost use Rattle.k42_rule.specs.Views.{object_begun, word_begun};
+ghost use Rattle.k42_rule.specs.Words.{lock_word};
 
 use k42_kinds::Layout;
-use k42_rule::{LastBegin, Pass, Sys};
+use k42_rule::{LastBegin, Pass, Sys, lock};
 use phase_core::SwapAt;
 
 /// How many processors the system has.
@@ -29,4 +37,31 @@ pub(crate) fn swap_of<L: Layout>(pass: &Pass<L>) -> SwapAt
     ensures rests { (pass.now.view.out ≡ None) × (pass.now.view.untold ≡ []) }
 {
     pass.swap()
+}
+
+/// The object of its last Begin, and the word that this found.
+pub(crate) fn last_of<L: Layout>(pass: &Pass<L>) -> LastBegin
+    ensures object { result.object ≡ object_begun pass.now.view.last }
+    ensures word { result.word ≡ word_begun pass.now.view.last }
+    ensures bounds { (result.object < 16) × (incarnation_in result.word ≤ LAST_INCARNATION) }
+{
+    pass.last_begin()
+        .unwrap_or(LastBegin { object: 0, word: 0 })
+}
+
+/// Takes the lock of a cell, where it is free.
+pub(crate) fn lock_found<L: Layout>(sys: &Sys<L>, pass: &mut Pass<L>, cell: u32) -> u64
+    requires ours { IsOf sys.now pass.old }
+    requires may { MayLock sys.now.procs cell pass.old.view }
+    ensures same { IsSamePass pass.old pass.new }
+    ensures knows { pass.new.view ≡ locked_view cell result pass.old.view }
+    ensures found { LockFound cell pass.old.view result }
+    ensures home { result ≡ 0 → names (cells_noted pass.old.view.notes) cell ≡ false }
+    ensures event { StepIs
+        (layouts_on L.object L.tag_of L.ways L.whole L.serves L.admitted L.act_of sys.now.procs sys.now.callers)
+        sys.now.layouts (AtCells (TurnEvent.Lock pass.old.view.number cell)) (lock_word cell)
+        (λ word. if word == 0 then pass.old.view.number + 1 else word)
+        pass.old.seat pass.old.view result pass.new.view }
+{
+    lock(sys, pass, cell)
 }
