@@ -8,7 +8,7 @@ use Rattle.k42_kinds.specs.declared.entry.Answer.TheVariants.{Abandoned}
 use Rattle.k42_places.specs.Places.{EachPlace}
 use Rattle.phase_core.specs.Effects.{at_stage}
 use Rattle.phase_core.specs.declared.caller.SwapAt.{SwapAt}
-use Rattle.phase_core.specs.declared.caller.SwapAt.TheVariants.{Idle, Begun, Interposed, Moved, Opened}
+use Rattle.phase_core.specs.declared.caller.SwapAt.TheVariants.{Idle, Begun, Interposing, Interposed, Moved, Opening, Reopening, Opened}
 use Rattle.phase_core.specs.declared.object.LocalEntry.{LocalEntry}
 use Rattle.turn_core.specs.Events.{caller_drawn}
 use Rattle.k42_stamp.specs.Layouts.{Layouts}
@@ -39,6 +39,14 @@ begun_now o word v = record v {
   last = Some (record { object = o; word = word });
   found = answer_in word;
 }
+
+-- the stage once the entries of all processors were changed
+abbrev pub stage_changed : SwapAt → SwapAt
+stage_changed (Begun o) = Interposed o
+stage_changed (Interposing o p) = Interposed o
+stage_changed (Opening o p) = Opened o
+stage_changed (Reopening o p) = Opened o
+stage_changed swap = swap
 
 -- its swap has begun, and nothing more
 abbrev pub HasBegun : {P : Type 0} → PassView P → Type 0

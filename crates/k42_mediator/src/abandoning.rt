@@ -9,8 +9,10 @@ ghost use Rattle.k42_rule.specs.Swapping.{object_swapped};
 ghost use Rattle.k42_rule.specs.Views.{hears};
 ghost use Rattle.k42_mediator.specs.Swaps.{staged, HasMoved, abandoned_view, LeavesOpen};
 
+use crate::interposing::change_entries;
+use crate::known::moved_row;
 use k42_kinds::{Answer, Layout};
-use k42_rule::{Pass, Sys, clear_step, draw_alone, entry_step};
+use k42_rule::{Pass, Sys, clear_step, draw_alone};
 
 /// Opens the old implementation again, and draws that the swap was given up.
 pub fn abandon<L: Layout>(sys: &Sys<L>, pass: &mut Pass<L>, to: &L)
@@ -30,9 +32,7 @@ pub fn abandon<L: Layout>(sys: &Sys<L>, pass: &mut Pass<L>, to: &L)
         .map_or(0, |begin| (begin.word >> 32) as u32)
         + 1;
     clear_step(sys, pass);
-    for proc in 0..sys.procs() {
-        entry_step(sys, pass, proc);
-    }
+    change_entries(sys, pass);
     draw_alone(sys, pass, to.act(), Answer::Abandoned(number));
     clear_step(sys, pass);
 }

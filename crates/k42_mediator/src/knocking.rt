@@ -4,24 +4,18 @@ ghost use Rattle.k42_joined.specs.Swapping.{holds_none};
 ghost use Rattle.k42_rule.specs.Plan.{layouts_on};
 ghost use Rattle.k42_rule.specs.Seen.{IsPassOf, IsSamePass};
 ghost use Rattle.k42_rule.specs.Tabling.{MayKnock};
-ghost use Rattle.k42_mediator.specs.Answers.{knocked_in};
+ghost use Rattle.k42_rule.specs.Values.{has_bit};
 ghost use Rattle.k42_mediator.specs.Knocks.{IsKnock};
 
 use crate::answers::Knocked;
 use k42_kinds::Layout;
 use k42_rule::{Pass, Sys, knock_step, step_out};
 
-/// What a knock answers that found this word.
-fn answer_to(word: u64) -> Knocked
-    ensures { result ≡ knocked_in word }
+/// Whether the word of an object says that its swap blocks.
+fn is_blocked(word: u64) -> bool
+    ensures { result ≡ has_bit word 25 }
 {
-    if word / 33_554_432 % 2 == 1 {
-        Knocked::Blocked
-    } else {
-        Knocked::Admitted {
-            incarnation: (word >> 32) as u32,
-        }
-    }
+    word / 33_554_432 % 2 == 1
 }
 
 /// Knocks at the mediator of the object, which lets the caller into the present row and counts it. Where the swap
@@ -35,9 +29,12 @@ pub fn knock<L: Layout>(sys: &Sys<L>, pass: &mut Pass<L>, object: u32) -> Knocke
         (layouts_on L.object L.tag_of L.ways L.whole L.serves L.admitted L.act_of sys.now.procs sys.now.callers)
         sys.now.layouts pass.old.seat object pass.old.view pass.new.view result }
 {
-    let answer = answer_to(knock_step(sys, pass, object));
-    if answer == Knocked::Blocked {
+    let found = knock_step(sys, pass, object);
+    if is_blocked(found) {
         step_out(sys, pass);
+        return Knocked::Blocked;
     }
-    answer
+    Knocked::Admitted {
+        incarnation: (found >> 32) as u32,
+    }
 }

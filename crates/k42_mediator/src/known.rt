@@ -1,7 +1,8 @@
 //! What the running table tells of a system and its passes.
-ghost use Rattle.std.specs.Prelude.{◌≡◌, ℕ, ◌<◌, ◌≤◌, ◌+◌, ◌==◌, if◌then◌else◌, None, false, []};
+ghost use Rattle.std.specs.Prelude.{◌≡◌, ℕ, ◌<◌, ◌≤◌, ◌+◌, ◌==◌, if◌then◌else◌, None, true, false, []};
 ghost use Rattle.k42_limits.specs.declared.TheConstants.{PROCESSORS, LAST_INCARNATION};
-ghost use Rattle.phase_core.specs.Stages.{object_named};
+ghost use Rattle.phase_core.specs.Stages.{object_named, is_moved};
+ghost use Rattle.phase_core.specs.declared.caller.SwapAt.TheVariants.{Moved};
 ghost use Rattle.turn_core.specs.Names.{names};
 ghost use Rattle.turn_core.specs.declared.event.TurnEvent.TheVariants as TurnEvent;
 ghost use Rattle.k42_joined.specs.Event.{AtCells};
@@ -12,18 +13,19 @@ ghost use Rattle.k42_rule.specs.Seen.{IsOf, IsSamePass};
 ghost use Rattle.k42_rule.specs.Steps.{StepIs};
 ghost use Rattle.k42_rule.specs.Swapping.{FitsSwap};
 ghost use Rattle.k42_rule.specs.Taking.{MayLock, LockFound, locked_view};
-ghost use Rattle.k42_rule.specs.Values.{incarnation_in};
+ghost use Rattle.k42_rule.specs.Values.{layout_in, incarnation_in};
 ghost use Rattle.k42_rule.specs.Views.{object_begun, word_begun};
 ghost use Rattle.k42_rule.specs.Words.{lock_word};
 
 use k42_kinds::Layout;
-use k42_rule::{LastBegin, Pass, Sys, lock};
+use k42_rule::{LastBegin, Pass, Row, Sys, lock};
 use phase_core::SwapAt;
 
 /// How many processors the system has.
 pub(crate) fn procs_of<L: Layout>(sys: &Sys<L>) -> u32
     ensures is { result ≡ sys.now.procs }
-    ensures bounds { (0 < result) × (result ≤ PROCESSORS) }
+    ensures few { result ≤ PROCESSORS }
+    ensures some { 0 < result }
     ensures laws { AreLaws (layouts_on L.object L.tag_of L.ways L.whole L.serves L.admitted L.act_of sys.now.procs sys.now.callers) }
 {
     sys.procs()
@@ -39,11 +41,33 @@ pub(crate) fn swap_of<L: Layout>(pass: &Pass<L>) -> SwapAt
     pass.swap()
 }
 
+/// The object that it moves, and the row from which.
+pub(crate) fn moved_row<L: Layout>(pass: &Pass<L>) -> Row
+    requires { is_moved pass.now.view.visitor.swap ≡ true }
+    ensures object { pass.now.view.visitor.swap ≡ Moved result.object }
+    ensures row { result.incarnation ≡ incarnation_in (word_begun pass.now.view.last) }
+    ensures bounds { (result.object < 16) × (result.incarnation < LAST_INCARNATION) }
+    ensures live { layout_in (word_begun pass.now.view.last) ≤ 1 }
+    ensures begun { object_begun pass.now.view.last ≡ result.object }
+    ensures unturned { pass.now.view.turned ≡ false }
+    ensures rests { (pass.now.view.out ≡ None) × (pass.now.view.untold ≡ []) }
+{
+    let SwapAt::Moved(object) = swap_of::<L>(pass) else {
+        unreachable!()
+    };
+    let begin = last_of::<L>(pass);
+    Row {
+        object,
+        incarnation: (begin.word >> 32) as u32,
+    }
+}
+
 /// The object of its last Begin, and the word that this found.
 pub(crate) fn last_of<L: Layout>(pass: &Pass<L>) -> LastBegin
     ensures object { result.object ≡ object_begun pass.now.view.last }
     ensures word { result.word ≡ word_begun pass.now.view.last }
-    ensures bounds { (result.object < 16) × (incarnation_in result.word ≤ LAST_INCARNATION) }
+    ensures few { result.object < 16 }
+    ensures bound { incarnation_in result.word ≤ LAST_INCARNATION }
 {
     pass.last_begin()
         .unwrap_or(LastBegin { object: 0, word: 0 })

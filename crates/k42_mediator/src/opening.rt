@@ -10,8 +10,9 @@ ghost use Rattle.k42_rule.specs.Views.{hears};
 ghost use Rattle.k42_rule.specs.Words.{object_word};
 ghost use Rattle.k42_mediator.specs.Swaps.{HasTransferred, opened_view, HasOpened, ended_view};
 
+use crate::interposing::change_entries;
 use k42_kinds::Layout;
-use k42_rule::{Pass, Sys, clear_step, entry_step, turn_over};
+use k42_rule::{Pass, Sys, clear_step, turn_over};
 
 /// Turns the object over to its next incarnation, and empties the entry of every processor there.
 pub fn open_entries<L: Layout>(sys: &Sys<L>, pass: &mut Pass<L>)
@@ -22,9 +23,7 @@ pub fn open_entries<L: Layout>(sys: &Sys<L>, pass: &mut Pass<L>)
 {
     let layout = pass.handed_layout();
     turn_over(sys, pass, layout);
-    for proc in 0..sys.procs() {
-        entry_step(sys, pass, proc);
-    }
+    change_entries(sys, pass);
 }
 
 /// Ends the swap. The old row is then the newest of the rows that the pass holds.

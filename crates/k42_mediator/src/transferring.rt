@@ -10,7 +10,7 @@ ghost use Rattle.k42_mediator.specs.Parts.{HaveAllTags};
 ghost use Rattle.k42_mediator.specs.Swaps.{HasMoved};
 ghost use Rattle.k42_mediator.specs.Transfers.{IsOfKind, IsLeft, HasDone, HasKept};
 
-use crate::known::{last_of, procs_of};
+use crate::known::{moved_row, procs_of};
 use crate::parts::move_state;
 use crate::rows::{give_back, take_row};
 use k42_kinds::{Answer, Layout};
@@ -55,11 +55,10 @@ pub fn transfer<L: Layout>(
     ensures memory { OnErr result (HasKept pass.old pass.new) }
 {
     let mut cells = Vec::with_capacity(alloc, 2 * procs_of(sys) as usize)?;
-    let begin = last_of::<L>(pass);
-    let row = (begin.word >> 32) as u32;
-    take_row(sys, pass, begin.object, row, &mut cells);
-    take_row(sys, pass, begin.object, row + 1, &mut cells);
-    let done = hand_on(alloc, sys, pass, to, row, &mut cells);
+    let row = moved_row::<L>(pass);
+    take_row(sys, pass, row.object, row.incarnation, &mut cells);
+    take_row(sys, pass, row.object, row.incarnation + 1, &mut cells);
+    let done = hand_on(alloc, sys, pass, to, row.incarnation, &mut cells);
     give_back(sys, pass, cells);
     done
 }
