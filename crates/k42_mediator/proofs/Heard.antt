@@ -15,6 +15,16 @@ moved_heard found v = go (eqb found (blocked_word v)) where
   go true = refl
   go false = refl
 
+-- and its last Begin stays
+pub cleared_last : {P : Type 0} (found : ℕ) (v : PassView P) → (cleared_view found v).last ≡ v.last
+cleared_last found v = go (is_moved v.visitor.swap) where
+  go : (b : Bool)
+      → (cond b (record (at_swap found v (Reopening (object_swapped v) 0)) { abandoned = false })
+      (record (at_swap found v Idle) { turned = false; rows = rows_ended v })).last
+      ≡ v.last
+  go true = refl
+  go false = refl
+
 pub cleared_heard : {P : Type 0} (found : ℕ) (v : PassView P) → (cleared_view found v).heard ≡ found
 cleared_heard found v = go (is_moved v.visitor.swap) where
   go : (b : Bool)

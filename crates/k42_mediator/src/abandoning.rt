@@ -27,10 +27,7 @@ pub fn abandon<L: Layout>(sys: &Sys<L>, pass: &mut Pass<L>, to: &L)
         (layouts_on L.object L.tag_of L.ways L.whole L.serves L.admitted L.act_of sys.now.procs sys.now.callers)
         sys.now.layouts pass.old.seat (staged (Opened (object_swapped pass.old.view)) pass.new.view) }
 {
-    let number = pass
-        .last_begin()
-        .map_or(0, |begin| (begin.word >> 32) as u32)
-        + 1;
+    let number = moved_row::<L>(pass).incarnation + 1;
     clear_step(sys, pass);
     change_entries(sys, pass);
     draw_alone(sys, pass, to.act(), Answer::Abandoned(number));
