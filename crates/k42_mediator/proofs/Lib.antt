@@ -1,3 +1,4 @@
 pub mod Heard
 pub mod EntriesChanged
 pub mod AfterKnock
+pub mod LeftOpen
