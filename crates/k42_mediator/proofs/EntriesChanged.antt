@@ -5,9 +5,9 @@ use Rattle.std.proofs.lemmas.Bool.Decides.{nat_tests}
 use Rattle.std.proofs.lemmas.Option.{same_Some}
 use Rattle.phase_core.specs.declared.caller.SwapAt.{SwapAt}
 use Rattle.phase_core.specs.declared.caller.SwapAt.TheVariants.{Begun, Interposing, Interposed, Opening, Reopening, Opened}
-use Rattle.k42_rule.specs.Swapping.{next_entry, after_entry, changed_view}
-use Rattle.k42_rule.specs.Views.{hears}
-use Rattle.k42_rule.specs.declared.view.PassView.{PassView}
+use Rattle.k42_board.specs.Swapping.{next_entry, after_entry, changed_view}
+use Rattle.k42_board.specs.Views.{hears}
+use Rattle.k42_board.specs.declared.view.PassView.{PassView}
 use Rattle.k42_mediator.specs.Swaps.{staged, stage_changed}
 use Rattle.k42_mediator.proofs.Heard.{heard_now}
 

@@ -2,9 +2,9 @@
 use Rattle.std.proofs.Common.{◌≡◌, ℕ, Bool, true, false, eqb, cond, refl, sym, ap, ◌∙◌}
 use Rattle.phase_core.specs.Stages.{is_moved}
 use Rattle.phase_core.specs.declared.caller.SwapAt.TheVariants.{Idle, Moved, Reopening}
-use Rattle.k42_rule.specs.Swapping.{at_swap, object_swapped, blocked_word, moved_view, rows_ended, cleared_view}
-use Rattle.k42_rule.specs.Views.{hears}
-use Rattle.k42_rule.specs.declared.view.PassView.{PassView}
+use Rattle.k42_board.specs.Swapping.{at_swap, object_swapped, blocked_word, moved_view, rows_ended, cleared_view}
+use Rattle.k42_board.specs.Views.{hears}
+use Rattle.k42_board.specs.declared.view.PassView.{PassView}
 
 pub heard_now : {P : Type 0} (new v : PassView P) (found : ℕ) → new ≡ hears found v → new ≡ hears new.heard v
 heard_now new v found e = e ∙ ap (λ h. hears h v) (sym (ap (λ (w : PassView _). w.heard) e))

@@ -1,5 +1,6 @@
 -- What a swap that is given up leaves.
 use Rattle.std.proofs.Common.{◌≡◌, ⊎_elim, ℕ, ◌+◌, ◌-◌, ◌*◌, ◌^◌, ◌<◌, ◌≤◌, Bool, true, false, eqb, List, [], ◌∷◌, Some, length, get_or, sym, refl, ap, ◌∙◌, subst, arith}
+use Rattle.std.proofs.lemmas.Option.{slice_get-get_or}
 use Rattle.std.specs.Prelude.{◌/◌, ◌%◌, bit_and}
 use mathlib.Core.Option.{some}
 use lib.ListN.{get_elem?}
@@ -9,23 +10,22 @@ use Rattle.phase_core.specs.Effects.{cleared}
 use Rattle.phase_core.specs.Objects.{AreClear, bits_of, IsEntry, IsTagged}
 use Rattle.phase_core.specs.Plain.{Object, Phases}
 use Rattle.phase_core.specs.Stages.{named_by, object_named}
-use Rattle.phase_core.specs.State.{object_at, visitor_at}
+use Rattle.phase_core.specs.State.{object_at, visitor_at, fresh_object}
 use Rattle.phase_core.specs.declared.caller.SwapAt.TheVariants.{Opened}
 use Rattle.phase_core.specs.declared.object.LocalEntry.{LocalEntry}
 use Rattle.phase_core.proofs.InSound.{object_known, visitor_known}
 use Rattle.k42_stamp.specs.Layouts.{Layouts}
 use Rattle.k42_joined.specs.Answers.{is_turned}
-use Rattle.k42_rule.specs.Cells.{Slot}
-use Rattle.k42_rule.specs.Rule.{KnowsPass, Rule}
-use Rattle.k42_rule.specs.Values.{bit, bits_value, object_value, has_bit, layout_in, incarnation_in}
-use Rattle.k42_rule.specs.Views.{word_begun}
-use Rattle.k42_rule.specs.Words.{object_word}
-use Rattle.k42_rule.specs.declared.view.PassView.{PassView}
-use Rattle.k42_rule.specs.declared.view.View.{View}
-use Rattle.k42_rule.specs.declared.view.View.TheVariants.{Crew}
-use Rattle.k42_rule.proofs.Fields.{Fits, object_fits, object_read, cleared_value}
-use Rattle.k42_rule.proofs.Looking.{object_shown}
-use Rattle.k42_rule.proofs.OnePass.{known}
+use Rattle.k42_board.specs.Cells.{Slot}
+use Rattle.k42_board.specs.Rule.{KnowsPass, Rule}
+use Rattle.k42_board.specs.Values.{bit, bits_value, object_value, has_bit, layout_in, incarnation_in}
+use Rattle.k42_board.specs.Views.{word_begun}
+use Rattle.k42_board.specs.Words.{object_word}
+use Rattle.k42_board.specs.declared.view.PassView.{PassView}
+use Rattle.k42_board.specs.declared.view.View.{View}
+use Rattle.k42_board.specs.declared.view.View.TheVariants.{Crew}
+use Rattle.k42_board.proofs.Fields.{Fits, object_fits, object_read, cleared_value}
+use Rattle.k42_board.proofs.OnePass.{known}
 use Rattle.k42_mediator.specs.Swaps.{staged, IsFree, LeadsTo, LeavesOpen}
 
 -- the word of an object without the bits of a swap
@@ -85,7 +85,7 @@ module _ {S L P : Type 0} (F : Layouts S L P) (declared : List L) (id o : ℕ) (
   free =
       let fits = object_fits s r.sound.phases o there in
       free_word k (bit_and (get_or table.words (object_word o) 0) (2 ^ 64 - 1 - 2 ^ 24 - 2 ^ 27)) (word_begun v.last) fits clear
-      (cleared_value k (get_or table.words (object_word o) 0) fits (object_shown F declared table r id v at o there))
+      (cleared_value k (get_or table.words (object_word o) 0) fits (r.shows.objects o k (slice_get-get_or s.objects o fresh_object there)).word)
       (knows.phases.swap.layout_begun o refl unturned) (knows.phases.swap.begun o refl unturned)
 
   entries : EachPlace (λ p e. LeadsTo (incarnation_in (word_begun v.last)) e) k.entries

@@ -1,9 +1,9 @@
 -- What the word of an object answers.
 use Rattle.std.specs.Prelude.{ℕ, ◌+◌, ◌==◌, if◌then◌else◌}
 use Rattle.k42_limits.specs.declared.TheConstants.{LAST_INCARNATION}
-use Rattle.k42_rule.specs.Swapping.{blocked_word}
-use Rattle.k42_rule.specs.Values.{has_bit, count_in, layout_in, incarnation_in}
-use Rattle.k42_rule.specs.declared.view.PassView.{PassView}
+use Rattle.k42_board.specs.Swapping.{blocked_word}
+use Rattle.k42_board.specs.Values.{has_bit, count_in, layout_in, incarnation_in}
+use Rattle.k42_board.specs.declared.view.PassView.{PassView}
 use Rattle.k42_mediator.specs.declared.answers.Phase.{Phase}
 use Rattle.k42_mediator.specs.declared.answers.Phase.TheVariants.{Forward, Block, Transfer, Complete}
 use Rattle.k42_mediator.specs.declared.answers.Begun.{Begun}

@@ -4,7 +4,7 @@ use Rattle.k42_kinds.specs.declared.entry.Act.{Act}
 use Rattle.k42_kinds.specs.declared.entry.Answer.{Answer}
 use Rattle.k42_kinds.specs.declared.entry.Entry.{Entry}
 use Rattle.turn_core.specs.Stamps.{last_stamp}
-use Rattle.k42_rule.specs.declared.view.PassView.{PassView}
+use Rattle.k42_board.specs.declared.view.PassView.{PassView}
 
 -- the next entry of a pass, of a swap or destroy, later than all that it has drawn
 pub record IsNext

@@ -5,12 +5,12 @@ use Rattle.phase_core.specs.Event.{Knock}
 use Rattle.phase_core.specs.declared.caller.Place.TheVariants.{Out}
 use Rattle.k42_stamp.specs.Layouts.{Layouts}
 use Rattle.k42_joined.specs.Event.{AtPhases}
-use Rattle.k42_rule.specs.Steps.{StepIs}
-use Rattle.k42_rule.specs.Tabling.{knocked_view}
-use Rattle.k42_rule.specs.Values.{has_bit}
-use Rattle.k42_rule.specs.Views.{hears}
-use Rattle.k42_rule.specs.Words.{object_word}
-use Rattle.k42_rule.specs.declared.view.PassView.{PassView}
+use Rattle.k42_board.specs.Steps.{StepIs}
+use Rattle.k42_board.specs.Tabling.{knocked_view}
+use Rattle.k42_board.specs.Values.{has_bit}
+use Rattle.k42_board.specs.Views.{hears}
+use Rattle.k42_board.specs.Words.{object_word}
+use Rattle.k42_board.specs.declared.view.PassView.{PassView}
 use Rattle.k42_mediator.specs.Answers.{knocked_in}
 use Rattle.k42_mediator.specs.declared.answers.Knocked.{Knocked}
 

@@ -10,15 +10,15 @@ use Rattle.k42_stamp.specs.Layouts.{Layouts}
 use Rattle.k42_joined.specs.Event.{AtCells}
 use Rattle.k42_joined.specs.Numbers.{cell_of}
 use Rattle.k42_joined.specs.Swapping.{holds_none}
-use Rattle.k42_rule.specs.Drawing.{IsDrawer}
-use Rattle.k42_rule.specs.Generations.{MOST}
-use Rattle.k42_rule.specs.Seen.{PassSeen, IsSamePass}
-use Rattle.k42_rule.specs.Steps.{StepIs}
-use Rattle.k42_rule.specs.Tabling.{is_over_in}
-use Rattle.k42_rule.specs.Values.{answer_in, incarnation_in}
-use Rattle.k42_rule.specs.Views.{hears, object_begun, word_begun}
-use Rattle.k42_rule.specs.Words.{lock_word}
-use Rattle.k42_rule.specs.declared.view.PassView.{PassView}
+use Rattle.k42_board.specs.Drawing.{IsDrawer}
+use Rattle.k42_board.specs.Generations.{MOST}
+use Rattle.k42_board.specs.Seen.{PassSeen, IsSamePass}
+use Rattle.k42_board.specs.Steps.{StepIs}
+use Rattle.k42_board.specs.Tabling.{is_over_in}
+use Rattle.k42_board.specs.Values.{answer_in, incarnation_in}
+use Rattle.k42_board.specs.Views.{hears, object_begun, word_begun}
+use Rattle.k42_board.specs.Words.{lock_word}
+use Rattle.k42_board.specs.declared.view.PassView.{PassView}
 use Rattle.k42_mediator.specs.Entries.{IsNext}
 use Rattle.k42_mediator.specs.declared.answers.Marked.{Marked}
 use Rattle.k42_mediator.specs.declared.answers.Marked.TheVariants as marks

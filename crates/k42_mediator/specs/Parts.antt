@@ -1,11 +1,7 @@
 -- Parts, as they are moved between cells.
-use Rattle.std.specs.Prelude.{◌≡◌, ◌⊎◌, ℕ, ◌+◌, ⊤, IsTrue, ◌≤◌, Bool, List, [], ◌∷◌, Some, None, unwrap_or}
+use Rattle.std.specs.Prelude.{◌≡◌, ◌⊎◌, ℕ, ◌+◌, ⊤, List, [], ◌∷◌, Some, None, unwrap_or}
 use Rattle.k42_kinds.specs.Rows.{Ways}
-use Rattle.k42_rule.specs.declared.cell.Content.{Content}
-
--- the layouts of the type have all tags
-abbrev pub HaveAllTags : {L : Type 0} → (L → ℕ → Bool) → Type 0
-HaveAllTags {L} has_tag = (layout : L) (tag : ℕ) → tag ≤ 2 → IsTrue (has_tag layout tag)
+use Rattle.k42_board.specs.declared.cell.Content.{Content}
 
 -- the parts that are due at the cells, whose places are counted from a first one: a missing one stands for the empty one
 abbrev pub parts_from : {S P : Type 0} → Ways S P → ℕ → ℕ → List (Content P) → List P

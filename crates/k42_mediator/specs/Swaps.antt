@@ -15,18 +15,18 @@ use Rattle.k42_stamp.specs.Layouts.{Layouts}
 use Rattle.k42_joined.specs.Plain.{Joined}
 use Rattle.k42_joined.specs.State.{object}
 use Rattle.k42_joined.specs.Swapping.{holds_none}
-use Rattle.k42_rule.specs.Cells.{Slot}
-use Rattle.k42_rule.specs.Drawing.{entry_alone}
-use Rattle.k42_rule.specs.Rule.{Rule}
-use Rattle.k42_rule.specs.Steps.{Always}
-use Rattle.k42_rule.specs.Swapping.{object_swapped, rows_ended, clears, MayTurnOver}
-use Rattle.k42_rule.specs.Tabling.{MayBegin}
-use Rattle.k42_rule.specs.Values.{has_bit, answer_in, layout_in, incarnation_in}
-use Rattle.k42_rule.specs.Views.{word_begun}
-use Rattle.k42_rule.specs.Words.{object_word}
-use Rattle.k42_rule.specs.declared.view.PassView.{PassView}
-use Rattle.k42_rule.specs.declared.view.View.{View}
-use Rattle.k42_rule.specs.declared.view.View.TheVariants.{Crew}
+use Rattle.k42_board.specs.Cells.{Slot}
+use Rattle.k42_board.specs.Drawing.{entry_alone}
+use Rattle.k42_board.specs.Rule.{Rule}
+use Rattle.k42_board.specs.Steps.{Always}
+use Rattle.k42_board.specs.Swapping.{object_swapped, rows_ended, clears}
+use Rattle.k42_board.specs.Tabling.{MayBegin}
+use Rattle.k42_board.specs.Values.{has_bit, answer_in, layout_in, incarnation_in}
+use Rattle.k42_board.specs.Views.{word_begun}
+use Rattle.k42_board.specs.Words.{object_word}
+use Rattle.k42_board.specs.declared.view.PassView.{PassView}
+use Rattle.k42_board.specs.declared.view.View.{View}
+use Rattle.k42_board.specs.declared.view.View.TheVariants.{Crew}
 
 -- the swap of the pass is at this stage
 abbrev pub staged : {P : Type 0} → SwapAt → PassView P → PassView P
@@ -64,8 +64,9 @@ pub record HasMoved {P : Type 0} (v : PassView P) : Type 0 where
 
 -- it has transferred the state to a layout, and has not turned its object over
 pub record HasTransferred {P : Type 0} (v : PassView P) : Type 0 where
-  pub tag : ℕ
-  pub may : MayTurnOver tag v
+  pub moved : v.visitor.swap ≡ Moved (object_swapped v)
+  pub handed : is_some v.handed ≡ true
+  pub free : holds_none v.taker.held ≡ true
 
 -- its object is turned over, and every entry is empty
 abbrev pub opened_view : {P : Type 0} → PassView P → PassView P

@@ -4,14 +4,14 @@ use Rattle.std.specs.List.{filter}
 use Rattle.k42_places.specs.Places.{EachPlace}
 use Rattle.turn_core.specs.Names.{names}
 use Rattle.k42_stamp.specs.Layouts.{Layouts}
-use Rattle.k42_rule.specs.Cells.{cells_noted}
-use Rattle.k42_rule.specs.Drawing.{IsHeld, part_noted}
-use Rattle.k42_rule.specs.Parts.{IsPart}
-use Rattle.k42_rule.specs.Steps.{Always}
-use Rattle.k42_rule.specs.Taking.{CELLS}
-use Rattle.k42_rule.specs.declared.cell.Content.{Content}
-use Rattle.k42_rule.specs.declared.view.Note.{Note}
-use Rattle.k42_rule.specs.declared.view.PassView.{PassView}
+use Rattle.k42_board.specs.Cells.{cells_noted}
+use Rattle.k42_board.specs.Drawing.{IsHeld, part_noted}
+use Rattle.k42_board.specs.Parts.{IsPart}
+use Rattle.k42_board.specs.Steps.{Always}
+use Rattle.k42_board.specs.Taking.{CELLS}
+use Rattle.k42_board.specs.declared.cell.Content.{Content}
+use Rattle.k42_board.specs.declared.view.Note.{Note}
+use Rattle.k42_board.specs.declared.view.PassView.{PassView}
 
 abbrev pub without_all : {P : Type 0} → List ℕ → List (Note P) → List (Note P)
 without_all cells notes = filter (λ note. not (names cells note.cell)) notes

@@ -1,16 +1,16 @@
 //! A swap is given up.
 ghost use Rattle.std.specs.Prelude.{◌≡◌, ◌<◌, ◌≤◌, length};
 ghost use Rattle.phase_core.specs.declared.caller.SwapAt.TheVariants.{Opened};
-ghost use Rattle.k42_rule.specs.Drawing.{IsDrawer};
-ghost use Rattle.k42_rule.specs.Generations.{MOST};
-ghost use Rattle.k42_rule.specs.Plan.{layouts_on};
-ghost use Rattle.k42_rule.specs.Seen.{IsPassOf};
-ghost use Rattle.k42_rule.specs.Swapping.{object_swapped};
-ghost use Rattle.k42_rule.specs.Views.{hears};
+ghost use Rattle.k42_board.specs.Drawing.{IsDrawer};
+ghost use Rattle.k42_board.specs.Generations.{MOST};
+ghost use Rattle.k42_board.specs.Plan.{layouts_on};
+ghost use Rattle.k42_board.specs.Seen.{IsPassOf};
+ghost use Rattle.k42_board.specs.Swapping.{object_swapped};
+ghost use Rattle.k42_board.specs.Views.{hears};
 ghost use Rattle.k42_mediator.specs.Swaps.{staged, HasMoved, abandoned_view, LeavesOpen};
 
+use crate::begun::moved_row;
 use crate::interposing::change_entries;
-use crate::known::moved_row;
 use k42_kinds::{Answer, Layout};
 use k42_rule::{Pass, Sys, clear_step, draw_alone};
 

@@ -3,18 +3,17 @@ ghost use Rattle.std.specs.Prelude.{◌≡◌, ◌≤◌, length, bit_or};
 ghost use Rattle.k42_limits.specs.declared.TheConstants.{LAST_INCARNATION};
 ghost use Rattle.phase_core.specs.Event as phases;
 ghost use Rattle.k42_joined.specs.Event.{AtPhases};
-ghost use Rattle.k42_rule.specs.Plan.{layouts_on};
-ghost use Rattle.k42_rule.specs.Seen.{IsPassOf, IsSamePass};
-ghost use Rattle.k42_rule.specs.Steps.{StepIs};
-ghost use Rattle.k42_rule.specs.Tabling.{MayBegin, begun_view};
-ghost use Rattle.k42_rule.specs.Values.{incarnation_in};
-ghost use Rattle.k42_rule.specs.Views.{hears, word_begun};
-ghost use Rattle.k42_rule.specs.Words.{object_word};
+ghost use Rattle.k42_board.specs.Plan.{layouts_on};
+ghost use Rattle.k42_board.specs.Seen.{IsPassOf, IsSamePass};
+ghost use Rattle.k42_board.specs.Steps.{StepIs};
+ghost use Rattle.k42_board.specs.Tabling.{MayBegin, begun_view};
+ghost use Rattle.k42_board.specs.Values.{incarnation_in};
+ghost use Rattle.k42_board.specs.Views.{hears, word_begun};
+ghost use Rattle.k42_board.specs.Words.{object_word};
 ghost use Rattle.k42_mediator.specs.Answers.{phase_in, swap_in, begun_in};
 ghost use Rattle.k42_mediator.specs.Swaps.{begun_now};
 
 use crate::answers::{Begun, Phase};
-use crate::known::swap_of;
 use k42_kinds::Layout;
 use k42_limits::LAST_INCARNATION;
 use k42_rule::{Pass, Sys, begin_step, clear_step};
@@ -82,7 +81,7 @@ pub fn begin<L: Layout>(sys: &Sys<L>, pass: &mut Pass<L>, object: u32) -> Begun
         (begun_view object (word_begun pass.new.view.last) pass.old.view) }
 {
     let found = begin_step(sys, pass, object);
-    if let SwapAt::Refused(_) = swap_of::<L>(pass) {
+    if let SwapAt::Refused(_) = pass.swap() {
         clear_step(sys, pass);
     }
     answer_to(found)

@@ -1,8 +1,8 @@
 //! The entries of all processors change.
 ghost use Rattle.std.specs.Prelude.{◌≡◌, Some};
-ghost use Rattle.k42_rule.specs.Seen.{IsPassOf, IsSamePass};
-ghost use Rattle.k42_rule.specs.Swapping.{next_entry};
-ghost use Rattle.k42_rule.specs.Views.{hears};
+ghost use Rattle.k42_board.specs.Seen.{IsPassOf, IsSamePass};
+ghost use Rattle.k42_board.specs.Swapping.{next_entry};
+ghost use Rattle.k42_board.specs.Views.{hears};
 ghost use Rattle.k42_mediator.specs.Swaps.{staged, stage_changed, HasBegun, interposed_view};
 
 use k42_kinds::Layout;

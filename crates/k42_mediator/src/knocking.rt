@@ -1,10 +1,10 @@
 //! Callers knock at the mediator.
 ghost use Rattle.std.specs.Prelude.{◌≡◌, true, length};
 ghost use Rattle.k42_joined.specs.Swapping.{holds_none};
-ghost use Rattle.k42_rule.specs.Plan.{layouts_on};
-ghost use Rattle.k42_rule.specs.Seen.{IsPassOf, IsSamePass};
-ghost use Rattle.k42_rule.specs.Tabling.{MayKnock};
-ghost use Rattle.k42_rule.specs.Values.{has_bit};
+ghost use Rattle.k42_board.specs.Plan.{layouts_on};
+ghost use Rattle.k42_board.specs.Seen.{IsPassOf, IsSamePass};
+ghost use Rattle.k42_board.specs.Tabling.{MayKnock};
+ghost use Rattle.k42_board.specs.Values.{has_bit};
 ghost use Rattle.k42_mediator.specs.Knocks.{IsKnock};
 
 use crate::answers::Knocked;

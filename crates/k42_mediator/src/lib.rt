@@ -4,9 +4,9 @@
 mod abandoning;
 mod answers;
 mod beginning;
+mod begun;
 mod interposing;
 mod knocking;
-mod known;
 mod marking;
 mod moving;
 mod opening;

@@ -1,16 +1,16 @@
 //! A swap or destroy that found its object over draws that.
 ghost use Rattle.std.specs.Prelude.{◌≡◌, ◌<◌, true, Some};
-ghost use Rattle.k42_rule.specs.Plan.{layouts_on};
-ghost use Rattle.k42_rule.specs.Seen.{IsPassOf};
-ghost use Rattle.k42_rule.specs.Tabling.{is_over_in};
-ghost use Rattle.k42_rule.specs.Values.{answer_in};
+ghost use Rattle.k42_board.specs.Plan.{layouts_on};
+ghost use Rattle.k42_board.specs.Seen.{IsPassOf};
+ghost use Rattle.k42_board.specs.Tabling.{is_over_in};
+ghost use Rattle.k42_board.specs.Values.{answer_in};
 ghost use Rattle.k42_mediator.specs.Marks.{MayMark, IsMark};
 
 use crate::answers::Marked;
-use crate::known::{last_of, lock_found};
+use crate::begun::last_of;
 use crate::rows::cell_number;
 use k42_kinds::{Act, Answer, Layout};
-use k42_rule::{Pass, Sys, draw_mark, put, take, unlock};
+use k42_rule::{Pass, Sys, draw_mark, lock, put, take, unlock};
 
 /// What the word of an object answers that is over.
 fn answer_over(word: u64) -> Answer
@@ -37,7 +37,7 @@ pub fn mark<L: Layout>(sys: &Sys<L>, pass: &mut Pass<L>, act: Act) -> Marked
     let begin = last_of::<L>(pass);
     let answer = answer_over(begin.word);
     let number = cell_number(begin.object, (begin.word >> 32) as u32, 0);
-    let found = lock_found(sys, pass, number);
+    let found = lock(sys, pass, number);
     if found != 0 {
         return Marked::Held {
             holder: (found - 1) as u32,

@@ -2,12 +2,12 @@
 ghost use Rattle.std.specs.Prelude.{◌≡◌, ℕ, ◌<◌, ◌+◌, ◌*◌, ◌^◌, bit_or};
 ghost use Rattle.phase_core.specs.Event as phases;
 ghost use Rattle.k42_joined.specs.Event.{AtPhases};
-ghost use Rattle.k42_rule.specs.Plan.{layouts_on};
-ghost use Rattle.k42_rule.specs.Seen.{IsPassOf, IsSamePass};
-ghost use Rattle.k42_rule.specs.Steps.{StepIs};
-ghost use Rattle.k42_rule.specs.Swapping.{object_swapped, MayBlock, blocked_view, MayMove, moves, moved_view};
-ghost use Rattle.k42_rule.specs.Values.{count_in};
-ghost use Rattle.k42_rule.specs.Words.{object_word};
+ghost use Rattle.k42_board.specs.Plan.{layouts_on};
+ghost use Rattle.k42_board.specs.Seen.{IsPassOf, IsSamePass};
+ghost use Rattle.k42_board.specs.Steps.{StepIs};
+ghost use Rattle.k42_board.specs.Swapping.{object_swapped, MayBlock, blocked_view, MayMove, moves, moved_view};
+ghost use Rattle.k42_board.specs.Values.{count_in};
+ghost use Rattle.k42_board.specs.Words.{object_word};
 ghost use Rattle.k42_mediator.specs.Answers.{moving_in};
 ghost use Rattle.k42_mediator.specs.declared.answers.Moving.TheVariants.{InFlight};
 

@@ -2,12 +2,12 @@
 ghost use Rattle.std.specs.Prelude.{◌≡◌, ◌<◌};
 ghost use Rattle.phase_core.specs.Event as phases;
 ghost use Rattle.k42_joined.specs.Event.{AtPhases};
-ghost use Rattle.k42_rule.specs.Plan.{layouts_on};
-ghost use Rattle.k42_rule.specs.Seen.{IsPassOf, IsSamePass, HasSameRoom};
-ghost use Rattle.k42_rule.specs.Steps.{StepIs};
-ghost use Rattle.k42_rule.specs.Swapping.{object_swapped, clears};
-ghost use Rattle.k42_rule.specs.Views.{hears};
-ghost use Rattle.k42_rule.specs.Words.{object_word};
+ghost use Rattle.k42_board.specs.Plan.{layouts_on};
+ghost use Rattle.k42_board.specs.Seen.{IsPassOf, IsSamePass, HasSameRoom};
+ghost use Rattle.k42_board.specs.Steps.{StepIs};
+ghost use Rattle.k42_board.specs.Swapping.{object_swapped, clears};
+ghost use Rattle.k42_board.specs.Views.{hears};
+ghost use Rattle.k42_board.specs.Words.{object_word};
 ghost use Rattle.k42_mediator.specs.Swaps.{HasTransferred, opened_view, HasOpened, ended_view};
 
 use crate::interposing::change_entries;

@@ -4,16 +4,15 @@ ghost use Rattle.k42_limits.specs.declared.TheConstants.{LAST_INCARNATION};
 ghost use Rattle.turn_core.specs.Names.{names, names_once};
 ghost use Rattle.k42_joined.specs.Numbers.{cell_of, row_cells};
 ghost use Rattle.k42_joined.specs.Touching.{is_moving};
-ghost use Rattle.k42_rule.specs.Drawing.{numbers_of};
-ghost use Rattle.k42_rule.specs.Plan.{layouts_on};
-ghost use Rattle.k42_rule.specs.Seen.{IsOf, IsSamePass};
-ghost use Rattle.k42_rule.specs.Taking.{AreRowsNoted, TouchesMoved};
-ghost use Rattle.k42_rule.specs.Views.{hears};
-ghost use Rattle.k42_mediator.specs.Taken.{released, AreTaken, AreReady};
+ghost use Rattle.k42_board.specs.Drawing.{numbers_of};
+ghost use Rattle.k42_board.specs.Plan.{layouts_on};
+ghost use Rattle.k42_board.specs.Seen.{IsOf, IsSamePass};
+ghost use Rattle.k42_board.specs.Taking.{AreRowsNoted, TouchesMoved};
+ghost use Rattle.k42_board.specs.Views.{hears};
+ghost use Rattle.k42_mediator.specs.Taken.{released, AreTaken, IsReady, AreReady};
 
-use crate::known::{lock_found, procs_of};
 use k42_kinds::Layout;
-use k42_rule::{Cell, Pass, Sys, put, take, unlock};
+use k42_rule::{Cell, Pass, Sys, lock, put, take, unlock};
 
 pub(crate) fn cell_number(object: u32, row: u32, place: u32) -> u32
     requires { (object < 16) × (place < 8) }
@@ -42,7 +41,7 @@ fn take_next<L: Layout>(sys: &Sys<L>, pass: &mut Pass<L>, number: u32, cells: &m
         (layouts_on L.object L.tag_of L.ways L.whole L.serves L.admitted L.act_of sys.now.procs sys.now.callers)
         sys.now.layouts pass.new.view }
 {
-    lock_found(sys, pass, number);
+    lock(sys, pass, number);
     let cell = take(sys, pass, number);
     cells.push_reserved(cell);
 }
@@ -72,7 +71,8 @@ pub(crate) fn take_row<L: Layout>(
         (layouts_on L.object L.tag_of L.ways L.whole L.serves L.admitted L.act_of sys.now.procs sys.now.callers)
         sys.now.layouts pass.new.view }
 {
-    for place in 0..procs_of(sys) {
+    let procs = sys.procs();
+    for place in 0..procs {
         take_next(sys, pass, cell_number(object, row, place), cells);
     }
 }
@@ -80,9 +80,9 @@ pub(crate) fn take_row<L: Layout>(
 /// Puts one cell back, and leaves its lock.
 fn give_next<L: Layout>(sys: &Sys<L>, pass: &mut Pass<L>, cell: Cell<L>)
     requires ours { IsOf sys.now pass.old }
-    requires ready { AreReady
+    requires ready { IsReady
         (layouts_on L.object L.tag_of L.ways L.whole L.serves L.admitted L.act_of sys.now.procs sys.now.callers)
-        sys.now.layouts pass.old.seat pass.old.view (cell ∷ []) }
+        sys.now.layouts pass.old.seat pass.old.view cell }
     ensures same { IsSamePass pass.old pass.new }
     ensures released { pass.new.view ≡ released (cell.number ∷ []) pass.old.view }
 {

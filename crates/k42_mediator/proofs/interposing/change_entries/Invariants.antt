@@ -1,6 +1,6 @@
 use Rattle.std.proofs.Common.{◌≡◌, ◌≤◌}
-use Rattle.k42_rule.specs.Seen.{IsSamePass}
-use Rattle.k42_rule.specs.Views.{hears}
+use Rattle.k42_board.specs.Seen.{IsSamePass}
+use Rattle.k42_board.specs.Views.{hears}
 use Rattle.k42_mediator.specs.Swaps.{staged}
 use Rattle.k42_mediator.proofs.EntriesChanged.{stage_at}
 use Rattle.k42_mediator.proofs.interposing.change_entries.Given as goal

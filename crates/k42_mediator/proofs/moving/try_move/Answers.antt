@@ -1,11 +1,11 @@
 use Rattle.std.proofs.Common.{ℕ, sym, ap, ◌∙◌, subst}
 use Rattle.phase_core.specs.Event as phases
 use Rattle.k42_joined.specs.Event.{AtPhases}
-use Rattle.k42_rule.specs.Plan.{layouts_on}
-use Rattle.k42_rule.specs.Steps.{StepIs}
-use Rattle.k42_rule.specs.Swapping.{object_swapped, moves}
-use Rattle.k42_rule.specs.Words.{object_word}
-use Rattle.k42_rule.specs.declared.view.PassView.{PassView}
+use Rattle.k42_board.specs.Plan.{layouts_on}
+use Rattle.k42_board.specs.Steps.{StepIs}
+use Rattle.k42_board.specs.Swapping.{object_swapped, moves}
+use Rattle.k42_board.specs.Words.{object_word}
+use Rattle.k42_board.specs.declared.view.PassView.{PassView}
 use Rattle.k42_mediator.proofs.Heard.{moved_heard}
 use Rattle.k42_mediator.proofs.moving.try_move.Goals as goal
 
