@@ -16,6 +16,7 @@ pub(crate) fn last_of<L: Layout>(pass: &Pass<L>) -> LastBegin
     ensures object { result.object ≡ object_begun pass.now.view.last }
     ensures word { result.word ≡ word_begun pass.now.view.last }
     ensures few { result.object < 16 }
+    ensures settled { IsSettled pass.now.view }
     ensures bound { incarnation_in result.word ≤ LAST_INCARNATION }
 {
     pass.last_begin()

@@ -8,9 +8,9 @@ ghost use Rattle.k42_mediator.specs.Marks.{MayMark, IsMark};
 
 use crate::answers::Marked;
 use crate::begun::last_of;
-use crate::rows::cell_number;
+use crate::rows::{cell_number, give_next};
 use k42_kinds::{Act, Answer, Layout};
-use k42_rule::{Pass, Sys, draw_mark, lock, put, take, unlock};
+use k42_rule::{Pass, Sys, draw_mark, layouts_are_lawful, lock, take};
 
 /// What the word of an object answers that is over.
 fn answer_over(word: u64) -> Answer
@@ -34,6 +34,7 @@ pub fn mark<L: Layout>(sys: &Sys<L>, pass: &mut Pass<L>, act: Act) -> Marked
         (layouts_on L.object L.tag_of L.ways L.whole L.serves L.admitted L.act_of sys.now.procs sys.now.callers)
         sys.now.layouts result act pass.old pass.new }
 {
+    layouts_are_lawful(sys);
     let begin = last_of::<L>(pass);
     let answer = answer_over(begin.word);
     let number = cell_number(begin.object, (begin.word >> 32) as u32, 0);
@@ -45,7 +46,6 @@ pub fn mark<L: Layout>(sys: &Sys<L>, pass: &mut Pass<L>, act: Act) -> Marked
     }
     let mut cell = take(sys, pass, number);
     draw_mark(sys, pass, &mut cell, act, answer);
-    put(sys, pass, number, cell);
-    unlock(sys, pass, number);
+    give_next(sys, pass, cell);
     Marked::Marked
 }

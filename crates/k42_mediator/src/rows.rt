@@ -78,7 +78,7 @@ pub(crate) fn take_row<L: Layout>(
 }
 
 /// Puts one cell back, and leaves its lock.
-fn give_next<L: Layout>(sys: &Sys<L>, pass: &mut Pass<L>, cell: Cell<L>)
+pub(crate) fn give_next<L: Layout>(sys: &Sys<L>, pass: &mut Pass<L>, cell: Cell<L>)
     requires ours { IsOf sys.now pass.old }
     requires ready { IsReady
         (layouts_on L.object L.tag_of L.ways L.whole L.serves L.admitted L.act_of sys.now.procs sys.now.callers)
