@@ -1,27 +1,28 @@
 -- The steps of a grace, one after the other.
 use Rattle.std.proofs.Common.{◌≡◌, ℕ, ◌+◌, ◌-◌, ◌<◌, Bool, true, false, List, Option, Some, None, length, refl, sym, ap, ◌∙◌, subst, arith}
 use Rattle.std.proofs.lemmas.Option.{same_Some}
-use Rattle.std.specs.Prelude.{is_some, ◌==◌, if◌then◌else◌}
+use Rattle.std.specs.Prelude.{is_some, unwrap_or, ◌%◌, ◌==◌, if◌then◌else◌}
 use Rattle.gen_core.specs.Events.{is_quiet}
 use Rattle.gen_core.specs.Plain.{Caller}
+use Rattle.gen_core.specs.declared.event.GenEvent.TheVariants.{Look}
 use Rattle.gen_core.specs.declared.state.GraceAt.{GraceAt}
 use Rattle.gen_core.specs.declared.state.GraceAt.TheVariants.{Idle, Flipping, Looking, Quiet}
 use Rattle.gen_core.proofs.Stages.{from_is_some}
 use Rattle.phase_core.specs.Effects.{drained_at}
 use Rattle.phase_core.specs.Plain.{Visitor}
 use Rattle.phase_core.specs.declared.caller.SwapAt.{SwapAt}
-use Rattle.phase_core.specs.Event.{TakeRoleWith}
+use Rattle.phase_core.specs.Event.{Turn, TakeRoleWith}
 use Rattle.k42_stamp.specs.Layouts.{Layouts}
 use Rattle.k42_joined.specs.Event.{AtPhases}
-use Rattle.k42_board.specs.Gracing.{MayFlip, MayLook, looked_view, looked_at, asked_view, role_view, RoleFound}
+use Rattle.k42_board.specs.Gracing.{MayFlip, MayLook, looked_view, looked_at, asked_view, role_view, look_event}
 use Rattle.k42_board.specs.Noting.{due_note, notes_due, pairs_from}
 use Rattle.k42_board.specs.Seen.{SysSeen, PassSeen, IsPassOf, IsSamePass}
 use Rattle.k42_board.specs.Steps.{StepIs}
 use Rattle.k42_board.specs.Views.{hears}
-use Rattle.k42_board.specs.Words.{role_word}
+use Rattle.k42_board.specs.Words.{exits_word, role_word}
 use Rattle.k42_board.specs.declared.view.PassView.{PassView}
 use Rattle.k42_board.proofs.Notings.{made_length}
-use Rattle.k42_quiesce.specs.Gracing.{GoesOn, TakesRole}
+use Rattle.k42_quiesce.specs.Gracing.{GoesOn, HasLooked, TriesRole}
 
 -- what a grace that is not quiet leaves of its pass's swap
 undrained : (grace : GraceAt) (swap : SwapAt) → is_quiet grace ≡ false → drained_at grace swap ≡ swap
@@ -98,17 +99,28 @@ module _ {P : Type 0} where
     queue = same.queue ∙ is.queue;
   }
 
--- what it tells that the role was found free
-pub takes_role : {S L P : Type 0} (F : Layouts S L P) (declared : List L) (id : ℕ) (v w : PassView P) (found : ℕ) → found ≡ 0 → w ≡ role_view found v
-    → StepIs F declared (AtPhases (TakeRoleWith v.number (pairs_from 0 (notes_due v)))) role_word (λ word. if word == 0 then v.number + 1 else word) id v found w
-    → RoleFound v found → TakesRole F declared id v
-takes_role {P = P} F declared id v w found free e step is = record {
-  step =
-      subst
-      (λ n. StepIs F declared (AtPhases (TakeRoleWith v.number (pairs_from 0 (notes_due v)))) role_word (λ word. if word == 0 then v.number + 1 else word)
-      id v n (role_view n v)) free
+module _ {S L P : Type 0} (F : Layouts S L P) (declared : List L) (id : ℕ) (v w : PassView P) (found : ℕ) where
+  -- what it tells of the role's word
+  pub tries_role : (n : ℕ) → found ≡ n → w ≡ role_view found v
+      → StepIs F declared (AtPhases (TakeRoleWith v.number (pairs_from 0 (notes_due v)))) role_word (λ word. if word == 0 then v.number + 1 else word) id v found w
+      → TriesRole F declared id v n
+  tries_role n same e step =
+      subst (TriesRole F declared id v) same
       (subst
       (λ (x : PassView P). StepIs F declared (AtPhases (TakeRoleWith v.number (pairs_from 0 (notes_due v)))) role_word
-      (λ word. if word == 0 then v.number + 1 else word) id v found x) e step);
-  noted = is.granted;
-}
+      (λ word. if word == 0 then v.number + 1 else word) id v found x) e step)
+
+  -- and of the exits of a processor
+  pub has_looked : (here proc parity : ℕ) → id ≡ here → v.turn.grace ≡ Looking proc → parity ≡ unwrap_or v.base 0 % 2 → w ≡ looked_view found v
+      → StepIs F declared (AtPhases (Turn (look_event v.number v.turn.grace))) (exits_word proc parity) (λ word. word) id v found w
+      → HasLooked F declared here proc w
+  has_looked here proc parity seat at same e step = record {
+    before = v;
+    at = at;
+    step =
+        subst (λ i. StepIs F declared (AtPhases (Turn (Look v.number))) (exits_word proc (unwrap_or v.base 0 % 2)) (λ word. word) i v w.heard w) seat
+        (subst (λ n. StepIs F declared (AtPhases (Turn (Look v.number))) (exits_word proc (unwrap_or v.base 0 % 2)) (λ word. word) id v n w)
+        (sym (ap (λ (x : PassView P). x.heard) e))
+        (subst (λ b. StepIs F declared (AtPhases (Turn (Look v.number))) (exits_word proc b) (λ word. word) id v found w) same
+        (subst (λ (grace : GraceAt). StepIs F declared (AtPhases (Turn (look_event v.number grace))) (exits_word proc parity) (λ word. word) id v found w) at step)));
+  }

@@ -1,11 +1,12 @@
 -- How far a grace has gone on, for the pass that steps it.
-use Rattle.std.specs.Prelude.{◌≡◌, ◌≢◌, ℕ, ◌+◌, ◌<◌, ◌==◌, if◌then◌else◌, Bool, true, false, List, Option, Some, None, is_some, length, slice_index}
+use Rattle.std.specs.Prelude.{◌≡◌, ◌≢◌, ℕ, ◌+◌, ◌<◌, ◌%◌, ◌==◌, if◌then◌else◌, Bool, true, false, List, Option, Some, None, is_some, length, slice_index, unwrap_or}
 use Rattle.k42_limits.specs.declared.TheConstants.{CALLERS}
 use Rattle.k42_places.specs.Places.{EachPlace}
 use Rattle.gen_core.specs.Events.{is_looking}
+use Rattle.gen_core.specs.declared.event.GenEvent.TheVariants.{Look}
 use Rattle.gen_core.specs.declared.state.GraceAt.TheVariants.{Looking}
 use Rattle.phase_core.specs.Effects.{drained_at}
-use Rattle.phase_core.specs.Event.{TakeRoleWith}
+use Rattle.phase_core.specs.Event.{Turn, TakeRoleWith}
 use Rattle.k42_stamp.specs.Layouts.{Layouts}
 use Rattle.k42_joined.specs.Event.{AtPhases}
 use Rattle.k42_board.specs.Gracing.{MayTakeRole, role_view}
@@ -13,7 +14,7 @@ use Rattle.k42_board.specs.Noting.{notes_due, pairs_from}
 use Rattle.k42_board.specs.Phases.{IsGranted}
 use Rattle.k42_board.specs.Steps.{StepIs}
 use Rattle.k42_board.specs.Views.{hears}
-use Rattle.k42_board.specs.Words.{role_word}
+use Rattle.k42_board.specs.Words.{exits_word, role_word}
 use Rattle.k42_board.specs.declared.view.PassView.{PassView}
 use Rattle.k42_quiesce.specs.declared.steps.GraceStep.{GraceStep}
 use Rattle.k42_quiesce.specs.declared.steps.GraceStep.TheVariants.{Again, Quiet}
@@ -67,9 +68,26 @@ pub record IsRoleHeld {P : Type 0} (holder : ℕ) (v w : PassView P) : Type 0 wh
   pub caller : holder < CALLERS
   pub knows : w ≡ hears (holder + 1) v
 
--- A step of the pass finds the role free and takes it. What its grace notes then is above the rows that it holds.
-pub record TakesRole {S L P : Type 0} (F : Layouts S L P) (declared : List L) (id : ℕ) (v : PassView P) : Type 0 where
-  pub step :
+module _ {S L P : Type 0} (F : Layouts S L P) (declared : List L) where
+  -- the last step of the pass was a look at the processor's exits of the generation that its grace has ended
+  pub record HasLooked (id proc : ℕ) (v : PassView P) : Type 0 where
+    pub before : PassView P
+    pub at : before.turn.grace ≡ Looking proc
+    pub step :
+        StepIs F declared (AtPhases (Turn (Look before.number))) (exits_word proc (unwrap_or before.base 0 % 2)) (λ word. word)
+        id before v.heard v
+
+  abbrev pub HasLookedOf : ℕ → Held → PassView P → Type 0
+  HasLookedOf id (Left proc left) v = HasLooked id proc v
+  HasLookedOf id (RoleHeld holder) v = ⊥
+
+  -- a step of the pass tries to take the role, whose word it finds so
+  abbrev pub TriesRole : ℕ → PassView P → ℕ → Type 0
+  TriesRole id v found =
       StepIs F declared (AtPhases (TakeRoleWith v.number (pairs_from 0 (notes_due v)))) role_word
-      (λ word. if word == 0 then v.number + 1 else word) id v 0 (role_view 0 v)
-  pub noted : EachPlace (λ place row. IsGranted (notes_due v) row) v.rows
+      (λ word. if word == 0 then v.number + 1 else word) id v found (role_view found v)
+
+  -- and takes it. What its grace notes then is above the rows that the pass holds.
+  pub record TakesRole (id : ℕ) (v : PassView P) : Type 0 where
+    pub step : TriesRole id v 0
+    pub noted : EachPlace (λ place row. IsGranted (notes_due v) row) v.rows

@@ -3,16 +3,18 @@ ghost use Rattle.gen_core.specs.declared.state.GraceAt.TheVariants.{Looking, Qui
 ghost use Rattle.k42_board.specs.Generating.{CanLeave};
 ghost use Rattle.k42_board.specs.Gracing.{MayTakeRole};
 ghost use Rattle.k42_quiesce.specs.Gracing.{MayStep};
+ghost use Rattle.std.specs.Thread.{IsSync};
 ghost use Rattle.quiesce_tests.specs.Ready.{IsFree};
 
 use crate::tests::crews::{Walk, finish, last, start};
 use co_any::AnyLayout;
-use k42_memory::Memory;
 use k42_quiesce::{Grace, GraceStep, Held, collect, enter, grace, hand_over, leave, reclaim};
 use k42_rule::Sys;
 use std::process::Abort;
+use std::sync::Wait;
 use std::test::Fail;
 use std::thread;
+use std::thread::Threads;
 
 mod crews;
 
@@ -60,9 +62,11 @@ fn wait_for_one(
 #[test]
 fn a_grace_waits_for_the_activity_that_was_open(rt: HostRuntime) -> Result<(), Fail> {
     let (sys, mut passes) = start(rt.alloc())?;
-    let (Some(mut two), Some(mut one), Some(mut zero)) =
-        (last(&sys, &mut passes), last(&sys, &mut passes), last(&sys, &mut passes))
-    else {
+    let (Some(mut two), Some(mut one), Some(mut zero)) = (
+        last(&sys, &mut passes),
+        last(&sys, &mut passes),
+        last(&sys, &mut passes),
+    ) else {
         return Err("no passes")?;
     };
     zero.reserve()?;
@@ -72,5 +76,65 @@ fn a_grace_waits_for_the_activity_that_was_open(rt: HostRuntime) -> Result<(), F
     };
     assert_eq!(rt; lists.len(), 3);
     assert!(rt; lists.iter().all(|list| list.is_empty()));
+    Ok(())
+}
+
+/// One pass leaves while another waits for a grace, each on a thread of its own.
+fn leave_meanwhile<R: Threads + Wait + Sync>(
+    rt: &R,
+    sys: &Sys<AnyLayout>,
+    mut zero: Walk,
+    mut one: Walk,
+) -> (Walk, Walk)
+    requires free { IsFree sys.now zero × IsFree sys.now one }
+    requires may { CanLeave zero.view × MayTakeRole one.view }
+    ensures free { IsFree sys.now result.0 × IsFree sys.now result.1 }
+{
+    thread::join(
+        rt,
+        move || -> Walk
+            requires { IsFree sys.now zero × CanLeave zero.view }
+            ensures { IsFree sys.now result }
+        {
+            leave(sys, &mut zero);
+            zero
+        },
+        move || -> Walk
+            requires { IsFree sys.now one × MayTakeRole one.view }
+            ensures { IsFree sys.now result }
+        {
+            grace(rt, sys, &mut one);
+            reclaim(sys, &mut one);
+            one
+        },
+    )
+}
+
+#[test]
+fn a_grace_waits_on_a_thread_of_its_own(rt: HostRuntime) -> Result<(), Fail> {
+    let (sys, mut passes) = start(rt.alloc())?;
+    let (Some(two), Some(one), Some(mut zero)) = (
+        last(&sys, &mut passes),
+        last(&sys, &mut passes),
+        last(&sys, &mut passes),
+    ) else {
+        return Err("no passes")?;
+    };
+    begin(&rt, &sys, &mut zero);
+    assert!(rt; may_begin(&one));
+    let (zero, one) = leave_meanwhile(&rt, &sys, zero, one);
+    assert!(rt; finish(rt.alloc(), sys, zero, one, two)?.is_some());
+    Ok(())
+}
+
+#[test]
+fn where_no_row_is_held_none_is_handed_over(rt: HostRuntime) -> Result<(), Fail> {
+    let (sys, mut passes) = start(rt.alloc())?;
+    let Some(mut pass) = last(&sys, &mut passes) else {
+        return Err("no pass")?;
+    };
+    hand_over(&rt, &sys, &mut pass)?;
+    assert_eq!(rt; collect(&rt, &sys, &mut pass), 0);
+    assert!(rt; pass.rows().is_empty());
     Ok(())
 }

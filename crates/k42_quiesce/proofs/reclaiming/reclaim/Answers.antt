@@ -26,7 +26,7 @@ loop-object-preserved g c =
       sweeps_next _ _ _ _ before.2 c.sweep-count.ensures.sweeps,
       one_more _ _ _ before.3 c.sweep-count.ensures.one,
       swept_next _ _ _ _ _ _ _ before.4 swept.0 swept.1
-      (swept_here _ _ _ _ _ _ _ swept.0 before.1.seat (ap (λ (v : PassView _). v.visitor.noted) before.2.rest) swept.2),
+          (swept_here _ _ _ _ _ _ _ swept.0 before.1.seat (ap (λ (v : PassView _). v.visitor.noted) before.2.rest) swept.2),
     )
 
 all_swept : {P : Type 0} (objects many layouts : ℕ) (v w x : PassView P) → HasSwept many v w → x ≡ given_view w → length v.visitor.noted ≡ layouts

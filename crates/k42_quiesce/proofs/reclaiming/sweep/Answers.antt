@@ -23,8 +23,8 @@ returns-then-found-from-clause-swept g c =
       (c.free-found.result, c.in-Some.number),
       none_left _ _ _ c.if-found-from.true c.from.ensures,
       swept_past _ _ _ _ _ c.free-found.result c.in-Some.number noted
-      (record { before = c.args.pass.now.view; after = c.free-found.new.pass.view; noted = noted; step = c.free-found.ensures.event })
-      (subst (λ n. n ≤ c.free-found.result) c.from.ensures c.if-found-from.true),
+          (record { before = c.args.pass.now.view; after = c.free-found.new.pass.view; noted = noted; step = c.free-found.ensures.event })
+          (subst (λ n. n ≤ c.free-found.result) c.from.ensures c.if-found-from.true),
     )
 
 pub returns-clause-swept : goal.returns-clause-swept
@@ -36,11 +36,11 @@ returns-clause-swept g c =
       (c.free-found.result, c.in-Some.number),
       one_left _ _ one,
       swept_row _ _ _ _ _ c.free-found.result c.in-Some.number noted
-      (record { before = c.args.pass.now.view; after = c.free-found.new.pass.view; noted = noted; step = c.free-found.ensures.event })
-      one
-      (subst
-      (λ id. (p : ℕ) → p < c.args.sys.now.procs → WasEmptied
-      (layouts_on g.L.Kind.object g.L.Layout.tag_of g.L.Layout.ways g.L.Layout.whole g.L.Layout.serves g.L.Layout.admitted g.L.Layout.act_of c.args.sys.now.procs c.args.sys.now.callers)
-      c.args.sys.now.layouts id (cell_of c.args.object c.free-found.result p))
-      c.free-found.ensures.same.seat c.empty_row.ensures.emptied),
+          (record { before = c.args.pass.now.view; after = c.free-found.new.pass.view; noted = noted; step = c.free-found.ensures.event })
+          one
+          (subst
+          (λ id. (p : ℕ) → p < c.args.sys.now.procs → WasEmptied
+          (layouts_on g.L.Kind.object g.L.Layout.tag_of g.L.Layout.ways g.L.Layout.whole g.L.Layout.serves g.L.Layout.admitted g.L.Layout.act_of c.args.sys.now.procs c.args.sys.now.callers)
+          c.args.sys.now.layouts id (cell_of c.args.object c.free-found.result p))
+          c.free-found.ensures.same.seat c.empty_row.ensures.emptied),
     )

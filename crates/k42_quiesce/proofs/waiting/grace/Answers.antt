@@ -13,9 +13,9 @@ loop-preserved g c =
       c.step.ensures.ours,
       same,
       again _ _ _ _ _ _ c.loop.grace _ c.step.result c.loop.invariant.2 busy c.step.ensures.left c.step.ensures.role_held c.step.ensures.goes
-      (subst
-      (λ id. c.loop.grace ≡ None → has_role c.step.result ≡ true → TakesRole
-      (layouts_on g.L.Kind.object g.L.Layout.tag_of g.L.Layout.ways g.L.Layout.whole g.L.Layout.serves g.L.Layout.admitted g.L.Layout.act_of c.args.sys.now.procs c.args.sys.now.callers)
-      c.args.sys.now.layouts id c.loop.pass.view)
-      c.loop.invariant.1.seat c.step.ensures.takes),
+          (subst
+          (λ id. c.loop.grace ≡ None → has_role c.step.result ≡ true → TakesRole
+          (layouts_on g.L.Kind.object g.L.Layout.tag_of g.L.Layout.ways g.L.Layout.whole g.L.Layout.serves g.L.Layout.admitted g.L.Layout.act_of c.args.sys.now.procs c.args.sys.now.callers)
+          c.args.sys.now.layouts id c.loop.pass.view)
+          c.loop.invariant.1.seat c.step.ensures.takes),
     )

@@ -1,6 +1,7 @@
 use Rattle.std.proofs.Common.{◌≡◌, ℕ, subst}
 use Rattle.gen_core.proofs.Stages.{from_is_some}
-use Rattle.k42_quiesce.specs.Gracing.{IsLeftOf}
+use Rattle.k42_board.specs.Plan.{layouts_on}
+use Rattle.k42_quiesce.specs.Gracing.{IsLeftOf, HasLookedOf}
 use Rattle.k42_quiesce.specs.declared.steps.Held.{Held}
 use Rattle.k42_quiesce.specs.declared.steps.Held.TheVariants as Held
 use Rattle.k42_quiesce.specs.declared.steps.GraceStep.TheVariants as GraceStep
@@ -22,4 +23,16 @@ returns-in-Some-look_on-clause-left g c proc left same =
 
 pub returns-in-Some-look_on-clause-role_held : goal.returns-in-Some-look_on-clause-role_held
 returns-in-Some-look_on-clause-role_held g c holder same =
+    absurd (subst (λ held. IsLeftOf held c.look_on.new.pass.view) (one_cause _ _ same) (c.look_on.ensures.left _ c.in-Some-look_on.is))
+
+pub returns-in-Some-look_on-clause-looked : goal.returns-in-Some-look_on-clause-looked
+returns-in-Some-look_on-clause-looked g c proc left same =
+    subst
+    (λ held. HasLookedOf
+    (layouts_on g.L.Kind.object g.L.Layout.tag_of g.L.Layout.ways g.L.Layout.whole g.L.Layout.serves g.L.Layout.admitted g.L.Layout.act_of c.args.sys.now.procs c.args.sys.now.callers)
+    c.args.sys.now.layouts c.look_on.new.pass.seat held c.look_on.new.pass.view)
+    (one_cause _ _ same) (c.look_on.ensures.looked _ c.in-Some-look_on.is)
+
+pub returns-in-Some-look_on-clause-tries : goal.returns-in-Some-look_on-clause-tries
+returns-in-Some-look_on-clause-tries g c holder same =
     absurd (subst (λ held. IsLeftOf held c.look_on.new.pass.view) (one_cause _ _ same) (c.look_on.ensures.left _ c.in-Some-look_on.is))
