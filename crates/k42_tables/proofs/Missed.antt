@@ -1,13 +1,13 @@
 -- The handler of a miss, from one step to the next.
-use Rattle.std.proofs.Common.{◌≡◌, ℕ, zero, suc, ◌+◌, ◌-◌, ◌*◌, ◌/◌, ◌%◌, ◌<◌, ◌≤◌, ◌^◌, Bool, true, false, not, cond, eqb, List, [], ◌∷◌, ◌++◌, Option, Some, None, refl, sym, ap, ◌∙◌, subst, arith}
+use Rattle.std.proofs.Common.{◌≡◌, ℕ, ◌+◌, ◌-◌, ◌*◌, ◌/◌, ◌%◌, ◌<◌, Bool, true, false, not, cond, eqb, List, [], ◌∷◌, ◌++◌, refl, sym, ap, ◌∙◌, subst, arith}
 use Rattle.std.specs.List.{filter}
 use Rattle.std.specs.Prelude.{unwrap_or}
 use Rattle.std.proofs.lemmas.Bool.{eq-eqb}
-use Rattle.phase_core.specs.Effects.{root_of, at_place}
+use Rattle.phase_core.specs.Effects.{root_of}
 use Rattle.phase_core.specs.Event as phases
-use Rattle.phase_core.specs.Stages.{object_of, row_of, is_missed}
+use Rattle.phase_core.specs.Stages.{row_of}
 use Rattle.phase_core.specs.State.{empty_entry}
-use Rattle.phase_core.specs.declared.caller.Place.TheVariants.{Direct, Out}
+use Rattle.phase_core.specs.declared.caller.Place.TheVariants.{Direct}
 use Rattle.turn_core.specs.Events.{caller_locked, caller_unlocked}
 use Rattle.turn_core.specs.Plain.{Caller}
 use Rattle.turn_core.specs.declared.event.TurnEvent.TheVariants.{Lock}
@@ -16,20 +16,20 @@ use Rattle.k42_joined.specs.Event.{AtPhases, AtCells}
 use Rattle.k42_joined.specs.Numbers.{cell_of}
 use Rattle.k42_joined.specs.Swapping.{holds_none}
 use Rattle.k42_board.specs.Steps.{StepIs, Always}
-use Rattle.k42_board.specs.Tabling.{RootFound, layout_learned, rooted_view, installs, installed_view, ended_view}
+use Rattle.k42_board.specs.Tabling.{RootFound, rooted_view, installs, installed_view, ended_view}
 use Rattle.k42_board.specs.Taking.{LockFound, locked_view, unlocked_view}
 use Rattle.k42_board.specs.Values.{local_value, layout_in}
-use Rattle.k42_board.specs.Words.{local_word, object_word, lock_word}
+use Rattle.k42_board.specs.Words.{local_word, lock_word}
 use Rattle.k42_board.specs.declared.view.PassView.{PassView}
 use Rattle.k42_tables.specs.Entries.{IfInstalled}
 use Rattle.k42_tables.specs.Filling.{HasRepresented}
-use Rattle.k42_tables.specs.Missing.{IsStillThere, IsRooted, place_named, cell_named, filled_in, filled_by, HasFilled, HasGivenUp, FoundHeld, IsHeldUp, HasFoundHeld}
+use Rattle.k42_tables.specs.Missing.{IsStillThere, IsRooted, place_named, cell_named, filled_in, HasFilled, IsHeldUp}
 use Rattle.k42_tables.specs.Serving.{IsServed}
 use Rattle.k42_tables.specs.Walks.{WalksAside}
 use Rattle.k42_tables.specs.declared.answers.Filled.{Filled}
 use Rattle.k42_tables.specs.declared.answers.Filled.TheVariants.{Installed, Elsewhere}
 use Rattle.k42_tables.proofs.ServedCells.{ArePresent, AreOpen, direct_served}
-use Rattle.k42_tables.proofs.Walking.{root_aside, end_aside, cells_aside, step_aside, walk_one, walk_on}
+use Rattle.k42_tables.proofs.Walking.{walk_on}
 
 -- a lock that was taken and left again
 locked_back : (x : Caller) (n : ℕ) → holds_none x.held ≡ true → caller_unlocked n (caller_locked n x) ≡ x

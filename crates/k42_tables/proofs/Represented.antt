@@ -1,23 +1,18 @@
 -- A cell that was taken is put back with its part.
-use Rattle.std.proofs.Common.{◌≡◌, ◌⊎◌, ℕ, ◌<◌, ◌≤◌, Bool, true, false, not, ◌||◌, cond, eqb, List, [], ◌∷◌, Option, Some, None, Result, Ok, Err, refl, sym, ap, ◌∙◌, subst, inl, inr}
-use Rattle.std.specs.List.{slice_get, filter}
+use Rattle.std.proofs.Common.{◌≡◌, ◌⊎◌, ℕ, ◌<◌, Bool, true, false, not, ◌||◌, cond, eqb, List, [], ◌∷◌, Option, Some, None, Result, Ok, Err, refl, sym, ap, ◌∙◌, subst, inl, inr}
 use Rattle.std.specs.Prelude.{unwrap_or, OnOk, OnErr}
 use Rattle.std.proofs.lemmas.Bool.{eq-eqb}
 use Rattle.atomic_table.specs.Table.{takes, gives}
 use Rattle.turn_core.specs.Names.{names}
 use Rattle.turn_core.specs.declared.event.TurnEvent.TheVariants.{Take, Put, Unlock}
-use Rattle.phase_core.specs.Plain.{Visitor}
-use Rattle.phase_core.specs.Stages.{IsInside}
 use Rattle.k42_stamp.specs.Laws.{AreLaws}
 use Rattle.k42_stamp.specs.Layouts.{Layouts}
 use Rattle.k42_joined.specs.Effects.{effect}
 use Rattle.k42_joined.specs.Event.{AtCells}
-use Rattle.k42_joined.specs.Numbers.{cell_of}
-use Rattle.k42_joined.specs.Plain.{Joined}
-use Rattle.k42_board.specs.Cells.{Slot, cells_noted}
+use Rattle.k42_board.specs.Cells.{cells_noted}
 use Rattle.k42_board.specs.Parts.{IsPart}
 use Rattle.k42_board.specs.Steps.{StepIs, Always}
-use Rattle.k42_board.specs.Taking.{CELLS, ActIs, HoldsHome, MayPut, noted, without, lifted_view, taken_view, reaching_view, put_view, unlocked_view}
+use Rattle.k42_board.specs.Taking.{CELLS, ActIs, HoldsHome, MayPut, noted, without, lifted_view, taken_view, reaching_view, put_view}
 use Rattle.k42_board.specs.Words.{lock_word, slot_of}
 use Rattle.k42_board.specs.declared.cell.Content.{Content}
 use Rattle.k42_board.specs.declared.view.Note.{Note}

@@ -1,5 +1,5 @@
 -- Who is inside a row is at its cell.
-use Rattle.std.proofs.Common.{◌≡◌, ℕ, ◌<◌, ◌≤◌, Bool, true, false, cond, eqb, List, [], ◌∷◌, Option, Some, None, refl, sym, ap, ◌∙◌, subst, arith}
+use Rattle.std.proofs.Common.{◌≡◌, ℕ, ◌<◌, Bool, true, false, cond, eqb, List, [], ◌∷◌, Some, None, refl, sym, ap, ◌∙◌, subst, arith}
 use Rattle.std.specs.Prelude.{unwrap_or}
 use Rattle.std.proofs.lemmas.Bool.{eqb-true}
 use mathlib.Core.Option.{some}
@@ -8,13 +8,10 @@ use Rattle.atomic_table.specs.Table.{State}
 use Rattle.phase_core.specs.Effects.{root_of, place_found}
 use Rattle.phase_core.specs.Plain.{Visitor}
 use Rattle.phase_core.specs.Stages.{IsInside, object_of, row_of}
-use Rattle.phase_core.specs.State.{visitor_at}
-use Rattle.phase_core.specs.declared.caller.Place.{Place}
 use Rattle.phase_core.specs.declared.caller.Place.TheVariants.{Direct}
 use Rattle.k42_stamp.specs.Layouts.{Layouts}
-use Rattle.k42_joined.specs.Plain.{Joined}
 use Rattle.k42_joined.specs.Safe.{IsSafe, IsOpenRow}
-use Rattle.k42_joined.specs.State.{many_procs, object, incarnation}
+use Rattle.k42_joined.specs.State.{object, incarnation}
 use Rattle.k42_board.specs.Cells.{Slot}
 use Rattle.k42_board.specs.Phases.{is_served}
 use Rattle.k42_board.specs.Rule.{KnowsPass, Rule}

@@ -1,5 +1,5 @@
 -- A pass that waits for a cell, and takes the step of the handler again.
-use Rattle.std.proofs.Common.{◌≡◌, ℕ, suc, ◌+◌, ◌<◌, ◌≤◌, Bool, true, false, cond, eqb, List, Result, Ok, Err, length, refl, sym, ap, ◌∙◌, subst, arith}
+use Rattle.std.proofs.Common.{◌≡◌, ℕ, ◌+◌, ◌<◌, false, eqb, List, Result, Ok, Err, length, refl, sym, ap, ◌∙◌, subst, arith}
 use Rattle.std.specs.Prelude.{OnErr}
 use Rattle.std.proofs.lemmas.Bool.Decides.{nat_tests}
 use Rattle.phase_core.specs.Event as phases
@@ -7,7 +7,7 @@ use Rattle.phase_core.specs.Stages.{is_missed, object_of}
 use Rattle.k42_stamp.specs.Layouts.{Layouts}
 use Rattle.k42_joined.specs.Event.{AtPhases}
 use Rattle.k42_joined.specs.Swapping.{holds_none}
-use Rattle.k42_board.specs.Seen.{SysSeen, PassSeen, IsOf, IsPassOf, IsSamePass}
+use Rattle.k42_board.specs.Seen.{SysSeen, PassSeen, IsPassOf, IsSamePass}
 use Rattle.k42_board.specs.Steps.{StepIs}
 use Rattle.k42_board.specs.Tabling.{installs, ended_view}
 use Rattle.k42_board.specs.Taking.{locked_view}

@@ -1,7 +1,6 @@
 -- Steps that change no object, one after the other.
-use Rattle.std.proofs.Common.{◌≡◌, ℕ, ◌+◌, cond, eqb, List, [], ◌∷◌, ◌++◌, Some, None, refl, sym, ap, subst}
-use Rattle.std.proofs.lemmas.Option.{same_Some}
-use Rattle.atomic_table.specs.Table.{State, Act, keeps, stepped}
+use Rattle.std.proofs.Common.{◌≡◌, ℕ, ◌+◌, cond, eqb, List, [], ◌∷◌, ◌++◌, Some, None, refl, sym, subst}
+use Rattle.atomic_table.specs.Table.{Act, keeps, stepped}
 use Rattle.phase_core.specs.Event as phases
 use Rattle.phase_core.specs.Stages.{object_of}
 use Rattle.turn_core.specs.declared.event.TurnEvent.{TurnEvent}
@@ -16,7 +15,6 @@ use Rattle.k42_board.specs.Steps.{StepIs}
 use Rattle.k42_board.specs.Taking.{ActIs}
 use Rattle.k42_board.specs.Words.{local_word, object_word, lock_word}
 use Rattle.k42_board.specs.declared.view.PassView.{PassView}
-use Rattle.k42_board.specs.declared.view.View.{View}
 use Rattle.k42_board.specs.declared.view.View.TheVariants.{Crew}
 use Rattle.k42_tables.specs.Walks.{Reaches, KeepsObjects, StepsAside, WalksAside}
 

@@ -1,5 +1,5 @@
 -- The handler of a miss, for one pass: where it may be called, and what the pass knows after it.
-use Rattle.std.specs.Prelude.{◌≡◌, ◌≢◌, ℕ, ◌+◌, ◌<◌, ◌≤◌, ◌==◌, true, if◌then◌else◌, IsTrue, Bool, List, Some, slice_get}
+use Rattle.std.specs.Prelude.{◌≡◌, ℕ, ◌+◌, ◌<◌, ◌≤◌, ◌==◌, true, if◌then◌else◌, List, Some}
 use Rattle.phase_core.specs.Effects.{root_of}
 use Rattle.phase_core.specs.Event as phases
 use Rattle.phase_core.specs.Stages.{is_missed, row_of}

@@ -1,5 +1,5 @@
 -- A pass inside the row that serves it.
-use Rattle.std.specs.Prelude.{◌≡◌, ℕ, Bool, true, false, List, [], Some, if◌then◌else◌}
+use Rattle.std.specs.Prelude.{◌≡◌, ℕ, true, Some}
 use Rattle.phase_core.specs.Effects.{root_of}
 use Rattle.phase_core.specs.Stages.{IsInside}
 use Rattle.k42_joined.specs.Plain.{Joined}

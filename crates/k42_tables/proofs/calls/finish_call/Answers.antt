@@ -1,4 +1,4 @@
-use Rattle.std.proofs.Common.{◌≡◌, ◌+◌, ◌-◌, ◌%◌, ◌^◌, ap}
+use Rattle.std.proofs.Common.{◌+◌, ◌-◌, ◌%◌, ◌^◌, ap}
 use Rattle.phase_core.specs.Event as phases
 use Rattle.phase_core.specs.Stages.{object_of}
 use Rattle.k42_joined.specs.Event.{AtPhases}

@@ -1,9 +1,7 @@
-use Rattle.std.proofs.Common.{◌≡◌, ◌⊎◌, ℕ, Some, refl, sym, ap, ◌∙◌, subst}
+use Rattle.std.proofs.Common.{◌≡◌, ◌⊎◌, Some, sym, ap, ◌∙◌, subst}
 use Rattle.std.specs.Prelude.{unwrap_or}
 use Rattle.k42_board.specs.Plan.{layouts_on}
-use Rattle.k42_board.specs.Taking.{HoldsHome, MayPut, taken_view, put_view, unlocked_view}
-use Rattle.k42_board.specs.declared.view.PassView.{PassView}
-use Rattle.k42_tables.specs.Filling.{IsOfItsRow}
+use Rattle.k42_board.specs.Taking.{HoldsHome, MayPut, put_view, unlocked_view}
 use Rattle.k42_tables.proofs.Represented.{holds_back, put_taken, may_put_filled, whole_walk, represented, either, on_ok}
 use Rattle.k42_tables.proofs.filling.represent.Goals as goal
 

@@ -1,4 +1,4 @@
-use Rattle.std.proofs.Common.{◌≡◌, subst}
+use Rattle.std.proofs.Common.{subst}
 use Rattle.k42_board.specs.Plan.{layouts_on}
 use Rattle.k42_board.specs.Steps.{Always}
 use Rattle.k42_tables.specs.Entries.{IfInstalled, IfFilled, IfHeld}

@@ -1,13 +1,13 @@
 use Rattle.std.proofs.Common.{◌≡◌, ℕ, ◌+◌, ◌*◌, ◌/◌, ◌%◌, ◌<◌, cond, eqb, sym, ap, ◌∙◌, subst, arith}
 use Rattle.phase_core.specs.Event as phases
-use Rattle.phase_core.specs.Stages.{object_of, row_of}
+use Rattle.phase_core.specs.Stages.{row_of}
 use Rattle.turn_core.specs.declared.event.TurnEvent.TheVariants.{Lock}
 use Rattle.k42_joined.specs.Event.{AtPhases, AtCells}
 use Rattle.k42_board.specs.Plan.{layouts_on}
 use Rattle.k42_board.specs.Steps.{StepIs, Always}
-use Rattle.k42_board.specs.Tabling.{installs, installed_view}
-use Rattle.k42_board.specs.Taking.{LockFound, locked_view, unlocked_view}
-use Rattle.k42_board.specs.Words.{local_word, object_word, lock_word}
+use Rattle.k42_board.specs.Tabling.{installs}
+use Rattle.k42_board.specs.Taking.{locked_view, unlocked_view}
+use Rattle.k42_board.specs.Words.{local_word, lock_word}
 use Rattle.k42_board.specs.declared.view.PassView.{PassView}
 use Rattle.k42_tables.specs.Filling.{HasRepresented}
 use Rattle.k42_tables.specs.Missing.{IsRooted, place_named, cell_named}

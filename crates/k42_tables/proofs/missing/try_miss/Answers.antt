@@ -1,4 +1,4 @@
-use Rattle.std.proofs.Common.{◌≡◌, sym, subst}
+use Rattle.std.proofs.Common.{sym, subst}
 use Rattle.k42_board.specs.Plan.{layouts_on}
 use Rattle.k42_tables.specs.Entries.{IfHeld}
 use Rattle.k42_tables.specs.Missing.{IsHeldUp, HasFoundHeld}
