@@ -14,24 +14,26 @@ use Rattle.k42_rule.specs.Finishing.{AreAtRest, IsPassAtRest}
 use Rattle.k42_rule.specs.Tags.{HaveTags}
 use Rattle.quiesce_tests.specs.Ready.{IsFree, AreFree, RestsAt}
 
-module _ {A : Type 0} where
-  pub each_front : (Q : A → Type 0) (xs ys : List A) → EachPlace (λ i y. Q y) (xs ++ ys) → EachPlace (λ i y. Q y) xs
-  each_front Q xs ys each i y e = each i y (slice_get-append_left xs ys i y e)
+module _ {L P : Type 0} (sys : SysSeen L) where
+  pub free_front : (xs ys : List (PassSeen P)) → AreFree sys (xs ++ ys) → AreFree sys xs
+  free_front xs ys each i y e = each i y (slice_get-append_left xs ys i y e)
 
-  pub each_last : (Q : A → Type 0) (xs : List A) (x : A) → EachPlace (λ i y. Q y) (xs ++ x ∷ []) → Q x
-  each_last Q xs x each = each (length xs) x (slice_get-append_seam xs x [])
+  pub free_last : (xs : List (PassSeen P)) (x : PassSeen P) → AreFree sys (xs ++ x ∷ []) → IsFree sys x
+  free_last xs x each = each (length xs) x (slice_get-append_seam xs x [])
 
 -- all layouts of this type have all tags
 pub any_tags : (layouts : List AnyLayout) → HaveTags (λ (layout : AnyLayout) tag. leb tag 2) layouts
 any_tags layouts o layout e tag few = le-leb tag 2 few
 
 -- the passes of a system that has started hold no cell
-pub new_crew : {L P : Type 0} (layouts : List L) (procs : ℕ) (callers : List ℕ) (sys : SysSeen L) (passes : List (PassSeen P))
-    → IsStarted layouts procs callers sys passes → AreFree sys passes
-new_crew layouts procs callers sys passes is c pass e = record {
-  ours = is.passes_are c pass e;
-  held = ap (λ (v : PassView _). holds_none v.taker.held) (is.dealt.each c pass e).new;
-}
+pub new_three : {L P : Type 0} (layouts : List L) (procs : ℕ) (callers : List ℕ) (sys : SysSeen L) (passes : List (PassSeen P))
+    → IsStarted layouts procs callers sys passes → length callers ≡ 3 → AreFree sys passes × (length sys.callers ≡ 3)
+new_three {L} {P} layouts procs callers sys passes is three = (free, ap length is.callers_are ∙ three) where
+  free : AreFree sys passes
+  free c pass e = record {
+    ours = is.passes_are c pass e;
+    held = ap (λ (v : PassView P). holds_none v.taker.held) (is.dealt.each c pass e).new;
+  }
 
 module _ {L P : Type 0} (sys : SysSeen L) where
   rests : (c : ℕ) (pass : PassSeen P) → IsFree sys pass → RestsAt c pass → IsPassAtRest sys c pass

@@ -50,7 +50,7 @@ fn wait_for_one(
     assert!(rt; may_begin(one) && may_begin(two));
     let mut first = Grace::new();
     let left = Held::Left { proc: 0, left: 1 };
-    assert_eq!(rt; first.step(sys, one), GraceStep::Again(left));
+    assert!(rt; first.step(sys, one) == GraceStep::Again(left));
     let mut second = Grace::new();
     let held = Held::RoleHeld { holder: 1 };
     assert_eq!(rt; second.step(sys, two), GraceStep::Again(held));
@@ -79,12 +79,31 @@ fn a_grace_waits_for_the_activity_that_was_open(rt: HostRuntime) -> Result<(), F
     Ok(())
 }
 
+/// Ends the activity of the pass.
+fn leave_with(sys: &Sys<AnyLayout>, mut pass: Walk) -> Walk
+    requires { IsFree sys.now pass × CanLeave pass.view }
+    ensures { IsFree sys.now result }
+{
+    leave(sys, &mut pass);
+    pass
+}
+
+/// Waits until a grace of the pass is quiet, and frees what it noted.
+fn wait_with(rt: &impl Wait, sys: &Sys<AnyLayout>, mut pass: Walk) -> Walk
+    requires { IsFree sys.now pass × MayTakeRole pass.view }
+    ensures { IsFree sys.now result }
+{
+    grace(rt, sys, &mut pass);
+    reclaim(sys, &mut pass);
+    pass
+}
+
 /// One pass leaves while another waits for a grace, each on a thread of its own.
 fn leave_meanwhile<R: Threads + Wait + Sync>(
     rt: &R,
     sys: &Sys<AnyLayout>,
-    mut zero: Walk,
-    mut one: Walk,
+    zero: Walk,
+    one: Walk,
 ) -> (Walk, Walk)
     requires free { IsFree sys.now zero × IsFree sys.now one }
     requires may { CanLeave zero.view × MayTakeRole one.view }
@@ -94,19 +113,12 @@ fn leave_meanwhile<R: Threads + Wait + Sync>(
         rt,
         move || -> Walk
             requires { IsFree sys.now zero × CanLeave zero.view }
-            ensures { IsFree sys.now result }
-        {
-            leave(sys, &mut zero);
-            zero
-        },
+            ensures { IsFree sys.entry.now result }
+        { leave_with(sys, zero) },
         move || -> Walk
             requires { IsFree sys.now one × MayTakeRole one.view }
-            ensures { IsFree sys.now result }
-        {
-            grace(rt, sys, &mut one);
-            reclaim(sys, &mut one);
-            one
-        },
+            ensures { IsFree sys.entry.now result }
+        { wait_with(rt, sys, one) },
     )
 }
 

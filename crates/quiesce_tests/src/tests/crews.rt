@@ -10,17 +10,18 @@ use std::alloc::Global;
 
 pub(super) type Walk = Pass<AnyLayout>;
 
-#[tactic(auto, using(crate::proofs::Crews::any_tags, crate::proofs::Crews::new_crew))]
+#[tactic(auto, using(crate::proofs::Crews::any_tags))]
 pub(super) fn start(alloc: Global) -> Result<(Sys<AnyLayout>, Vec<Walk>), Memory>
     ensures { IfOk result (λ made. AreFree made.0 made.1.items × (length made.0.callers ≡ 3)) }
 {
     let layouts = vec![in alloc; AnyLayout::of(KindName::Counter, LayoutName::Shared)]?;
     let callers = vec![in alloc; 0, 0, 0]?;
-    Sys::start(alloc, layouts, 1, callers)
+    let (sys, passes) = Sys::start(alloc, layouts, 1, callers)?;
+    Ok((sys, passes))
 }
 
 /// Takes the last pass out of the list.
-#[tactic(auto, using(crate::proofs::Crews::each_front, crate::proofs::Crews::each_last))]
+#[tactic(auto, using(crate::proofs::Crews::free_front, crate::proofs::Crews::free_last))]
 pub(super) fn last(sys: &Sys<AnyLayout>, passes: &mut Vec<Walk>) -> Option<Walk>
     requires free { AreFree sys.now passes.old.items }
     ensures free { AreFree sys.now passes.new.items }
@@ -36,7 +37,6 @@ fn rests(pass: &Walk, caller: u32) -> bool
 }
 
 /// The lists of the three callers, where they rest.
-#[tactic(auto, using(crate::proofs::Crews::at_rest))]
 pub(super) fn finish(
     alloc: Global,
     sys: Sys<AnyLayout>,

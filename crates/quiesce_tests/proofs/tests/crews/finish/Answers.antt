@@ -4,7 +4,7 @@ use Rattle.quiesce_tests.proofs.Crews.{at_rest}
 use Rattle.quiesce_tests.proofs.tests.crews.finish.Goals as goal
 
 pub finish-requires-after_bounds : goal.finish-requires-after_bounds
-finish-requires-after_bounds c κs within =
+finish-requires-after_bounds c κs =
     let one : c.rests.result ≡ true = search rules in
     let two : c.rests-else-not-rests.result ≡ true = search rules in
     let three : c.rests-else-not-rests-2.result ≡ true = search rules in
