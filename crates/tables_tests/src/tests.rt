@@ -1,78 +1,104 @@
+ghost use Rattle.std.specs.Prelude.{◌≡◌, true, OnOk, IfOk};
+ghost use Rattle.phase_core.specs.Stages.{is_out, is_missed};
+ghost use Rattle.k42_tables.specs.Entries.{LeadsTo, EndsAt};
+ghost use Rattle.k42_tables.specs.declared.answers.Entered.TheVariants as Entered;
+ghost use Rattle.k42_rule.specs.Tags.{HasTags};
+ghost use Rattle.tables_tests.specs.Callers.{IsFresh, IsBusy, AreFresh};
+
 use co_any::AnyLayout;
-use k42_kinds::{KindName, LayoutName};
+use k42_kinds::{KindName, Layout, LayoutName};
 use k42_memory::Memory;
-use k42_rule::{Pass, Sys, end_call, enter_step, leave_step, lock, root_step, unlock};
-use k42_tables::{
-    Entered, Filled, Root, SharedRoot, SpreadRoot, Tried, finish_call, look_up, miss, try_miss,
-};
+use k42_rule::{Pass, Sys, enter_step};
+use k42_tables::{Entered, Filled, Root, SharedRoot, SpreadRoot, finish_call, look_up, miss};
 use std::alloc::Global;
 use std::process::Abort;
 use std::sync::Wait;
 use std::test::Fail;
 
-/// A system of one spread counter on two processors, with two callers on the first and one on the second, all in
-/// an activity.
-fn start_three(alloc: Global) -> Result<(Sys<AnyLayout>, Vec<Pass<AnyLayout>>), Memory> {
-    let counter = AnyLayout::of(KindName::Counter, LayoutName::Spread);
-    let layouts = Vec::from_array(alloc, [counter])?;
-    let callers = Vec::from_array(alloc, [0, 0, 1])?;
-    let (sys, mut passes) = Sys::start(alloc, layouts, 2, callers)?;
-    for pass in &mut passes {
-        enter_step(&sys, pass);
-    }
-    Ok((sys, passes))
+/// Begins an activity, in which the caller misses the object.
+fn come_in<L: Layout>(rt: &impl Abort, sys: &Sys<L>, pass: &mut Pass<L>)
+    requires { IsFresh sys.now pass.old }
+    ensures busy { IsBusy sys.now pass.new }
+    ensures missed { is_missed pass.new.view.visitor.place 0 ≡ true }
+{
+    enter_step(sys, pass);
+    assert_eq!(rt; look_up(sys, pass, 0), Entered::Missed);
 }
 
-fn entries_are_installed_once<R: Abort + Wait>(rt: &R, alloc: Global) -> Result<(), Memory> {
-    let (sys, mut passes) = start_three(alloc)?;
-    for pass in &mut passes {
-        assert_eq!(rt; look_up(&sys, pass, 0), Entered::Missed);
-    }
-    let answer = miss(rt, alloc, &sys, &mut passes[0], 0)?;
-    assert_eq!(rt; answer, Filled::Installed { cell: 0 });
-    let answer = miss(rt, alloc, &sys, &mut passes[1], 0)?;
-    assert_eq!(rt; answer, Filled::Elsewhere { word: 0x11 });
-    let answer = miss(rt, alloc, &sys, &mut passes[2], 0)?;
-    assert_eq!(rt; answer, Filled::Installed { cell: 1 });
-    let entered = look_up(&sys, &mut passes[1], 0);
-    assert_eq!(rt; entered, Entered::Direct { cell: 0 });
-    let inside = passes[1].inside();
-    assert_eq!(rt; (inside.object, inside.incarnation, inside.layout), (0, 0, 1));
-    for pass in &mut passes {
-        finish_call(&sys, pass);
-        leave_step(&sys, pass);
-    }
+/// Has the miss handled, which is to answer so.
+fn fill_in<L: Layout, R: Abort + Wait>(
+    rt: &R,
+    alloc: Global,
+    sys: &Sys<L>,
+    pass: &mut Pass<L>,
+    expected: Filled,
+) -> Result<(), Memory>
+    requires busy { IsBusy sys.now pass.old }
+    requires missed { is_missed pass.old.view.visitor.place 0 ≡ true }
+    ensures busy { OnOk result (IsBusy sys.now pass.new) }
+    ensures there { OnOk result (EndsAt expected 0 pass.new.view.visitor.place) }
+{
+    let answer = miss(rt, alloc, sys, pass, 0)?;
+    assert_eq!(rt; answer, expected);
     Ok(())
 }
 
-fn a_try_names_the_holder<R: Abort + Wait>(rt: &R, alloc: Global) -> Result<(), Memory> {
-    let (sys, mut passes) = start_three(alloc)?;
-    for pass in &mut passes {
-        assert_eq!(rt; look_up(&sys, pass, 0), Entered::Missed);
-    }
-    root_step(&sys, &mut passes[1], 0);
-    assert_eq!(rt; lock(&sys, &mut passes[1], 0), 0);
-    let tried = try_miss(alloc, &sys, &mut passes[0], 0)?;
-    assert_eq!(rt; tried, Tried::Held { holder: 1 });
-    let tried = try_miss(alloc, &sys, &mut passes[2], 0)?;
-    assert_eq!(rt; tried, Tried::Filled(Filled::Installed { cell: 1 }));
-    unlock(&sys, &mut passes[1], 0);
-    end_call(&sys, &mut passes[1]);
-    assert_eq!(rt; look_up(&sys, &mut passes[0], 0), Entered::Missed);
-    let tried = try_miss(alloc, &sys, &mut passes[0], 0)?;
-    assert_eq!(rt; tried, Tried::Filled(Filled::Installed { cell: 0 }));
+/// Looks up again, which is to lead to the cell.
+fn look_again<L: Layout>(rt: &impl Abort, sys: &Sys<L>, pass: &mut Pass<L>, cell: u32)
+    requires busy { IsBusy sys.now pass.old }
+    requires out { is_out pass.old.view.visitor.place ≡ true }
+    ensures busy { IsBusy sys.now pass.new }
+    ensures there { LeadsTo (Entered.Direct cell) 0 pass.new.view.visitor.place }
+{
+    assert_eq!(rt; look_up(sys, pass, 0), Entered::Direct { cell });
+}
+
+/// A system of one object on two processors, with two callers on the first and one on the second.
+fn start_three<L: Layout>(alloc: Global, layout: L) -> Result<(Sys<L>, Vec<Pass<L>>), Memory>
+    requires live { L.tag_of layout ≡ 1 }
+    requires tags { HasTags L.has_tag layout }
+    ensures { IfOk result (λ made. AreFresh made.0 made.1.items) }
+{
+    let mut layouts = Vec::new(alloc);
+    layouts.push(layout)?;
+    let callers = Vec::from_array(alloc, [0, 0, 1])?;
+    Sys::start(alloc, layouts, 2, callers)
+}
+
+/// Two callers of one processor miss, and one of them installs the entry of both.
+fn meet_at_a_cell<L: Layout, R: Abort + Wait>(
+    rt: &R,
+    alloc: Global,
+    layout: L,
+) -> Result<(), Memory>
+    requires live { L.tag_of layout ≡ 1 }
+    requires tags { HasTags L.has_tag layout }
+{
+    let (sys, mut passes) = start_three(alloc, layout)?;
+    let mut first = passes.remove(0);
+    let mut second = passes.remove(0);
+    let mut third = passes.remove(0);
+    come_in(rt, &sys, &mut first);
+    come_in(rt, &sys, &mut second);
+    come_in(rt, &sys, &mut third);
+    fill_in(rt, alloc, &sys, &mut first, Filled::Installed { cell: 0 })?;
+    fill_in(
+        rt,
+        alloc,
+        &sys,
+        &mut second,
+        Filled::Elsewhere { word: 0x11 },
+    )?;
+    fill_in(rt, alloc, &sys, &mut third, Filled::Installed { cell: 1 })?;
+    look_again(rt, &sys, &mut second, 0);
+    finish_call(&sys, &mut second);
     Ok(())
 }
 
 #[test]
 fn an_entry_is_installed_once(rt: HostRuntime) -> Result<(), Fail> {
-    entries_are_installed_once(&rt, rt.alloc())?;
-    Ok(())
-}
-
-#[test]
-fn a_try_at_a_held_cell_names_its_holder(rt: HostRuntime) -> Result<(), Fail> {
-    a_try_names_the_holder(&rt, rt.alloc())?;
+    let counter = AnyLayout::of(KindName::Counter, LayoutName::Spread);
+    meet_at_a_cell(&rt, rt.alloc(), counter)?;
     Ok(())
 }
 
