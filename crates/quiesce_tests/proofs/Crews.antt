@@ -1,6 +1,7 @@
 -- Lists of passes.
-use Rattle.std.proofs.Common.{◌≡◌, ℕ, zero, suc, ◌≤◌, leb, true, List, [], ◌∷◌, ◌++◌, Some, length, refl, sym, ap, ◌∙◌, subst}
+use Rattle.std.proofs.Common.{◌≡◌, ℕ, zero, suc, ◌≤◌, leb, true, List, [], ◌∷◌, ◌++◌, Option, Some, None, length, refl, sym, ap, ◌∙◌, subst}
 use Rattle.std.specs.List.{slice_get}
+use Rattle.std.specs.Option.{IfSome, option_to_list}
 use Rattle.std.proofs.lemmas.Bool.{le-leb}
 use Rattle.std.proofs.lemmas.Option.{same_Some}
 use Rattle.co_any.specs.declared.layout.AnyLayout.{AnyLayout}
@@ -15,11 +16,17 @@ use Rattle.k42_rule.specs.Tags.{HaveTags}
 use Rattle.quiesce_tests.specs.Ready.{IsFree, AreFree, RestsAt}
 
 module _ {L P : Type 0} (sys : SysSeen L) where
-  pub free_front : (xs ys : List (PassSeen P)) → AreFree sys (xs ++ ys) → AreFree sys xs
-  free_front xs ys each i y e = each i y (slice_get-append_left xs ys i y e)
+  -- the last pass, where there is one, was taken off the list
 
-  pub free_last : (xs : List (PassSeen P)) (x : PassSeen P) → AreFree sys (xs ++ x ∷ []) → IsFree sys x
-  free_last xs x each = each (length xs) x (slice_get-append_seam xs x [])
+  pub front_free : (passes front : List (PassSeen P)) (out : Option (PassSeen P)) → AreFree sys passes → passes ≡ front ++ option_to_list out
+      → AreFree sys front
+  front_free passes front out free e c pass here =
+      (subst (AreFree sys) e free) c pass (slice_get-append_left front (option_to_list out) c pass here)
+
+  pub last_free : (passes front : List (PassSeen P)) (out : Option (PassSeen P)) → AreFree sys passes → passes ≡ front ++ option_to_list out
+      → IfSome out (λ pass. IsFree sys pass)
+  last_free passes front None free e = tt
+  last_free passes front (Some pass) free e = (subst (AreFree sys) e free) (length front) pass (slice_get-append_seam front pass [])
 
 -- all layouts of this type have all tags
 pub any_tags : (layouts : List AnyLayout) → HaveTags (λ (layout : AnyLayout) tag. leb tag 2) layouts

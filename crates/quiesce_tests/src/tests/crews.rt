@@ -21,7 +21,6 @@ pub(super) fn start(alloc: Global) -> Result<(Sys<AnyLayout>, Vec<Walk>), Memory
 }
 
 /// Takes the last pass out of the list.
-#[tactic(auto, using(crate::proofs::Crews::free_front, crate::proofs::Crews::free_last))]
 pub(super) fn last(sys: &Sys<AnyLayout>, passes: &mut Vec<Walk>) -> Option<Walk>
     requires free { AreFree sys.now passes.old.items }
     ensures free { AreFree sys.now passes.new.items }
