@@ -1,0 +1,9 @@
+mod calls;
+mod graces;
+mod kept;
+mod moves;
+mod rows;
+mod swaps;
+mod threads;
+mod whole;
+mod words;

@@ -1,0 +1,1 @@
+//! Calls and a swap on several threads.
