@@ -4,3 +4,4 @@ pub mod EachPairs
 pub mod Counts
 pub mod Rests
 pub mod Appended
+pub mod PlaceExamples

@@ -19,16 +19,16 @@ use Rattle.k42_stamp.specs.Layouts.{Layouts}
 use Rattle.k42_joined.specs.Fitting.{lists_of}
 use Rattle.k42_joined.specs.Plain.{Joined}
 use Rattle.k42_joined.specs.State.{mine}
-use Rattle.k42_rule.specs.Cells.{Slot}
-use Rattle.k42_rule.specs.Dealing.{crew_in}
+use Rattle.k42_board.specs.Cells.{Slot}
+use Rattle.k42_board.specs.Dealing.{crew_in}
 use Rattle.k42_rule.specs.Finishing.{views_of, lists_in, AreAtRest, IsResting, AreLastLists}
-use Rattle.k42_rule.specs.Rule.{KnowsPass, Ruled}
-use Rattle.k42_rule.specs.Seen.{SysSeen, PassSeen, IsSeatOf, is_at_rest}
-use Rattle.k42_rule.specs.Steps.{Seated}
-use Rattle.k42_rule.specs.Views.{pass_in}
-use Rattle.k42_rule.specs.declared.view.PassView.{PassView}
-use Rattle.k42_rule.specs.declared.view.View.{View}
-use Rattle.k42_rule.specs.declared.view.View.TheVariants.{Crew}
+use Rattle.k42_board.specs.Rule.{KnowsPass, Ruled}
+use Rattle.k42_board.specs.Seen.{SysSeen, PassSeen, IsSeatOf, is_at_rest}
+use Rattle.k42_board.specs.Steps.{Seated}
+use Rattle.k42_board.specs.Views.{pass_in}
+use Rattle.k42_board.specs.declared.view.PassView.{PassView}
+use Rattle.k42_board.specs.declared.view.View.{View}
+use Rattle.k42_board.specs.declared.view.View.TheVariants.{Crew}
 use Rattle.k42_rule.proofs.Opening.{there_is}
 
 none_is : {A : Type 0} (x : Option A) → is_none x ≡ true → x ≡ None

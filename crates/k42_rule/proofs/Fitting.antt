@@ -9,10 +9,10 @@ use Rattle.phase_core.specs.Effects.{begun_as, drained_at, draining_from}
 use Rattle.phase_core.specs.Stages.{named_by, object_named, is_idle, is_drained, is_blocking, is_moved}
 use Rattle.phase_core.specs.declared.caller.SwapAt.{SwapAt}
 use Rattle.phase_core.specs.declared.caller.SwapAt.TheVariants.{Idle, Begun, Interposing, Interposed, Draining, Drained, Blocking, Moved, Opening, Reopening, Opened}
-use Rattle.k42_rule.specs.Swapping.{after_entry, follows_turn, opens_next, is_in_begun_row, FitsSwap, IsOfLiving}
-use Rattle.k42_rule.specs.Tabling.{is_over_in}
-use Rattle.k42_rule.specs.Values.{layout_in, incarnation_in}
-use Rattle.k42_rule.specs.declared.view.LastBegin.{LastBegin}
+use Rattle.k42_board.specs.Swapping.{after_entry, follows_turn, opens_next, is_in_begun_row, FitsSwap, IsOfLiving}
+use Rattle.k42_board.specs.Tabling.{is_over_in}
+use Rattle.k42_board.specs.Values.{layout_in, incarnation_in}
+use Rattle.k42_board.specs.declared.view.LastBegin.{LastBegin}
 
 -- a pass that has begun no swap
 pub fits_new : FitsSwap Idle false None None

@@ -7,16 +7,16 @@ use Rattle.atomic_table.specs.Table.{Joins}
 use Rattle.atomic_table.specs.declared.shared.Seat.{Seat}
 use Rattle.k42_kinds.specs.declared.entry.Entry.{Entry}
 use Rattle.k42_stamp.specs.Layouts.{Layouts}
-use Rattle.k42_rule.specs.Cells.{Slot}
-use Rattle.k42_rule.specs.Dealing.{crew_in, IsCrew, both_crews}
+use Rattle.k42_board.specs.Cells.{Slot}
+use Rattle.k42_board.specs.Dealing.{crew_in, IsCrew, both_crews}
 use Rattle.k42_rule.specs.Finishing.{views_of, lists_in, IsGathering}
-use Rattle.k42_rule.specs.Rule.{Ruled}
-use Rattle.k42_rule.specs.Seen.{PassSeen, IsSeatOf}
-use Rattle.k42_rule.specs.Steps.{Seated}
-use Rattle.k42_rule.specs.Views.{pass_in}
-use Rattle.k42_rule.specs.declared.view.PassView.{PassView}
-use Rattle.k42_rule.specs.declared.view.View.{View}
-use Rattle.k42_rule.specs.declared.view.View.TheVariants.{Crew, Spent}
+use Rattle.k42_board.specs.Rule.{Ruled}
+use Rattle.k42_board.specs.Seen.{PassSeen, IsSeatOf}
+use Rattle.k42_board.specs.Steps.{Seated}
+use Rattle.k42_board.specs.Views.{pass_in}
+use Rattle.k42_board.specs.declared.view.PassView.{PassView}
+use Rattle.k42_board.specs.declared.view.View.{View}
+use Rattle.k42_board.specs.declared.view.View.TheVariants.{Crew, Spent}
 use Rattle.k42_rule.proofs.Joining.{joins}
 
 -- the seat of a crew may take in that of a pass

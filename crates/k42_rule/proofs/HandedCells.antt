@@ -14,18 +14,18 @@ use Rattle.k42_stamp.specs.Layouts.{Layouts}
 use Rattle.k42_joined.specs.Numbers.{cell_of}
 use Rattle.k42_joined.proofs.LocksHand.{apart_row}
 use Rattle.k42_joined.proofs.RowsCalls.{some_at}
-use Rattle.k42_rule.specs.Drawing.{MayHandOn, numbers_of, part_in, last_told, last_noted, stamp_next, AreHeld, AreTold}
-use Rattle.k42_rule.specs.Cells.{cells_noted}
-use Rattle.k42_rule.specs.Handing.{handed_at}
-use Rattle.k42_rule.specs.Seats.{told_by}
-use Rattle.k42_rule.specs.Values.{incarnation_in}
-use Rattle.k42_rule.specs.Views.{word_begun}
-use Rattle.k42_rule.specs.declared.cell.Content.{Content}
-use Rattle.k42_rule.specs.declared.view.Note.{Note}
-use Rattle.k42_rule.specs.declared.view.PassView.{PassView}
+use Rattle.k42_board.specs.Drawing.{MayHandOn, numbers_of, part_in, last_told, last_noted, stamp_next, AreHeld, AreTold}
+use Rattle.k42_board.specs.Cells.{cells_noted}
+use Rattle.k42_board.specs.Handing.{handed_at}
+use Rattle.k42_board.specs.Seats.{told_by}
+use Rattle.k42_board.specs.Values.{incarnation_in}
+use Rattle.k42_board.specs.Views.{word_begun}
+use Rattle.k42_board.specs.declared.cell.Content.{Content}
+use Rattle.k42_board.specs.declared.view.Note.{Note}
+use Rattle.k42_board.specs.declared.view.PassView.{PassView}
 use Rattle.k42_rule.proofs.HandedNotes.{numbers_more, closed_told, begun_told}
-use Rattle.k42_rule.proofs.Noted.{last_held, each_named}
-use Rattle.k42_rule.proofs.RowCells.{place_in_row}
+use Rattle.k42_board.proofs.Noted.{last_held, each_named}
+use Rattle.k42_board.proofs.RowCells.{place_in_row}
 
 length_made : {A : Type 0} (f : ℕ → A) (first many : ℕ) → length (made_from f first many) ≡ many
 length_made f first zero = refl

@@ -6,19 +6,19 @@ use Rattle.k42_kinds.specs.declared.entry.Entry.{Entry}
 use Rattle.k42_places.specs.Places.{EachPlace}
 use Rattle.turn_core.specs.Names.{names}
 use Rattle.turn_core.specs.Stamps.{last_stamp}
-use Rattle.k42_rule.specs.Cells.{cells_noted}
-use Rattle.k42_rule.specs.Drawing.{history_noted, closed_noted, numbers_of, part_in, AreHeld, IsTold, handed_note, untold_view, HasSmallStamp}
-use Rattle.k42_rule.specs.Handing.{hands_at}
-use Rattle.k42_rule.specs.Receipts.{IsDue, AreDue, closed_due, last_due}
-use Rattle.k42_rule.specs.Seats.{LAST_STAMP, told_by}
-use Rattle.k42_rule.specs.Seen.{IsSeatOf}
-use Rattle.k42_rule.specs.Steps.{Seated}
-use Rattle.k42_rule.specs.Views.{pass_in}
-use Rattle.k42_rule.specs.declared.cell.Content.{Content}
-use Rattle.k42_rule.specs.declared.view.Note.{Note}
-use Rattle.k42_rule.specs.declared.view.PassView.{PassView}
-use Rattle.k42_rule.proofs.CellsHanded.{each_handed, handed_cells}
-use Rattle.k42_rule.proofs.Noted.{first_note, last_push, each_named}
+use Rattle.k42_board.specs.Cells.{cells_noted}
+use Rattle.k42_board.specs.Drawing.{history_noted, closed_noted, numbers_of, part_in, AreHeld, IsTold, handed_note, untold_view, HasSmallStamp}
+use Rattle.k42_board.specs.Handing.{hands_at}
+use Rattle.k42_board.specs.Receipts.{IsDue, AreDue, closed_due, last_due}
+use Rattle.k42_board.specs.Seats.{LAST_STAMP, told_by}
+use Rattle.k42_board.specs.Seen.{IsSeatOf}
+use Rattle.k42_board.specs.Steps.{Seated}
+use Rattle.k42_board.specs.Views.{pass_in}
+use Rattle.k42_board.specs.declared.cell.Content.{Content}
+use Rattle.k42_board.specs.declared.view.Note.{Note}
+use Rattle.k42_board.specs.declared.view.PassView.{PassView}
+use Rattle.k42_board.proofs.CellsHanded.{each_handed, handed_cells}
+use Rattle.k42_board.proofs.Noted.{first_note, last_push, each_named}
 
 module _ {P : Type 0} (from onto : List ℕ) (entry : Entry) (fresh : ℕ → Option P) where
   abbrev becomes : Note P → Note P

@@ -7,16 +7,16 @@ use Rattle.k42_kinds.specs.declared.entry.Entry.{Entry}
 use Rattle.turn_core.specs.Stamps.{last_stamp}
 use Rattle.k42_stamp.specs.Layouts.{Layouts}
 use Rattle.k42_stamp.specs.Lists.{IsListOf}
-use Rattle.k42_rule.specs.Drawing.{MayHandOn, entry_hand, numbers_of, stamp_next, last_noted, untold_view, HasSmallStamp}
-use Rattle.k42_rule.specs.Handing.{hands_at, handed_at}
-use Rattle.k42_rule.specs.Receipts.{AreDue}
-use Rattle.k42_rule.specs.Seats.{LAST_STAMP}
-use Rattle.k42_rule.specs.Seen.{IsSeatOf, Own, own_in, Mirrors}
-use Rattle.k42_rule.specs.Steps.{Seated}
-use Rattle.k42_rule.specs.Views.{pass_in}
-use Rattle.k42_rule.specs.declared.cell.Content.{Content}
-use Rattle.k42_rule.specs.declared.view.PassView.{PassView}
-use Rattle.k42_rule.specs.declared.view.View.TheVariants.{Crew}
+use Rattle.k42_board.specs.Drawing.{MayHandOn, entry_hand, numbers_of, stamp_next, last_noted, untold_view, HasSmallStamp}
+use Rattle.k42_board.specs.Handing.{hands_at, handed_at}
+use Rattle.k42_board.specs.Receipts.{AreDue}
+use Rattle.k42_board.specs.Seats.{LAST_STAMP}
+use Rattle.k42_board.specs.Seen.{IsSeatOf, Own, own_in, Mirrors}
+use Rattle.k42_board.specs.Steps.{Seated}
+use Rattle.k42_board.specs.Views.{pass_in}
+use Rattle.k42_board.specs.declared.cell.Content.{Content}
+use Rattle.k42_board.specs.declared.view.PassView.{PassView}
+use Rattle.k42_board.specs.declared.view.View.TheVariants.{Crew}
 use Rattle.k42_rule.proofs.HandedCells.{many_from, all_cells, all_numbers, parted}
 use Rattle.k42_rule.proofs.HandedNotes.{seat_due, hand_back}
 use Rattle.k42_rule.proofs.Pushed.{list_drawn}

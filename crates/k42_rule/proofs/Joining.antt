@@ -5,11 +5,11 @@ use Rattle.atomic_table.specs.Table.{Joins}
 use Rattle.atomic_table.proofs.Lists.{at_set, set_else}
 use Rattle.k42_stamp.specs.Layouts.{Layouts}
 use Rattle.k42_joined.specs.Plain.{Joined}
-use Rattle.k42_rule.specs.Rule.{Beside, AreApart, KnowsPass, Knows, Rule, Ruled}
-use Rattle.k42_rule.specs.declared.view.PassView.{PassView}
-use Rattle.k42_rule.specs.declared.view.View.{View}
-use Rattle.k42_rule.specs.declared.view.View.TheVariants.{Crew, Kept, Named, Spent}
-use Rattle.k42_rule.proofs.Replaced.{put, put_here, put_else}
+use Rattle.k42_board.specs.Rule.{Beside, AreApart, KnowsPass, Knows, Rule, Ruled}
+use Rattle.k42_board.specs.declared.view.PassView.{PassView}
+use Rattle.k42_board.specs.declared.view.View.{View}
+use Rattle.k42_board.specs.declared.view.View.TheVariants.{Crew, Kept, Named, Spent}
+use Rattle.k42_board.proofs.Replaced.{put, put_here, put_else}
 
 -- a member of two lists, one behind the other
 pub at_either : {A : Type 0} (xs ys : List A) (i : ℕ) (a : A) → slice_get (xs ++ ys) i ≡ Some a

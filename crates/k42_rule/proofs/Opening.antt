@@ -28,18 +28,18 @@ use Rattle.k42_joined.specs.Fresh.{first_lives, fresh, IsPlan}
 use Rattle.k42_joined.specs.Plain.{Joined}
 use Rattle.k42_joined.specs.State.{nothing_kept, many_procs}
 use Rattle.k42_joined.proofs.Fresh.{fresh_sound}
-use Rattle.k42_rule.specs.Cells.{Slot, IsCell, IsCellShown}
-use Rattle.k42_rule.specs.Generations.{AreFew, AreGenerations, IsProcessorShown}
-use Rattle.k42_rule.specs.Phases.{AreObjects, IsObjectShown}
-use Rattle.k42_rule.specs.Rule.{Beside, KnowsPass, Knows, Shows, Ruled}
+use Rattle.k42_board.specs.Cells.{Slot, IsCell, IsCellShown}
+use Rattle.k42_board.specs.Generations.{AreFew, AreGenerations, IsProcessorShown}
+use Rattle.k42_board.specs.Phases.{AreObjects, IsObjectShown}
+use Rattle.k42_board.specs.Rule.{Beside, KnowsPass, Knows, Shows, Ruled}
 use Rattle.k42_rule.specs.Opened.{IsOpened}
-use Rattle.k42_rule.specs.Starting.{AreFirstWords, AreFirstSlots}
-use Rattle.k42_rule.specs.Values.{local_value}
-use Rattle.k42_rule.specs.Views.{new_pass, new_passes, first_view}
-use Rattle.k42_rule.specs.Words.{generation_word, exits_word, local_word, lock_word, object_word, freed_word, role_word, many_slots, slot_of}
-use Rattle.k42_rule.specs.declared.view.PassView.{PassView}
-use Rattle.k42_rule.specs.declared.view.View.{View}
-use Rattle.k42_rule.proofs.FirstParts.{same_everywhere, first_part}
+use Rattle.k42_board.specs.Starting.{AreFirstWords, AreFirstSlots}
+use Rattle.k42_board.specs.Values.{local_value}
+use Rattle.k42_board.specs.Views.{new_pass, new_passes, first_view}
+use Rattle.k42_board.specs.Words.{generation_word, exits_word, local_word, lock_word, object_word, freed_word, role_word, many_slots, slot_of}
+use Rattle.k42_board.specs.declared.view.PassView.{PassView}
+use Rattle.k42_board.specs.declared.view.View.{View}
+use Rattle.k42_board.proofs.FirstParts.{same_everywhere, first_part}
 
 replicated : {A : Type 0} (n i : ℕ) (a b : A) → slice_get (replicate n a) i ≡ Some b → (i < n) × (a ≡ b)
 replicated zero i a b e = absurd (cc)

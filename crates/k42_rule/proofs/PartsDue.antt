@@ -13,11 +13,11 @@ use Rattle.turn_core.specs.Names.{names}
 use Rattle.k42_stamp.specs.Laws.{AreLaws}
 use Rattle.k42_stamp.specs.Layouts.{Layouts}
 use Rattle.k42_joined.specs.Numbers.{cell_of}
-use Rattle.k42_rule.specs.Cells.{cells_noted}
-use Rattle.k42_rule.specs.Drawing.{part_noted, history_noted, closed_noted, part_due, parts_due}
-use Rattle.k42_rule.specs.Parts.{HasDue}
-use Rattle.k42_rule.specs.Taking.{IsRowNoted}
-use Rattle.k42_rule.specs.declared.view.Note.{Note}
+use Rattle.k42_board.specs.Cells.{cells_noted}
+use Rattle.k42_board.specs.Drawing.{part_noted, history_noted, closed_noted, part_due, parts_due}
+use Rattle.k42_board.specs.Parts.{HasDue}
+use Rattle.k42_board.specs.Taking.{IsRowNoted}
+use Rattle.k42_board.specs.declared.view.Note.{Note}
 
 -- the first note of a cell, which tells its part and its history
 pub record IsFirstNote {P : Type 0} (notes : List (Note P)) (n : ℕ) : Type 0 where

@@ -8,7 +8,7 @@ use Rattle.k42_places.specs.Places.{EachPlace}
 use Rattle.k42_places.proofs.EachPlaces.{EachPlace-map}
 use Rattle.k42_stamp.specs.Layouts.{Layouts}
 use Rattle.k42_joined.specs.Fresh.{IsPlan}
-use Rattle.k42_rule.specs.Starting.{IsStart}
+use Rattle.k42_board.specs.Starting.{IsStart}
 
 pub plan_of : {S L P : Type 0} (F : Layouts S L P) (declared : List L) (callers : List ℕ) → IsStart F.tag_of declared F.procs callers
     → ((c : ℕ) → F.proc_of c ≡ slice_index_or callers c 0) → IsPlan F declared callers

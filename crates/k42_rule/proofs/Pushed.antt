@@ -6,13 +6,13 @@ use Rattle.k42_kinds.specs.declared.entry.Entry.{Entry}
 use Rattle.turn_core.specs.Stamps.{last_stamp, stamp_of}
 use Rattle.k42_stamp.specs.Lists.{IsListOf}
 use Rattle.k42_stamp.specs.Orders.{Ordered}
-use Rattle.k42_rule.specs.Seats.{LAST_STAMP}
-use Rattle.k42_rule.specs.Seen.{IsSeatOf, Mirrors, Own, own_in}
-use Rattle.k42_rule.specs.Steps.{Seated}
-use Rattle.k42_rule.specs.Views.{pass_in}
-use Rattle.k42_rule.specs.declared.view.PassView.{PassView}
-use Rattle.k42_rule.specs.declared.view.View.TheVariants.{Crew}
-use Rattle.k42_rule.proofs.Noted.{last_push}
+use Rattle.k42_board.specs.Seats.{LAST_STAMP}
+use Rattle.k42_board.specs.Seen.{IsSeatOf, Mirrors, Own, own_in}
+use Rattle.k42_board.specs.Steps.{Seated}
+use Rattle.k42_board.specs.Views.{pass_in}
+use Rattle.k42_board.specs.declared.view.PassView.{PassView}
+use Rattle.k42_board.specs.declared.view.View.TheVariants.{Crew}
+use Rattle.k42_board.proofs.Noted.{last_push}
 
 -- what is last in a list is last in a longer one
 last_further : (x y : Entry) (xs : List Entry) → last_stamp (x ∷ y ∷ xs) ≡ last_stamp (y ∷ xs)

@@ -3,16 +3,16 @@ use Rattle.std.proofs.Common.{◌≡◌, ℕ, ◌<◌, true, List, refl, ◌∙�
 use Rattle.std.proofs.lemmas.Bool.{eq-eqb}
 use Rattle.turn_core.specs.Names.{names}
 use Rattle.k42_stamp.specs.Layouts.{Layouts}
-use Rattle.k42_rule.specs.Cells.{cells_noted}
-use Rattle.k42_rule.specs.Drawing.{part_noted, history_noted, closed_noted}
-use Rattle.k42_rule.specs.Parts.{IsPart}
-use Rattle.k42_rule.specs.Seats.{told_by}
-use Rattle.k42_rule.specs.Steps.{Always}
-use Rattle.k42_rule.specs.Taking.{CELLS, MayPut, taken_view}
-use Rattle.k42_rule.specs.declared.cell.Content.{Content}
-use Rattle.k42_rule.specs.declared.view.Note.{Note}
-use Rattle.k42_rule.specs.declared.view.PassView.{PassView}
-use Rattle.k42_rule.proofs.CellsApart.{first_noted}
+use Rattle.k42_board.specs.Cells.{cells_noted}
+use Rattle.k42_board.specs.Drawing.{part_noted, history_noted, closed_noted}
+use Rattle.k42_board.specs.Parts.{IsPart}
+use Rattle.k42_board.specs.Seats.{told_by}
+use Rattle.k42_board.specs.Steps.{Always}
+use Rattle.k42_board.specs.Taking.{CELLS, MayPut, taken_view}
+use Rattle.k42_board.specs.declared.cell.Content.{Content}
+use Rattle.k42_board.specs.declared.view.Note.{Note}
+use Rattle.k42_board.specs.declared.view.PassView.{PassView}
+use Rattle.k42_board.proofs.CellsApart.{first_noted}
 use Rattle.k42_rule.proofs.PartsDue.{first_note}
 
 -- the notes tell of the cell what its seat tells

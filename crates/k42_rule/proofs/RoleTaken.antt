@@ -8,14 +8,14 @@ use Rattle.phase_core.specs.Effects.{draining_from}
 use Rattle.phase_core.specs.Stages.{object_named}
 use Rattle.phase_core.specs.declared.caller.SwapAt.{SwapAt}
 use Rattle.phase_core.specs.declared.caller.SwapAt.TheVariants.{Interposed}
-use Rattle.k42_rule.specs.Gracing.{role_view}
-use Rattle.k42_rule.specs.Noting.{due_of, notes_due}
-use Rattle.k42_rule.specs.Seen.{Own, own_in, IsSeatOf, Mirrors}
-use Rattle.k42_rule.specs.Steps.{Seated}
-use Rattle.k42_rule.specs.Swapping.{next_entry}
-use Rattle.k42_rule.specs.declared.view.PassView.{PassView}
-use Rattle.k42_rule.specs.declared.view.Row.{Row}
-use Rattle.k42_rule.proofs.Notings.{made_length}
+use Rattle.k42_board.specs.Gracing.{role_view}
+use Rattle.k42_board.specs.Noting.{due_of, notes_due}
+use Rattle.k42_board.specs.Seen.{Own, own_in, IsSeatOf, Mirrors}
+use Rattle.k42_board.specs.Steps.{Seated}
+use Rattle.k42_board.specs.Swapping.{next_entry}
+use Rattle.k42_board.specs.declared.view.PassView.{PassView}
+use Rattle.k42_board.specs.declared.view.Row.{Row}
+use Rattle.k42_board.proofs.Notings.{made_length}
 
 pub draining_named : (swap : SwapAt) → object_named (draining_from swap) ≡ object_named swap
 draining_named (Interposed o) = refl

@@ -19,15 +19,15 @@ use Rattle.k42_joined.specs.Event.{Event, AtPhases, AtCells, HandWith}
 use Rattle.k42_joined.specs.Plain.{Joined}
 use Rattle.k42_joined.specs.Possible.{IsPossible}
 use Rattle.k42_joined.specs.State.{object}
-use Rattle.k42_rule.specs.Cells.{Slot}
+use Rattle.k42_board.specs.Cells.{Slot}
 use Rattle.k42_rule.specs.Laws.{IsPresent, Names, KeepsFreed, StepKeepsFreed}
-use Rattle.k42_rule.specs.Phases.{is_served}
-use Rattle.k42_rule.specs.Rule.{Beside, KnowsPass, Knows, Rule}
-use Rattle.k42_rule.specs.Steps.{StepIs}
-use Rattle.k42_rule.specs.declared.view.PassView.{PassView}
-use Rattle.k42_rule.specs.declared.view.Row.{Row}
-use Rattle.k42_rule.specs.declared.view.View.{View}
-use Rattle.k42_rule.specs.declared.view.View.TheVariants.{Crew, Kept, Named, Spent}
+use Rattle.k42_board.specs.Phases.{is_served}
+use Rattle.k42_board.specs.Rule.{Beside, KnowsPass, Knows, Rule}
+use Rattle.k42_board.specs.Steps.{StepIs}
+use Rattle.k42_board.specs.declared.view.PassView.{PassView}
+use Rattle.k42_board.specs.declared.view.Row.{Row}
+use Rattle.k42_board.specs.declared.view.View.{View}
+use Rattle.k42_board.specs.declared.view.View.TheVariants.{Crew, Kept, Named, Spent}
 
 -- a served pass is inside the row of its place
 served_inside : (place : Place) → is_served place ≡ true → IsInside place (object_of place) (row_of place)

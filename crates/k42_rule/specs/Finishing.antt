@@ -12,11 +12,11 @@ use Rattle.k42_joined.specs.Fitting.{lists_of}
 use Rattle.k42_joined.specs.Plain.{Joined}
 use Rattle.k42_joined.specs.Sound.{IsSound}
 use Rattle.k42_joined.specs.State.{many_callers}
-use Rattle.k42_rule.specs.Cells.{Slot}
-use Rattle.k42_rule.specs.Dealing.{crew_in, IsCrew}
-use Rattle.k42_rule.specs.Seen.{SysSeen, PassSeen, IsOf, is_at_rest}
-use Rattle.k42_rule.specs.declared.view.PassView.{PassView}
-use Rattle.k42_rule.specs.declared.view.View.{View}
+use Rattle.k42_board.specs.Cells.{Slot}
+use Rattle.k42_board.specs.Dealing.{crew_in, IsCrew}
+use Rattle.k42_board.specs.Seen.{SysSeen, PassSeen, IsOf, is_at_rest}
+use Rattle.k42_board.specs.declared.view.PassView.{PassView}
+use Rattle.k42_board.specs.declared.view.View.{View}
 
 -- what the passes know, and their entries
 abbrev pub views_of : {P : Type 0} → List (PassSeen P) → List (PassView P)

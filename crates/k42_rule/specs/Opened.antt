@@ -3,11 +3,11 @@ use Rattle.std.specs.Prelude.{◌≡◌, ℕ, List, length}
 use Rattle.atomic_table.specs.Table.{opening}
 use Rattle.k42_stamp.specs.Layouts.{Layouts}
 use Rattle.k42_joined.specs.Fresh.{fresh}
-use Rattle.k42_rule.specs.Cells.{Slot}
-use Rattle.k42_rule.specs.Rule.{Ruled}
-use Rattle.k42_rule.specs.Starting.{AreFirstWords, AreFirstSlots}
-use Rattle.k42_rule.specs.Views.{first_view}
-use Rattle.k42_rule.specs.Words.{many_slots}
+use Rattle.k42_board.specs.Cells.{Slot}
+use Rattle.k42_board.specs.Rule.{Ruled}
+use Rattle.k42_board.specs.Starting.{AreFirstWords, AreFirstSlots}
+use Rattle.k42_board.specs.Views.{first_view}
+use Rattle.k42_board.specs.Words.{many_slots}
 
 -- it was opened with these words and slots, where no cell has a part, and shows the new state
 pub record IsOpened {S L P : Type 0} (F : Layouts S L P) (declared : List L) (callers : List ℕ) : Type 0 where

@@ -3,22 +3,20 @@ ghost use Rattle.std.specs.Prelude.{◌≡◌, ℕ, ◌<◌, [], ◌∷◌};
 ghost use Rattle.turn_core.specs.declared.event.TurnEvent.TheVariants as TurnEvent;
 ghost use Rattle.k42_joined.specs.Drawing.{first_cell};
 ghost use Rattle.k42_joined.specs.Event.{AtCells};
-ghost use Rattle.k42_rule.specs.Drawing.{AgreeOn, MayDrawAlone, MayDrawMark, MayDrawAs, IsDrawer, IsTold, AreTold, entry_alone, entry_mark, entry_call, numbers_of, alone_view, drawn_at, untold_view, number_told, stamp_next};
-ghost use Rattle.k42_rule.specs.Plan.{layouts_on};
-ghost use Rattle.k42_rule.specs.Seen.{IsOf};
-ghost use Rattle.k42_rule.specs.Steps.{StepIs};
-ghost use Rattle.k42_rule.specs.Values.{incarnation_in};
-ghost use Rattle.k42_rule.specs.Views.{object_begun, word_begun};
-ghost use Rattle.k42_rule.specs.Words.{role_word, lock_word};
+ghost use Rattle.k42_board.specs.Drawing.{AgreeOn, MayDrawAlone, MayDrawMark, MayDrawAs, IsDrawer, IsTold, AreTold, entry_alone, entry_mark, entry_call, numbers_of, alone_view, drawn_at, untold_view, number_told, stamp_next};
+ghost use Rattle.k42_board.specs.Plan.{layouts_on};
+ghost use Rattle.k42_board.specs.Seen.{IsOf};
+ghost use Rattle.k42_board.specs.Steps.{StepIs};
+ghost use Rattle.k42_board.specs.Words.{role_word, lock_word};
 
-use crate::cell::Cell;
-use crate::draw_words::{alone_word, call_word, first_of, mark_word};
+use crate::begun::{incarnation_at, object_begun_in};
 use crate::pass::Pass;
-use crate::receipts::{tell_all, tell_cell};
-use crate::stamps::{last_at, stamp_after};
 use crate::sys::Sys;
 use crate::tabling::{object_in, row_in};
-use crate::view::LastBegin;
+use k42_board::{
+    Cell, LastBegin, alone_word, call_word, first_of, last_at, mark_word, stamp_after, tell_all,
+    tell_cell,
+};
 use k42_kinds::{Act, Answer, Entry, Layout};
 use std::marker::Brand;
 
@@ -29,26 +27,6 @@ fn number_in(answer: &Answer) -> u32
     match *answer {
         Answer::Busy(number) | Answer::Abandoned(number) => number,
         _ => 0,
-    }
-}
-
-/// The object of the last Begin.
-fn object_begun_in(last: &Option<LastBegin>) -> u32
-    ensures { result ≡ object_begun last.now }
-{
-    match last {
-        Some(begin) => begin.object,
-        None => 0,
-    }
-}
-
-/// The incarnation that the last Begin found.
-pub(crate) fn incarnation_at(last: &Option<LastBegin>) -> u32
-    ensures { result ≡ incarnation_in (word_begun last.now) }
-{
-    match last {
-        Some(begin) => (begin.word >> 32) as u32,
-        None => 0,
     }
 }
 
@@ -107,21 +85,21 @@ pub fn draw_mark<L: Layout>(
         (lock_word cell.old.number) (λ word. word)
         pass.old.seat pass.old.view found (untold_view (cell.old.number ∷ []) pass.new.view) }
 {
-    let stamp = stamp_after(pass.entries.as_slice(), cell.last);
+    let stamp = stamp_after(pass.entries.as_slice(), cell.last_stamp());
     let entry = Entry {
         stamp,
         caller: pass.number,
         index: pass.entries.len() as u32,
         object: object_begun_in(&pass.last),
         incarnation: incarnation_at(&pass.last),
-        cell: cell.number,
+        cell: cell.number(),
         act,
         answer,
         proc: pass.home,
         generation: None,
     };
     mark_word::<L, Brand>(&sys.board, &mut pass.seat, cell, &entry);
-    let closed = cell.closed;
+    let closed = cell.is_closed();
     tell_cell(&sys.board, &mut pass.seat, cell, closed, stamp);
     pass.entries.push_reserved(entry);
     stamp

@@ -2,18 +2,17 @@
 ghost use Rattle.std.specs.Prelude.{◌≡◌, ◌+◌, ◌≤◌, [], ◌++◌, length, map, vec_items, vec_len, vec_capacity};
 ghost use Rattle.atomic_table.specs.Table.{State, Seen};
 ghost use Rattle.k42_places.specs.Places.{EachPlace};
-ghost use Rattle.k42_rule.specs.Cells.{Slot};
-ghost use Rattle.k42_rule.specs.Dealing.{crew_in, IsCrew};
+ghost use Rattle.k42_board.specs.Cells.{Slot};
+ghost use Rattle.k42_board.specs.Dealing.{crew_in, IsCrew};
 ghost use Rattle.k42_rule.specs.Finishing.{views_of, lists_in};
-ghost use Rattle.k42_rule.specs.Plan.{layouts_on};
-ghost use Rattle.k42_rule.specs.Rule.{Ruled};
-ghost use Rattle.k42_rule.specs.Words.{many_words};
-ghost use Rattle.k42_rule.specs.declared.view.View.{View};
-ghost use Rattle.k42_rule.specs.declared.view.View.TheVariants.{Crew};
+ghost use Rattle.k42_board.specs.Plan.{layouts_on};
+ghost use Rattle.k42_board.specs.Rule.{Ruled};
+ghost use Rattle.k42_board.specs.Words.{many_words};
+ghost use Rattle.k42_board.specs.declared.view.View.{View};
+ghost use Rattle.k42_board.specs.declared.view.View.TheVariants.{Crew};
 
-use crate::board::{Board, Place};
 use crate::pass::{Pass, Walker};
-use crate::plays::Gather;
+use k42_board::{Board, Gather, Place};
 use k42_kinds::{Entry, Layout};
 
 /// The passes' seats are joined to one, and their lists stand in order.

@@ -2,19 +2,19 @@
 ghost use Rattle.std.specs.Prelude.{◌≡◌, ◌<◌, length, max};
 ghost use Rattle.phase_core.specs.Event as phases;
 ghost use Rattle.k42_joined.specs.Event.{AtPhases};
-ghost use Rattle.k42_rule.specs.Freeing.{MayFree, number_noted, freed_view, MarkFound};
-ghost use Rattle.k42_rule.specs.Plan.{layouts_on};
-ghost use Rattle.k42_rule.specs.Seen.{IsOf, IsSamePass};
-ghost use Rattle.k42_rule.specs.Steps.{StepIs};
-ghost use Rattle.k42_rule.specs.Words.{freed_word};
+ghost use Rattle.k42_board.specs.Freeing.{MayFree, number_noted, freed_view, MarkFound};
+ghost use Rattle.k42_board.specs.Plan.{layouts_on};
+ghost use Rattle.k42_board.specs.Seen.{IsOf, IsSamePass};
+ghost use Rattle.k42_board.specs.Steps.{StepIs};
+ghost use Rattle.k42_board.specs.Words.{freed_word};
 
-use crate::grace_words::free_word;
 use crate::pass::Pass;
 use crate::sys::Sys;
+use k42_board::free_word;
 use k42_kinds::Layout;
 
 /// Frees the rows of the object from the mark that it finds up to the number that its grace noted.
-#[tactic(auto, using(crate::proofs::Notings::note_there))]
+#[tactic(auto, using(k42_board::proofs::Notings::note_there))]
 pub fn free<L: Layout>(sys: &Sys<L>, pass: &mut Pass<L>, object: u32) -> u64
     requires ours { IsOf sys.now pass.old }
     requires may { MayFree (length sys.now.layouts) object pass.old.view }

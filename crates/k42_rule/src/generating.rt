@@ -3,15 +3,15 @@ ghost use Rattle.std.specs.Prelude.{◌≡◌, ◌+◌, ◌%◌, ◌^◌};
 ghost use Rattle.gen_core.specs.declared.event.GenEvent.TheVariants as GenEvent;
 ghost use Rattle.phase_core.specs.Event.{Turn};
 ghost use Rattle.k42_joined.specs.Event.{AtPhases};
-ghost use Rattle.k42_rule.specs.Generating.{MayEnter, entered_view, EnteredFound, CanLeave, active_in, left_view};
-ghost use Rattle.k42_rule.specs.Plan.{layouts_on};
-ghost use Rattle.k42_rule.specs.Seen.{IsOf, IsSamePass};
-ghost use Rattle.k42_rule.specs.Steps.{StepIs};
-ghost use Rattle.k42_rule.specs.Words.{generation_word, exits_word};
+ghost use Rattle.k42_board.specs.Generating.{MayEnter, entered_view, EnteredFound, CanLeave, active_in, left_view};
+ghost use Rattle.k42_board.specs.Plan.{layouts_on};
+ghost use Rattle.k42_board.specs.Seen.{IsOf, IsSamePass};
+ghost use Rattle.k42_board.specs.Steps.{StepIs};
+ghost use Rattle.k42_board.specs.Words.{generation_word, exits_word};
 
 use crate::pass::Pass;
 use crate::sys::Sys;
-use crate::words::{enter_word, leave_word};
+use k42_board::{enter_word, leave_word};
 use k42_kinds::Layout;
 
 /// Begins an activity in the generation that it finds.

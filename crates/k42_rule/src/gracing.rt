@@ -6,19 +6,19 @@ ghost use Rattle.gen_core.specs.declared.event.GenEvent.TheVariants as GenEvent;
 ghost use Rattle.phase_core.specs.Effects.{drained_at, draining_from};
 ghost use Rattle.phase_core.specs.Event as phases;
 ghost use Rattle.k42_joined.specs.Event.{AtPhases};
-ghost use Rattle.k42_rule.specs.Gracing.{MayTakeRole, role_view, RoleFound, MayAskGeneration, asked_view, GenerationFound, MayLook, look_event, looked_view, ExitsFound, MayFlip, flip_word, flipped_view, MayGiveRole, given_view, HasGiven};
-ghost use Rattle.k42_rule.specs.Noting.{notes_due, pairs_from};
-ghost use Rattle.k42_rule.specs.Phases.{IsGranted};
-ghost use Rattle.k42_rule.specs.Plan.{layouts_on};
-ghost use Rattle.k42_rule.specs.Seen.{IsOf, IsSamePass};
-ghost use Rattle.k42_rule.specs.Steps.{StepIs, StateStays};
-ghost use Rattle.k42_rule.specs.Words.{generation_word, exits_word, role_word};
+ghost use Rattle.k42_board.specs.Gracing.{MayTakeRole, role_view, RoleFound, MayAskGeneration, asked_view, GenerationFound, MayLook, look_event, looked_view, ExitsFound, MayFlip, flip_word, flipped_view, MayGiveRole, given_view, HasGiven};
+ghost use Rattle.k42_board.specs.Noting.{notes_due, pairs_from};
+ghost use Rattle.k42_board.specs.Phases.{IsGranted};
+ghost use Rattle.k42_board.specs.Plan.{layouts_on};
+ghost use Rattle.k42_board.specs.Seen.{IsOf, IsSamePass};
+ghost use Rattle.k42_board.specs.Steps.{StepIs, StateStays};
+ghost use Rattle.k42_board.specs.Words.{generation_word, exits_word, role_word};
 
-use crate::grace_words::{flip_swap, generation_load, give_role_store, look_word, take_role_word};
 use crate::noting::note_all;
 use crate::pass::Pass;
 use crate::sys::Sys;
 use gen_core::GraceAt;
+use k42_board::{flip_swap, generation_load, give_role_store, look_word, take_role_word};
 use k42_kinds::Layout;
 use phase_core::SwapAt;
 

@@ -1,45 +1,21 @@
 //! The step that hands a row on.
 ghost use Rattle.std.specs.Prelude.{◌≡◌, ℕ, ◌<◌, take, drop};
-ghost use Rattle.phase_core.specs.Stages.{object_named};
 ghost use Rattle.k42_joined.specs.Drawing.{first_cell};
 ghost use Rattle.k42_joined.specs.Event.{HandWith};
-ghost use Rattle.k42_rule.specs.Drawing.{MayHandOn, IsDrawer, AreTold, entry_hand, numbers_of, stamp_next, untold_view};
-ghost use Rattle.k42_rule.specs.Handing.{handed_at};
-ghost use Rattle.k42_rule.specs.Plan.{layouts_on};
-ghost use Rattle.k42_rule.specs.Seen.{IsOf};
-ghost use Rattle.k42_rule.specs.Steps.{StepIs};
-ghost use Rattle.k42_rule.specs.Words.{lock_word};
+ghost use Rattle.k42_board.specs.Drawing.{MayHandOn, IsDrawer, AreTold, entry_hand, numbers_of, stamp_next, untold_view};
+ghost use Rattle.k42_board.specs.Handing.{handed_at};
+ghost use Rattle.k42_board.specs.Plan.{layouts_on};
+ghost use Rattle.k42_board.specs.Seen.{IsOf};
+ghost use Rattle.k42_board.specs.Steps.{StepIs};
+ghost use Rattle.k42_board.specs.Words.{lock_word};
 
-use crate::cell::Cell;
-use crate::drawing::incarnation_at;
-use crate::hand_words::{hand_word, number_at};
+use crate::begun::incarnation_at;
 use crate::pass::Pass;
-use crate::receipts::tell_all;
-use crate::stamps::{last_at, stamp_after};
+use crate::swapping::object_at;
 use crate::sys::Sys;
+use k42_board::{Cell, hand_word, last_at, number_at, stamp_after, tell_all};
 use k42_kinds::{Answer, Entry, Layout};
-use phase_core::SwapAt;
 use std::marker::Brand;
-
-/// The object that the swap names.
-fn object_at(swap: &SwapAt) -> u32
-    ensures { result ≡ object_named swap.now }
-{
-    match *swap {
-        SwapAt::Idle => 0,
-        SwapAt::Refused(object)
-        | SwapAt::Begun(object)
-        | SwapAt::Interposing(object, _)
-        | SwapAt::Interposed(object)
-        | SwapAt::Draining(object)
-        | SwapAt::Drained(object)
-        | SwapAt::Blocking(object)
-        | SwapAt::Moved(object)
-        | SwapAt::Opening(object, _)
-        | SwapAt::Reopening(object, _)
-        | SwapAt::Opened(object) => object,
-    }
-}
 
 /// The entry that tells of the swap.
 fn done_entry<L: Layout>(

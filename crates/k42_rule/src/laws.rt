@@ -2,21 +2,29 @@ ghost use Rattle.std.specs.Prelude.{◌≡◌, ℕ, true, [], ◌∷◌};
 ghost use mathlib.Core.Option.{some};
 ghost use lib.ListN.{get_elem?};
 ghost use Rattle.atomic_table.specs.Table.{State};
+ghost use Rattle.k42_stamp.specs.Laws.{AreLaws};
 ghost use Rattle.k42_joined.specs.Event.{Event};
 ghost use Rattle.k42_joined.specs.Safe.{IsSafe};
-ghost use Rattle.k42_rule.specs.Cells.{Slot};
+ghost use Rattle.k42_board.specs.Cells.{Slot};
 ghost use Rattle.k42_rule.specs.Laws.{IsPresent, Names, StepKeepsFreed};
-ghost use Rattle.k42_rule.specs.Phases.{is_served};
-ghost use Rattle.k42_rule.specs.Plan.{layouts_on};
-ghost use Rattle.k42_rule.specs.Rule.{Rule};
-ghost use Rattle.k42_rule.specs.Steps.{StepIs};
-ghost use Rattle.k42_rule.specs.declared.view.PassView.{PassView};
-ghost use Rattle.k42_rule.specs.declared.view.Row.{Row};
-ghost use Rattle.k42_rule.specs.declared.view.View.{View};
-ghost use Rattle.k42_rule.specs.declared.view.View.TheVariants.{Crew};
+ghost use Rattle.k42_board.specs.Phases.{is_served};
+ghost use Rattle.k42_board.specs.Plan.{layouts_on};
+ghost use Rattle.k42_board.specs.Rule.{Rule};
+ghost use Rattle.k42_board.specs.Steps.{StepIs};
+ghost use Rattle.k42_board.specs.declared.view.PassView.{PassView};
+ghost use Rattle.k42_board.specs.declared.view.Row.{Row};
+ghost use Rattle.k42_board.specs.declared.view.View.{View};
+ghost use Rattle.k42_board.specs.declared.view.View.TheVariants.{Crew};
 
 use crate::sys::Sys;
 use k42_kinds::Layout;
+
+/// The layouts keep the laws on which all that is proved of rows and histories rests.
+pub fn layouts_are_lawful<L: Layout>(sys: &Sys<L>)
+    ensures { AreLaws (layouts_on L.object L.tag_of L.ways L.whole L.serves L.admitted L.act_of sys.now.procs sys.now.callers) }
+{
+    let _ = &sys.board;
+}
 
 /// In whatever state the table shows, nobody is inside a row from which state is moved, who is inside a row finds
 /// its cells open, and no row that was read is freed.

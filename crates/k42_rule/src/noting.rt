@@ -4,11 +4,10 @@ ghost use Rattle.k42_kinds.specs.Rows.{made_from};
 ghost use Rattle.k42_limits.specs.declared.TheConstants.{LAST_INCARNATION};
 ghost use Rattle.k42_places.specs.Places.{EachPlace};
 ghost use Rattle.phase_core.specs.Stages.{may_take};
-ghost use Rattle.k42_rule.specs.Noting.{after_rows, due_of};
-ghost use Rattle.k42_rule.specs.Values.{incarnation_in};
-ghost use Rattle.k42_rule.specs.Views.{word_begun};
+ghost use Rattle.k42_board.specs.Noting.{after_rows, due_of};
 
-use crate::view::{LastBegin, Row};
+use crate::begun::incarnation_at;
+use k42_board::{LastBegin, Row};
 use phase_core::SwapAt;
 
 /// One more than the newest of the rows that are of the object.
@@ -28,23 +27,13 @@ fn after_rows(rows: &[Row], object: u32) -> Option<u32>
     note
 }
 
-/// The incarnation that its last Begin found.
-fn incarnation_begun(last: Option<LastBegin>) -> u32
-    ensures { result ≡ incarnation_in (word_begun last) }
-{
-    match last {
-        Some(begin) => (begin.word >> 32) as u32,
-        None => 0,
-    }
-}
-
 fn note_due(swap: SwapAt, last: Option<LastBegin>, rows: &[Row], object: u32) -> Option<u32>
     requires may { may_take swap ≡ true }
     requires rows { EachPlace (λ place row. row.incarnation < LAST_INCARNATION) rows.now }
     ensures { result ≡ due_of swap last rows.now object }
 {
     match swap {
-        SwapAt::Interposed(own) if own == object => Some(incarnation_begun(last)),
+        SwapAt::Interposed(own) if own == object => Some(incarnation_at(&last)),
         _ => after_rows(rows, object),
     }
 }

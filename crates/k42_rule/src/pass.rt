@@ -2,21 +2,20 @@
 ghost use Rattle.std.specs.Prelude.{◌≡◌, ◌<◌, ◌≤◌, true, Some, length, slice_index, is_some, OnOk};
 ghost use Rattle.k42_limits.specs.declared.TheConstants.{LAST_INCARNATION};
 ghost use Rattle.k42_stamp.specs.Lists.{IsListOf};
-ghost use Rattle.phase_core.specs.Stages.{named_by};
+ghost use Rattle.phase_core.specs.Stages.{named_by, object_named};
 ghost use Rattle.phase_core.specs.State.{note_at};
-ghost use Rattle.k42_rule.specs.Gracing.{FitsGrace};
-ghost use Rattle.k42_rule.specs.Phases.{is_served};
-ghost use Rattle.k42_rule.specs.Seen.{IsRoomier, inside_in, is_at_rest};
-ghost use Rattle.k42_rule.specs.Swapping.{FitsSwap};
-ghost use Rattle.k42_rule.specs.Values.{layout_in, incarnation_in};
-ghost use Rattle.k42_rule.specs.Views.{word_begun};
+ghost use Rattle.k42_rule.specs.Settled.{IsSettled};
+ghost use Rattle.k42_board.specs.Gracing.{FitsGrace};
+ghost use Rattle.k42_board.specs.Phases.{is_served};
+ghost use Rattle.k42_board.specs.Seen.{IsRoomier, inside_in, is_at_rest};
+ghost use Rattle.k42_board.specs.Swapping.{FitsSwap};
+ghost use Rattle.k42_board.specs.Values.{layout_in, incarnation_in};
+ghost use Rattle.k42_board.specs.Views.{object_begun, word_begun};
 
-use crate::cell::Content;
-use crate::retired::{Carried, Slip};
-use crate::view::{Inside, LastBegin, Row, View};
 use atomic_table::Seat;
 use crossbeam_queue::SegPass;
 use gen_core::GraceAt;
+use k42_board::{Carried, Content, Inside, LastBegin, Row, Slip, View};
 use k42_kinds::{Entry, Layout};
 use k42_memory::Memory;
 use phase_core::{Place, SwapAt};
@@ -57,13 +56,13 @@ impl<P: Drop> Model for Walker<P> {
     ghost use Rattle.phase_core.specs.Stages.{object_of, row_of, object_named};
     ghost use Rattle.turn_core.specs.Stamps.{last_stamp};
     ghost use Rattle.k42_stamp.specs.Lists.{IsListOf};
-    ghost use Rattle.k42_rule.specs.Gracing.{FitsGrace};
-    ghost use Rattle.k42_rule.specs.Queueing.{IsTied};
-    ghost use Rattle.k42_rule.specs.Seats.{LAST_STAMP};
-    ghost use Rattle.k42_rule.specs.Seen.{PassSeen, Mirrors};
-    ghost use Rattle.k42_rule.specs.Swapping.{next_entry, FitsSwap};
-    ghost use Rattle.k42_rule.specs.Values.{layout_in, incarnation_in};
-    ghost use Rattle.k42_rule.specs.Views.{pass_in, word_begun};
+    ghost use Rattle.k42_board.specs.Gracing.{FitsGrace};
+    ghost use Rattle.k42_board.specs.Queueing.{IsTied};
+    ghost use Rattle.k42_board.specs.Seats.{LAST_STAMP};
+    ghost use Rattle.k42_board.specs.Seen.{PassSeen, Mirrors};
+    ghost use Rattle.k42_board.specs.Swapping.{next_entry, FitsSwap};
+    ghost use Rattle.k42_board.specs.Values.{layout_in, incarnation_in};
+    ghost use Rattle.k42_board.specs.Views.{object_begun, pass_in, word_begun};
 
     ghost Value = { PassSeen P };
 
@@ -104,7 +103,8 @@ impl<P: Drop> Model for Walker<P> {
         × IsListOf p.number p.entries.items
         × (last_stamp p.entries.items ≤ LAST_STAMP)
         × FitsSwap p.swap p.turned p.handed p.last
-        × (p.post.me.hand ≡ None) × (p.post.me.spare ≡ None) × IsTied p.seat.table_id p.post.me.view.client };
+        × (p.post.me.hand ≡ None) × (p.post.me.spare ≡ None) × IsTied p.seat.table_id p.post.me.view.client
+        × (unwrap_or p.handed 0 ≤ 2) × (object_begun p.last < 16) };
 }
 
 impl<P: Drop> Walker<P> {
@@ -115,7 +115,8 @@ impl<P: Drop> Walker<P> {
     }
 
     pub fn processor(&self) -> u32
-        ensures { result ≡ self.now.view.turn.proc }
+        ensures is { result ≡ self.now.view.turn.proc }
+        ensures settled { IsSettled self.now.view }
     {
         self.home
     }
@@ -189,7 +190,8 @@ impl<P: Drop> Walker<P> {
     /// The object of its last Begin, and the word that this found.
     pub fn last_begin(&self) -> Option<LastBegin>
         ensures is { result ≡ self.now.view.last }
-        ensures bound { incarnation_in (word_begun self.now.view.last) ≤ LAST_INCARNATION }
+        ensures object { object_begun self.now.view.last < 16 }
+        ensures incarnation { incarnation_in (word_begun self.now.view.last) ≤ LAST_INCARNATION }
     {
         self.last
     }
@@ -219,6 +221,8 @@ impl<P: Drop> Walker<P> {
     /// How far its swap is.
     pub fn swap(&self) -> SwapAt
         ensures is { result ≡ self.now.view.visitor.swap }
+        ensures object { object_named self.now.view.visitor.swap < 16 }
+        ensures settled { IsSettled self.now.view }
         ensures linked { FitsSwap self.now.view.visitor.swap self.now.view.turned self.now.view.handed self.now.view.last }
     {
         self.swap
@@ -265,7 +269,8 @@ impl<P: Drop> Walker<P> {
     /// The tag of the layout with which it has handed on a row, until it turns over.
     pub fn handed_layout(&self) -> u32
         requires { is_some self.now.view.handed ≡ true }
-        ensures { self.now.view.handed ≡ Some result }
+        ensures is { self.now.view.handed ≡ Some result }
+        ensures bound { result ≤ 2 }
     {
         let Some(tag) = self.handed else {
             unreachable!()

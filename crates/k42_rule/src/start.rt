@@ -2,53 +2,21 @@
 ghost use Rattle.std.specs.Prelude.{◌≡◌, ◌<◌, ◌≤◌, ℕ, List, [], ◌∷◌, length, IfOk};
 ghost use Rattle.k42_places.specs.Places.{EachPlace};
 ghost use Rattle.crossbeam_queue.specs.SegTies.{IsSegPassOf};
-ghost use Rattle.k42_rule.specs.Dealing.{dealer};
-ghost use Rattle.k42_rule.specs.Queueing.{IsTied};
-ghost use Rattle.k42_rule.specs.Starting.{AreFirstWords, AreFirstSlots, IsNewPass, AreDealt};
-ghost use Rattle.k42_rule.specs.Views.{new_pass, new_passes};
-ghost use Rattle.k42_rule.specs.Words.{many_words, many_slots};
-ghost use Rattle.k42_rule.specs.declared.view.PassView.{PassView};
-ghost use Rattle.k42_rule.specs.declared.view.View.TheVariants.{Crew};
+ghost use Rattle.k42_board.specs.Dealing.{dealer};
+ghost use Rattle.k42_board.specs.Queueing.{IsTied};
+ghost use Rattle.k42_board.specs.Starting.{IsNewPass, AreDealt};
+ghost use Rattle.k42_board.specs.Views.{new_pass, new_passes};
+ghost use Rattle.k42_board.specs.Words.{many_words};
+ghost use Rattle.k42_board.specs.declared.view.PassView.{PassView};
+ghost use Rattle.k42_board.specs.declared.view.View.TheVariants.{Crew};
 
-use crate::board::{Board, Place};
-use crate::cell::Content;
 use crate::pass::{Pass, Walker};
-use crate::plays::Deal;
-use crate::queueing::{Another, Line, Post};
-use atomic_table::Badge;
 use gen_core::GraceAt;
+use k42_board::{Another, Board, Deal, Line, Place, Post};
 use k42_kinds::Layout;
 use k42_memory::Memory;
 use phase_core::SwapAt;
 use std::alloc::Global;
-
-pub(crate) fn first_words<L: Layout>(alloc: Global, layouts: &[L]) -> Result<Vec<u64>, Memory>
-    requires few { length layouts.now ≤ 16 }
-    requires live { EachPlace (λ o layout. L.tag_of layout ≤ 1) layouts.now }
-    ensures { IfOk result (λ words. AreFirstWords L.tag_of layouts.now (length layouts.now) words.items) }
-{
-    let mut words = Vec::from_elem(alloc, 0u64, 1056)?;
-    for (object, layout) in layouts.iter().enumerate() {
-        words[528 + 16 * object] = u64::from(layout.tag()) << 28;
-    }
-    Ok(words)
-}
-
-pub(crate) fn first_slots<P: Drop>(alloc: Global) -> Result<Vec<Option<Content<P>>>, Memory>
-    ensures { IfOk result (λ slots. (length slots.items ≡ many_slots) × AreFirstSlots slots.items) }
-{
-    let mut slots = Vec::new(alloc);
-    for slot in 0..320u32 {
-        slots.push(Some(Content {
-            badge: Badge::blank(),
-            number: slot % 40 * 8 + slot / 40,
-            closed: false,
-            last: 0,
-            part: None,
-        }))?;
-    }
-    Ok(slots)
-}
 
 fn deal<L: Layout>(
     alloc: Global,

@@ -3,17 +3,16 @@ ghost use Rattle.std.specs.Prelude.{◌≡◌, ◌<◌, ◌+◌, ◌*◌, ◌/�
 ghost use Rattle.phase_core.specs.Effects.{begun_as};
 ghost use Rattle.phase_core.specs.Event as phases;
 ghost use Rattle.k42_joined.specs.Event.{AtPhases};
-ghost use Rattle.k42_rule.specs.Plan.{layouts_on};
-ghost use Rattle.k42_rule.specs.Seen.{IsOf, IsSamePass};
-ghost use Rattle.k42_rule.specs.Steps.{StepIs};
-ghost use Rattle.k42_rule.specs.Tabling.{ObjectFound, MayBegin, is_over_in, begun_view};
-ghost use Rattle.k42_rule.specs.Values.{has_bit, layout_in, incarnation_in};
-ghost use Rattle.k42_rule.specs.Words.{object_word};
+ghost use Rattle.k42_board.specs.Plan.{layouts_on};
+ghost use Rattle.k42_board.specs.Seen.{IsOf, IsSamePass};
+ghost use Rattle.k42_board.specs.Steps.{StepIs};
+ghost use Rattle.k42_board.specs.Tabling.{ObjectFound, MayBegin, is_over_in, begun_view};
+ghost use Rattle.k42_board.specs.Values.{has_bit, layout_in, incarnation_in};
+ghost use Rattle.k42_board.specs.Words.{object_word};
 
 use crate::pass::Pass;
 use crate::sys::Sys;
-use crate::table_words::begin_word;
-use crate::view::LastBegin;
+use k42_board::{LastBegin, begin_word};
 use k42_kinds::Layout;
 use k42_limits::LAST_INCARNATION;
 use phase_core::SwapAt;

@@ -7,23 +7,23 @@ ghost use Rattle.phase_core.specs.Event as phases;
 ghost use Rattle.phase_core.specs.Stages.{object_named, is_interposing, is_moved};
 ghost use Rattle.phase_core.specs.State.{empty_entry, mediator_entry};
 ghost use Rattle.k42_joined.specs.Event.{AtPhases};
-ghost use Rattle.k42_rule.specs.Plan.{layouts_on};
-ghost use Rattle.k42_rule.specs.Seen.{IsOf, IsSamePass, HasSameRoom};
-ghost use Rattle.k42_rule.specs.Steps.{StepIs};
-ghost use Rattle.k42_rule.specs.Swapping.{object_swapped, next_entry, after_entry, MayChangeEntry, entry_after, entry_event, changed_view, MayBlock, blocked_view, MayMove, moves, moved_view, CountFound, MayTurnOver, turn_amount, turned_view, MayClear, clear_event, kept_bits, clears, cleared_view};
-ghost use Rattle.k42_rule.specs.Values.{local_value, incarnation_in};
-ghost use Rattle.k42_rule.specs.Views.{word_begun};
-ghost use Rattle.k42_rule.specs.Words.{local_word, object_word};
+ghost use Rattle.k42_board.specs.Plan.{layouts_on};
+ghost use Rattle.k42_board.specs.Seen.{IsOf, IsSamePass, HasSameRoom};
+ghost use Rattle.k42_board.specs.Steps.{StepIs};
+ghost use Rattle.k42_board.specs.Swapping.{object_swapped, next_entry, after_entry, MayChangeEntry, entry_after, entry_event, changed_view, MayBlock, blocked_view, MayMove, moves, moved_view, CountFound, MayTurnOver, turn_amount, turned_view, MayClear, clear_event, kept_bits, clears, cleared_view};
+ghost use Rattle.k42_board.specs.Values.{local_value, incarnation_in};
+ghost use Rattle.k42_board.specs.Views.{word_begun};
+ghost use Rattle.k42_board.specs.Words.{local_word, object_word};
 
+use crate::begun::begun_word;
 use crate::pass::Pass;
-use crate::swap_words::{block_word, change_entry_word, clear_word, move_word, turn_word};
 use crate::sys::Sys;
-use crate::view::{LastBegin, Row};
+use k42_board::{LastBegin, Row, block_word, change_entry_word, clear_word, move_word, turn_word};
 use k42_kinds::Layout;
 use phase_core::SwapAt;
 
 /// The object that a swap names.
-fn object_at(swap: &SwapAt) -> u32
+pub(crate) fn object_at(swap: &SwapAt) -> u32
     ensures { result ≡ object_named swap.now }
 {
     match *swap {
@@ -39,16 +39,6 @@ fn object_at(swap: &SwapAt) -> u32
         | SwapAt::Blocking(object)
         | SwapAt::Moved(object)
         | SwapAt::Opened(object) => object,
-    }
-}
-
-/// The word that the last Begin found.
-fn begun_word(last: &Option<LastBegin>) -> u64
-    ensures { result ≡ word_begun last.now }
-{
-    match last {
-        Some(begin) => begin.word,
-        None => 0,
     }
 }
 

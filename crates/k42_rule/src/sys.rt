@@ -1,17 +1,17 @@
 //! A system.
 ghost use Rattle.std.specs.Prelude.{◌≡◌, ◌<◌, ◌≤◌, Some, length, map, slice_get, vec_items, IfOk, IfErr};
-ghost use Rattle.k42_limits.specs.declared.TheConstants.{PROCESSORS};
+ghost use Rattle.k42_limits.specs.declared.TheConstants.{OBJECTS, PROCESSORS};
 ghost use Rattle.k42_rule.specs.Finishing.{AreAtRest, AreLastLists, lists_in};
 ghost use Rattle.k42_rule.specs.Opened.{IsOpened};
-ghost use Rattle.k42_rule.specs.Plan.{layouts_on};
-ghost use Rattle.k42_rule.specs.Starting.{IsStart, IsStarted};
+ghost use Rattle.k42_rule.specs.Tags.{HasTags, HaveTags};
+ghost use Rattle.k42_board.specs.Plan.{layouts_on};
+ghost use Rattle.k42_board.specs.Starting.{IsStart, IsStarted};
 
-use crate::board::{Board, Setup};
 use crate::finish::{close, gather};
 use crate::pass::{Pass, Walker};
-use crate::queueing::{Lane, Line, tie_root};
-use crate::start::{deal_all, first_slots, first_words};
+use crate::start::deal_all;
 use atomic_table::Table;
+use k42_board::{Board, Lane, Line, Setup, first_slots, first_words, tie_root};
 use k42_kinds::{Entry, Layout};
 use k42_memory::Memory;
 use std::alloc::Global;
@@ -37,9 +37,10 @@ impl<L: Layout> Model for Sys<L> {
     ghost use Rattle.std.specs.Prelude.{◌≡◌, ◌<◌, ◌≤◌, length};
     ghost use Rattle.k42_limits.specs.declared.TheConstants.{PROCESSORS};
     ghost use Rattle.k42_stamp.specs.Laws.{AreLaws};
-    ghost use Rattle.k42_rule.specs.Plan.{layouts_on};
-    ghost use Rattle.k42_rule.specs.Seen.{SysSeen};
-    ghost use Rattle.k42_rule.specs.Words.{many_words, many_slots};
+    ghost use Rattle.k42_rule.specs.Tags.{HaveTags};
+    ghost use Rattle.k42_board.specs.Plan.{layouts_on};
+    ghost use Rattle.k42_board.specs.Seen.{SysSeen};
+    ghost use Rattle.k42_board.specs.Words.{many_words, many_slots};
 
     ghost Value = { SysSeen L };
 
@@ -54,7 +55,8 @@ impl<L: Layout> Model for Sys<L> {
     ghost invariant = { λ s. (s.board.shared.table_id.words ≡ many_words) × (s.board.shared.table_id.slots ≡ many_slots) × (s.layouts.items ≡ s.board.shared.key.layouts.items) × (s.procs ≡ s.board.shared.key.procs) × (length s.layouts.items ≤ 16)
         × AreLaws (layouts_on L.object L.tag_of L.ways L.whole L.serves L.admitted L.act_of s.board.shared.key.procs s.board.shared.key.callers.items)
         × (0 < length s.board.shared.key.callers.items)
-        × (s.board.shared.key.procs ≤ PROCESSORS) };
+        × (s.board.shared.key.procs ≤ PROCESSORS)
+        × HaveTags L.has_tag s.layouts.items };
 }
 
 impl<L: Layout> Sys<L> {
@@ -65,7 +67,8 @@ impl<L: Layout> Sys<L> {
         procs: u32,
         callers: Vec<u32>,
     ) -> Result<(Sys<L>, Vec<Pass<L>>), Memory>
-        requires { IsStart L.tag_of layouts.items procs callers.items }
+        requires start { IsStart L.tag_of layouts.items procs callers.items }
+        requires tags { HaveTags L.has_tag layouts.items }
         ensures started { IfOk result (λ made. IsStarted layouts.items procs callers.items made.0 made.1.items) }
         ensures opened { IfOk result (λ made. IsOpened
             (layouts_on L.object L.tag_of L.ways L.whole L.serves L.admitted L.act_of procs callers.items)
@@ -143,7 +146,8 @@ impl<L: Layout> Sys<L> {
     }
 
     pub fn objects(&self) -> u32
-        ensures { result ≡ length self.now.layouts }
+        ensures is { result ≡ length self.now.layouts }
+        ensures few { result ≤ OBJECTS }
     {
         self.layouts.len() as u32
     }
@@ -151,7 +155,8 @@ impl<L: Layout> Sys<L> {
     /// The layout with which the object was started.
     pub fn declared(&self, object: u32) -> L
         requires { object < length self.now.layouts }
-        ensures { slice_get self.now.layouts object ≡ Some result }
+        ensures is { slice_get self.now.layouts object ≡ Some result }
+        ensures tags { HasTags L.has_tag result }
     {
         self.layouts[object as usize]
     }

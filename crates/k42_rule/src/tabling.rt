@@ -5,18 +5,16 @@ ghost use Rattle.phase_core.specs.Event as phases;
 ghost use Rattle.phase_core.specs.State.{empty_entry};
 ghost use Rattle.phase_core.specs.Stages.{object_of, row_of};
 ghost use Rattle.k42_joined.specs.Event.{AtPhases};
-ghost use Rattle.k42_rule.specs.Plan.{layouts_on};
-ghost use Rattle.k42_rule.specs.Seen.{IsOf, IsSamePass};
-ghost use Rattle.k42_rule.specs.Steps.{StepIs};
-ghost use Rattle.k42_rule.specs.Tabling.{EntryFound, ObjectFound, RootFound, entry_in, layout_told, MayLookUp, looked_up_view, MayLoadRoot, rooted_view, MayEndCall, ended_view, MayInstall, installs, installed_view, MayKnock, knocked_view, MayStepOut};
-ghost use Rattle.k42_rule.specs.Values.{layout_in, local_value, has_bit};
-ghost use Rattle.k42_rule.specs.Words.{local_word, object_word};
+ghost use Rattle.k42_board.specs.Plan.{layouts_on};
+ghost use Rattle.k42_board.specs.Seen.{IsOf, IsSamePass};
+ghost use Rattle.k42_board.specs.Steps.{StepIs};
+ghost use Rattle.k42_board.specs.Tabling.{EntryFound, ObjectFound, RootFound, entry_in, layout_told, MayLookUp, looked_up_view, MayLoadRoot, rooted_view, MayEndCall, ended_view, MayInstall, installs, installed_view, MayKnock, knocked_view, MayStepOut};
+ghost use Rattle.k42_board.specs.Values.{layout_in, local_value, has_bit};
+ghost use Rattle.k42_board.specs.Words.{local_word, object_word};
 
 use crate::pass::Pass;
 use crate::sys::Sys;
-use crate::table_words::{
-    end_word, install_word, knock_word, look_up_word, root_word, step_out_word,
-};
+use k42_board::{end_word, install_word, knock_word, look_up_word, root_word, step_out_word};
 use k42_kinds::Layout;
 use phase_core::Place;
 

@@ -5,16 +5,15 @@ ghost use Rattle.turn_core.specs.declared.event.TurnEvent.TheVariants as TurnEve
 ghost use Rattle.k42_joined.specs.Effects.{effect};
 ghost use Rattle.k42_joined.specs.Event.{AtCells};
 ghost use Rattle.k42_joined.specs.Possible.{IsPossible};
-ghost use Rattle.k42_rule.specs.Plan.{layouts_on};
-ghost use Rattle.k42_rule.specs.Seen.{IsOf, IsSamePass};
-ghost use Rattle.k42_rule.specs.Steps.{StepIs, Always};
-ghost use Rattle.k42_rule.specs.Taking.{ActIs, MayLock, LockFound, HoldsHome, MayPut, IsWhole, AreRowsNoted, locked_view, unlocked_view, lifted_view, reaching_view, taken_view, put_view};
-ghost use Rattle.k42_rule.specs.Words.{lock_word, slot_of};
+ghost use Rattle.k42_board.specs.Plan.{layouts_on};
+ghost use Rattle.k42_board.specs.Seen.{IsOf, IsSamePass};
+ghost use Rattle.k42_board.specs.Steps.{StepIs, Always};
+ghost use Rattle.k42_board.specs.Taking.{ActIs, MayLock, LockFound, HoldsHome, MayPut, IsWhole, AreRowsNoted, locked_view, unlocked_view, lifted_view, reaching_view, taken_view, put_view};
+ghost use Rattle.k42_board.specs.Words.{lock_word, slot_of};
 
-use crate::cell::Cell;
 use crate::pass::Pass;
-use crate::slots::{lock_cell, put_cell, take_cell, unlock_cell};
 use crate::sys::Sys;
+use k42_board::{Cell, lock_cell, put_cell, take_cell, unlock_cell};
 use k42_kinds::Layout;
 use std::marker::Brand;
 

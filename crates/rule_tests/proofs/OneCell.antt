@@ -23,20 +23,20 @@ use Rattle.k42_stamp.specs.Laws.{AreLaws}
 use Rattle.k42_stamp.specs.Layouts.{Layouts}
 use Rattle.k42_joined.specs.Numbers.{cell_of}
 use Rattle.k42_joined.specs.Rows.{cells_reached}
-use Rattle.k42_rule.specs.Cells.{cells_noted}
-use Rattle.k42_rule.specs.Drawing.{AreTold, history_noted, closed_noted, part_noted, part_due, part_in, numbers_of, IsHeld, IsTold, MayDrawCall, IsStepped, drawn_at, told_note}
-use Rattle.k42_rule.specs.Generations.{MOST}
-use Rattle.k42_rule.specs.Parts.{IsPart}
-use Rattle.k42_rule.specs.Phases.{is_served}
-use Rattle.k42_rule.specs.Seats.{told_by}
-use Rattle.k42_rule.specs.Steps.{Always}
-use Rattle.k42_rule.specs.Taking.{CELLS, MayPut, AreRowsNoted, taken_view, locked_view}
-use Rattle.k42_rule.specs.Seen.{inside_in}
-use Rattle.k42_rule.specs.declared.view.Inside.{Inside}
-use Rattle.k42_rule.specs.declared.cell.Content.{Content}
-use Rattle.k42_rule.specs.declared.view.Note.{Note}
-use Rattle.k42_rule.specs.declared.view.PassView.{PassView}
-use Rattle.k42_rule.proofs.PartLaws.{noted_always}
+use Rattle.k42_board.specs.Cells.{cells_noted}
+use Rattle.k42_board.specs.Drawing.{AreTold, history_noted, closed_noted, part_noted, part_due, part_in, numbers_of, IsHeld, IsTold, MayDrawCall, IsStepped, drawn_at, told_note}
+use Rattle.k42_board.specs.Generations.{MOST}
+use Rattle.k42_board.specs.Parts.{IsPart}
+use Rattle.k42_board.specs.Phases.{is_served}
+use Rattle.k42_board.specs.Seats.{told_by}
+use Rattle.k42_board.specs.Steps.{Always}
+use Rattle.k42_board.specs.Taking.{CELLS, MayPut, AreRowsNoted, taken_view, locked_view}
+use Rattle.k42_board.specs.Seen.{inside_in}
+use Rattle.k42_board.specs.declared.view.Inside.{Inside}
+use Rattle.k42_board.specs.declared.cell.Content.{Content}
+use Rattle.k42_board.specs.declared.view.Note.{Note}
+use Rattle.k42_board.specs.declared.view.PassView.{PassView}
+use Rattle.k42_board.proofs.PartLaws.{noted_always}
 use Rattle.k42_rule.proofs.PartsDue.{first_note, part_reached}
 use Rattle.rule_tests.specs.Ready.{IsServing, IsLayoutOf}
 use Rattle.k42_rule.proofs.PutBack.{AgreesWithNotes, taken_agrees, taken_part, may_put}

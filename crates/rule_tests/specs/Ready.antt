@@ -3,9 +3,9 @@ use Rattle.std.specs.Prelude.{◌≡◌, ◌≤◌, ◌<◌, ℕ, true, [], is_s
 use Rattle.k42_kinds.specs.OneThread.{OneThread}
 use Rattle.gen_core.specs.State.{IsPlan}
 use Rattle.phase_core.specs.Stages.{is_out}
-use Rattle.k42_rule.specs.Phases.{is_served}
-use Rattle.k42_rule.specs.Seen.{SysSeen, PassSeen, IsPassOf}
-use Rattle.k42_rule.specs.declared.view.PassView.{PassView}
+use Rattle.k42_board.specs.Phases.{is_served}
+use Rattle.k42_board.specs.Seen.{SysSeen, PassSeen, IsPassOf}
+use Rattle.k42_board.specs.declared.view.PassView.{PassView}
 
 -- the pass is one of the system, and holds no cell
 pub record IsFree {L P : Type 0} (sys : SysSeen L) (pass : PassSeen P) : Type 0 where

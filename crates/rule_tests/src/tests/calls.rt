@@ -3,7 +3,7 @@ ghost use Rattle.std.specs.Prelude.{◌≡◌, ◌<◌, ◌≤◌, true, false, 
 ghost use Rattle.k42_limits.specs.declared.TheConstants.{PROCESSORS};
 ghost use Rattle.k42_kinds.specs.LayoutLaws.{IsReached};
 ghost use Rattle.phase_core.specs.declared.caller.Place.TheVariants.{Missed, AtMediator};
-ghost use Rattle.k42_rule.specs.Seen.{inside_in};
+ghost use Rattle.k42_board.specs.Seen.{inside_in};
 ghost use Rattle.rule_tests.specs.Ready.{IsFree, IsIn, IsServing, IsLayoutOf};
 
 use co_any::AnyLayout;

@@ -1,6 +1,6 @@
 //! A swap, step by step.
 ghost use Rattle.std.specs.Prelude.{◌≡◌, ◌≤◌, Some};
-ghost use Rattle.k42_rule.specs.Swapping.{next_entry};
+ghost use Rattle.k42_board.specs.Swapping.{next_entry};
 ghost use Rattle.rule_tests.specs.Ready.{IsFree};
 
 use k42_kinds::Layout;

@@ -1,8 +1,8 @@
 use Rattle.std.proofs.Common.{◌≤◌, refl, sym, subst}
-use Rattle.k42_rule.specs.Queueing.{IsTied}
-use Rattle.k42_rule.specs.Seats.{LAST_STAMP}
-use Rattle.k42_rule.specs.Views.{pass_in}
-use Rattle.k42_rule.proofs.Noted.{last_push}
+use Rattle.k42_board.specs.Queueing.{IsTied}
+use Rattle.k42_board.specs.Seats.{LAST_STAMP}
+use Rattle.k42_board.specs.Views.{pass_in}
+use Rattle.k42_board.proofs.Noted.{last_push}
 use Rattle.k42_rule.proofs.Pushed.{list_drawn, small_drawn, mirrors_drawn}
 use Rattle.k42_rule.proofs.drawing.draw_alone.Goals as goal
 
@@ -35,4 +35,6 @@ invariant_of-pass g c =
       old.17,
       old.18,
       subst (λ z. IsTied z c.pass.inside.post.me.view.client) (sym c.alone_word.ensures.ours.0) old.19,
+      old.20,
+      old.21,
     )

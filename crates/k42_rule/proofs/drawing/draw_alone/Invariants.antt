@@ -1,4 +1,4 @@
-use Rattle.k42_rule.specs.Drawing.{alone_view}
+use Rattle.k42_board.specs.Drawing.{alone_view}
 use Rattle.k42_rule.proofs.drawing.draw_alone.Given as goal
 
 abbrev pub ghosts-alone_word : goal.ghosts-alone_word

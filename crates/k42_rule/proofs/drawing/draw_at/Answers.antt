@@ -2,19 +2,19 @@ use Rattle.std.proofs.Common.{◌≡◌, ◌≤◌, [], ◌∷◌, List, length,
 use Rattle.turn_core.specs.declared.event.TurnEvent.TheVariants.{Draw}
 use Rattle.k42_joined.specs.Drawing.{first_cell}
 use Rattle.k42_joined.specs.Event.{AtCells}
-use Rattle.k42_rule.specs.Drawing.{AreHeld, AreTold, entry_call, numbers_of, drawn_at, untold_view, stamp_next}
+use Rattle.k42_board.specs.Drawing.{AreHeld, AreTold, entry_call, numbers_of, drawn_at, untold_view, stamp_next}
 use Rattle.phase_core.specs.Stages.{object_of, row_of}
-use Rattle.k42_rule.specs.Plan.{layouts_on}
-use Rattle.k42_rule.specs.Queueing.{IsTied}
-use Rattle.k42_rule.specs.Seats.{LAST_STAMP}
-use Rattle.k42_rule.specs.Seen.{PassSeen, Own}
-use Rattle.k42_rule.specs.Steps.{Seated, StepIs}
-use Rattle.k42_rule.specs.Views.{pass_in}
-use Rattle.k42_rule.specs.Words.{lock_word}
-use Rattle.k42_rule.specs.declared.view.View.TheVariants.{Crew}
-use Rattle.k42_rule.specs.declared.view.Note.{Note}
-use Rattle.k42_rule.proofs.DrawnCall.{drawn_held, drawn_call}
-use Rattle.k42_rule.proofs.Noted.{all_due, view_back, call_entry, stamp_held, last_push}
+use Rattle.k42_board.specs.Plan.{layouts_on}
+use Rattle.k42_board.specs.Queueing.{IsTied}
+use Rattle.k42_board.specs.Seats.{LAST_STAMP}
+use Rattle.k42_board.specs.Seen.{PassSeen, Own}
+use Rattle.k42_board.specs.Steps.{Seated, StepIs}
+use Rattle.k42_board.specs.Views.{pass_in}
+use Rattle.k42_board.specs.Words.{lock_word}
+use Rattle.k42_board.specs.declared.view.View.TheVariants.{Crew}
+use Rattle.k42_board.specs.declared.view.Note.{Note}
+use Rattle.k42_board.proofs.DrawnCall.{drawn_held, drawn_call}
+use Rattle.k42_board.proofs.Noted.{all_due, view_back, call_entry, stamp_held, last_push}
 use Rattle.k42_rule.proofs.Pushed.{list_drawn, small_drawn, mirrors_drawn}
 use Rattle.k42_rule.proofs.drawing.draw_at.Goals as goal
 
@@ -101,4 +101,6 @@ invariant_of-pass g c =
       old.17,
       old.18,
       subst (λ z. IsTied z c.pass.inside.post.me.view.client) (sym (c.tell_all.ensures.ours.0 ∙ c.call_word.ensures.ours.0)) old.19,
+      old.20,
+      old.21,
     )

@@ -1,4 +1,4 @@
-use Rattle.k42_rule.specs.Drawing.{draws_at}
+use Rattle.k42_board.specs.Drawing.{draws_at}
 use Rattle.k42_rule.proofs.drawing.draw_at.Given as goal
 
 abbrev pub ghosts-call_word : goal.ghosts-call_word

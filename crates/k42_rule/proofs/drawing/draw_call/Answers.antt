@@ -2,12 +2,12 @@ use Rattle.std.proofs.Common.{List, subst}
 use Rattle.turn_core.specs.declared.event.TurnEvent.TheVariants.{Draw}
 use Rattle.k42_joined.specs.Drawing.{first_cell}
 use Rattle.k42_joined.specs.Event.{AtCells}
-use Rattle.k42_rule.specs.Drawing.{AreTold, entry_call, numbers_of, untold_view}
-use Rattle.k42_rule.specs.Plan.{layouts_on}
-use Rattle.k42_rule.specs.Steps.{StepIs}
-use Rattle.k42_rule.specs.Words.{lock_word}
-use Rattle.k42_rule.specs.declared.cell.Content.{Content}
-use Rattle.k42_rule.proofs.CellsTold.{told_back}
+use Rattle.k42_board.specs.Drawing.{AreTold, entry_call, numbers_of, untold_view}
+use Rattle.k42_board.specs.Plan.{layouts_on}
+use Rattle.k42_board.specs.Steps.{StepIs}
+use Rattle.k42_board.specs.Words.{lock_word}
+use Rattle.k42_board.specs.declared.cell.Content.{Content}
+use Rattle.k42_board.proofs.CellsTold.{told_back}
 use Rattle.k42_rule.proofs.drawing.draw_call.Goals as goal
 
 pub draw_at-requires-clause-agree : goal.draw_at-requires-clause-agree

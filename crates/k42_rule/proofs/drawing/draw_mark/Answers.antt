@@ -1,25 +1,26 @@
 use Rattle.std.proofs.Common.{◌≤◌, [], ◌∷◌, refl, sym, subst, ◌∙◌}
 use Rattle.turn_core.specs.declared.event.TurnEvent.TheVariants.{Draw}
 use Rattle.k42_joined.specs.Event.{AtCells}
-use Rattle.k42_rule.specs.Drawing.{IsHeld, entry_mark, untold_view}
-use Rattle.k42_rule.specs.Plan.{layouts_on}
-use Rattle.k42_rule.specs.Queueing.{IsTied}
-use Rattle.k42_rule.specs.Receipts.{after_first}
-use Rattle.k42_rule.specs.Seats.{LAST_STAMP}
-use Rattle.k42_rule.specs.Seen.{PassSeen}
-use Rattle.k42_rule.specs.Steps.{StepIs}
-use Rattle.k42_rule.specs.Views.{pass_in}
-use Rattle.k42_rule.specs.Words.{lock_word}
-use Rattle.k42_rule.specs.declared.view.View.TheVariants.{Crew}
-use Rattle.k42_rule.proofs.Noted.{mark_due, view_back, last_push}
+use Rattle.k42_board.specs.Drawing.{IsHeld, entry_mark, untold_view}
+use Rattle.k42_board.specs.Plan.{layouts_on}
+use Rattle.k42_board.specs.Queueing.{IsTied}
+use Rattle.k42_board.specs.Receipts.{IsDue, after_first}
+use Rattle.k42_board.specs.Seats.{LAST_STAMP}
+use Rattle.k42_board.specs.Seen.{PassSeen}
+use Rattle.k42_board.specs.Steps.{StepIs}
+use Rattle.k42_board.specs.Views.{pass_in}
+use Rattle.k42_board.specs.Words.{lock_word}
+use Rattle.k42_board.specs.declared.view.View.TheVariants.{Crew}
+use Rattle.k42_board.proofs.Noted.{mark_due, view_back, last_push}
 use Rattle.k42_rule.proofs.Pushed.{list_drawn, small_drawn, mirrors_drawn}
 use Rattle.k42_rule.proofs.drawing.draw_mark.Goals as goal
 
 pub tell_cell-requires-clause-due : goal.tell_cell-requires-clause-due
 tell_cell-requires-clause-due g c κs within =
     let told = c.mark_word.ensures.told in
-    mark_due (pass_in c.pass.inside.seat.me.0) c.args.cell.now _ c.mark_word.new.seat.me told.0 told.1
-    (subst (λ (p : PassSeen _). IsHeld p.view.notes c.args.cell.now) (sym c.pass.view_is) c.requires.may.held)
+    subst (λ shut. IsDue (pass_in c.mark_word.new.seat.me.0).notes c.args.cell.now.number shut c.stamp_after-stamp.result) (sym c.is_closed-closed.ensures)
+    (mark_due (pass_in c.pass.inside.seat.me.0) c.args.cell.now _ c.mark_word.new.seat.me told.0 told.1
+    (subst (λ (p : PassSeen _). IsHeld p.view.notes c.args.cell.now) (sym c.pass.view_is) c.requires.may.held))
 
 pub returns-clause-event : goal.returns-clause-event
 returns-clause-event g c = λ found.
@@ -51,10 +52,12 @@ invariant_of-pass g c =
       old.11,
       old.12,
       old.13,
-      list_drawn c.pass.inside.number c.pass.inside.entries.items c.as_slice.result.now c.push_reserved.new.self.items _ c.args.cell.now.last old.14 c.as_slice.ensures.value c.stamp_after-stamp.ensures refl pushed,
+      list_drawn c.pass.inside.number c.pass.inside.entries.items c.as_slice.result.now c.push_reserved.new.self.items _ c.last_stamp.result old.14 c.as_slice.ensures.value c.stamp_after-stamp.ensures refl pushed,
       small_drawn c.pass.inside.entries.items c.push_reserved.new.self.items _ pushed small,
       old.16,
       old.17,
       old.18,
       subst (λ z. IsTied z c.pass.inside.post.me.view.client) (sym (c.tell_cell.ensures.ours.0 ∙ c.mark_word.ensures.ours.0)) old.19,
+      old.20,
+      old.21,
     )

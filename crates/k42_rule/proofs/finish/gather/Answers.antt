@@ -3,11 +3,11 @@ use Rattle.std.proofs.lemmas.List.{map-append}
 use Rattle.std.specs.List.{slice_get}
 use Rattle.k42_kinds.specs.declared.entry.Entry.{Entry}
 use Rattle.k42_rule.specs.Finishing.{IsGathering}
-use Rattle.k42_rule.specs.Plan.{layouts_on}
-use Rattle.k42_rule.specs.Seen.{PassSeen, Own}
-use Rattle.k42_rule.specs.Steps.{Seated}
-use Rattle.k42_rule.specs.Views.{pass_in}
-use Rattle.k42_rule.specs.declared.view.PassView.{PassView}
+use Rattle.k42_board.specs.Plan.{layouts_on}
+use Rattle.k42_board.specs.Seen.{PassSeen, Own}
+use Rattle.k42_board.specs.Steps.{Seated}
+use Rattle.k42_board.specs.Views.{pass_in}
+use Rattle.k42_board.specs.declared.view.PassView.{PassView}
 use Rattle.k42_rule.proofs.Gathering.{joins_pass, gathers_more}
 use Rattle.k42_rule.proofs.finish.gather.Goals as goal
 

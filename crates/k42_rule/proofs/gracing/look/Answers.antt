@@ -1,7 +1,7 @@
 use Rattle.std.proofs.Common.{arith, sym, subst}
 use Rattle.std.proofs.lemmas.Grind.{common_steps}
 use Rattle.phase_core.specs.declared.caller.SwapAt.{SwapAt}
-use Rattle.k42_rule.specs.Swapping.{FitsSwap}
+use Rattle.k42_board.specs.Swapping.{FitsSwap}
 use Rattle.k42_rule.proofs.Fitting.{fits_drained}
 use Rattle.k42_rule.proofs.gracing.look.Goals as goal
 

@@ -1,11 +1,11 @@
 use Rattle.std.proofs.Common.{rules, refl, ◌<◌, length, arith, sym, ap, ◌∙◌, subst}
 use Rattle.phase_core.specs.declared.caller.SwapAt.{SwapAt}
-use Rattle.k42_rule.specs.Queueing.{IsTied}
-use Rattle.k42_rule.specs.Seen.{Own}
+use Rattle.k42_board.specs.Queueing.{IsTied}
+use Rattle.k42_board.specs.Seen.{Own}
 use Rattle.phase_core.specs.Stages.{object_named}
-use Rattle.k42_rule.specs.Swapping.{next_entry}
+use Rattle.k42_board.specs.Swapping.{next_entry}
 use Rattle.std.specs.Option.{unwrap_or}
-use Rattle.k42_rule.specs.Views.{pass_in}
+use Rattle.k42_board.specs.Views.{pass_in}
 use Rattle.k42_rule.proofs.Fitting.{fits_draining}
 use Rattle.k42_rule.proofs.RoleTaken.{draining_named, draining_next, noted_anew, role_mirrors}
 use Rattle.k42_rule.proofs.gracing.take_role.Goals as goal
@@ -36,6 +36,8 @@ invariant_of-pass g c =
       was.17,
       was.18,
       subst (λ table. IsTied table pass.post.me.view.client) (sym c.take_role_word-found.ensures.ours.0) was.19,
+      was.20,
+      was.21,
     )
 
 pub returns-then-found-eq0-clause-event : goal.returns-then-found-eq0-clause-event

@@ -3,11 +3,11 @@ use Rattle.std.specs.Prelude.{max}
 use Rattle.phase_core.specs.Stages.{object_named}
 use Rattle.turn_core.specs.Stamps.{last_stamp}
 use Rattle.k42_joined.specs.Drawing.{first_cell}
-use Rattle.k42_rule.specs.Drawing.{numbers_of}
-use Rattle.k42_rule.specs.Plan.{layouts_on}
-use Rattle.k42_rule.specs.Seen.{SysSeen, PassSeen, Own, own_in}
-use Rattle.k42_rule.specs.Values.{incarnation_in}
-use Rattle.k42_rule.specs.Views.{word_begun}
+use Rattle.k42_board.specs.Drawing.{numbers_of}
+use Rattle.k42_board.specs.Plan.{layouts_on}
+use Rattle.k42_board.specs.Seen.{SysSeen, PassSeen, Own, own_in}
+use Rattle.k42_board.specs.Values.{incarnation_in}
+use Rattle.k42_board.specs.Views.{word_begun}
 use Rattle.k42_rule.proofs.HandedCells.{stamp_is}
 use Rattle.k42_rule.proofs.handing.done_entry.Goals as goal
 

@@ -1,13 +1,13 @@
 use Rattle.std.proofs.Common.{◌≡◌, List, take, drop, subst}
 use Rattle.k42_joined.specs.Drawing.{first_cell}
 use Rattle.k42_joined.specs.Event.{HandWith}
-use Rattle.k42_rule.specs.Drawing.{AreTold, entry_hand, numbers_of, untold_view}
-use Rattle.k42_rule.specs.Handing.{handed_at}
-use Rattle.k42_rule.specs.Plan.{layouts_on}
-use Rattle.k42_rule.specs.Steps.{StepIs}
-use Rattle.k42_rule.specs.Words.{lock_word}
-use Rattle.k42_rule.specs.declared.cell.Content.{Content}
-use Rattle.k42_rule.proofs.CellsTold.{told_back}
+use Rattle.k42_board.specs.Drawing.{AreTold, entry_hand, numbers_of, untold_view}
+use Rattle.k42_board.specs.Handing.{handed_at}
+use Rattle.k42_board.specs.Plan.{layouts_on}
+use Rattle.k42_board.specs.Steps.{StepIs}
+use Rattle.k42_board.specs.Words.{lock_word}
+use Rattle.k42_board.specs.declared.cell.Content.{Content}
+use Rattle.k42_board.proofs.CellsTold.{told_back}
 use Rattle.k42_rule.proofs.handing.draw_done.Goals as goal
 
 pub returns-clause-knows : goal.returns-clause-knows

@@ -3,21 +3,21 @@ use Rattle.k42_kinds.specs.declared.entry.Entry.{Entry}
 use Rattle.k42_joined.specs.Drawing.{first_cell}
 use Rattle.k42_joined.specs.Event.{HandWith}
 use Rattle.phase_core.specs.Stages.{is_moved}
-use Rattle.k42_rule.specs.Drawing.{AreTold, numbers_of, HasSmallStamp}
-use Rattle.k42_rule.specs.Handing.{hands_at, handed_at}
-use Rattle.k42_rule.specs.Plan.{layouts_on}
-use Rattle.k42_rule.specs.Queueing.{IsTied}
-use Rattle.k42_rule.specs.Receipts.{AreDue}
+use Rattle.k42_board.specs.Drawing.{AreTold, numbers_of, HasSmallStamp}
+use Rattle.k42_board.specs.Handing.{hands_at, handed_at}
+use Rattle.k42_board.specs.Plan.{layouts_on}
+use Rattle.k42_board.specs.Queueing.{IsTied}
+use Rattle.k42_board.specs.Receipts.{AreDue}
 use Rattle.turn_core.specs.Stamps.{last_stamp}
 use Rattle.k42_stamp.specs.Lists.{IsListOf}
-use Rattle.k42_rule.specs.Seats.{LAST_STAMP}
-use Rattle.k42_rule.specs.Seen.{IsSeatOf, SysSeen, PassSeen, Own, own_in}
-use Rattle.k42_rule.specs.Steps.{Seated, StepIs}
-use Rattle.k42_rule.specs.Views.{pass_in}
-use Rattle.k42_rule.specs.Words.{lock_word}
-use Rattle.k42_rule.specs.declared.cell.Content.{Content}
-use Rattle.k42_rule.specs.declared.view.Note.{Note}
-use Rattle.k42_rule.specs.declared.view.PassView.{PassView}
+use Rattle.k42_board.specs.Seats.{LAST_STAMP}
+use Rattle.k42_board.specs.Seen.{IsSeatOf, SysSeen, PassSeen, Own, own_in}
+use Rattle.k42_board.specs.Steps.{Seated, StepIs}
+use Rattle.k42_board.specs.Views.{pass_in}
+use Rattle.k42_board.specs.Words.{lock_word}
+use Rattle.k42_board.specs.declared.cell.Content.{Content}
+use Rattle.k42_board.specs.declared.view.Note.{Note}
+use Rattle.k42_board.specs.declared.view.PassView.{PassView}
 use Rattle.k42_rule.proofs.Fitting.{fits_handed}
 use Rattle.k42_rule.proofs.HandedSeat.{untold_is, due_is, knows_is, back_is, mirrors_is, stamp_told, list_is, small_is}
 use Rattle.k42_rule.proofs.handing.hand_at.Goals as goal
@@ -99,6 +99,8 @@ invariant_of-pass g c =
       old.17,
       old.18,
       subst (λ table. IsTied table c.pass.inside.post.me.view.client) (sym (c.tell_all.ensures.ours.0 ∙ c.hand_word.ensures.ours.0)) old.19,
+      subst (λ n. n ≤ 2) (sym c.tag.ensures) c.requires.may.known,
+      old.21,
     )
 
 pub returns-clause-stamp : goal.returns-clause-stamp

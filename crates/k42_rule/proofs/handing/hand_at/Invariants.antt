@@ -1,5 +1,5 @@
 use Rattle.std.specs.Prelude.{take, drop}
-use Rattle.k42_rule.specs.Handing.{hands_at}
+use Rattle.k42_board.specs.Handing.{hands_at}
 use Rattle.k42_rule.proofs.handing.hand_at.Given as goal
 
 abbrev pub ghosts-hand_word : goal.ghosts-hand_word

@@ -1,5 +1,5 @@
 use Rattle.std.proofs.Common.{◌≡◌, ◌≤◌, length, drop}
-use Rattle.k42_rule.specs.Noting.{after_rows}
+use Rattle.k42_board.specs.Noting.{after_rows}
 use Rattle.k42_rule.proofs.noting.after_rows.Given as goal
 
 abbrev pub invariant-loop-at : goal.invariant-loop-at

@@ -1,6 +1,6 @@
 use Rattle.std.proofs.Common.{arith}
-use Rattle.k42_rule.specs.Noting.{due_of}
-use Rattle.k42_rule.proofs.Notings.{made_more}
+use Rattle.k42_board.specs.Noting.{due_of}
+use Rattle.k42_board.proofs.Notings.{made_more}
 use Rattle.k42_rule.proofs.noting.note_all.Goals as goal
 
 pub loop-object-preserved : goal.loop-object-preserved

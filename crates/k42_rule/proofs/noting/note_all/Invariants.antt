@@ -1,6 +1,6 @@
 use Rattle.std.proofs.Common.{◌≡◌, ◌++◌, drop}
 use Rattle.k42_kinds.specs.Rows.{made_from}
-use Rattle.k42_rule.specs.Noting.{due_of}
+use Rattle.k42_board.specs.Noting.{due_of}
 use Rattle.k42_rule.proofs.noting.note_all.Given as goal
 
 abbrev pub invariant-loop-object : goal.invariant-loop-object

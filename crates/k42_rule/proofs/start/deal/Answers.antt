@@ -1,12 +1,12 @@
 use Rattle.std.proofs.Common.{ℕ, length, arith, sym, refl, ap, subst}
 use Rattle.atomic_table.specs.Table.{Splits}
-use Rattle.k42_rule.specs.Dealing.{dealer, dealt}
-use Rattle.k42_rule.specs.Rule.{Ruled}
-use Rattle.k42_rule.specs.Steps.{Seated}
-use Rattle.k42_rule.specs.Plan.{layouts_on}
-use Rattle.k42_rule.specs.declared.view.View.{View}
-use Rattle.k42_rule.proofs.Carrying.{forks_keep}
-use Rattle.k42_rule.proofs.Dealing.{deals}
+use Rattle.k42_board.specs.Dealing.{dealer, dealt}
+use Rattle.k42_board.specs.Rule.{Ruled}
+use Rattle.k42_board.specs.Steps.{Seated}
+use Rattle.k42_board.specs.Plan.{layouts_on}
+use Rattle.k42_board.specs.declared.view.View.{View}
+use Rattle.k42_board.proofs.Carrying.{forks_keep}
+use Rattle.k42_board.proofs.Dealing.{deals}
 use Rattle.k42_rule.proofs.start.deal.Goals as goal
 
 pub split_seat-own-requires : goal.split_seat-own-requires

@@ -1,5 +1,5 @@
 use Rattle.std.proofs.Common.{ℕ, arith}
-use Rattle.k42_rule.proofs.Starting.{deals_more}
+use Rattle.k42_board.proofs.Starting.{deals_more}
 use Rattle.k42_rule.proofs.start.deal_all.Goals as goal
 
 pub loop-number-preserved : goal.loop-number-preserved

@@ -1,6 +1,6 @@
 use Rattle.crossbeam_queue.specs.SegTies.{IsSegPassOf}
-use Rattle.k42_rule.specs.Queueing.{IsTied}
-use Rattle.k42_rule.specs.Starting.{IsDealing}
+use Rattle.k42_board.specs.Queueing.{IsTied}
+use Rattle.k42_board.specs.Starting.{IsDealing}
 use Rattle.k42_rule.proofs.start.deal_all.Given as goal
 
 abbrev pub invariant-loop-number : goal.invariant-loop-number

@@ -1,8 +1,8 @@
 use Rattle.std.proofs.Common.{rules, sym, ap, ◌∙◌, subst}
 use Rattle.phase_core.specs.Stages.{is_drained}
 use Rattle.phase_core.specs.declared.caller.SwapAt.TheVariants.{Blocking}
-use Rattle.k42_rule.specs.Seen.{Own, PassSeen}
-use Rattle.k42_rule.specs.Swapping.{FitsSwap}
+use Rattle.k42_board.specs.Seen.{Own, PassSeen}
+use Rattle.k42_board.specs.Swapping.{FitsSwap}
 use Rattle.k42_rule.proofs.Fitting.{fits_blocked}
 use Rattle.k42_rule.proofs.swapping.block_step.Goals as goal
 

@@ -1,6 +1,6 @@
 use Rattle.std.proofs.Common.{rules, sym, subst}
 use Rattle.phase_core.specs.declared.caller.SwapAt.{SwapAt}
-use Rattle.k42_rule.specs.Swapping.{FitsSwap}
+use Rattle.k42_board.specs.Swapping.{FitsSwap}
 use Rattle.k42_rule.proofs.Fitting.{fits_entry}
 use Rattle.k42_rule.proofs.swapping.entry_step.Goals as goal
 

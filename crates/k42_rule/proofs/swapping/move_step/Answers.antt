@@ -1,8 +1,8 @@
 use Rattle.std.proofs.Common.{rules, sym, ap, ◌∙◌, subst}
 use Rattle.phase_core.specs.Stages.{is_blocking}
 use Rattle.phase_core.specs.declared.caller.SwapAt.TheVariants.{Moved}
-use Rattle.k42_rule.specs.Seen.{Own, PassSeen}
-use Rattle.k42_rule.specs.Swapping.{FitsSwap}
+use Rattle.k42_board.specs.Seen.{Own, PassSeen}
+use Rattle.k42_board.specs.Swapping.{FitsSwap}
 use Rattle.k42_rule.proofs.Fitting.{fits_moved}
 use Rattle.k42_rule.proofs.swapping.move_step.Goals as goal
 

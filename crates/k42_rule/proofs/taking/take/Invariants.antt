@@ -1,5 +1,5 @@
-use Rattle.k42_rule.specs.Plan.{layouts_on}
-use Rattle.k42_rule.specs.Taking.{AreRowsNoted}
+use Rattle.k42_board.specs.Plan.{layouts_on}
+use Rattle.k42_board.specs.Taking.{AreRowsNoted}
 use Rattle.k42_rule.proofs.taking.take.Given as goal
 
 abbrev pub ghosts-take_cell : goal.ghosts-take_cell

@@ -1,10 +1,10 @@
 use Rattle.std.proofs.Common.{rules, ◌≡◌, ℕ, suc, ◌<◌, List, ◌∷◌, Some, length, map, vec_items, sym, ap, ◌∙◌, subst, arith}
 use Rattle.std.specs.List.{slice_get}
 use Rattle.k42_rule.specs.Finishing.{AreAtRest, AreLastLists, lists_in}
-use Rattle.k42_rule.specs.Plan.{layouts_on}
-use Rattle.k42_rule.specs.Seen.{SysSeen, PassSeen, Own}
-use Rattle.k42_rule.specs.Views.{pass_in}
-use Rattle.k42_rule.specs.declared.view.PassView.{PassView}
+use Rattle.k42_board.specs.Plan.{layouts_on}
+use Rattle.k42_board.specs.Seen.{SysSeen, PassSeen, Own}
+use Rattle.k42_board.specs.Views.{pass_in}
+use Rattle.k42_board.specs.declared.view.PassView.{PassView}
 use mathlib.Core.Option.{some}
 use Rattle.k42_rule.proofs.Ending.{are_last, first_removed, all_views}
 use Rattle.k42_rule.proofs.sys.Sys.finish.Goals as goal

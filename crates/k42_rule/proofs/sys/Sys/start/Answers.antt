@@ -2,12 +2,12 @@ use Rattle.std.proofs.Common.{◌≡◌, ◌<◌, ◌≤◌, ℕ, List, length, 
 use Rattle.k42_limits.specs.declared.TheConstants.{PROCESSORS}
 use Rattle.k42_places.specs.Places.{EachPlace}
 use Rattle.k42_stamp.specs.Laws.{AreLaws}
-use Rattle.k42_rule.specs.Plan.{layouts_on}
-use Rattle.k42_rule.specs.Starting.{AreFirstWords, AreDealt}
-use Rattle.k42_rule.proofs.Carrying.{begins}
+use Rattle.k42_board.specs.Plan.{layouts_on}
+use Rattle.k42_board.specs.Starting.{AreFirstWords, AreDealt}
+use Rattle.k42_board.proofs.Carrying.{begins}
 use Rattle.k42_rule.proofs.Opening.{opens, is_opened}
 use Rattle.k42_rule.proofs.Plans.{plan_of, on_processors}
-use Rattle.k42_rule.proofs.Starting.{is_started}
+use Rattle.k42_board.proofs.Starting.{is_started}
 use Rattle.k42_rule.proofs.sys.Sys.start.Goals as goal
 use Rattle.k42_rule.proofs.sys.Sys.start.Given as given
 
@@ -35,7 +35,7 @@ new-requires g c =
     let F = layouts_on g.L.Kind.object g.L.Layout.tag_of g.L.Layout.ways g.L.Layout.whole g.L.Layout.serves g.L.Layout.admitted g.L.Layout.act_of procs callers in
     let told : AreFirstWords g.L.Layout.tag_of layouts (length layouts) c.in_ok-words.words.items =
     rw c.as_slice.ensures.value at c.in_ok-words.ensures in
-    (opens F (laws_at g procs callers c.requires.turns.limits.some_procs c.requires.turns.placed) layouts callers (plan_of F layouts callers c.requires (λ d. refl))
+    (opens F (laws_at g procs callers c.requires.start.turns.limits.some_procs c.requires.start.turns.placed) layouts callers (plan_of F layouts callers c.requires.start (λ d. refl))
     c.as_slice-2.result.now c.in_ok-slots.slots.items
     (subst (λ (w : List ℕ). AreFirstWords g.L.Layout.tag_of layouts (length layouts) w) (sym c.as_slice-2.ensures.value) told)
     c.in_ok-slots.ensures.0 c.in_ok-slots.ensures.1).0
@@ -46,7 +46,7 @@ returns-clause-opened g c =
     let F = layouts_on g.L.Kind.object g.L.Layout.tag_of g.L.Layout.ways g.L.Layout.whole g.L.Layout.serves g.L.Layout.admitted g.L.Layout.act_of procs callers in
     let told : AreFirstWords g.L.Layout.tag_of layouts (length layouts) c.in_ok-words.words.items =
     rw c.as_slice.ensures.value at c.in_ok-words.ensures in
-    is_opened F (laws_at g procs callers c.requires.turns.limits.some_procs c.requires.turns.placed) layouts callers (plan_of F layouts callers c.requires (λ d. refl))
+    is_opened F (laws_at g procs callers c.requires.start.turns.limits.some_procs c.requires.start.turns.placed) layouts callers (plan_of F layouts callers c.requires.start (λ d. refl))
     c.as_slice-2.result.now c.in_ok-slots.slots.items
     (subst (λ (w : List ℕ). AreFirstWords g.L.Layout.tag_of layouts (length layouts) w) (sym c.as_slice-2.ensures.value) told)
     c.in_ok-slots.ensures.0 c.in_ok-slots.ensures.1
@@ -54,7 +54,7 @@ returns-clause-opened g c =
 pub deal_all-requires-clause-homes : goal.deal_all-requires-clause-homes
 deal_all-requires-clause-homes g c κs within =
     subst (λ (homes : List ℕ). (length homes ≤ 16) × EachPlace (λ d home. home < 8) homes) (sym c.as_slice-3.ensures.value)
-    (c.requires.turns.limits.few_callers, λ d home e. let less = c.requires.turns.placed d home e in let few = c.requires.turns.limits.few_procs in omega (arith, less, few))
+    (c.requires.start.turns.limits.few_callers, λ d home e. let less = c.requires.start.turns.placed d home e in let few = c.requires.start.turns.limits.few_procs in omega (arith, less, few))
 
 pub invariant_of-sys : goal.invariant_of-sys
 invariant_of-sys g c =
@@ -63,12 +63,13 @@ invariant_of-sys g c =
       made.1 ∙ c.in_ok-slots.ensures.0,
       ap (λ k. k.layouts.items) (sym made.5),
       ap (λ k. k.procs) (sym made.5),
-      c.requires.few_objects,
+      c.requires.start.few_objects,
       subst
           (λ k. AreLaws (layouts_on g.L.Kind.object g.L.Layout.tag_of g.L.Layout.ways g.L.Layout.whole g.L.Layout.serves g.L.Layout.admitted g.L.Layout.act_of k.procs k.callers.items))
-          (sym made.5) (laws_at g procs callers c.requires.turns.limits.some_procs c.requires.turns.placed),
-      subst (λ k. 0 < length k.callers.items) (sym made.5) c.requires.turns.limits.some_callers,
-      subst (λ k. k.procs ≤ PROCESSORS) (sym made.5) c.requires.turns.limits.few_procs,
+          (sym made.5) (laws_at g procs callers c.requires.start.turns.limits.some_procs c.requires.start.turns.placed),
+      subst (λ k. 0 < length k.callers.items) (sym made.5) c.requires.start.turns.limits.some_callers,
+      subst (λ k. k.procs ≤ PROCESSORS) (sym made.5) c.requires.start.turns.limits.few_procs,
+      c.requires.tags,
     )
 
 pub returns-clause-started : goal.returns-clause-started
@@ -80,7 +81,7 @@ returns-clause-started g c =
     let dealt : AreDealt table queue procs (length c.args.layouts.items) c.args.callers.items passes =
     subst (λ (z : ℕ × List ℕ). AreDealt table queue procs z.0 z.1 passes) (λ i. (many i, c.as_slice-3.ensures.value i)) c.in_ok-passes.ensures in
     is_started c.args.layouts.items procs c.args.callers.items _ passes (ap (λ k. k.procs) key) (ap (λ k. k.layouts.items) key) (ap (λ k. k.callers.items) key)
-    c.requires.turns.placed dealt
+    c.requires.start.turns.placed dealt
 
 pub with_rule-requires : goal.with_rule-requires
 with_rule-requires g c = begins

@@ -7,12 +7,12 @@ use Rattle.k42_kinds.specs.declared.entry.Reach.TheVariants.{One}
 use Rattle.k42_kinds.specs.declared.entry.Act.TheVariants.{Call}
 use Rattle.k42_kinds.specs.declared.entry.Answer.TheVariants.{Replied}
 use Rattle.k42_stamp.specs.Laws.{AreLaws}
-use Rattle.k42_rule.specs.Plan.{layouts_on}
-use Rattle.k42_rule.specs.Generations.{MOST}
-use Rattle.k42_rule.specs.Drawing.{MayDrawCall, drawn_at, entry_call, numbers_of}
-use Rattle.k42_rule.specs.Taking.{MayPut, CELLS, taken_view}
-use Rattle.k42_rule.specs.declared.cell.Content.{Content}
-use Rattle.k42_rule.specs.declared.view.PassView.{PassView}
+use Rattle.k42_board.specs.Plan.{layouts_on}
+use Rattle.k42_board.specs.Generations.{MOST}
+use Rattle.k42_board.specs.Drawing.{MayDrawCall, drawn_at, entry_call, numbers_of}
+use Rattle.k42_board.specs.Taking.{MayPut, CELLS, taken_view}
+use Rattle.k42_board.specs.declared.cell.Content.{Content}
+use Rattle.k42_board.specs.declared.view.PassView.{PassView}
 use Rattle.k42_rule.proofs.Plans.{on_processors}
 use Rattle.rule_tests.proofs.OneCell.{at_one, mine_stays, reached, within, may_draw, may_put_drawn, told_last}
 use Rattle.rule_tests.proofs.tests.calls.step_at.Goals as goal

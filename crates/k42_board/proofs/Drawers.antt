@@ -1,0 +1,206 @@
+-- A pass that draws an entry: what it knows after it, that its stamps are small, and what the step owes to the table.
+use Rattle.std.proofs.Common.{◌≡◌, ℕ, ◌-◌, ◌^◌, ◌<◌, ◌≤◌, Bool, true, false, List, [], ◌∷◌, Option, Some, None, length, get_or, sym, refl, ap, ◌∙◌, subst, ⊎_elim, arith, zero, suc}
+use Rattle.std.specs.List.{slice_get}
+use Rattle.std.proofs.lemmas.Bool.{eq-eqb}
+use Rattle.std.proofs.lemmas.Option.{slice_get-get_or}
+use Rattle.std.proofs.lemmas.List.Sums.{sum_by-le}
+use mathlib.Core.Option.{some}
+use lib.ListN.{get_elem?}
+use Rattle.atomic_table.specs.Table.{State, Step, Allows}
+use Rattle.atomic_table.proofs.Lists.{set_here}
+use Rattle.k42_kinds.specs.declared.entry.Entry.{Entry}
+use Rattle.k42_places.specs.Places.{EachPlace}
+use Rattle.k42_places.proofs.Appended.{at_push}
+use Rattle.phase_core.specs.Stages.{is_moved, object_named}
+use Rattle.turn_core.specs.Events.{caller_drawn, is_next}
+use Rattle.turn_core.specs.Plain.{Caller, Turns}
+use Rattle.turn_core.specs.Sound.{entries_drawn}
+use Rattle.turn_core.specs.Stamps.{last_stamp, stamp_of, next_stamp}
+use Rattle.turn_core.specs.State.{caller_at, fresh_caller}
+use Rattle.k42_stamp.specs.Layouts.{Layouts}
+use Rattle.k42_joined.specs.Event.{Event}
+use Rattle.k42_joined.specs.Plain.{Kept, Joined}
+use Rattle.k42_joined.specs.State.{kept_of, is_handed}
+use Rattle.k42_joined.specs.Swapping.{may_turn_over}
+use Rattle.k42_board.specs.Cells.{Slot, Contents, KnowsCells}
+use Rattle.k42_board.specs.Drawing.{HasSmallStamp, untold_view}
+use Rattle.k42_board.specs.Phases.{KnowsPhases}
+use Rattle.k42_board.specs.Rule.{Beside, KnowsPass, Rule, Ruled}
+use Rattle.k42_board.specs.Seats.{LAST_STAMP}
+use Rattle.k42_board.specs.Seen.{IsSeatOf}
+use Rattle.k42_board.specs.Steps.{Seated, on_pass, TellsWith, StepIs}
+use Rattle.k42_board.specs.Trace.{IsOfTime}
+use Rattle.k42_board.specs.Views.{kept_in, pass_in}
+use Rattle.k42_board.specs.declared.view.Note.{Note}
+use Rattle.k42_board.specs.declared.view.PassView.{PassView}
+use Rattle.k42_board.specs.declared.view.View.{View}
+use Rattle.k42_board.specs.declared.view.View.TheVariants.{Crew}
+use Rattle.k42_board.proofs.Moves.{Moves, Finds, seat_allowed_with, moves_is}
+use Rattle.k42_board.proofs.OnePass.{known}
+
+-- the pass after a draw: it has forgotten what its last Begin found
+abbrev pub drawer : {P : Type 0} → PassView P → Caller → List (Note P) → Bool → Option ℕ → List ℕ → ℕ → PassView P
+drawer v taker notes abandoned handed untold heard = record v {
+  taker = taker;
+  notes = notes;
+  found = None;
+  abandoned = abandoned;
+  handed = handed;
+  untold = untold;
+  heard = heard;
+}
+
+module _ {L P : Type 0} (tag_of : L → ℕ) (s : Joined L) (turns : Turns) (hands : List (List L)) (kept : List Kept) (beside : Beside P)
+    (contents : Contents P) (id : ℕ) (v : PassView P) (k : KnowsPass tag_of s beside id v) (entry : Entry) (notes : List (Note P))
+    (abandoned : Bool) (handed : Option ℕ) (untold : List ℕ) (heard : ℕ) where
+  abbrev pub after : Joined L
+  after = record s { turns = turns; hands = hands; kept = kept }
+
+  abbrev pub w : PassView P
+  w = drawer v (caller_drawn entry v.taker) notes abandoned handed untold heard
+
+  pub record Draws : Type 0 where
+    pub cells : KnowsCells turns contents w
+    pub kept_is : kept_of after v.number ≡ kept_in w
+    pub timely : IsOfTime s.phases.turns v.turn.proc entry
+    pub handed_is :
+        (tag : ℕ) → handed ≡ Some tag → (is_moved v.visitor.swap ≡ true) × (may_turn_over after tag_of (object_named v.visitor.swap) tag ≡ true)
+    pub unhanded : handed ≡ None → is_moved v.visitor.swap ≡ true → is_handed after (object_named v.visitor.swap) ≡ false
+
+  -- what the draw leaves of what it knew of phases
+  phases_known : KnowsPhases s.phases w
+  phases_known = record {
+    visitor = k.phases.visitor;
+    layout = k.phases.layout;
+    learned = k.phases.learned;
+    swap = record {
+      turned = k.phases.swap.turned;
+      layout_begun = k.phases.swap.layout_begun;
+      begun = k.phases.swap.begun;
+      next = k.phases.swap.next;
+    };
+    rows = record {
+      old = k.phases.rows.old;
+      granted = k.phases.rows.granted;
+      swept = k.phases.rows.swept;
+      spans = k.phases.rows.spans;
+    };
+  }
+
+  pub pass_drawn : Draws → KnowsPass tag_of after (record beside { contents = contents }) id w
+  pass_drawn draws = record {
+    there = k.there;
+    seat = k.seat;
+    names = record { named = k.names.named; once = k.names.once };
+    generations = record { turn = k.generations.turn; activities = k.generations.activities; graces = k.generations.graces; base = k.generations.base };
+    phases = phases_known;
+    cells = draws.cells;
+    trace = record {
+      kept = draws.kept_is;
+      found = λ answer e. absurd (cc);
+      over = λ answer e over. absurd (cc);
+      handed = draws.handed_is;
+      unhanded = draws.unhanded;
+      times = λ place other e. ⊎_elim (λ old. k.trace.times place other old.1) (λ new. subst (IsOfTime s.phases.turns v.turn.proc) new.1 draws.timely)
+          (at_push v.taker.mine entry place other e);
+    };
+  }
+
+-- which cells do not tell of an entry yet is nothing that a pass knows
+pub untold_known : {L P : Type 0} (tag_of : L → ℕ) (s : Joined L) (beside : Beside P) (id : ℕ) (v : PassView P) → KnowsPass tag_of s beside id v → (cells : List ℕ)
+    → KnowsPass tag_of s beside id (untold_view cells v)
+untold_known tag_of s beside id v k cells = record {
+  there = k.there;
+  seat = k.seat;
+  names = k.names;
+  generations = record { turn = k.generations.turn; activities = k.generations.activities; graces = k.generations.graces; base = k.generations.base };
+  phases = record {
+    visitor = k.phases.visitor;
+    layout = k.phases.layout;
+    learned = k.phases.learned;
+    swap = record {
+      turned = k.phases.swap.turned;
+      layout_begun = k.phases.swap.layout_begun;
+      begun = k.phases.swap.begun;
+      next = k.phases.swap.next;
+    };
+    rows = record {
+      old = k.phases.rows.old;
+      granted = k.phases.rows.granted;
+      swept = k.phases.rows.swept;
+      spans = k.phases.rows.spans;
+    };
+  };
+  cells = record { taker = k.cells.taker; notes = k.cells.notes; noted = k.cells.noted; out = k.cells.out; only = k.cells.only };
+  trace = record {
+    kept = k.trace.kept;
+    found = k.trace.found;
+    over = k.trace.over;
+    handed = k.trace.handed;
+    unhanded = k.trace.unhanded;
+    times = k.trace.times;
+  };
+}
+
+-- the entry is the caller's next
+pub is_next_of : (s : Turns) (c : ℕ) (cells : List ℕ) (entry : Entry) → entry.caller ≡ c → entry.index ≡ length (caller_at s c).mine → entry.stamp ≡ next_stamp s c cells
+    → is_next s c cells entry ≡ true
+is_next_of s c cells entry caller index stamp =
+    let one = eq-eqb entry.caller c caller in
+    let two = eq-eqb entry.index (length (caller_at s c).mine) index in
+    let three = eq-eqb entry.stamp (next_stamp s c cells) stamp in
+    rw (one, two, three) refl
+
+-- where no stamp is above a number, the last is not
+last_most : (most : ℕ) (entries : List Entry) → EachPlace (λ i (entry : Entry). entry.stamp ≤ most) entries → last_stamp entries ≤ most
+last_most most entries each = go (slice_get entries (length entries - 1)) refl where
+  go : (found : Option Entry) → slice_get entries (length entries - 1) ≡ found → stamp_of found ≤ most
+  go None e = omega arith
+  go (Some entry) e = each (length entries - 1) entry e
+
+-- nobody draws an entry with a large stamp
+pub small_stamps : {S L P : Type 0} (F : Layouts S L P) (declared : List L) (table : State (Slot P) (View P)) (r : Rule F declared table) (id : ℕ) (v : PassView P)
+    → get_elem? table.views id ≡ some (Crew (v ∷ [])) → HasSmallStamp v
+small_stamps F declared table r id v at =
+    let s = r.state.turns in
+    let k = known F declared table r id v at in
+    let there : v.number < length s.callers = let many = r.sound.cells.locks.many.callers in let lt = k.there in omega (arith, many, lt) in
+    let own = r.sound.cells.turns.callers v.number (caller_at s v.number) (slice_get-get_or s.callers v.number fresh_caller there) in
+    let bounded : last_stamp (caller_at s v.number).mine ≤ entries_drawn s.callers = last_most (entries_drawn s.callers) (caller_at s v.number).mine own.bounded in
+    let most = sum_by-le (λ (x : Caller). length x.mine) (2 ^ 20) s.callers (λ i d lt. r.shows.few_entries i (get_or s.callers i d) (slice_get-get_or s.callers i d lt)) in
+    let few = r.sound.phases.in_scene.in_course.limits.few_callers in
+    let long = r.sound.phases.in_scene.in_course.many_callers in
+    let many = r.sound.cells.locks.many.callers in
+    subst (λ (x : Caller). last_stamp x.mine ≤ LAST_STAMP) k.cells.taker (omega (arith, bounded, most, few, long, many))
+
+at_within : {A : Type 0} (xs : List A) (i : ℕ) (x : A) → get_elem? xs i ≡ some x → i < length xs
+at_within [] i x e = absurd (cc)
+at_within (y ∷ ys) zero x e = omega arith
+at_within (y ∷ ys) (suc i) x e = let rest = at_within ys i x e in omega (arith, rest)
+
+-- a step that makes this of its pass, whatever it finds
+module _ {S L P : Type 0} {F : Layouts S L P} {declared : List L} {event : Event L} {word : ℕ} {becomes : PassView P → PassView P} {id : ℕ} {v : PassView P}
+    (moves : Moves F declared event word (λ n. n) (λ found. becomes) id v) where
+  finds_small : Finds F declared word (λ v found. HasSmallStamp (becomes v)) id v
+  finds_small table r at =
+      let after = moves.from table r at in
+      small_stamps F declared _ after.0 id (becomes v) (set_here table.views id (Crew (becomes v ∷ [])) (at_within table.views id (Crew (v ∷ [])) at))
+
+  pub draw_allowed : {callers : ℕ} (said : PassView P → PassView P) → said ≡ becomes → (me : Seated P) → IsSeatOf me v → (slots : ℕ) (step : Step (Slot P))
+      → Allows (Ruled F declared callers) slots id me word (λ n. n) (TellsWith (λ found. said) (λ v found. HasSmallStamp (said v)) step me)
+  draw_allowed {callers} said same me is slots step =
+      subst (λ (b : PassView P → PassView P). Allows (Ruled F declared callers) slots id me word (λ n. n) (TellsWith (λ found. b) (λ v found. HasSmallStamp (b v)) step me))
+      (sym same) (seat_allowed_with moves (λ v found. HasSmallStamp (becomes v)) finds_small me is slots step)
+
+  -- what the step has told
+  pub draw_told : (said : PassView P → PassView P) → said ≡ becomes → (me seated : Seated P) → IsSeatOf me v → (step : Step (Slot P)) (found : ℕ)
+      → TellsWith (λ found. said) (λ v found. HasSmallStamp (said v)) step me found seated → IsSeatOf seated (becomes v) × HasSmallStamp (becomes v)
+  draw_told said same me seated is step found told = (
+    told.0 ∙ (λ i. (on_pass (same i) (is i).0, (is i).1)),
+    subst (λ (z : PassView P). HasSmallStamp z) (λ i. same i (pass_in (is i).0)) told.1,
+  )
+
+  pub draw_is : (said : PassView P → PassView P) → said ≡ becomes → (me seated : Seated P) → IsSeatOf me v → (step : Step (Slot P)) (found : ℕ)
+      → TellsWith (λ found. said) (λ v found. HasSmallStamp (said v)) step me found seated → (word_found : ℕ) → StepIs F declared event word (λ n. n) id v word_found (pass_in seated.0)
+  draw_is said same me seated is step found told word_found =
+      subst (StepIs F declared event word (λ n. n) id v word_found) (sym (ap (λ (m : Seated P). pass_in m.0) (draw_told said same me seated is step found told).0)) (moves_is moves word_found)

@@ -1,0 +1,429 @@
+-- Reading the exits of a processor is allowed to a pass whose grace is there.
+use Rattle.std.proofs.Common.{◌≡◌, ◌≢◌, ℕ, zero, suc, ◌+◌, ◌%◌, ◌<◌, ◌≤◌, Bool, true, false, not, cond, eqb, List, [], ◌∷◌, Option, Some, length, get_or, set, sym, refl, ap, ◌∙◌, subst, ⊎_elim, arith, le_refl, length-set, get_or-set_same, get_or-set_other}
+use Rattle.std.specs.List.{slice_get, slice_index}
+use Rattle.std.proofs.lemmas.Bool.{eqb-true, eqb-false}
+use Rattle.std.proofs.lemmas.List.{set-get_or}
+use Rattle.std.proofs.lemmas.Option.{slice_get_within, slice_get-get_or}
+use mathlib.Core.Option.{some}
+use lib.ListN.{get_elem?}
+use Rattle.atomic_table.specs.Table.{State}
+use Rattle.k42_places.specs.Places.{EachPlace}
+use Rattle.gen_core.specs.Events as gens
+use Rattle.gen_core.specs.Events.{is_idle, is_even, is_flipping, is_looking, exits_of, other_exits, turn_of, looked_ahead, caller_passed, is_drained, place_of, after_look}
+use Rattle.gen_core.specs.Plain.{Generations, Caller}
+use Rattle.gen_core.specs.Sound.{generation_of, is_flipped}
+use Rattle.gen_core.specs.State.{caller_at, proc_at, put_caller, fresh_proc}
+use Rattle.gen_core.specs.declared.event.GenEvent.{GenEvent}
+use Rattle.gen_core.specs.declared.event.GenEvent.TheVariants.{LookAhead, Look}
+use Rattle.gen_core.specs.declared.state.GenProc.{GenProc}
+use Rattle.gen_core.specs.declared.state.GraceAt.{GraceAt}
+use Rattle.gen_core.specs.declared.state.GraceAt.TheVariants.{Flipping, Looking}
+use Rattle.gen_core.specs.declared.state.GraceAt.TheVariants as graces
+use Rattle.gen_core.specs.Consequences.{entries_by}
+use Rattle.gen_core.proofs.Ranges.{flipping_there, looking_there}
+use Rattle.gen_core.proofs.Stages.{is_even-next, flipped-after_look, exits_fit}
+use Rattle.phase_core.specs.Effects.{drained_at}
+use Rattle.phase_core.specs.Event.{Turn}
+use Rattle.phase_core.specs.Plain.{Visitor}
+use Rattle.phase_core.specs.declared.caller.SwapAt.{SwapAt}
+use Rattle.phase_core.specs.State.{visitor_at}
+use Rattle.k42_stamp.specs.Laws.{AreLaws}
+use Rattle.k42_stamp.specs.Layouts.{Layouts}
+use Rattle.k42_joined.specs.Effects.{effect}
+use Rattle.k42_joined.specs.Event.{AtPhases}
+use Rattle.k42_joined.specs.Possible.{IsPossible}
+use Rattle.k42_board.specs.Cells.{Slot}
+use Rattle.k42_board.specs.Generations.{IsProcessorShown, AreGenerations, will_flip, grace_of}
+use Rattle.k42_board.specs.Gracing.{LooksAhead, LooksBack, MayLook, look_event, looked_at, looked_view, passed_view, ExitsFound}
+use Rattle.k42_board.specs.Rule.{Rule}
+use Rattle.k42_board.specs.Views.{hears}
+use Rattle.k42_board.specs.Words.{exits_word}
+use Rattle.k42_board.specs.declared.view.PassView.{PassView}
+use Rattle.k42_board.specs.declared.view.View.{View}
+use Rattle.k42_board.specs.declared.view.View.TheVariants.{Crew}
+use Rattle.k42_board.proofs.Apart.{IsOfGenerations, of_processor}
+use Rattle.k42_board.proofs.Begun.{begun_goes, flips_of}
+use Rattle.k42_board.proofs.Holding.{knows, sound, there, turn, procs_few, waits_many, in_step, base_is, role, stage, holder, busy_test, ltb_same}
+use Rattle.k42_board.proofs.Moves.{Moves, Finds}
+use Rattle.k42_board.proofs.OnePass.{with_pass}
+use Rattle.k42_board.proofs.Turning.{IsTurn, turned, visitors_after, state_after, own_goes, rows_kept, IsSameSwap, same_swap, drained_swap}
+
+odd_is : (generation parity : ℕ) → parity ≡ generation % 2 → generation % 2 ≢ 0 → parity ≡ 1
+odd_is generation parity is odd = by_bound parity is (λ none. odd (sym is ∙ none)) where
+  by_bound : (n : ℕ) → n ≡ generation % 2 → n ≢ 0 → n ≡ 1
+  by_bound zero same not_none = absurd (not_none refl)
+  by_bound (suc zero) same not_none = refl
+  by_bound (suc (suc m)) same not_none = absurd (omega (arith, same))
+
+-- the exits of the generations of this parity
+exits_shown : (words : List ℕ) (p parity generation : ℕ) (k : GenProc) → parity ≡ generation % 2 → IsProcessorShown words p k
+    → get_or words (exits_word p parity) 0 ≡ exits_of k (is_even generation)
+exits_shown words p parity generation k is shown = by_test (eqb (generation % 2) 0) refl where
+  by_test : (b : Bool) → eqb (generation % 2) 0 ≡ b → get_or words (exits_word p parity) 0 ≡ exits_of k b
+  by_test true e =
+      let none : parity ≡ 0 = is ∙ eqb-true (generation % 2) 0 e in ap (λ (b : ℕ). get_or words (exits_word p b) 0) none ∙ shown.even
+  by_test false e =
+      let one : parity ≡ 1 = odd_is generation parity is (eqb-false (generation % 2) 0 e) in
+      ap (λ (b : ℕ). get_or words (exits_word p b) 0) one ∙ shown.odd
+
+exits_apart_of : (p parity : ℕ) → p < 8 → parity < 2 → IsOfGenerations (exits_word p parity)
+exits_apart_of p parity few two = subst (λ i. IsOfGenerations i) (omega arith) (of_processor p (1 + parity) few (omega (arith, two)))
+
+not_not : (b : Bool) → not (not b) ≡ b
+not_not true = refl
+not_not false = refl
+
+module _ {S L P : Type 0} (F : Layouts S L P) (laws : AreLaws F) (declared : List L)
+    (table : State (Slot P) (View P)) (r : Rule F declared table) (id : ℕ) (v : PassView P)
+    (at : get_elem? table.views id ≡ some (Crew (v ∷ []))) where
+  abbrev c : ℕ
+  c = v.number
+
+  abbrev g0 : Generations
+  g0 = r.state.phases.turns
+
+  abbrev x : Caller
+  x = caller_at g0 c
+
+  -- the grace of the pass goes on by a load, and nothing else of the generations
+  pub record GoesOn (e : GenEvent) (x' : Caller) (y : Visitor) (turn' : Caller) (swap' : SwapAt) : Type 0 where
+    pub possible : IsPossible F declared r.state (AtPhases (Turn e))
+    pub effect_is : state_after F laws declared table r id v at (Turn e) (put_caller g0 c x') y r.beside.counts ≡ effect r.state (AtPhases (Turn e))
+    pub busy : v.turn.grace ≢ graces.Idle
+    pub caller : gens.caller_of e ≡ c
+    pub can : gens.is_possible g0 e ≡ true
+    pub is : put_caller g0 c x' ≡ gens.effect g0 e
+    pub entries : (p : ℕ) → entries_by g0 e p ≡ 0
+    pub flips : (p : ℕ) → p < length g0.procs → is_flipped x'.grace p ≡ is_flipped x.grace p
+    pub turn_is : x' ≡ turn'
+    pub proc : turn'.proc ≡ v.turn.proc
+    pub visitor_is : y ≡ record v.visitor { swap = swap' }
+    pub swap : IsSameSwap v.visitor.swap swap'
+
+  module _ (e : GenEvent) (x' : Caller) (y : Visitor) (turn' : Caller) (swap' : SwapAt) (on : GoesOn e x' y turn' swap') where
+    abbrev g : Generations
+    g = put_caller g0 c x'
+
+    here : caller_at g c ≡ x'
+    here = get_or-set_same g0.callers c x' _ (there F declared table r id v at)
+
+    turn_goes : IsTurn F laws declared table r id v at (Turn e) g y r.beside.counts
+    turn_goes = record {
+      possible = on.possible;
+      effect_is = on.effect_is;
+      many_procs_same = refl;
+      turns = λ d not. get_or-set_other g0.callers c d x' _ not;
+      activities = λ d not. refl;
+      graces = λ d not. refl;
+      base = λ d p k not busy at_p. (k, at_p, refl);
+      rises = λ p. le_refl (proc_at g0 p).generation;
+    }
+
+    flips_stay : EachPlace (λ p l. (k : GenProc) × (slice_get g0.procs p ≡ Some k) × (flips_of g p l ≤ flips_of g0 p k + 0)) g.procs
+    flips_stay p l at_p =
+        let same : will_flip g.role (grace_of g g.role) p ≡ will_flip g0.role (grace_of g0 g0.role) p =
+        let held = role F declared table r id v at on.busy in
+        ap (λ (holder : Option ℕ). will_flip holder (grace_of g holder) p) held
+        ∙ ap (λ (z : Caller). cond (is_flipped z.grace p) 0 1) here
+        ∙ ap (λ (b : Bool). cond b 0 1) (on.flips p (slice_get_within g0.procs p l at_p))
+        ∙ sym (ap (λ (holder : Option ℕ). will_flip holder (grace_of g0 holder) p) held) in
+        (l, at_p, omega (arith, same))
+
+    generations_go : (i : ℕ) → AreGenerations (set table.words i (get_or table.words i 0)) g r.beside.counts
+    generations_go i =
+        rw (set-get_or table.words i 0) (record {
+          procs = r.shows.generations.procs;
+          role = r.shows.generations.role;
+          activities = record {
+            many = r.shows.generations.activities.many ∙ sym (length-set g0.callers c x');
+            few = r.shows.generations.activities.few;
+          };
+          graces = record {
+            many = r.shows.generations.graces.many ∙ sym (length-set g0.callers c x');
+            few = r.shows.generations.graces.few;
+          };
+          begun =
+              begun_goes g0 e g r.beside.counts r.beside.counts (sound F declared table r id v at) (rw on.caller (there F declared table r id v at)) on.can on.is
+              (λ p. let none = on.entries p in omega (arith, none)) 0 (omega arith) flips_stay r.shows.generations.begun;
+        })
+
+    pub goes_on : (i : ℕ) → IsOfGenerations i
+        → (after : Rule F declared (with_pass table (set table.words i (get_or table.words i 0)) table.homes id
+        (hears (get_or table.words i 0) (record v { turn = turn'; visitor = record v.visitor { swap = swap' } }))))
+        × (after.state ≡ effect r.state (AtPhases (Turn e))) × IsPossible F declared r.state (AtPhases (Turn e))
+    goes_on i apart =
+        let k = knows F declared table r id v at in
+        let found : ℕ = get_or table.words i 0 in
+        turned F laws declared table r id v at (Turn e) g y r.beside.counts turn_goes i found
+        (hears found (record v { turn = turn'; visitor = record v.visitor { swap = swap' } })) apart (generations_go i)
+        (own_goes r.state g (visitors_after F laws declared table r id v at (Turn e) g y r.beside.counts) v
+        turn' (record v.visitor { swap = swap' }) v.activities v.graces v.base v.rows v.granted v.swept found
+        F.tag_of r.beside r.beside.counts id k
+        (record {
+          many = length-set r.state.phases.callers c y;
+          rises = turn_goes.rises;
+          generations = record {
+            turn = here ∙ on.turn_is;
+            activities = k.generations.activities;
+            graces = k.generations.graces;
+            base = λ b asked not_idle p l at_p.
+                let same : is_flipped turn'.grace p ≡ is_flipped v.turn.grace p =
+                ap (λ (z : Caller). is_flipped z.grace p) (sym on.turn_is) ∙ on.flips p (slice_get_within g0.procs p l at_p)
+                ∙ ap (λ (z : Caller). is_flipped z.grace p) (turn F declared table r id v at) in
+                rw same (k.generations.base b asked (busy_test v.turn.grace on.busy) p l at_p);
+          };
+          visitor_is = get_or-set_same r.state.phases.callers c y _ k.there ∙ on.visitor_is;
+          place = refl;
+          swap = on.swap;
+          proc = on.proc;
+          names = k.names;
+          rows_known =
+              rows_kept r.state g [] v turn' (record v.visitor { swap = swap' }) v.activities v.graces v.base v.rows v.granted v.swept found
+              refl refl refl refl refl k.phases.rows;
+        }))
+
+  -- before the flip
+
+  module _ (p parity : ℕ) (looks : LooksAhead p parity v) where
+    abbrev i : ℕ
+    i = exits_word p parity
+
+    abbrev found : ℕ
+    found = get_or table.words i 0
+
+    at_grace : x.grace ≡ Flipping p
+    at_grace = ap (λ (z : Caller). z.grace) (turn F declared table r id v at) ∙ looks.grace
+
+    busy : v.turn.grace ≢ graces.Idle
+    busy idle = absurd (let grace = looks.grace in cc)
+
+    p_there : p < length g0.procs
+    p_there = flipping_there g0 c (sound F declared table r id v at) (there F declared table r id v at) p at_grace
+
+    p_few : p < 8
+    p_few = let few = procs_few F declared table r id v at in let lt = p_there in omega (arith, few, lt)
+
+    at_p : slice_get g0.procs p ≡ Some (proc_at g0 p)
+    at_p = slice_get-get_or g0.procs p fresh_proc p_there
+
+    base_here : (proc_at g0 p).generation ≡ looks.base
+    base_here =
+        let step = in_step F declared table r id v at busy p (proc_at g0 p) at_p in
+        let from = base_is F declared table r id v at busy looks.base looks.asked (busy_test v.turn.grace busy) in
+        let base : ℕ = (sound F declared table r id v at).course.base in
+        step ∙ ap (λ (grace : GraceAt). generation_of base (is_flipped grace p)) looks.grace ∙ ap (generation_of base) (ltb_same p) ∙ sym from
+
+    found_ahead : found ≡ other_exits (turn_of g0 c)
+    found_ahead =
+        let next : parity ≡ (looks.base + 1) % 2 = looks.next in
+        rw at_grace
+        (exits_shown table.words p parity (looks.base + 1) (proc_at g0 p) next (r.shows.generations.procs p (proc_at g0 p) at_p)
+        ∙ ap (exits_of (proc_at g0 p)) (is_even-next looks.base ∙ ap (λ (n : ℕ). not (is_even n)) (sym base_here)))
+
+    can_ahead : gens.is_possible g0 (LookAhead c) ≡ true
+    can_ahead = rw (at_grace, ap (λ (z : Caller). z.coming) (turn F declared table r id v at) ∙ looks.unknown) refl
+
+    looks_ahead : (after : Rule F declared (with_pass table (set table.words i found) table.homes id (looked_view found v)))
+        × (after.state ≡ effect r.state (AtPhases (Turn (look_event c v.turn.grace)))) × IsPossible F declared r.state (AtPhases (Turn (look_event c v.turn.grace)))
+    looks_ahead =
+        subst (λ (grace : GraceAt). (after : Rule F declared (with_pass table (set table.words i found) table.homes id (hears found (looked_at grace found v))))
+        × (after.state ≡ effect r.state (AtPhases (Turn (look_event c grace)))) × IsPossible F declared r.state (AtPhases (Turn (look_event c grace)))) (sym looks.grace)
+        (goes_on (LookAhead c) (looked_ahead x (turn_of g0 c)) (visitor_at r.state.phases c) (record v.turn { coming = Some found }) v.visitor.swap
+        (record {
+          possible = record {
+            caller = (knows F declared table r id v at).there;
+            may = record { objects = tt; core = rw can_ahead refl; beside = refl };
+          };
+          effect_is = refl;
+          busy = busy;
+          caller = refl;
+          can = can_ahead;
+          is = refl;
+          entries = λ q. refl;
+          flips = λ q lt. refl;
+          turn_is = ap (λ (n : ℕ). record x { coming = Some n }) (sym found_ahead) ∙ ap (λ (z : Caller). record z { coming = Some found }) (turn F declared table r id v at);
+          proc = refl;
+          visitor_is = (knows F declared table r id v at).phases.visitor;
+          swap = same_swap v.visitor.swap;
+        })
+        i (exits_apart_of p parity p_few (let next = looks.next in omega (arith, next))))
+
+    found_ahead_is : ExitsFound v found
+    found_ahead_is = record {
+      few = λ looking. absurd (let grace = looks.grace in cc);
+      small =
+          let next : parity ≡ (looks.base + 1) % 2 = looks.next in
+          let is = exits_shown table.words p parity (looks.base + 1) (proc_at g0 p) next (r.shows.generations.procs p (proc_at g0 p) at_p) in
+          let fits = exits_fit p (proc_at g0 p) (is_even (looks.base + 1)) ((sound F declared table r id v at).in_course.no_count_passes_its_field p (proc_at g0 p) at_p) in
+          omega (arith, is, fits);
+    }
+
+  -- and after it
+
+  module _ (p parity : ℕ) (looks : LooksBack p parity v) where
+    abbrev i' : ℕ
+    i' = exits_word p parity
+
+    abbrev found' : ℕ
+    found' = get_or table.words i' 0
+
+    at_grace' : x.grace ≡ Looking p
+    at_grace' = ap (λ (z : Caller). z.grace) (turn F declared table r id v at) ∙ looks.grace
+
+    busy' : v.turn.grace ≢ graces.Idle
+    busy' idle = absurd (let grace = looks.grace in cc)
+
+    p_there' : p < length g0.procs
+    p_there' = looking_there g0 c (sound F declared table r id v at) (there F declared table r id v at) p at_grace'
+
+    p_few' : p < 8
+    p_few' = let few = procs_few F declared table r id v at in let lt = p_there' in omega (arith, few, lt)
+
+    at_p' : slice_get g0.procs p ≡ Some (proc_at g0 p)
+    at_p' = slice_get-get_or g0.procs p fresh_proc p_there'
+
+    -- the processor is one generation further
+    base_next : (proc_at g0 p).generation ≡ looks.base + 1
+    base_next =
+        let step = in_step F declared table r id v at busy' p (proc_at g0 p) at_p' in
+        let from = base_is F declared table r id v at busy' looks.base looks.asked (busy_test v.turn.grace busy') in
+        let base : ℕ = (sound F declared table r id v at).course.base in
+        step ∙ ap (λ (grace : GraceAt). generation_of base (is_flipped grace p)) looks.grace ∙ ap (λ (b : ℕ). b + 1) (sym from)
+
+    former : found' ≡ exits_of (proc_at g0 p) (is_even looks.base)
+    former = exits_shown table.words p parity looks.base (proc_at g0 p) looks.former (r.shows.generations.procs p (proc_at g0 p) at_p')
+
+    found_back : found' ≡ other_exits (turn_of g0 c)
+    found_back =
+        rw at_grace'
+        (former ∙ ap (exits_of (proc_at g0 p)) (sym (not_not (is_even looks.base)) ∙ ap not (sym (is_even-next looks.base)) ∙ ap (λ (n : ℕ). not (is_even n)) (sym base_next)))
+
+    drained_is : is_drained x (turn_of g0 c) ≡ eqb found' (slice_index v.turn.waits p)
+    drained_is =
+        ap (λ (n : ℕ). eqb n (slice_index x.waits (place_of x.grace))) (sym found_back)
+        ∙ ap (λ (z : Caller). eqb found' (slice_index z.waits (place_of z.grace))) (turn F declared table r id v at)
+        ∙ ap (λ (grace : GraceAt). eqb found' (slice_index v.turn.waits (place_of grace))) looks.grace
+
+    can_look : gens.is_possible g0 (Look c) ≡ true
+    can_look = rw at_grace' refl
+
+    possible_look : IsPossible F declared r.state (AtPhases (Turn (Look c)))
+    possible_look = record {
+      caller = (knows F declared table r id v at).there;
+      may = record { objects = tt; core = rw can_look refl; beside = refl };
+    }
+
+    -- the visitor, by the caller that is put
+    abbrev y_of : Generations → Visitor
+    y_of t = record (visitor_at r.state.phases c) { swap = drained_at (caller_at t c).grace (visitor_at r.state.phases c).swap }
+
+    looked_is : (t : Generations) → t ≡ gens.effect g0 (Look c)
+        → state_after F laws declared table r id v at (Turn (Look c)) t (y_of t) r.beside.counts ≡ effect r.state (AtPhases (Turn (Look c)))
+    looked_is t e =
+        ap (λ (z : Generations). record r.state { phases = record r.state.phases { turns = z; callers = set r.state.phases.callers c (y_of z) } }) e
+
+    abbrev Goal : PassView P → Type 0
+    Goal w =
+        (after : Rule F declared (with_pass table (set table.words i' found') table.homes id (hears found' w)))
+        × (after.state ≡ effect r.state (AtPhases (Turn (Look c)))) × IsPossible F declared r.state (AtPhases (Turn (Look c)))
+
+    abbrev n : ℕ
+    n = length v.turn.waits
+
+    many : length g0.procs ≡ n
+    many = sym (waits_many F declared table r id v at)
+
+    passes : is_drained x (turn_of g0 c) ≡ true
+        → Goal (record v { turn = caller_passed v.turn n; visitor = record v.visitor { swap = drained_at (caller_passed v.turn n).grace v.visitor.swap } })
+    passes drained =
+        let x' : Caller = caller_passed x (length g0.procs) in
+        let g' : Generations = put_caller g0 c x' in
+        let is : g' ≡ gens.effect g0 (Look c) = rw drained refl in
+        let same : x' ≡ caller_passed v.turn n = ap (λ (z : Caller). caller_passed z (length g0.procs)) (turn F declared table r id v at) ∙ ap (caller_passed v.turn) many in
+        goes_on (Look c) x' (y_of g') (caller_passed v.turn n) (drained_at (caller_passed v.turn n).grace v.visitor.swap)
+        (record {
+          possible = possible_look;
+          effect_is = looked_is g' is;
+          busy = busy';
+          caller = refl;
+          can = can_look;
+          is = is;
+          entries = λ q. refl;
+          flips = λ q lt. rw at_grace' (flipped-after_look p (length g0.procs) p_there' q lt);
+          turn_is = same;
+          proc = refl;
+          visitor_is =
+              ap (λ (z : Caller). record (visitor_at r.state.phases c) { swap = drained_at z.grace (visitor_at r.state.phases c).swap })
+              (get_or-set_same g0.callers c x' _ (there F declared table r id v at) ∙ same)
+              ∙ ap (λ (z : Visitor). record z { swap = drained_at (caller_passed v.turn n).grace z.swap }) (knows F declared table r id v at).phases.visitor;
+          swap = drained_swap (caller_passed v.turn n).grace v.visitor.swap;
+        })
+        i' (exits_apart_of p parity p_few' (let back = looks.former in omega (arith, back)))
+
+    stays : is_drained x (turn_of g0 c) ≡ false → Goal v
+    stays waiting =
+        let same : put_caller g0 c x ≡ g0 = ap (λ (callers : List Caller). record g0 { callers = callers }) (set-get_or g0.callers c _) in
+        let is : put_caller g0 c x ≡ gens.effect g0 (Look c) = rw waiting same in
+        goes_on (Look c) x (y_of (put_caller g0 c x)) v.turn v.visitor.swap
+        (record {
+          possible = possible_look;
+          effect_is = looked_is (put_caller g0 c x) is;
+          busy = busy';
+          caller = refl;
+          can = can_look;
+          is = is;
+          entries = λ q. refl;
+          flips = λ q lt. refl;
+          turn_is = turn F declared table r id v at;
+          proc = refl;
+          visitor_is =
+              ap (λ (t : Generations). record (visitor_at r.state.phases c) { swap = drained_at (caller_at t c).grace (visitor_at r.state.phases c).swap }) same
+              ∙ ap (λ (grace : GraceAt). record (visitor_at r.state.phases c) { swap = drained_at grace (visitor_at r.state.phases c).swap }) at_grace'
+              ∙ (knows F declared table r id v at).phases.visitor;
+          swap = same_swap v.visitor.swap;
+        })
+        i' (exits_apart_of p parity p_few' (let back = looks.former in omega (arith, back)))
+
+    looks_back : (after : Rule F declared (with_pass table (set table.words i' found') table.homes id (looked_view found' v)))
+        × (after.state ≡ effect r.state (AtPhases (Turn (look_event c v.turn.grace)))) × IsPossible F declared r.state (AtPhases (Turn (look_event c v.turn.grace)))
+    looks_back =
+        subst (λ (grace : GraceAt). (after : Rule F declared (with_pass table (set table.words i' found') table.homes id (hears found' (looked_at grace found' v))))
+        × (after.state ≡ effect r.state (AtPhases (Turn (look_event c grace)))) × IsPossible F declared r.state (AtPhases (Turn (look_event c grace)))) (sym looks.grace)
+        (by_test (eqb found' (slice_index v.turn.waits p)) drained_is)
+      where
+        by_test : (b : Bool) → is_drained x (turn_of g0 c) ≡ b → Goal (cond b (passed_view v) v)
+        by_test true e = passes e
+        by_test false e = stays e
+
+    -- no more have left than had entered
+    found_back_is : ExitsFound v found'
+    found_back_is = record {
+      few = λ looking.
+          let whole = sound F declared table r id v at in
+          let at_stage : whole.course.stage ≡ Looking p = stage F declared table r id v at busy' ∙ looks.grace in
+          let waits : slice_index whole.course.waits p ≡ slice_index v.turn.waits p =
+          ap (λ (ws : List ℕ). slice_index ws p) (sym (holder F declared table r id v at busy').waits ∙ ap (λ (z : Caller). z.waits) (turn F declared table r id v at)) in
+          let from : looks.base ≡ whole.course.base = base_is F declared table r id v at busy' looks.base looks.asked (busy_test v.turn.grace busy') in
+          let counted = (whole.in_course.counted_generations p (proc_at g0 p) at_p').former (rw at_stage refl) (rw at_stage (ltb_same p)) in
+          let own : found' ≡ exits_of (proc_at g0 p) (is_even whole.course.base) = former ∙ ap (λ (b : ℕ). exits_of (proc_at g0 p) (is_even b)) from in
+          rw looks.grace (omega (arith, counted, own, waits));
+      small =
+          let fits = exits_fit p (proc_at g0 p) (is_even looks.base) ((sound F declared table r id v at).in_course.no_count_passes_its_field p (proc_at g0 p) at_p') in
+          let is = former in omega (arith, fits, is);
+    }
+
+  pub looks_on : (p parity : ℕ) → MayLook p parity v
+      → (after : Rule F declared (with_pass table (set table.words (exits_word p parity) (get_or table.words (exits_word p parity) 0)) table.homes id (looked_view (get_or table.words (exits_word p parity) 0) v)))
+      × (after.state ≡ effect r.state (AtPhases (Turn (look_event c v.turn.grace)))) × IsPossible F declared r.state (AtPhases (Turn (look_event c v.turn.grace)))
+  looks_on p parity may = ⊎_elim (λ ahead. looks_ahead p parity ahead) (λ back. looks_back p parity back) may
+
+  pub exits_found : (p parity : ℕ) → MayLook p parity v → ExitsFound v (get_or table.words (exits_word p parity) 0)
+  exits_found p parity may = ⊎_elim (λ ahead. found_ahead_is p parity ahead) (λ back. found_back_is p parity back) may
+
+pub look_moves : {S L P : Type 0} (F : Layouts S L P) → AreLaws F → (declared : List L) (id p parity : ℕ) (v : PassView P) → MayLook p parity v
+    → Moves F declared (AtPhases (Turn (look_event v.number v.turn.grace))) (exits_word p parity) (λ word. word) looked_view id v
+look_moves F laws declared id p parity v may = record { from = λ table r at. looks_on F laws declared table r id v at p parity may }
+
+pub look_finds : {S L P : Type 0} (F : Layouts S L P) → AreLaws F → (declared : List L) (id p parity : ℕ) (v : PassView P) → MayLook p parity v
+    → Finds F declared (exits_word p parity) ExitsFound id v
+look_finds F laws declared id p parity v may table r at = exits_found F laws declared table r id v at p parity may

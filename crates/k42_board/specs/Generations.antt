@@ -1,0 +1,64 @@
+-- The words of the generations, and what a pass knows of them.
+use Rattle.std.specs.Prelude.{if◌then◌else◌, ◌≡◌, ℕ, ◌+◌, ◌≤◌, ◌^◌, false, List, Option, Some, None, length, slice_index, sum}
+use Rattle.k42_places.specs.Places.{EachPlace}
+use Rattle.gen_core.specs.Consequences.{entries_so_far}
+use Rattle.gen_core.specs.Events.{is_idle}
+use Rattle.gen_core.specs.Plain.{Generations}
+use Rattle.gen_core.specs.Sound.{generation_of, is_flipped}
+use Rattle.gen_core.specs.State.{caller_at}
+use Rattle.gen_core.specs.declared.state.GenProc.{GenProc}
+use Rattle.gen_core.specs.declared.state.GraceAt.{GraceAt}
+use Rattle.gen_core.specs.declared.state.GraceAt.TheVariants.{Idle}
+use Rattle.k42_board.specs.Words.{generation_word, exits_word, role_word}
+use Rattle.k42_board.specs.Values.{generation_value, holder_value}
+use Rattle.k42_board.specs.declared.view.PassView.{PassView}
+
+-- how many activities and graces each caller has begun
+pub record Counts : Type 0 where
+  pub activities : List ℕ
+  pub graces : List ℕ
+
+-- no caller has begun more
+abbrev pub MOST : ℕ
+MOST = 2 ^ 20
+
+pub record AreFew (callers : ℕ) (begun : List ℕ) : Type 0 where
+  pub many : length begun ≡ callers
+  pub few : EachPlace (λ c n. n ≤ MOST) begun
+
+pub record IsProcessorShown (words : List ℕ) (p : ℕ) (k : GenProc) : Type 0 where
+  pub generation : slice_index words (generation_word p) ≡ generation_value k
+  pub even : slice_index words (exits_word p 0) ≡ k.exits_even
+  pub odd : slice_index words (exits_word p 1) ≡ k.exits_odd
+
+-- the grace of the role's holder
+abbrev pub grace_of : Generations → Option ℕ → GraceAt
+grace_of g None = Idle
+grace_of g (Some holder) = (caller_at g holder).grace
+
+-- whether the grace under way will yet flip the processor
+abbrev pub will_flip : Option ℕ → GraceAt → ℕ → ℕ
+will_flip None grace p = 0
+will_flip (Some holder) grace p = if is_flipped grace p then 0 else 1
+
+-- a processor is entered by activities, and flipped by graces, that were begun
+pub record IsProcessorBegun (g : Generations) (counts : Counts) (p : ℕ) (k : GenProc) : Type 0 where
+  pub entered : entries_so_far g p ≤ sum counts.activities
+  pub flipped : k.generation + will_flip g.role (grace_of g g.role) p ≤ sum counts.graces
+
+pub record AreGenerations (words : List ℕ) (g : Generations) (counts : Counts) : Type 0 where
+  pub procs : EachPlace (IsProcessorShown words) g.procs
+  pub role : slice_index words role_word ≡ holder_value g.role
+  pub activities : AreFew (length g.callers) counts.activities
+  pub graces : AreFew (length g.callers) counts.graces
+  pub begun : EachPlace (IsProcessorBegun g counts) g.procs
+
+-- what a pass knows of its activity and its grace
+pub record KnowsGenerations {P : Type 0} (g : Generations) (counts : Counts) (v : PassView P) : Type 0 where
+  pub turn : caller_at g v.number ≡ v.turn
+  pub activities : slice_index counts.activities v.number ≡ v.activities
+  pub graces : slice_index counts.graces v.number ≡ v.graces
+  -- the generation that its grace found is that of each processor which it has not flipped
+  pub base :
+      (b : ℕ) → v.base ≡ Some b → is_idle v.turn.grace ≡ false
+      → EachPlace (λ p k. k.generation ≡ generation_of b (is_flipped v.turn.grace p)) g.procs

@@ -1,0 +1,155 @@
+-- Systems and passes, as contracts see them.
+use Rattle.std.specs.Prelude.{◌≡◌, ◌+◌, ◌<◌, ◌≤◌, ℕ, ◌&&◌, Bool, true, false, List, [], ◌∷◌, Option, None, is_none, length, unwrap_or}
+use Rattle.std.specs.Global.{Global}
+use Rattle.atomic_table.specs.Seated.{TableId}
+use Rattle.crossbeam_queue.specs.SegTies.{SegId}
+use Rattle.gen_core.specs.Events as graces
+use Rattle.gen_core.specs.Plain as gens
+use Rattle.phase_core.specs.Stages as swaps
+use Rattle.k42_kinds.specs.declared.entry.Entry.{Entry}
+use Rattle.phase_core.specs.declared.caller.Place.{Place}
+use Rattle.phase_core.specs.declared.caller.Place.TheVariants.{Tracked}
+use Rattle.phase_core.specs.declared.caller.SwapAt.{SwapAt}
+use Rattle.k42_board.specs.Steps.{Seated}
+use Rattle.k42_board.specs.Views.{pass_in}
+use Rattle.k42_board.specs.declared.view.Inside.{Inside}
+use Rattle.k42_board.specs.declared.view.LastBegin.{LastBegin}
+use Rattle.k42_board.specs.declared.view.PassView.{PassView}
+use Rattle.k42_board.specs.declared.view.Row.{Row}
+use Rattle.k42_board.specs.declared.view.View.TheVariants.{Crew}
+
+-- which queue of rows
+abbrev pub QueueId : Type 0
+QueueId = SegId Global
+
+-- a system: its table and its queue, and what it was told at the start
+pub record SysSeen (L : Type 0) : Type 0 where
+  pub table : TableId
+  pub queue : QueueId
+  pub procs : ℕ
+  pub layouts : List L
+  pub callers : List ℕ
+
+-- a pass: whose table's seat it has, what it knows, and for how many more entries and rows it has room
+pub record PassSeen (P : Type 0) : Type 0 where
+  pub table : TableId
+  pub seat : ℕ
+  pub view : PassView P
+  pub room : ℕ
+  pub row_room : ℕ
+  -- on which queue it is, and which rows it has pushed and popped there, the oldest first
+  pub queue : QueueId
+  pub pushed : List Row
+  pub popped : List Row
+
+-- what the pass keeps by itself of what it knows
+pub record Own : Type 0 where
+  pub number : ℕ
+  pub turn : gens.Caller
+  pub place : Place
+  pub noted : List (Option ℕ)
+  pub freeing : List (ℕ × ℕ)
+  pub swap : SwapAt
+  pub mine : List Entry
+  pub activities : ℕ
+  pub graces : ℕ
+  pub base : Option ℕ
+  pub last : Option LastBegin
+  pub turned : Bool
+  pub layout : Option ℕ
+  pub handed : Option ℕ
+  pub rows : List Row
+  pub granted : ℕ
+
+abbrev pub own_in : {P : Type 0} → PassView P → Own
+own_in v = record {
+  number = v.number;
+  turn = v.turn;
+  place = v.visitor.place;
+  noted = v.visitor.noted;
+  freeing = v.visitor.freeing;
+  swap = v.visitor.swap;
+  mine = v.taker.mine;
+  activities = v.activities;
+  graces = v.graces;
+  base = v.base;
+  last = v.last;
+  turned = v.turned;
+  layout = v.layout;
+  handed = v.handed;
+  rows = v.rows;
+  granted = v.granted;
+}
+
+-- the seat has just this pass, and no slot is out with it
+abbrev pub IsSeatOf : {P : Type 0} → Seated P → PassView P → Type 0
+IsSeatOf me v = me ≡ (Crew (v ∷ []), [])
+
+-- between two calls no slot is out with the pass, and each cell at which it drew tells so
+pub record Mirrors {P : Type 0} (me : Seated P) (own : Own) : Type 0 where
+  pub seat : IsSeatOf me (pass_in me.0)
+  pub own_is : own ≡ own_in (pass_in me.0)
+  pub out : (pass_in me.0).out ≡ None
+  pub told : (pass_in me.0).untold ≡ []
+
+-- the pass has a seat of the system's table
+abbrev pub IsOf : {L P : Type 0} → SysSeen L → PassSeen P → Type 0
+IsOf sys pass = pass.table ≡ sys.table
+
+-- and is of its processors and objects
+pub record IsPassOf {L P : Type 0} (sys : SysSeen L) (pass : PassSeen P) : Type 0 where
+  pub table : IsOf sys pass
+  pub proc : pass.view.turn.proc < sys.procs
+  pub waits : length pass.view.turn.waits ≡ sys.procs
+  pub objects : length pass.view.visitor.noted ≡ length sys.layouts
+  pub spans : length pass.view.visitor.freeing ≡ length sys.layouts
+  pub queue : pass.queue ≡ sys.queue
+
+-- it has the same seat, and the same room
+pub record IsSamePass {P : Type 0} (old new : PassSeen P) : Type 0 where
+  pub table : new.table ≡ old.table
+  pub seat : new.seat ≡ old.seat
+  pub room : new.room ≡ old.room
+  pub row_room : new.row_room ≡ old.row_room
+  pub queue : new.queue ≡ old.queue
+  pub pushed : new.pushed ≡ old.pushed
+  pub popped : new.popped ≡ old.popped
+
+-- it has the same seat, and the same room for entries; for rows it has room as before, less what they need that are new
+pub record HasSameRoom {P : Type 0} (old new : PassSeen P) : Type 0 where
+  pub table : new.table ≡ old.table
+  pub seat : new.seat ≡ old.seat
+  pub room : new.room ≡ old.room
+  pub row_room : new.row_room + length new.view.rows ≡ old.row_room + length old.view.rows
+  pub queue : new.queue ≡ old.queue
+  pub pushed : new.pushed ≡ old.pushed
+  pub popped : new.popped ≡ old.popped
+
+-- it has room for no fewer entries and rows, and knows the same
+pub record IsRoomier {P : Type 0} (old new : PassSeen P) : Type 0 where
+  pub table : new.table ≡ old.table
+  pub seat : new.seat ≡ old.seat
+  pub view : new.view ≡ old.view
+  pub room : old.room ≤ new.room
+  pub row_room : old.row_room ≤ new.row_room
+  pub queue : new.queue ≡ old.queue
+  pub pushed : new.pushed ≡ old.pushed
+  pub popped : new.popped ≡ old.popped
+
+-- the mediator counts the call
+abbrev pub is_tracked : Place → Bool
+is_tracked (Tracked o i) = true
+is_tracked place = false
+
+-- the row that its call is inside, and what it has learned of the row's layout
+abbrev pub inside_in : {P : Type 0} → PassView P → Inside
+inside_in v = record {
+  object = swaps.object_of v.visitor.place;
+  incarnation = swaps.row_of v.visitor.place;
+  layout = unwrap_or v.layout 0;
+  tracked = is_tracked v.visitor.place;
+}
+
+-- no activity, no grace and no swap is under way
+abbrev pub is_at_rest : {P : Type 0} → PassView P → Bool
+is_at_rest v = is_none v.turn.active && graces.is_idle v.turn.grace && swaps.is_idle v.visitor.swap

@@ -1,0 +1,36 @@
+//! The table.
+use crate::cell::Cell;
+use crate::view::View;
+use atomic_table::{Seat, Table, TableRule};
+use k42_kinds::Layout;
+use std::alloc::Global;
+use std::marker::PhantomData;
+
+/// What the table is told when it is made: the declared layouts, and the callers' processors.
+#[derive(Drop)]
+pub struct Setup<L> {
+    pub procs: u32,
+    pub layouts: Vec<L>,
+    pub callers: Vec<u32>,
+}
+
+pub struct Ruling<L> {
+    layout: PhantomData<L>,
+}
+
+impl<L: Layout> TableRule<Option<Cell<L>>, View<L::Part>, Setup<L>> for Ruling<L> {
+    ghost use Rattle.std.specs.Prelude.{length};
+    ghost use Rattle.k42_board.specs.Plan.{layouts_on};
+    ghost use Rattle.k42_board.specs.Rule.{Ruled};
+    ghost use Rattle.k42_board.specs.Views.{first_view};
+
+    ghost holds = { λ key s. Ruled
+        (layouts_on L.object L.tag_of L.ways L.whole L.serves L.admitted L.act_of key.procs key.callers.items)
+        key.layouts.items (length key.callers.items) s };
+
+    ghost first = { λ key. first_view key.procs key.layouts.items key.callers.items };
+}
+
+pub type Board<L> = Table<Option<Cell<L>>, View<<L as Layout>::Part>, Setup<L>, Ruling<L>, Global>;
+
+pub type Place<L> = Seat<Option<Cell<L>>, View<<L as Layout>::Part>>;

@@ -1,0 +1,35 @@
+//! What the step that draws an entry tells its pass, and what a cell is told of it.
+use crate::cell::Content;
+use crate::view::View;
+use atomic_table::{Play, Split};
+use std::marker::{Brand, PhantomData};
+
+/// What becomes of the pass. A draw names its entry, which no word has, so the call that draws picks it.
+pub trait Said<P> {
+    ghost use Rattle.k42_board.specs.declared.view.PassView.{PassView};
+
+    ghost becomes: { PassView P → PassView P };
+}
+
+impl<P> Said<P> for Brand {
+    ghost becomes = { λ v. v };
+}
+
+pub(crate) struct Draw<K>(PhantomData<K>);
+
+impl<P: Drop, K: Said<P>> Play<Option<Content<P>>, View<P>> for Draw<K> {
+    ghost use Rattle.k42_board.specs.Steps.{TellsWith};
+    ghost use Rattle.k42_board.specs.Drawing.{HasSmallStamp};
+
+    ghost then = { TellsWith (λ found. K.becomes) (λ v found. HasSmallStamp (K.becomes v)) };
+}
+
+pub(crate) struct Receipt;
+
+impl<P> Split<View<P>> for Receipt {
+    ghost use Rattle.k42_board.specs.Receipts.{telling, receipt};
+
+    ghost left = { telling };
+
+    ghost right = { receipt };
+}

@@ -1,0 +1,66 @@
+//! What each step on a lock or a slot tells its pass.
+use crate::cell::Content;
+use crate::view::View;
+use atomic_table::Play;
+use std::marker::{Brand, PhantomData};
+
+/// What a pass knows of parts once it has taken a cell. It hangs on the declared layouts, so the call picks it.
+pub trait Known<P> {
+    ghost use Rattle.k42_board.specs.declared.view.PassView.{PassView};
+
+    ghost known: { PassView P → Type 0 };
+}
+
+impl<P> Known<P> for Brand {
+    ghost known = { λ v. Unit {0} };
+}
+
+pub(crate) struct Lock;
+
+impl<P: Drop> Play<Option<Content<P>>, View<P>> for Lock {
+    ghost use Rattle.k42_board.specs.Steps.{TellsWith};
+    ghost use Rattle.k42_board.specs.Taking.{LockFound, cell_at_lock, locked_view};
+
+    ghost then = { λ step. TellsWith (locked_view (cell_at_lock step.word)) (LockFound (cell_at_lock step.word)) step };
+}
+
+pub(crate) struct Unlock;
+
+impl<P: Drop> Play<Option<Content<P>>, View<P>> for Unlock {
+    ghost use Rattle.k42_board.specs.Steps.{Tells};
+    ghost use Rattle.k42_board.specs.Taking.{cell_at_lock, unlocked_view};
+
+    ghost then = { λ step. Tells (λ found. unlocked_view (cell_at_lock step.word)) step };
+}
+
+pub(crate) struct Lift;
+
+impl<P: Drop> Play<Option<Content<P>>, View<P>> for Lift {
+    ghost use Rattle.k42_board.specs.Taking.{Lifts};
+
+    ghost then = { Lifts };
+}
+
+pub(crate) struct GiveBack<K>(PhantomData<K>);
+
+impl<P: Drop, K: Known<P>> Play<Option<Content<P>>, View<P>> for GiveBack<K> {
+    ghost use Rattle.k42_board.specs.Taking.{GivesBackKnown};
+
+    ghost then = { GivesBackKnown K.known };
+}
+
+pub(crate) struct Reach;
+
+impl<P: Drop> Play<Option<Content<P>>, View<P>> for Reach {
+    ghost use Rattle.k42_board.specs.Taking.{Reaches};
+
+    ghost then = { Reaches };
+}
+
+pub(crate) struct PutBack;
+
+impl<P: Drop> Play<Option<Content<P>>, View<P>> for PutBack {
+    ghost use Rattle.k42_board.specs.Taking.{Puts};
+
+    ghost then = { Puts };
+}

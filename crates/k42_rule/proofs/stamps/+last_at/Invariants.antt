@@ -1,5 +1,0 @@
-use Rattle.std.proofs.Common.{length}
-use Rattle.k42_rule.proofs.stamps.+last_at.Given as goal
-
-abbrev pub decreases-last_at : goal.decreases-last_at
-decreases-last_at g l = length l.cells.now

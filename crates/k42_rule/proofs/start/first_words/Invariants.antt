@@ -1,5 +1,0 @@
-use Rattle.k42_rule.specs.Starting.{AreFirstWords}
-use Rattle.k42_rule.proofs.start.first_words.Given as goal
-
-abbrev pub invariant-loop-object : goal.invariant-loop-object
-invariant-loop-object g l = AreFirstWords g.L.Layout.tag_of l.layouts l.object l.words.items
