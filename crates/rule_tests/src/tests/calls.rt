@@ -11,7 +11,7 @@ use k42_kinds::{Act, Answer, Layout, Op, Reach, Reply, kind_of};
 use k42_memory::Memory;
 use k42_rule::{
     Content, Inside, Pass, Sys, draw_call, end_call, enter_step, install_step, knock_step,
-    leave_step, lock, look_up_step, put, root_step, step_out, take, unlock,
+    layouts_are_lawful, leave_step, lock, look_up_step, put, root_step, step_out, take, unlock,
 };
 use std::alloc::Global;
 
@@ -146,6 +146,7 @@ pub(super) fn step_at<L: Layout>(
     ensures free { OnOk result (IsFree sys.now pass.new) }
     ensures serving { OnOk result (IsServing pass.new.view) }
 {
+    layouts_are_lawful(sys);
     let Reach::One(place) = layout.reach(op, pass.processor(), sys.procs()) else {
         return Ok(None);
     };

@@ -1,41 +1,19 @@
-//! What a system keeps of one thread's calls and swaps.
+//! What a system keeps of the calls and swaps of one pass.
+ghost use Rattle.std.specs.Prelude.{◌≡◌, ◌<◌, OnOk};
+ghost use Rattle.rule_tests.specs.Ready.{IsFree};
+
 use crate::tests::calls::call;
+use crate::tests::crews::{finish, keep, last, start};
 use crate::tests::graces::{give, go_on, take};
 use crate::tests::whole::swap;
 use co_any::AnyLayout;
 use k42_kinds::{Act, Answer, Entry, KindName, LayoutName, Op, Reply};
-use k42_rule::Sys;
+use k42_rule::{Pass, Sys};
+use std::alloc::Global;
 use std::test::Fail;
 
-#[test]
-fn a_call_is_found_in_the_list_of_its_caller(rt: HostRuntime) -> Result<(), Fail> {
-    let layouts = vec![in rt.alloc(); AnyLayout::of(KindName::Counter, LayoutName::Shared)]?;
-    let callers = vec![in rt.alloc(); 0]?;
-    let (sys, mut passes) = Sys::start(rt.alloc(), layouts, 1, callers)?;
-    let called = call(rt.alloc(), &sys, &mut passes[0], 0, &Op::Add(5))?;
-    assert_eq!(rt; called, Some(1));
-    let Ok(lists) = sys.finish(rt.alloc(), passes) else {
-        return Err("no memory")?;
-    };
-    let entry = Entry {
-        stamp: 1,
-        caller: 0,
-        index: 0,
-        object: 0,
-        incarnation: 0,
-        cell: 0,
-        act: Act::Call(Op::Add(5)),
-        answer: Answer::Replied(Reply::Done),
-        proc: 0,
-        generation: Some(0),
-    };
-    assert_eq!(rt; lists.len(), 1);
-    assert_eq!(rt; lists[0].as_slice(), [entry].as_slice());
-    Ok(())
-}
-
-/// The entry of a swap that was done.
-fn done(stamp: u64, index: u32, incarnation: u32, cell: u32, name: LayoutName) -> Entry
+/// The entry of a swap of object 0 by caller 0 on processor 0, on one processor.
+fn done(stamp: u64, index: u32, incarnation: u32, name: LayoutName) -> Entry
     requires { incarnation < 1_048_575 }
 {
     Entry {
@@ -44,7 +22,7 @@ fn done(stamp: u64, index: u32, incarnation: u32, cell: u32, name: LayoutName) -
         index,
         object: 0,
         incarnation,
-        cell,
+        cell: (incarnation + 1) % 2 * 8,
         act: Act::Swap(name),
         answer: Answer::Swapped(incarnation + 1),
         proc: 0,
@@ -52,7 +30,7 @@ fn done(stamp: u64, index: u32, incarnation: u32, cell: u32, name: LayoutName) -
     }
 }
 
-/// The entry of a call.
+/// The entry of a call of the same caller.
 fn called(stamp: u64, index: u32, incarnation: u32, op: Op, reply: Reply, generation: u32) -> Entry
     requires { incarnation < 1_048_575 }
 {
@@ -71,29 +49,63 @@ fn called(stamp: u64, index: u32, incarnation: u32, op: Op, reply: Reply, genera
 }
 
 #[test]
+fn a_call_is_found_in_the_list_of_its_caller(rt: HostRuntime) -> Result<(), Fail> {
+    let layouts = vec![in rt.alloc(); AnyLayout::of(KindName::Counter, LayoutName::Shared)]?;
+    let callers = vec![in rt.alloc(); 0]?;
+    let Some((sys, mut passes)) = start(rt.alloc(), layouts, 1, callers)? else {
+        return Err("no start")?;
+    };
+    let Some(mut pass) = last(&sys, &mut passes) else {
+        return Err("no pass")?;
+    };
+    assert_eq!(rt; call(rt.alloc(), &sys, &mut pass, 0, &Op::Add(5))?, Some(1));
+    keep(&sys, &mut passes, pass)?;
+    let Some(lists) = finish(rt.alloc(), sys, passes) else {
+        return Err("no lists")?;
+    };
+    let due = [called(1, 0, 0, Op::Add(5), Reply::Done, 0)];
+    assert_eq!(rt; lists.len(), 1);
+    assert!(rt; lists.iter().all(|list| list.as_slice() == due.as_slice()));
+    Ok(())
+}
+
+/// A call, a swap, a call, a grace, a swap and a call; true where each was answered with the next stamp.
+fn steps(alloc: Global, sys: &Sys<AnyLayout>, pass: &mut Pass<AnyLayout>) -> Result<bool, Fail>
+    requires free { IsFree sys.now pass.old }
+    ensures free { OnOk result (IsFree sys.now pass.new) }
+{
+    let called = call(alloc, sys, pass, 0, &Op::Add(5))? == Some(1);
+    let swapped = swap(alloc, sys, pass, 0, 1)? == Some(2);
+    let again = call(alloc, sys, pass, 0, &Op::Add(7))? == Some(3);
+    let freed = take(sys, pass) && go_on(sys, pass, 16) && give(sys, pass, 0) == Some(0);
+    let back = swap(alloc, sys, pass, 0, 0)? == Some(4);
+    let read = call(alloc, sys, pass, 0, &Op::Get)? == Some(5);
+    Ok(called && swapped && again && freed && back && read)
+}
+
+#[test]
 fn two_swaps_keep_the_state_of_a_counter(rt: HostRuntime) -> Result<(), Fail> {
     let layouts = vec![in rt.alloc(); AnyLayout::of(KindName::Counter, LayoutName::Shared)]?;
     let callers = vec![in rt.alloc(); 0]?;
-    let (sys, mut passes) = Sys::start(rt.alloc(), layouts, 1, callers)?;
-    let pass = &mut passes[0];
-    assert_eq!(rt; call(rt.alloc(), &sys, pass, 0, &Op::Add(5))?, Some(1));
-    assert_eq!(rt; swap(rt.alloc(), &sys, pass, 0, 1)?, Some(2));
-    assert_eq!(rt; call(rt.alloc(), &sys, pass, 0, &Op::Add(7))?, Some(3));
-    assert!(rt; take(&sys, pass) && go_on(&sys, pass, 16));
-    assert_eq!(rt; give(&sys, pass, 0), Some(0));
-    assert_eq!(rt; swap(rt.alloc(), &sys, pass, 0, 0)?, Some(4));
-    assert_eq!(rt; call(rt.alloc(), &sys, pass, 0, &Op::Get)?, Some(5));
-    let Ok(lists) = sys.finish(rt.alloc(), passes) else {
-        return Err("no memory")?;
+    let Some((sys, mut passes)) = start(rt.alloc(), layouts, 1, callers)? else {
+        return Err("no start")?;
+    };
+    let Some(mut pass) = last(&sys, &mut passes) else {
+        return Err("no pass")?;
+    };
+    assert!(rt; steps(rt.alloc(), &sys, &mut pass)?);
+    keep(&sys, &mut passes, pass)?;
+    let Some(lists) = finish(rt.alloc(), sys, passes) else {
+        return Err("no lists")?;
     };
     let due = [
         called(1, 0, 0, Op::Add(5), Reply::Done, 0),
-        done(2, 1, 0, 8, LayoutName::Spread),
+        done(2, 1, 0, LayoutName::Spread),
         called(3, 2, 1, Op::Add(7), Reply::Done, 1),
-        done(4, 3, 1, 0, LayoutName::Shared),
+        done(4, 3, 1, LayoutName::Shared),
         called(5, 4, 2, Op::Get, Reply::Number(12), 3),
     ];
     assert_eq!(rt; lists.len(), 1);
-    assert_eq!(rt; lists[0].as_slice(), due.as_slice());
+    assert!(rt; lists.iter().all(|list| list.as_slice() == due.as_slice()));
     Ok(())
 }

@@ -1,4 +1,8 @@
 //! Rows are handed from pass to pass.
+ghost use Rattle.std.specs.Prelude.{OnOk};
+ghost use Rattle.rule_tests.specs.Ready.{IsFree};
+
+use crate::tests::crews::{last, start};
 use crate::tests::whole::swap;
 use co_any::AnyLayout;
 use k42_kinds::{KindName, Layout, LayoutName};
@@ -8,7 +12,10 @@ use std::sync::Wait;
 use std::test::Fail;
 
 /// Pushes the oldest row that the pass holds, where it holds one.
-fn push<L: Layout>(rt: &impl Wait, sys: &Sys<L>, pass: &mut Pass<L>) -> Result<bool, Memory> {
+fn push<L: Layout>(rt: &impl Wait, sys: &Sys<L>, pass: &mut Pass<L>) -> Result<bool, Memory>
+    requires free { IsFree sys.now pass.old }
+    ensures free { OnOk result (IsFree sys.now pass.new) }
+{
     if pass.rows().is_empty() {
         return Ok(false);
     }
@@ -17,7 +24,10 @@ fn push<L: Layout>(rt: &impl Wait, sys: &Sys<L>, pass: &mut Pass<L>) -> Result<b
 }
 
 /// Pops a row, where there is room.
-fn pop<L: Layout>(rt: &impl Wait, sys: &Sys<L>, pass: &mut Pass<L>) -> bool {
+fn pop<L: Layout>(rt: &impl Wait, sys: &Sys<L>, pass: &mut Pass<L>) -> bool
+    requires free { IsFree sys.now pass.old }
+    ensures free { IsFree sys.now pass.new }
+{
     pass.row_room() >= 2 && pop_row(rt, sys, pass)
 }
 
@@ -25,20 +35,25 @@ fn pop<L: Layout>(rt: &impl Wait, sys: &Sys<L>, pass: &mut Pass<L>) -> bool {
 fn a_row_goes_from_one_pass_to_another(rt: HostRuntime) -> Result<(), Fail> {
     let layouts = vec![in rt.alloc(); AnyLayout::of(KindName::Counter, LayoutName::Shared)]?;
     let callers = vec![in rt.alloc(); 0, 0]?;
-    let (sys, mut passes) = Sys::start(rt.alloc(), layouts, 1, callers)?;
-    assert_eq!(rt; passes[0].row_room(), 64);
-    assert!(rt; !pop(&rt, &sys, &mut passes[1]));
-    assert_eq!(rt; swap(rt.alloc(), &sys, &mut passes[0], 0, 1)?, Some(1));
+    let Some((sys, mut passes)) = start(rt.alloc(), layouts, 1, callers)? else {
+        return Err("no start")?;
+    };
+    let (Some(mut one), Some(mut other)) = (last(&sys, &mut passes), last(&sys, &mut passes)) else {
+        return Err("no passes")?;
+    };
+    assert_eq!(rt; one.row_room(), 64);
+    assert!(rt; !pop(&rt, &sys, &mut other));
+    assert_eq!(rt; swap(rt.alloc(), &sys, &mut one, 0, 1)?, Some(1));
     let row = Row {
         object: 0,
         incarnation: 0,
     };
-    assert_eq!(rt; passes[0].rows(), [row].as_slice());
-    assert!(rt; push(&rt, &sys, &mut passes[0])?);
-    assert!(rt; passes[0].rows().is_empty());
-    assert!(rt; pop(&rt, &sys, &mut passes[1]));
-    assert_eq!(rt; passes[1].rows(), [row].as_slice());
-    assert_eq!(rt; passes[1].row_room(), 63);
-    assert!(rt; !pop(&rt, &sys, &mut passes[0]));
+    assert!(rt; one.rows() == [row].as_slice());
+    assert!(rt; push(&rt, &sys, &mut one)?);
+    assert!(rt; one.rows().is_empty());
+    assert!(rt; pop(&rt, &sys, &mut other));
+    assert!(rt; other.rows() == [row].as_slice());
+    assert_eq!(rt; other.row_room(), 63);
+    assert!(rt; !pop(&rt, &sys, &mut one));
     Ok(())
 }

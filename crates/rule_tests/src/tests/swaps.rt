@@ -1,5 +1,5 @@
 //! A swap, step by step.
-ghost use Rattle.std.specs.Prelude.{◌≡◌, ◌≤◌, Some};
+ghost use Rattle.std.specs.Prelude.{◌≡◌, ◌≤◌, None, Some, IsSome};
 ghost use Rattle.k42_board.specs.Swapping.{next_entry};
 ghost use Rattle.rule_tests.specs.Ready.{IsFree};
 
@@ -63,6 +63,7 @@ pub(super) fn block<L: Layout>(sys: &Sys<L>, pass: &mut Pass<L>) -> Option<u64>
 pub(super) fn try_move<L: Layout>(sys: &Sys<L>, pass: &mut Pass<L>) -> Option<u64>
     requires free { IsFree sys.now pass.old }
     ensures free { IsFree sys.now pass.new }
+    ensures unhanded { IsSome result → pass.new.view.handed ≡ None }
 {
     if !matches!(pass.swap(), SwapAt::Blocking(_)) {
         return None;

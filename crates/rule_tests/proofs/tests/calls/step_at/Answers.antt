@@ -1,51 +1,29 @@
 use Rattle.std.proofs.Common.{◌≡◌, ◌<◌, ◌≤◌, ℕ, ◌+◌, ◌*◌, ◌%◌, ◌++◌, List, [], ◌∷◌, Some, length, arith, refl, sym, ap, ◌∙◌, subst}
 use Rattle.std.specs.Option.{unwrap_or}
 use Rattle.std.proofs.lemmas.Bool.Decides.{nat_tests}
-use Rattle.k42_places.specs.Places.{EachPlace}
 use Rattle.k42_kinds.specs.LayoutLaws.{IsReached, Agree}
 use Rattle.k42_kinds.specs.declared.entry.Reach.TheVariants.{One}
 use Rattle.k42_kinds.specs.declared.entry.Act.TheVariants.{Call}
 use Rattle.k42_kinds.specs.declared.entry.Answer.TheVariants.{Replied}
-use Rattle.k42_stamp.specs.Laws.{AreLaws}
 use Rattle.k42_board.specs.Plan.{layouts_on}
 use Rattle.k42_board.specs.Generations.{MOST}
 use Rattle.k42_board.specs.Drawing.{MayDrawCall, drawn_at, entry_call, numbers_of}
 use Rattle.k42_board.specs.Taking.{MayPut, CELLS, taken_view}
 use Rattle.k42_board.specs.declared.cell.Content.{Content}
 use Rattle.k42_board.specs.declared.view.PassView.{PassView}
-use Rattle.k42_rule.proofs.Plans.{on_processors}
 use Rattle.rule_tests.proofs.OneCell.{at_one, mine_stays, reached, within, may_draw, may_put_drawn, told_last}
 use Rattle.rule_tests.proofs.tests.calls.step_at.Goals as goal
-use Rattle.rule_tests.proofs.tests.calls.step_at.Given as given
-
-laws_at : (g : given.Over) (procs : ℕ) (callers : List ℕ) → 0 < procs → EachPlace (λ c p. p < procs) callers
-    → AreLaws (layouts_on g.L.Kind.object g.L.Layout.tag_of g.L.Layout.ways g.L.Layout.whole g.L.Layout.serves g.L.Layout.admitted g.L.Layout.act_of procs callers)
-laws_at g procs callers some placed =
-    let met = g.met.L.Layout g.world.𝓛 g.world.𝓜 g.world.𝓡 ((λ s x. x), (λ x. x), (λ x. x), λ x. x) in
-    record {
-      some = some;
-      on_one = on_processors procs callers some placed;
-      steps = λ layout proc parts op known lt takes whole. met.steps layout procs proc parts op known lt takes whole;
-      reaches = λ layout proc op known lt takes. met.reaches layout procs proc op known lt takes;
-      stands = λ layout parts known whole. met.stands layout procs parts known some whole;
-      begins = λ layout known. met.begins layout procs known some;
-      imports = λ layout state known served. met.imports layout procs state known some served;
-      ends = λ layout state known served. met.ends layout state known served;
-      admits = λ layout before state known live same served. met.admits layout before state known live same served;
-      swaps = λ layout state known. met.swaps layout state known;
-      asks = λ layout. met.asks layout;
-    }
 
 pub step_part-requires-clause-reached : goal.step_part-requires-clause-reached
 step_part-requires-clause-reached g c κs inside_lifetimes =
     let procs : ℕ = c.args.sys.now.procs in let callers : List ℕ = c.args.sys.now.callers in let v = c.args.pass.now.view in let w = c.take-cell.new.pass.view in
     let F = layouts_on g.L.Kind.object g.L.Layout.tag_of g.L.Layout.ways g.L.Layout.whole g.L.Layout.serves g.L.Layout.admitted g.L.Layout.act_of procs callers in
-    let laws = laws_at g procs callers c.requires.free.plan.limits.some_procs c.requires.free.plan.placed in
+    let laws = c.layouts_are_lawful.ensures in
     let met = g.met.L.Layout g.world.𝓛 g.world.𝓜 g.world.𝓡 ((λ s x. x), (λ x. x), (λ x. x), λ x. x) in
     let layout = c.args.layout.now in let op = c.args.op.now in let inside = c.args.inside.now in let p : ℕ = c.in-One.place in let content = c.take-cell.result in
     let e = c.take-cell.ensures.knows ∙ ap (taken_view content) c.lock.ensures.knows in
     let reach =
-    subst (λ (z : ℕ × ℕ). (g.L.Layout.ways layout).reach z.0 op z.1 ≡ One p) (λ k. (c.procs.ensures.is k, c.processor.ensures k)) (sym c.reach.ensures ∙ c.in-One.is) in
+    subst (λ (z : ℕ × ℕ). (g.L.Layout.ways layout).reach z.0 op z.1 ≡ One p) (λ k. (c.procs.ensures.is k, c.processor.ensures.is k)) (sym c.reach.ensures ∙ c.in-One.is) in
     let is =
     at_one F laws c.args.sys.now.layouts met.agrees v w ((inside.object * 2 + inside.incarnation % 2) * 8 + p) c.lock.result content inside layout op p c.requires.serving
     c.requires.inside.0 c.requires.layout.0 c.requires.layout.1 c.requires.layout.2 c.requires.free.ours.proc c.requires.takes reach e in
@@ -56,12 +34,12 @@ pub draw_call-stamp-requires-clause-may : goal.draw_call-stamp-requires-clause-m
 draw_call-stamp-requires-clause-may g c κs inside_lifetimes =
     let procs : ℕ = c.args.sys.now.procs in let callers : List ℕ = c.args.sys.now.callers in let v = c.args.pass.now.view in let w = c.take-cell.new.pass.view in
     let F = layouts_on g.L.Kind.object g.L.Layout.tag_of g.L.Layout.ways g.L.Layout.whole g.L.Layout.serves g.L.Layout.admitted g.L.Layout.act_of procs callers in
-    let laws = laws_at g procs callers c.requires.free.plan.limits.some_procs c.requires.free.plan.placed in
+    let laws = c.layouts_are_lawful.ensures in
     let met = g.met.L.Layout g.world.𝓛 g.world.𝓜 g.world.𝓡 ((λ s x. x), (λ x. x), (λ x. x), λ x. x) in
     let layout = c.args.layout.now in let op = c.args.op.now in let inside = c.args.inside.now in let p : ℕ = c.in-One.place in let content = c.take-cell.result in
     let e = c.take-cell.ensures.knows ∙ ap (taken_view content) c.lock.ensures.knows in
     let reach =
-    subst (λ (z : ℕ × ℕ). (g.L.Layout.ways layout).reach z.0 op z.1 ≡ One p) (λ k. (c.procs.ensures.is k, c.processor.ensures k)) (sym c.reach.ensures ∙ c.in-One.is) in
+    subst (λ (z : ℕ × ℕ). (g.L.Layout.ways layout).reach z.0 op z.1 ≡ One p) (λ k. (c.procs.ensures.is k, c.processor.ensures.is k)) (sym c.reach.ensures ∙ c.in-One.is) in
     let is =
     at_one F laws c.args.sys.now.layouts met.agrees v w ((inside.object * 2 + inside.incarnation % 2) * 8 + p) c.lock.result content inside layout op p c.requires.serving
     c.requires.inside.0 c.requires.layout.0 c.requires.layout.1 c.requires.layout.2 c.requires.free.ours.proc c.requires.takes reach e in
@@ -86,12 +64,12 @@ pub put-requires-clause-may : goal.put-requires-clause-may
 put-requires-clause-may g c κs inside_lifetimes =
     let procs : ℕ = c.args.sys.now.procs in let callers : List ℕ = c.args.sys.now.callers in let v = c.args.pass.now.view in let w = c.take-cell.new.pass.view in
     let F = layouts_on g.L.Kind.object g.L.Layout.tag_of g.L.Layout.ways g.L.Layout.whole g.L.Layout.serves g.L.Layout.admitted g.L.Layout.act_of procs callers in
-    let laws = laws_at g procs callers c.requires.free.plan.limits.some_procs c.requires.free.plan.placed in
+    let laws = c.layouts_are_lawful.ensures in
     let met = g.met.L.Layout g.world.𝓛 g.world.𝓜 g.world.𝓡 ((λ s x. x), (λ x. x), (λ x. x), λ x. x) in
     let layout = c.args.layout.now in let op = c.args.op.now in let inside = c.args.inside.now in let p : ℕ = c.in-One.place in let content = c.take-cell.result in
     let e = c.take-cell.ensures.knows ∙ ap (taken_view content) c.lock.ensures.knows in
     let reach =
-    subst (λ (z : ℕ × ℕ). (g.L.Layout.ways layout).reach z.0 op z.1 ≡ One p) (λ k. (c.procs.ensures.is k, c.processor.ensures k)) (sym c.reach.ensures ∙ c.in-One.is) in
+    subst (λ (z : ℕ × ℕ). (g.L.Layout.ways layout).reach z.0 op z.1 ≡ One p) (λ k. (c.procs.ensures.is k, c.processor.ensures.is k)) (sym c.reach.ensures ∙ c.in-One.is) in
     let is =
     at_one F laws c.args.sys.now.layouts met.agrees v w ((inside.object * 2 + inside.incarnation % 2) * 8 + p) c.lock.result content inside layout op p c.requires.serving
     c.requires.inside.0 c.requires.layout.0 c.requires.layout.1 c.requires.layout.2 c.requires.free.ours.proc c.requires.takes reach e in
@@ -104,8 +82,8 @@ put-requires-clause-may g c κs inside_lifetimes =
     let items : c.push.new.self.items ≡ record content { part = Some after } ∷ [] = c.in_ok-push.ensures.items ∙ (λ k. c.new-cells.ensures.items k ++ moved k ∷ []) in
     let same : c.reserve.new.self.view ≡ w = c.in_ok-reserve.ensures.same.view in
     let there = within F laws c.args.sys.now.layouts met.agrees content c.lock.new.pass.view w c.take-cell.ensures.knows layout op inside.object inside.incarnation p is c.take-cell.ensures.number in
-    let number = c.take-cell.ensures.number in let object = c.requires.inside.1 in let most = c.requires.free.plan.limits.few_procs in
-    let few : content.number < CELLS = omega (arith, number, object, most, there) in
+    let number = c.take-cell.ensures.number in let object = c.requires.inside.1 in let most = c.procs.ensures.few in let count = c.procs.ensures.is in
+    let few : content.number < CELLS = omega (arith, number, object, most, count, there) in
     let known = c.draw_call-stamp.ensures.knows ∙ (λ k. drawn_at (items k) (entry_call c.reserve.new.self.view (numbers_of c.push.new.self.items) (Call op) (Replied c.in_ok-reply.reply)) (same k)) in
     let u = c.draw_call-stamp.new.pass in
     subst (λ (n : ℕ). MayPut F c.args.sys.now.layouts u.seat n c.in-Some.cell u.view) number
