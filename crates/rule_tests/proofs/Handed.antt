@@ -33,7 +33,7 @@ use Rattle.k42_board.proofs.Noted.{held_named, part_at_number, each_named}
 use Rattle.k42_board.proofs.RowCells.{place_in_row}
 use Rattle.k42_rule.proofs.HandedNotes.{numbers_more}
 use Rattle.k42_rule.proofs.PartsDue.{parts_whole}
-use Rattle.rule_tests.specs.Holding.{Holds, given, parts_made}
+use Rattle.rule_tests.specs.Holding.{Holds, given, parts_made, filled_with}
 use Rattle.rule_tests.specs.Ready.{IsLayoutOf}
 use Rattle.rule_tests.proofs.Crews.{each_front}
 
@@ -60,6 +60,18 @@ at_given (cell ∷ cells) [] zero x e = record { cell = cell; there = refl; is =
 at_given (cell ∷ cells) (part ∷ parts) zero x e = record { cell = cell; there = refl; is = sym (same_Some _ x e) }
 at_given (cell ∷ cells) [] (suc k) x e = let rest = at_given cells [] k x e in record { cell = rest.cell; there = rest.there; is = rest.is }
 at_given (cell ∷ cells) (part ∷ parts) (suc k) x e = let rest = at_given cells parts k x e in record { cell = rest.cell; there = rest.there; is = rest.is }
+
+pub length_filled : {S P : Type 0} (ways next : Ways S P) (admitted : S → S) (tag procs : ℕ) (cells : List (Content P))
+    → length (filled_with ways next admitted tag procs cells) ≡ length cells
+length_filled ways next admitted tag procs cells =
+    let row = parts_made (ways.empty procs) 0 (cells_of tag procs) (take procs cells) in let made = next.imported procs (admitted (ways.combine row)) in
+    length-append (given (take procs cells) row) (given (drop procs cells) made)
+    ∙ (λ k. length_given (take procs cells) row k + length_given (drop procs cells) made k)
+    ∙ sym (length-append (take procs cells) (drop procs cells)) ∙ ap length (take-append-drop procs cells)
+
+-- a list that was written back in the place of another one
+pub written_back : {A : Type 0} (xs ys : List A) (n : ℕ) → n ≡ length xs → length ys ≡ length xs → take n (ys ++ drop (length ys) xs) ≡ ys
+written_back xs ys n long same = ap (λ m. take m (ys ++ drop (length ys) xs)) (long ∙ sym same) ∙ take-append_seam ys (drop (length ys) xs)
 
 held_given : {P : Type 0} (notes : List (Note P)) (cells : List (Content P)) (parts : List P) → AreHeld notes cells → AreHeld notes (given cells parts)
 held_given notes cells parts held k x e =
@@ -117,7 +129,7 @@ each_back Q (x ∷ xs) ys each i y e = each_back Q xs ys (λ j z f. each (suc j)
 
 -- two rows of cells
 module _ {P : Type 0} (procs o i : ℕ) (all : List (Content P)) (are : numbers_of all ≡ row_cells procs o i ++ row_cells procs o (i + 1)) where
-  many : length all ≡ procs + procs
+  pub many : length all ≡ procs + procs
   many =
       let long = length-map all (λ (x : Content P). x.number) in let same = ap length are in
       let one = length_made (cell_of o i) 0 procs in let two = length_made (cell_of o (i + 1)) 0 procs in

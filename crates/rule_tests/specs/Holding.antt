@@ -1,6 +1,7 @@
 -- Cells that a pass holds and has taken, and rows of them.
-use Rattle.std.specs.Prelude.{◌≡◌, ℕ, ◌+◌, ◌<◌, zero, suc, true, List, [], ◌∷◌, Option, Some, None, unwrap_or, length}
+use Rattle.std.specs.Prelude.{◌≡◌, ℕ, ◌+◌, ◌<◌, zero, suc, true, List, [], ◌∷◌, Option, Some, None, ◌++◌, unwrap_or, length, take, drop}
 use Rattle.k42_places.specs.Places.{EachPlace}
+use Rattle.k42_kinds.specs.Rows.{Ways, cells_of}
 use Rattle.phase_core.specs.declared.caller.SwapAt.TheVariants.{Moved}
 use Rattle.turn_core.specs.Names.{names, names_once}
 use Rattle.k42_stamp.specs.Layouts.{Layouts}
@@ -51,3 +52,9 @@ given (cell ∷ cells) (part ∷ parts) = record cell { part = Some part } ∷ g
 abbrev pub bare : {P : Type 0} → List (Content P) → List (Content P)
 bare [] = []
 bare (cell ∷ cells) = record cell { part = None } ∷ bare cells
+
+-- the cells of two rows: the first keeps its parts, and the second has what the next layout makes of these
+abbrev pub filled_with : {S P : Type 0} → Ways S P → Ways S P → (S → S) → (tag procs : ℕ) → List (Content P) → List (Content P)
+filled_with ways next admitted tag procs cells =
+    let row = parts_made (ways.empty procs) 0 (cells_of tag procs) (take procs cells) in
+    given (take procs cells) row ++ given (drop procs cells) (next.imported procs (admitted (ways.combine row)))

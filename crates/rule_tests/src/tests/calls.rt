@@ -204,7 +204,29 @@ pub(super) fn leave<L: Layout>(sys: &Sys<L>, pass: &mut Pass<L>) -> u64
     leave_step(sys, pass)
 }
 
-/// An activity with one call: the stamp of its entry.
+/// A call in an activity: the stamp of its entry, where it found the object open and the cell free.
+fn serve(
+    alloc: Global,
+    sys: &Sys<AnyLayout>,
+    pass: &mut Pass<AnyLayout>,
+    object: u32,
+    op: &Op,
+) -> Result<Option<u64>, Memory>
+    requires free { IsFree sys.now pass.old }
+    requires entered { IsIn pass.old.view }
+    requires there { object < length sys.now.layouts }
+    ensures free { OnOk result (IsFree sys.now pass.new) }
+    ensures entered { OnOk result (IsIn pass.new.view) }
+{
+    if !look_up(sys, pass, object).served {
+        return Ok(None);
+    }
+    let stamp = step(alloc, sys, pass, op)?;
+    end(sys, pass);
+    Ok(stamp)
+}
+
+/// The same in an activity of its own.
 pub(super) fn call(
     alloc: Global,
     sys: &Sys<AnyLayout>,
@@ -218,13 +240,7 @@ pub(super) fn call(
     if object >= sys.objects() || enter(sys, pass).is_none() {
         return Ok(None);
     }
-    if !look_up(sys, pass, object).served {
-        return Ok(None);
-    }
-    let Some(stamp) = step(alloc, sys, pass, op)? else {
-        return Ok(None);
-    };
-    end(sys, pass);
+    let stamp = serve(alloc, sys, pass, object, op)?;
     leave(sys, pass);
-    Ok(Some(stamp))
+    Ok(stamp)
 }

@@ -23,7 +23,7 @@ fn are_live(layouts: &[AnyLayout]) -> bool
 }
 
 /// Starts a system, where the layouts, the processors and the callers are within the limits.
-#[tactic(auto, using(crate::proofs::Crews::below_all, crate::proofs::Crews::live_all, crate::proofs::Crews::any_tags, crate::proofs::Crews::new_crew))]
+#[tactic(auto, using(crate::proofs::Crews::any_tags))]
 pub(super) fn start(
     alloc: Global,
     layouts: Vec<AnyLayout>,
@@ -45,7 +45,7 @@ pub(super) fn start(
 }
 
 /// Takes the last pass out of the list.
-#[tactic(auto, using(crate::proofs::Crews::each_front, crate::proofs::Crews::each_last))]
+#[tactic(auto, using(crate::proofs::Crews::free_front, crate::proofs::Crews::free_last))]
 pub(super) fn last<L: Layout>(sys: &Sys<L>, passes: &mut Vec<Pass<L>>) -> Option<Pass<L>>
     requires free { AreFree sys.now passes.old.items }
     ensures free { AreFree sys.now passes.new.items }
@@ -56,7 +56,7 @@ pub(super) fn last<L: Layout>(sys: &Sys<L>, passes: &mut Vec<Pass<L>>) -> Option
 }
 
 /// Puts a pass behind the others.
-#[tactic(auto, using(crate::proofs::Crews::each_push))]
+#[tactic(auto, using(crate::proofs::Crews::free_push))]
 pub(super) fn keep<L: Layout>(
     sys: &Sys<L>,
     passes: &mut Vec<Pass<L>>,
@@ -77,7 +77,7 @@ fn rests<L: Layout>(pass: &Pass<L>, number: usize) -> bool
 }
 
 /// Whether the passes, from one number on, are those of the callers in their order, at rest.
-#[tactic(auto, using(crate::proofs::Crews::each_first))]
+#[tactic(auto, using(crate::proofs::Crews::rest_more))]
 fn rest<L: Layout>(passes: &[Pass<L>], first: usize) -> bool
     requires { first + length passes.now ≤ 64 }
     ensures { result ≡ true → RestFrom first passes.now }

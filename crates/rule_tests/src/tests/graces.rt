@@ -9,6 +9,7 @@ use k42_rule::{Pass, Sys, flip, free, generation_step, give_role, look, take_rol
 use phase_core::SwapAt;
 
 /// Takes the role, and answers whether it was free.
+#[tactic(auto, using(crate::proofs::Stays::free_taken))]
 pub(super) fn take<L: Layout>(sys: &Sys<L>, pass: &mut Pass<L>) -> bool
     requires free { IsFree sys.now pass.old }
     ensures free { IsFree sys.now pass.new }
@@ -29,15 +30,16 @@ fn flip_next<L: Layout>(sys: &Sys<L>, pass: &mut Pass<L>, proc: u32)
     ensures free { IsFree sys.now pass.new }
 {
     match (pass.base(), pass.coming()) {
-        (None, _) => {
+        (None, _) if proc == 0 => {
             generation_step(sys, pass);
         }
-        (Some(base), None) => {
+        (Some(base), None) if base < u32::MAX => {
             look(sys, pass, proc, (base + 1) % 2);
         }
         (Some(_), Some(_)) => {
             flip(sys, pass, proc);
         }
+        _ => {}
     }
 }
 

@@ -1,17 +1,18 @@
 //! The state of an object is moved from its row to the next.
-ghost use Rattle.std.specs.Prelude.{◌≡◌, ◌<◌, ◌≤◌, ◌+◌, ◌++◌, ◌∷◌, [], true, None, Some, IsSome, IfSome, IfOk, OnOk, length, unwrap_or};
+ghost use Rattle.std.specs.Prelude.{◌≡◌, ◌<◌, ◌≤◌, ◌+◌, ◌++◌, ◌∷◌, [], true, None, Some, IsSome, IfNone, IfSome, IfOk, OnOk, length, take, unwrap_or};
+ghost use Rattle.std.specs.Option.{option_to_list};
 ghost use Rattle.k42_limits.specs.declared.TheConstants.{PROCESSORS, LAST_INCARNATION};
 ghost use Rattle.k42_kinds.specs.Rows.{cells_of, made_from};
 ghost use Rattle.phase_core.specs.declared.caller.SwapAt.TheVariants.{Moved};
 ghost use Rattle.turn_core.specs.Names.{names};
-ghost use Rattle.k42_joined.specs.Numbers.{cell_of, object_of, place_of};
+ghost use Rattle.k42_joined.specs.Numbers.{cell_of, object_of, place_of, row_cells};
 ghost use Rattle.k42_board.specs.Drawing.{numbers_of};
 ghost use Rattle.k42_board.specs.Generations.{MOST};
 ghost use Rattle.k42_board.specs.Plan.{layouts_on};
 ghost use Rattle.k42_board.specs.Taking.{CELLS};
 ghost use Rattle.k42_board.specs.Values.{layout_in, incarnation_in};
 ghost use Rattle.k42_board.specs.Views.{word_begun};
-ghost use Rattle.rule_tests.specs.Holding.{IsHolding, IsMoving, given, bare, parts_made};
+ghost use Rattle.rule_tests.specs.Holding.{IsHolding, IsMoving, given, bare, parts_made, filled_with};
 ghost use Rattle.rule_tests.specs.Ready.{IsFree, IsLayoutOf};
 
 use co_any::AnyLayout;
@@ -48,18 +49,23 @@ fn take_cell<L: Layout>(
         sys.now pass.new cells.new.items object) }
     ensures numbers { IfOk result (λ took. took ≡ true →
         numbers_of cells.new.items ≡ numbers_of cells.old.items ++ number ∷ []) }
-    ensures same { (pass.new.view.last ≡ pass.old.view.last) × (pass.new.view.taker.mine ≡ pass.old.view.taker.mine) }
+    ensures last { pass.new.view.last ≡ pass.old.view.last }
+    ensures mine { pass.new.view.taker.mine ≡ pass.old.view.taker.mine }
 {
-    if has(cells.as_slice(), number) || lock(sys, pass, number) != 0 {
+    if has(cells.as_slice(), number) {
         return Ok(false);
     }
     cells.reserve(1)?;
+    if lock(sys, pass, number) != 0 {
+        return Ok(false);
+    }
     let cell = take(sys, pass, number);
     cells.push_reserved(cell);
     Ok(true)
 }
 
 /// Takes so many cells of a row, from one place on.
+#[tactic(auto, using(crate::proofs::Moving::row_more))]
 fn take_row<L: Layout>(
     sys: &Sys<L>,
     pass: &mut Pass<L>,
@@ -78,7 +84,8 @@ fn take_row<L: Layout>(
         sys.now pass.new cells.new.items object) }
     ensures numbers { IfOk result (λ took. took ≡ true →
         numbers_of cells.new.items ≡ numbers_of cells.old.items ++ made_from (cell_of object row) place left) }
-    ensures same { (pass.new.view.last ≡ pass.old.view.last) × (pass.new.view.taker.mine ≡ pass.old.view.taker.mine) }
+    ensures last { pass.new.view.last ≡ pass.old.view.last }
+    ensures mine { pass.new.view.taker.mine ≡ pass.old.view.taker.mine }
 {
     if left == 0 {
         return Ok(true);
@@ -91,6 +98,7 @@ fn take_row<L: Layout>(
 }
 
 /// Takes the parts out of so many cells, and makes those that are missing.
+#[tactic(auto, using(crate::proofs::Moving::parts_more, crate::proofs::Moving::no_parts))]
 fn take_parts<L: Layout>(
     alloc: Global,
     layout: &L,
@@ -119,14 +127,25 @@ fn take_parts<L: Layout>(
     Ok(())
 }
 
+/// Takes the first part out, where there is one.
+fn take_first<P: Drop>(parts: &mut Vec<P>) -> Option<P>
+    ensures taken { parts.old.items ≡ option_to_list result ++ parts.new.items }
+    ensures none { IfNone result (parts.old.items ≡ []) }
+{
+    if parts.is_empty() {
+        return None;
+    }
+    Some(parts.remove(0))
+}
+
 /// Puts the parts into the first cells; the others have none then.
 fn give_parts<P: Drop>(cells: &mut [Content<P>], parts: &mut Vec<P>)
     ensures { cells.new ≡ given cells.old parts.old.items }
 {
     if let Some((cell, others)) = cells.split_first_mut() {
         drop(cell.take_part());
-        if !parts.is_empty() {
-            cell.set_part(parts.remove(0));
+        if let Some(part) = take_first(parts) {
+            cell.set_part(part);
         }
         give_parts(others, parts);
     }
@@ -148,7 +167,8 @@ fn put_all<L: Layout>(sys: &Sys<L>, pass: &mut Pass<L>, cells: &mut Vec<Cell<L>>
 }
 
 /// Makes the row of the next layout of what the parts of the present one stand for.
-fn fill<L: Layout>(
+#[tactic(auto, using(crate::proofs::Moving::given_bare))]
+fn fill_rows<L: Layout>(
     alloc: Global,
     layout: &L,
     to: &L,
@@ -170,9 +190,75 @@ fn fill<L: Layout>(
     take_parts(alloc, layout, from, 0, count, procs, &mut parts)?;
     let state = layout.export(alloc, &parts)?;
     give_parts(from, &mut parts);
-    let mut next = to.import(alloc, &to.admit(state), procs)?;
+    let admitted = to.admit(state);
+    let mut next = to.import(alloc, &admitted, procs)?;
     give_parts(onto, &mut next);
     Ok(())
+}
+
+/// The same of the cells of both rows, side by side.
+fn fill_at<L: Layout>(
+    alloc: Global,
+    layout: &L,
+    to: &L,
+    cells: &mut [Content<L::Part>],
+    procs: u32,
+) -> Result<(), Memory>
+    requires known { (L.tag_of layout.now ≤ 1) × (L.tag_of to.now ≤ 2) × (L.object layout.now ≡ L.object to.now) }
+    requires procs { (0 < procs) × (procs ≤ PROCESSORS) × (length cells.old ≡ procs + procs) }
+    requires whole { L.whole layout.now procs
+        (parts_made ((L.ways layout.now).empty procs) 0 (cells_of (L.tag_of layout.now) procs) (take procs cells.old)) }
+    ensures { OnOk result (cells.new ≡ filled_with (L.ways layout.now) (L.ways to.now) (L.admitted to.now) (L.tag_of layout.now) procs cells.old) }
+{
+    let (from, onto) = cells.split_at_mut(procs as usize);
+    fill_rows(alloc, layout, to, from, onto, procs)
+}
+
+/// The same of a vector of cells.
+#[tactic(auto, using(crate::proofs::Handed::written_back, crate::proofs::Handed::length_filled))]
+fn fill<L: Layout>(
+    alloc: Global,
+    layout: &L,
+    to: &L,
+    cells: &mut Vec<Cell<L>>,
+    procs: u32,
+) -> Result<(), Memory>
+    requires known { (L.tag_of layout.now ≤ 1) × (L.tag_of to.now ≤ 2) × (L.object layout.now ≡ L.object to.now) }
+    requires procs { (0 < procs) × (procs ≤ PROCESSORS) × (length cells.old.items ≡ procs + procs) }
+    requires whole { L.whole layout.now procs
+        (parts_made ((L.ways layout.now).empty procs) 0 (cells_of (L.tag_of layout.now) procs) (take procs cells.old.items)) }
+    ensures { OnOk result (cells.new.items ≡ filled_with (L.ways layout.now) (L.ways to.now) (L.admitted to.now) (L.tag_of layout.now) procs cells.old.items) }
+{
+    fill_at(alloc, layout, to, cells.as_mut_slice(), procs)
+}
+
+/// Takes all cells of the present row, and then all of the next one.
+fn take_rows<L: Layout>(
+    sys: &Sys<L>,
+    pass: &mut Pass<L>,
+    cells: &mut Vec<Cell<L>>,
+    object: u32,
+    row: u32,
+) -> Result<bool, Memory>
+    requires moving { IsMoving
+        (layouts_on L.object L.tag_of L.ways L.whole L.serves L.admitted L.act_of sys.now.procs sys.now.callers)
+        sys.now pass.old cells.old.items object }
+    requires none { cells.old.items ≡ [] }
+    requires few { (object < 16) × (row ≤ LAST_INCARNATION) }
+    ensures moving { IfOk result (λ took. took ≡ true → IsMoving
+        (layouts_on L.object L.tag_of L.ways L.whole L.serves L.admitted L.act_of sys.now.procs sys.now.callers)
+        sys.now pass.new cells.new.items object) }
+    ensures numbers { IfOk result (λ took. took ≡ true →
+        numbers_of cells.new.items ≡ row_cells sys.now.procs object row ++ row_cells sys.now.procs object (row + 1)) }
+    ensures last { pass.new.view.last ≡ pass.old.view.last }
+    ensures mine { pass.new.view.taker.mine ≡ pass.old.view.taker.mine }
+{
+    let procs = sys.procs();
+    let took = take_row(sys, pass, cells, object, row, 0, procs)?;
+    if !took {
+        return Ok(false);
+    }
+    take_row(sys, pass, cells, object, row + 1, 0, procs)
 }
 
 /// Hands the row of a moved object on to the layout, and answers the stamp of the entry.
@@ -197,13 +283,11 @@ fn hand_on<L: Layout>(
     layouts_are_lawful(sys);
     let procs = sys.procs();
     let mut cells = Vec::new(alloc);
-    if !take_row(sys, pass, &mut cells, object, row, 0, procs)?
-        || !take_row(sys, pass, &mut cells, object, row + 1, 0, procs)?
-    {
+    let took = take_rows(sys, pass, &mut cells, object, row)?;
+    if !took {
         return Ok(None);
     }
-    let (from, onto) = cells.as_mut_slice().split_at_mut(procs as usize);
-    fill(alloc, layout, to, from, onto, procs)?;
+    fill(alloc, layout, to, &mut cells, procs)?;
     pass.reserve()?;
     let stamp = draw_done(sys, pass, &mut cells, to, Answer::Swapped(row + 1));
     put_all(sys, pass, &mut cells);
