@@ -88,8 +88,19 @@ fn rest<L: Layout>(passes: &[Pass<L>], first: usize) -> bool
     }
 }
 
-/// The lists of all callers, where everybody rests.
+/// Whether everybody rests.
 #[tactic(auto, using(crate::proofs::Crews::at_rest))]
+fn are_at_rest<L: Layout>(sys: &Sys<L>, passes: &Vec<Pass<L>>) -> bool
+    requires { IsCrewOf sys.now passes.now.items }
+    ensures { result ≡ true → AreAtRest sys.now passes.now.items }
+{
+    if passes.len() > 64 {
+        return false;
+    }
+    rest::<L>(passes.as_slice(), 0)
+}
+
+/// The lists of all callers, where everybody rests.
 pub(super) fn finish<L: Layout>(
     alloc: Global,
     sys: Sys<L>,
@@ -97,7 +108,7 @@ pub(super) fn finish<L: Layout>(
 ) -> Option<Vec<Vec<Entry>>>
     requires { IsCrewOf sys passes.items }
 {
-    if passes.len() > 64 || !rest::<L>(passes.as_slice(), 0) {
+    if !are_at_rest::<L>(&sys, &passes) {
         return None;
     }
     match sys.finish(alloc, passes) {

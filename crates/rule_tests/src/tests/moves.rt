@@ -1,5 +1,5 @@
 //! The state of an object is moved from its row to the next.
-ghost use Rattle.std.specs.Prelude.{◌≡◌, ◌<◌, ◌≤◌, ◌+◌, ◌++◌, ◌∷◌, [], true, None, Some, IsSome, IfNone, IfSome, IfOk, OnOk, length, take, unwrap_or};
+ghost use Rattle.std.specs.Prelude.{◌≡◌, List, ◌<◌, ◌≤◌, ◌+◌, ◌++◌, ◌∷◌, [], true, None, Some, IsSome, IfNone, IfSome, IfOk, OnOk, length, take, unwrap_or};
 ghost use Rattle.std.specs.Option.{option_to_list};
 ghost use Rattle.k42_limits.specs.declared.TheConstants.{PROCESSORS, LAST_INCARNATION};
 ghost use Rattle.k42_kinds.specs.Rows.{cells_of, made_from};
@@ -12,6 +12,7 @@ ghost use Rattle.k42_board.specs.Plan.{layouts_on};
 ghost use Rattle.k42_board.specs.Taking.{CELLS};
 ghost use Rattle.k42_board.specs.Values.{layout_in, incarnation_in};
 ghost use Rattle.k42_board.specs.Views.{word_begun};
+ghost use Rattle.k42_board.specs.declared.cell.Content.{Content};
 ghost use Rattle.rule_tests.specs.Holding.{IsHolding, IsMoving, given, bare, parts_made, filled_with};
 ghost use Rattle.rule_tests.specs.Ready.{IsFree, IsLayoutOf};
 
@@ -138,15 +139,23 @@ fn take_first<P: Drop>(parts: &mut Vec<P>) -> Option<P>
     Some(parts.remove(0))
 }
 
+/// Puts the first part into the cell, which has none where there is none.
+fn give_one<P: Drop>(cell: &mut Content<P>, parts: &mut Vec<P>)
+    ensures { (others : List (Content P)) →
+        cell.new ∷ given others parts.new.items ≡ given (cell.old ∷ others) parts.old.items }
+{
+    drop(cell.take_part());
+    if let Some(part) = take_first(parts) {
+        cell.set_part(part);
+    }
+}
+
 /// Puts the parts into the first cells; the others have none then.
 fn give_parts<P: Drop>(cells: &mut [Content<P>], parts: &mut Vec<P>)
     ensures { cells.new ≡ given cells.old parts.old.items }
 {
     if let Some((cell, others)) = cells.split_first_mut() {
-        drop(cell.take_part());
-        if let Some(part) = take_first(parts) {
-            cell.set_part(part);
-        }
+        give_one(cell, parts);
         give_parts(others, parts);
     }
 }
