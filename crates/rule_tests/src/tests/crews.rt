@@ -1,7 +1,6 @@
 //! Systems, and the passes that are taken from their lists and put back.
 ghost use Rattle.std.specs.Prelude.{◌≡◌, ◌<◌, ◌≤◌, ◌+◌, ◌++◌, ◌∷◌, [], nat_lt, nat_le, true, length, IfOk, IfSome, IfNone, vec_len, vec_capacity, OnOk};
 ghost use Rattle.std.specs.List.{list_all};
-ghost use Rattle.k42_rule.specs.Finishing.{AreAtRest};
 ghost use Rattle.rule_tests.specs.Ready.{IsFree, AreFree, IsCrewOf, RestsAt, RestFrom};
 
 use co_any::AnyLayout;
@@ -56,7 +55,6 @@ pub(super) fn last<L: Layout>(sys: &Sys<L>, passes: &mut Vec<Pass<L>>) -> Option
 }
 
 /// Puts a pass behind the others.
-#[tactic(auto, using(crate::proofs::Crews::free_push))]
 pub(super) fn keep<L: Layout>(
     sys: &Sys<L>,
     passes: &mut Vec<Pass<L>>,
@@ -88,18 +86,6 @@ fn rest<L: Layout>(passes: &[Pass<L>], first: usize) -> bool
     }
 }
 
-/// Whether everybody rests.
-#[tactic(auto, using(crate::proofs::Crews::at_rest))]
-fn are_at_rest<L: Layout>(sys: &Sys<L>, passes: &Vec<Pass<L>>) -> bool
-    requires { IsCrewOf sys.now passes.now.items }
-    ensures { result ≡ true → AreAtRest sys.now passes.now.items }
-{
-    if passes.len() > 64 {
-        return false;
-    }
-    rest::<L>(passes.as_slice(), 0)
-}
-
 /// The lists of all callers, where everybody rests.
 pub(super) fn finish<L: Layout>(
     alloc: Global,
@@ -108,7 +94,7 @@ pub(super) fn finish<L: Layout>(
 ) -> Option<Vec<Vec<Entry>>>
     requires { IsCrewOf sys passes.items }
 {
-    if !are_at_rest::<L>(&sys, &passes) {
+    if passes.len() > 64 || !rest::<L>(passes.as_slice(), 0) {
         return None;
     }
     match sys.finish(alloc, passes) {

@@ -9,7 +9,6 @@ use k42_rule::{Pass, Sys, flip, free, generation_step, give_role, look, take_rol
 use phase_core::SwapAt;
 
 /// Takes the role, and answers whether it was free.
-#[tactic(auto, using(crate::proofs::Stays::free_taken))]
 pub(super) fn take<L: Layout>(sys: &Sys<L>, pass: &mut Pass<L>) -> bool
     requires free { IsFree sys.now pass.old }
     ensures free { IsFree sys.now pass.new }

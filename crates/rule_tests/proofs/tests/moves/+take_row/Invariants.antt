@@ -1,4 +1,0 @@
-use Rattle.rule_tests.proofs.tests.moves.+take_row.Given as goal
-
-abbrev pub decreases-take_row : goal.decreases-take_row
-decreases-take_row g l = l.left

@@ -1,5 +1,0 @@
-use Rattle.rule_tests.specs.Ready.{IsFree}
-use Rattle.rule_tests.proofs.tests.threads.add.Given as goal
-
-abbrev pub invariant-loop : goal.invariant-loop
-invariant-loop l = IsFree l.sys l.pass
