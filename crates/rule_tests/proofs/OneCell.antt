@@ -160,8 +160,7 @@ module _ {S L P : Type 0} (F : Layouts S L P) (laws : AreLaws F) (declared : Lis
         named = ap (λ n. n ∷ []) number ∙ ap (cells_reached F.procs o i) (sym is.reach);
         held = only (IsHeld w.notes) stepped held;
         stepped =
-            subst (λ r. IsStepped F declared layout w.notes o i (stepped ∷ []) op r reply) (sym is.reach)
-            (
+            subst (λ r. IsStepped F declared layout w.notes o i (stepped ∷ []) op r reply) (sym is.reach) (
               replied ∙ ap (λ part. (F.ways_of layout).part_reply (unwrap_or part ((F.ways_of layout).empty F.procs p)) op) (sym part_here),
               only (λ (c : Content P). c.part ≡ Some ((F.ways_of layout).part_after (part_due (F.ways_of layout) F.procs w.notes o i p) op)) stepped
                   (ap Some (moved ∙ ap (λ part. (F.ways_of layout).part_after (unwrap_or part ((F.ways_of layout).empty F.procs p)) op) (sym part_here))),

@@ -117,7 +117,7 @@ fn step_part<L: Layout>(
     ensures replied { IfOk result (λ reply.
         reply ≡ (L.ways layout.now).part_reply (unwrap_or cell.old.part ((L.ways layout.now).empty procs place)) op.now) }
     ensures moved { OnOk result (cell.new ≡ record cell.old {
-        part = Some ((L.ways layout.now).part_after (unwrap_or cell.old.part ((L.ways layout.now).empty procs place)) op.now)
+      part = Some ((L.ways layout.now).part_after (unwrap_or cell.old.part ((L.ways layout.now).empty procs place)) op.now);
     }) }
 {
     let mut part = match cell.take_part() {
@@ -162,7 +162,13 @@ pub(super) fn step_at<L: Layout>(
     let mut cells = Vec::new(alloc);
     cells.push(cell)?;
     pass.reserve()?;
-    let stamp = draw_call(sys, pass, &mut cells, Act::Call(*op), Answer::Replied(reply));
+    let stamp = draw_call(
+        sys,
+        pass,
+        &mut cells,
+        Act::Call(*op),
+        Answer::Replied(reply),
+    );
     let Some(cell) = cells.pop() else {
         unreachable!()
     };
