@@ -1,0 +1,94 @@
+-- Cells that a pass takes, and gives back as it found them.
+use Rattle.std.proofs.Common.{◌≡◌, ℕ, Bool, true, false, not, ◌||◌, cond, eqb, List, [], ◌∷◌, ◌++◌, None, length, refl, sym, ap, ◌∙◌, subst}
+use Rattle.std.specs.Prelude.{map}
+use Rattle.std.proofs.lemmas.Bool.{eq-eqb}
+use Rattle.k42_kinds.specs.declared.entry.Entry.{Entry}
+use Rattle.turn_core.specs.Events.{caller_drawn}
+use Rattle.turn_core.specs.Names.{names}
+use Rattle.k42_stamp.specs.Laws.{AreLaws}
+use Rattle.k42_stamp.specs.Layouts.{Layouts}
+use Rattle.std.proofs.Common.{Option}
+use Rattle.k42_board.specs.Cells.{cells_noted}
+use Rattle.k42_board.specs.Drawing.{part_noted, part_in, numbers_of, drawn_at, told_note}
+use Rattle.k42_board.specs.Parts.{IsPart}
+use Rattle.k42_board.specs.Steps.{Always}
+use Rattle.k42_board.specs.Taking.{noted, HoldsHome, locked_view, taken_view, put_view, unlocked_view}
+use Rattle.k42_board.specs.Views.{hears}
+use Rattle.k42_board.specs.declared.cell.Content.{Content}
+use Rattle.k42_board.specs.declared.view.Note.{Note}
+use Rattle.k42_board.specs.declared.view.PassView.{PassView}
+use Rattle.k42_board.proofs.PartLaws.{noted_always}
+use Rattle.k42_rule.proofs.PartsDue.{first_note}
+use Rattle.k42_mediator.specs.Taken.{released}
+use Rattle.k42_mediator.proofs.NotesTold.{cell_same, other_same}
+use Rattle.k42_mediator.proofs.Remaining.{remaining, remaining_all, remaining_twice, remaining_same, remaining_head, remaining_last, remaining_one, remaining_mapped}
+
+abbrev pub cell_in : {P : Type 0} → Note P → ℕ
+cell_in note = note.cell
+
+map_same : (xs : List ℕ) → map (λ n. n) xs ≡ xs
+map_same [] = refl
+map_same (x ∷ xs) = ap (λ rest. x ∷ rest) (map_same xs)
+
+module _ {P : Type 0} where
+  -- one cell put back and unlocked
+  pub given_one : (n : ℕ) (v : PassView P) → unlocked_view n (put_view n v) ≡ released (n ∷ []) v
+  given_one n v = λ i. record v {
+    taker = record v.taker { held = remaining_one (λ m. m) n v.taker.held i };
+    notes = remaining_one cell_in n v.notes i;
+    out = None;
+  }
+
+  -- some cells after the other
+  pub released_twice : (cells others : List ℕ) (v : PassView P) → released cells (released others v) ≡ released (cells ++ others) v
+  released_twice cells others v = λ i. record v {
+    taker = record v.taker { held = remaining_twice (λ m. m) cells others v.taker.held i };
+    notes = remaining_twice cell_in cells others v.notes i;
+    out = None;
+  }
+
+  -- none
+  pub released_none : (v : PassView P) → v.out ≡ None → released [] v ≡ v
+  released_none v settled = λ i. record v {
+    taker = record v.taker { held = remaining_all (λ m. m) v.taker.held i };
+    notes = remaining_all cell_in v.notes i;
+    out = sym settled i;
+  }
+
+  -- one that was just taken
+  pub released_taken : (cells : List ℕ) (n : ℕ) (content : Content P) (v : PassView P) → content.number ≡ n
+      → names v.taker.held n ≡ false → names (cells_noted v.notes) n ≡ false
+      → released (cells ++ n ∷ []) (taken_view content (locked_view n 0 v)) ≡ hears 0 (released cells v)
+  released_taken cells n content v number unheld unnoted =
+      let held : names (map (λ m. m) v.taker.held) n ≡ false = ap (λ xs. names xs n) (map_same v.taker.held) ∙ unheld in
+      λ i. hears 0 (record v {
+        taker = record v.taker { held = (remaining_last (λ m. m) cells n n v.taker.held refl ∙ remaining_same (λ m. m) cells n v.taker.held held) i };
+        notes = (remaining_head cell_in cells n (noted content) v.notes number ∙ remaining_same cell_in cells n v.notes unnoted) i;
+        out = None;
+      })
+
+  -- a draw at cells that are given back
+  pub released_drawn : (contents : List (Content P)) (entry : Entry) (v : PassView P)
+      → released (numbers_of contents) (drawn_at contents entry v)
+      ≡ hears entry.stamp (record (released (numbers_of contents) v) {
+        taker = caller_drawn entry (released (numbers_of contents) v).taker;
+        found = None;
+        untold = [];
+      })
+  released_drawn contents entry v =
+      let cells = numbers_of contents in let fresh = part_in contents in
+      λ i. hears entry.stamp (record (released cells v) {
+        taker = caller_drawn entry (released cells v).taker;
+        found = None;
+        untold = [];
+        notes = remaining_mapped cell_in cells (told_note cells entry fresh) (cell_same cells entry fresh) (other_same cells entry fresh) v.notes i;
+      })
+
+-- the part that is noted of a cell is due
+pub held_due : {S L P : Type 0} (F : Layouts S L P) → AreLaws F → (declared : List L) (id n : ℕ) (part : Option P) (w : PassView P)
+    → names (cells_noted w.notes) n ≡ true → part_noted w.notes n ≡ part → Always F declared id w (λ s. IsPart F declared s n part)
+held_due F laws declared id n part w there e table r at =
+    let first = first_note w.notes n there in
+    subst (λ p. IsPart F declared r.state n p) (sym first.part ∙ e)
+    (subst (λ m. IsPart F declared r.state m first.note.part) first.named
+    (noted_always F laws declared id w first.place first.note first.there table r at))

@@ -1,0 +1,111 @@
+-- The phases of a swap: where each may begin, and what the pass knows after it.
+use Rattle.std.specs.Prelude.{◌≡◌, ℕ, ◌+◌, ◌-◌, ◌<◌, ◌≤◌, Bool, true, false, if◌then◌else◌, List, [], ◌∷◌, ◌++◌, Some, None, is_some, slice_get, slice_index}
+use mathlib.Core.Option.{some}
+use lib.ListN.{get_elem?}
+use Rattle.atomic_table.specs.Table.{State}
+use Rattle.k42_kinds.specs.declared.entry.Act.{Act}
+use Rattle.k42_kinds.specs.declared.entry.Answer.TheVariants.{Abandoned}
+use Rattle.k42_places.specs.Places.{EachPlace}
+use Rattle.phase_core.specs.Effects.{at_stage}
+use Rattle.phase_core.specs.declared.caller.SwapAt.{SwapAt}
+use Rattle.phase_core.specs.declared.caller.SwapAt.TheVariants.{Idle, Begun, Interposing, Interposed, Moved, Opening, Reopening, Opened}
+use Rattle.phase_core.specs.declared.object.LocalEntry.{LocalEntry}
+use Rattle.turn_core.specs.Events.{caller_drawn}
+use Rattle.k42_stamp.specs.Layouts.{Layouts}
+use Rattle.k42_joined.specs.Plain.{Joined}
+use Rattle.k42_joined.specs.State.{object}
+use Rattle.k42_joined.specs.Swapping.{holds_none}
+use Rattle.k42_board.specs.Cells.{Slot}
+use Rattle.k42_board.specs.Drawing.{entry_alone}
+use Rattle.k42_board.specs.Rule.{Rule}
+use Rattle.k42_board.specs.Steps.{Always}
+use Rattle.k42_board.specs.Swapping.{object_swapped, rows_ended, clears}
+use Rattle.k42_board.specs.Tabling.{MayBegin}
+use Rattle.k42_board.specs.Values.{has_bit, answer_in, layout_in, incarnation_in}
+use Rattle.k42_board.specs.Views.{word_begun}
+use Rattle.k42_board.specs.Words.{object_word}
+use Rattle.k42_board.specs.declared.view.PassView.{PassView}
+use Rattle.k42_board.specs.declared.view.View.{View}
+use Rattle.k42_board.specs.declared.view.View.TheVariants.{Crew}
+
+-- the swap of the pass is at this stage
+abbrev pub staged : {P : Type 0} → SwapAt → PassView P → PassView P
+staged swap v = record v { visitor = at_stage v.visitor swap }
+
+-- it has tried to begin a swap of the object, and found this word: it has begun one just where the word answers nothing
+abbrev pub begun_now : {P : Type 0} → ℕ → ℕ → PassView P → PassView P
+begun_now o word v = record v {
+  visitor = if is_some (answer_in word) then v.visitor else at_stage v.visitor (Begun o);
+  last = Some (record { object = o; word = word });
+  found = answer_in word;
+}
+
+-- the stage once the entries of all processors were changed
+abbrev pub stage_changed : SwapAt → SwapAt
+stage_changed (Begun o) = Interposed o
+stage_changed (Interposing o p) = Interposed o
+stage_changed (Opening o p) = Opened o
+stage_changed (Reopening o p) = Opened o
+stage_changed swap = swap
+
+-- its swap has begun, and nothing more
+abbrev pub HasBegun : {P : Type 0} → PassView P → Type 0
+HasBegun v = v.visitor.swap ≡ Begun (object_swapped v)
+
+-- the entry of every processor is a mediator
+abbrev pub interposed_view : {P : Type 0} → PassView P → PassView P
+interposed_view v = staged (Interposed (object_swapped v)) v
+
+-- it has moved its object, and has not transferred the state; it holds no cell
+pub record HasMoved {P : Type 0} (v : PassView P) : Type 0 where
+  pub moved : v.visitor.swap ≡ Moved (object_swapped v)
+  pub unhanded : v.handed ≡ None
+  pub free : holds_none v.taker.held ≡ true
+
+-- it has transferred the state to a layout, and has not turned its object over
+pub record HasTransferred {P : Type 0} (v : PassView P) : Type 0 where
+  pub moved : v.visitor.swap ≡ Moved (object_swapped v)
+  pub handed : is_some v.handed ≡ true
+  pub free : holds_none v.taker.held ≡ true
+
+-- its object is turned over, and every entry is empty
+abbrev pub opened_view : {P : Type 0} → PassView P → PassView P
+opened_view v = record (staged (Opened (object_swapped v)) v) { turned = true; handed = None }
+
+-- it has turned its object over and opened all entries
+pub record HasOpened {P : Type 0} (v : PassView P) : Type 0 where
+  pub opened : v.visitor.swap ≡ Opened (object_swapped v)
+  pub turned : v.turned ≡ true
+
+-- it swaps nothing any more, and has the old row behind those that it held
+abbrev pub ended_view : {P : Type 0} → PassView P → PassView P
+ended_view v = record (staged Idle v) { turned = false; rows = rows_ended v }
+
+-- it has given its swap up, and has drawn that
+abbrev pub abandoned_view : {P : Type 0} → Act → PassView P → PassView P
+abandoned_view act v =
+    let entry = entry_alone v act (Abandoned (incarnation_in (word_begun v.last) + 1)) in
+    record (staged Idle v) { taker = caller_drawn entry v.taker; found = None; abandoned = true }
+
+-- the word has the layout and the incarnation that a Begin found, and none of the bits of a swap
+pub record IsFree (begun word : ℕ) : Type 0 where
+  pub layout : layout_in word ≡ layout_in begun
+  pub incarnation : incarnation_in word ≡ incarnation_in begun
+  pub swap : has_bit word 24 ≡ false
+  pub block : has_bit word 25 ≡ false
+  pub moving : has_bit word 26 ≡ false
+  pub complete : has_bit word 27 ≡ false
+
+-- an entry that leads into the row, or is empty there
+pub record LeadsTo (i : ℕ) (e : LocalEntry) : Type 0 where
+  pub incarnation : e.incarnation ≡ i
+  pub tag : e.tag ≤ 1
+
+module _ {S L P : Type 0} (F : Layouts S L P) (declared : List L) where
+  -- Whatever state the table shows, the step by which the pass ends its swap leaves its object as it was when the swap
+  -- began, and all its entries lead there.
+  abbrev pub LeavesOpen : ℕ → PassView P → Type 0
+  LeavesOpen id v =
+      (table : State (Slot P) (View P)) (r : Rule F declared table) → get_elem? table.views id ≡ some (Crew (v ∷ []))
+      → IsFree (word_begun v.last) (clears v.visitor.swap (slice_index table.words (object_word (object_swapped v))))
+      × EachPlace (λ p e. LeadsTo (incarnation_in (word_begun v.last)) e) (object r.state (object_swapped v)).entries

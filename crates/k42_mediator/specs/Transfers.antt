@@ -1,0 +1,68 @@
+-- The transfer of an object's state.
+use Rattle.std.specs.Prelude.{◌≡◌, ℕ, ◌+◌, ◌<◌, List, [], Some, None, slice_get}
+use Rattle.k42_kinds.specs.OneThread.{OneThread}
+use Rattle.k42_kinds.specs.declared.entry.Act.{Act}
+use Rattle.k42_kinds.specs.declared.entry.Answer.TheVariants.{Swapped}
+use Rattle.k42_kinds.specs.declared.entry.Entry.{Entry}
+use Rattle.phase_core.specs.Stages.{IsInside}
+use Rattle.phase_core.specs.State.{visitor_at}
+use Rattle.turn_core.specs.Events.{caller_drawn}
+use Rattle.k42_joined.specs.Numbers.{cell_of}
+use Rattle.k42_joined.specs.Plain.{Joined}
+use Rattle.k42_joined.specs.State.{many_callers}
+use Rattle.k42_board.specs.Drawing.{IsDrawer}
+use Rattle.k42_board.specs.Seen.{PassSeen, IsSamePass}
+use Rattle.k42_board.specs.Swapping.{object_swapped}
+use Rattle.k42_board.specs.Values.{incarnation_in}
+use Rattle.k42_board.specs.Views.{hears, word_begun}
+use Rattle.k42_board.specs.declared.view.PassView.{PassView}
+use Rattle.k42_mediator.specs.Entries.{IsNext}
+use Rattle.k42_mediator.specs.Taken.{released}
+
+-- the layout is of the object's kind
+pub record IsOfKind {S L : Type 0} (object_of : L → OneThread S) (declared : List L) (o : ℕ) (layout : L) : Type 0 where
+  pub declaration : L
+  pub declares : slice_get declared o ≡ Some declaration
+  pub same : object_of layout ≡ object_of declaration
+
+-- no call is inside a row of the object
+abbrev pub IsLeft : {L : Type 0} → ℕ → Joined L → Type 0
+IsLeft o s = (c i : ℕ) → c < many_callers s → IsInside (visitor_at s.phases c).place o i → ⊥
+
+-- the entry of a swap that the pass has done
+abbrev pub IsDoneNext : {P : Type 0} → Act → PassView P → Entry → Type 0
+IsDoneNext act v entry =
+    let o = object_swapped v in let i = incarnation_in (word_begun v.last) in
+    IsNext v o i (cell_of o (i + 1) 0) act (Swapped (i + 1)) entry
+
+-- the pass has handed the row on, and holds these cells still
+pub record HasHanded {P : Type 0} (act : Act) (tag : ℕ) (cells : List ℕ) (old new : PassSeen P) : Type 0 where
+  pub drawer : IsDrawer old new
+  pub entry : Entry
+  pub next : IsDoneNext act old.view entry
+  pub knows :
+      released cells new.view
+      ≡ hears new.view.heard (record (released cells old.view) {
+        taker = caller_drawn entry (released cells old.view).taker;
+        found = None;
+        handed = Some tag;
+        untold = [];
+      })
+
+-- the pass has handed the row on, and has drawn that
+pub record HasDone {P : Type 0} (act : Act) (tag : ℕ) (old new : PassSeen P) : Type 0 where
+  pub drawer : IsDrawer old new
+  pub entry : Entry
+  pub next : IsDoneNext act old.view entry
+  pub knows :
+      new.view
+      ≡ hears new.view.heard (record old.view {
+        taker = caller_drawn entry old.view.taker;
+        found = None;
+        handed = Some tag;
+      })
+
+-- the pass has what it had
+pub record HasKept {P : Type 0} (old new : PassSeen P) : Type 0 where
+  pub same : IsSamePass old new
+  pub knows : new.view ≡ hears new.view.heard old.view

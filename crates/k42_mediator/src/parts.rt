@@ -1,0 +1,87 @@
+//! Parts are moved between cells that a pass has taken.
+ghost use Rattle.std.specs.Prelude.{◌≡◌, ◌<◌, ◌≤◌, ◌+◌, ◌*◌, ◌++◌, ℕ, length, take, drop, IfOk, OnOk, OnErr, vec_capacity};
+ghost use Rattle.std.specs.Vec.Iter.{into_iter_items};
+ghost use Rattle.k42_limits.specs.declared.TheConstants.{PROCESSORS};
+ghost use Rattle.k42_kinds.specs.Rows.{cells_of};
+ghost use Rattle.k42_mediator.specs.Parts.{parts_from, AreKept, filled};
+
+use k42_kinds::Layout;
+use k42_memory::Memory;
+use k42_rule::Cell;
+use std::alloc::Global;
+use std::vec::IntoIter;
+
+/// The state for which the parts stand, those taken before and those of the cells. Each cell has its part again
+/// afterwards.
+fn export_behind<L: Layout>(
+    alloc: Global,
+    layout: &L,
+    procs: u32,
+    cells: &mut [Cell<L>],
+    parts: &mut Vec<L::Part>,
+) -> Result<L::State, Memory>
+    requires known { (L.tag_of layout.now ≤ 2) × (0 < procs) × (procs ≤ PROCESSORS) }
+    requires few { length parts.old.items + length cells.old ≤ procs }
+    requires room { length parts.old.items + length cells.old ≤ vec_capacity parts.old }
+    requires whole { L.whole layout.now procs (parts.old.items ++ parts_from (L.ways layout.now) procs (length parts.old.items) cells.old) }
+    ensures parts { parts.new.items ≡ parts.old.items }
+    ensures kept { AreKept (L.ways layout.now) procs (length parts.old.items) cells.old cells.new }
+    ensures state { IfOk result (λ state. state ≡ (L.ways layout.now).combine (parts.old.items ++ parts_from (L.ways layout.now) procs (length parts.old.items) cells.old)) }
+{
+    let place = parts.len() as u32;
+    let Some((cell, others)) = cells.split_first_mut() else {
+        return layout.export(alloc, parts);
+    };
+    let part = match cell.take_part() {
+        Some(part) => part,
+        None => layout.empty_part(alloc, place, procs)?,
+    };
+    parts.push_reserved(part);
+    let state = export_behind(alloc, layout, procs, others, parts);
+    if let Some(part) = parts.pop() {
+        cell.set_part(part);
+    }
+    state
+}
+
+/// Gives the cells these parts, as far as they go, and no other.
+fn fill<L: Layout>(cells: &mut [Cell<L>], parts: &mut IntoIter<L::Part>)
+    ensures { cells.new ≡ filled (into_iter_items parts.old) cells.old }
+{
+    if let Some((cell, others)) = cells.split_first_mut() {
+        cell.take_part();
+        if let Some(part) = parts.next() {
+            cell.set_part(part);
+        }
+        fill::<L>(others, parts);
+    }
+}
+
+/// Exports the state of the first cells, and gives the others what the new layout imports of it.
+pub(crate) fn move_state<L: Layout>(
+    alloc: Global,
+    layout: &L,
+    to: &L,
+    procs: u32,
+    cells: &mut [Cell<L>],
+) -> Result<(), Memory>
+    requires known { (L.tag_of layout.now ≤ 1) × (L.tag_of to.now ≤ 2) × (0 < procs) × (procs ≤ PROCESSORS) }
+    requires kind { L.object layout.now ≡ L.object to.now }
+    requires many { length cells.old ≡ procs + procs }
+    requires whole { L.whole layout.now procs (parts_from (L.ways layout.now) procs 0 (take (cells_of (L.tag_of layout.now) procs) cells.old)) }
+    ensures many { length cells.new ≡ length cells.old }
+    ensures kept { AreKept (L.ways layout.now) procs 0 (take (cells_of (L.tag_of layout.now) procs) cells.old) (take (cells_of (L.tag_of layout.now) procs) cells.new) }
+    ensures others { take procs (drop (cells_of (L.tag_of layout.now) procs) (take procs cells.new)) ≡ take procs (drop (cells_of (L.tag_of layout.now) procs) (take procs cells.old)) }
+    ensures filled { OnOk result (drop procs cells.new ≡ filled ((L.ways to.now).imported procs (L.admitted to.now ((L.ways layout.now).combine (parts_from (L.ways layout.now) procs 0 (take (cells_of (L.tag_of layout.now) procs) cells.old))))) (drop procs cells.old)) }
+    ensures memory { OnErr result (drop procs cells.new ≡ drop procs cells.old) }
+{
+    let many = if layout.tag() == 1 { procs } else { 1 } as usize;
+    let (first, others) = cells.split_at_mut(procs as usize);
+    let (own, _) = first.split_at_mut(many);
+    let mut parts = Vec::with_capacity(alloc, many)?;
+    let state = export_behind(alloc, layout, procs, own, &mut parts)?;
+    let state = to.admit(state);
+    let parts = to.import(alloc, &state, procs)?;
+    fill::<L>(others, &mut parts.into_iter());
+    Ok(())
+}

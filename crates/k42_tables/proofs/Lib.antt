@@ -1,0 +1,5 @@
+pub mod Walking
+pub mod ServedCells
+pub mod Represented
+pub mod Missed
+pub mod Waited

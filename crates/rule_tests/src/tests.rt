@@ -1,0 +1,5 @@
+mod calls;
+mod crews;
+mod graces;
+mod kept;
+mod rows;

@@ -1,0 +1,85 @@
+//! What a system keeps of the calls of one pass.
+ghost use Rattle.std.specs.Prelude.{◌<◌};
+ghost use Rattle.rule_tests.specs.Ready.{IsFree};
+
+use crate::tests::calls::call;
+use crate::tests::crews::{finish, keep, last, start};
+use crate::tests::graces::{give, go_on, take};
+use co_any::AnyLayout;
+use k42_kinds::{Act, Answer, Entry, KindName, LayoutName, Op, Reply};
+use k42_rule::{Pass, Sys};
+use std::test::Fail;
+
+/// The entry of a call of object 0 by caller 0 on processor 0.
+fn called(stamp: u64, index: u32, incarnation: u32, op: Op, reply: Reply, generation: u32) -> Entry
+    requires { incarnation < 1_048_575 }
+{
+    Entry {
+        stamp,
+        caller: 0,
+        index,
+        object: 0,
+        incarnation,
+        cell: incarnation % 2 * 8,
+        act: Act::Call(op),
+        answer: Answer::Replied(reply),
+        proc: 0,
+        generation: Some(generation),
+    }
+}
+
+#[test]
+fn a_call_is_found_in_the_list_of_its_caller(rt: HostRuntime) -> Result<(), Fail> {
+    let layouts = vec![in rt.alloc(); AnyLayout::of(KindName::Counter, LayoutName::Shared)]?;
+    let callers = vec![in rt.alloc(); 0]?;
+    let Some((sys, mut passes)) = start(rt.alloc(), layouts, 1, callers)? else {
+        return Err("no start")?;
+    };
+    let Some(mut pass) = last(&sys, &mut passes) else {
+        return Err("no pass")?;
+    };
+    assert_eq!(rt; call(rt.alloc(), &sys, &mut pass, 0, &Op::Add(5))?, Some(1));
+    keep(&sys, &mut passes, pass)?;
+    let Some(lists) = finish(rt.alloc(), sys, passes) else {
+        return Err("no lists")?;
+    };
+    let due = [called(1, 0, 0, Op::Add(5), Reply::Done, 0)];
+    assert_eq!(rt; lists.len(), 1);
+    assert!(rt; lists.iter().all(|list| list.as_slice() == due.as_slice()));
+    Ok(())
+}
+
+/// A grace by a pass that holds no row: true where it was quiet and noted nothing of the object.
+fn graced(sys: &Sys<AnyLayout>, pass: &mut Pass<AnyLayout>) -> bool
+    requires free { IsFree sys.now pass.old }
+    ensures free { IsFree sys.now pass.new }
+{
+    let quiet = take(sys, pass) && go_on(sys, pass, 16);
+    quiet && give(sys, pass, 0).is_none()
+}
+
+#[test]
+fn a_call_after_a_grace_bears_the_next_generation(rt: HostRuntime) -> Result<(), Fail> {
+    let layouts = vec![in rt.alloc(); AnyLayout::of(KindName::Counter, LayoutName::Shared)]?;
+    let callers = vec![in rt.alloc(); 0]?;
+    let Some((sys, mut passes)) = start(rt.alloc(), layouts, 1, callers)? else {
+        return Err("no start")?;
+    };
+    let Some(mut pass) = last(&sys, &mut passes) else {
+        return Err("no pass")?;
+    };
+    assert_eq!(rt; call(rt.alloc(), &sys, &mut pass, 0, &Op::Add(5))?, Some(1));
+    assert!(rt; graced(&sys, &mut pass));
+    assert_eq!(rt; call(rt.alloc(), &sys, &mut pass, 0, &Op::Get)?, Some(2));
+    keep(&sys, &mut passes, pass)?;
+    let Some(lists) = finish(rt.alloc(), sys, passes) else {
+        return Err("no lists")?;
+    };
+    let due = [
+        called(1, 0, 0, Op::Add(5), Reply::Done, 0),
+        called(2, 1, 0, Op::Get, Reply::Number(5), 1),
+    ];
+    assert_eq!(rt; lists.len(), 1);
+    assert!(rt; lists.iter().all(|list| list.as_slice() == due.as_slice()));
+    Ok(())
+}

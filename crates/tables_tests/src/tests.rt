@@ -1,0 +1,109 @@
+ghost use Rattle.std.specs.Prelude.{◌≡◌, true, OnOk, IfOk};
+ghost use Rattle.phase_core.specs.Stages.{is_out, is_missed};
+ghost use Rattle.k42_tables.specs.Entries.{LeadsTo, EndsAt};
+ghost use Rattle.k42_tables.specs.declared.answers.Entered.TheVariants as Entered;
+ghost use Rattle.k42_rule.specs.Tags.{HasTags};
+ghost use Rattle.tables_tests.specs.Callers.{IsFresh, IsBusy, AreFresh};
+
+use co_any::AnyLayout;
+use k42_kinds::{KindName, Layout, LayoutName};
+use k42_memory::Memory;
+use k42_rule::{Pass, Sys, enter_step};
+use k42_tables::{Entered, Filled, Root, SharedRoot, SpreadRoot, finish_call, look_up, miss};
+use std::alloc::Global;
+use std::process::Abort;
+use std::sync::Wait;
+use std::test::Fail;
+
+/// Begins an activity, in which the caller misses the object.
+fn come_in<L: Layout>(rt: &impl Abort, sys: &Sys<L>, pass: &mut Pass<L>)
+    requires { IsFresh sys.now pass.old }
+    ensures busy { IsBusy sys.now pass.new }
+    ensures missed { is_missed pass.new.view.visitor.place 0 ≡ true }
+{
+    enter_step(sys, pass);
+    assert_eq!(rt; look_up(sys, pass, 0), Entered::Missed);
+}
+
+/// Has the miss handled, which is to answer so.
+fn fill_in<L: Layout, R: Abort + Wait>(
+    rt: &R,
+    alloc: Global,
+    sys: &Sys<L>,
+    pass: &mut Pass<L>,
+    expected: Filled,
+) -> Result<(), Memory>
+    requires busy { IsBusy sys.now pass.old }
+    requires missed { is_missed pass.old.view.visitor.place 0 ≡ true }
+    ensures busy { OnOk result (IsBusy sys.now pass.new) }
+    ensures there { OnOk result (EndsAt expected 0 pass.new.view.visitor.place) }
+{
+    let answer = miss(rt, alloc, sys, pass, 0)?;
+    assert_eq!(rt; answer, expected);
+    Ok(())
+}
+
+/// Looks up again, which is to lead to the cell.
+fn look_again<L: Layout>(rt: &impl Abort, sys: &Sys<L>, pass: &mut Pass<L>, cell: u32)
+    requires busy { IsBusy sys.now pass.old }
+    requires out { is_out pass.old.view.visitor.place ≡ true }
+    ensures busy { IsBusy sys.now pass.new }
+    ensures there { LeadsTo (Entered.Direct cell) 0 pass.new.view.visitor.place }
+{
+    assert_eq!(rt; look_up(sys, pass, 0), Entered::Direct { cell });
+}
+
+/// A system of one object on two processors, with two callers on the first and one on the second.
+fn start_three<L: Layout>(alloc: Global, layout: L) -> Result<(Sys<L>, Vec<Pass<L>>), Memory>
+    requires live { L.tag_of layout ≡ 1 }
+    requires tags { HasTags L.has_tag layout }
+    ensures { IfOk result (λ made. AreFresh made.0 made.1.items) }
+{
+    let mut layouts = Vec::new(alloc);
+    layouts.push(layout)?;
+    let callers = Vec::from_array(alloc, [0, 0, 1])?;
+    Sys::start(alloc, layouts, 2, callers)
+}
+
+/// Two callers of one processor miss, and one of them installs the entry of both.
+fn meet_at_a_cell<L: Layout, R: Abort + Wait>(
+    rt: &R,
+    alloc: Global,
+    layout: L,
+) -> Result<(), Memory>
+    requires live { L.tag_of layout ≡ 1 }
+    requires tags { HasTags L.has_tag layout }
+{
+    let (sys, mut passes) = start_three(alloc, layout)?;
+    let mut first = passes.remove(0);
+    let mut second = passes.remove(0);
+    let mut third = passes.remove(0);
+    come_in(rt, &sys, &mut first);
+    come_in(rt, &sys, &mut second);
+    come_in(rt, &sys, &mut third);
+    fill_in(rt, alloc, &sys, &mut first, Filled::Installed { cell: 0 })?;
+    fill_in(
+        rt,
+        alloc,
+        &sys,
+        &mut second,
+        Filled::Elsewhere { word: 0x11 },
+    )?;
+    fill_in(rt, alloc, &sys, &mut third, Filled::Installed { cell: 1 })?;
+    look_again(rt, &sys, &mut second, 0);
+    finish_call(&sys, &mut second);
+    Ok(())
+}
+
+#[test]
+fn an_entry_is_installed_once(rt: HostRuntime) -> Result<(), Fail> {
+    let counter = AnyLayout::of(KindName::Counter, LayoutName::Spread);
+    meet_at_a_cell(&rt, rt.alloc(), counter)?;
+    Ok(())
+}
+
+#[test]
+fn a_root_names_a_cell_for_each_processor(rt: HostRuntime) {
+    assert_eq!(&rt; (SharedRoot.cell_for(5), SharedRoot.cells(8)), (0, 1));
+    assert_eq!(&rt; (SpreadRoot.cell_for(5), SpreadRoot.cells(8)), (5, 8));
+}
