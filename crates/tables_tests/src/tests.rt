@@ -8,8 +8,10 @@ ghost use Rattle.tables_tests.specs.Callers.{IsFresh, IsBusy, AreFresh};
 use co_any::AnyLayout;
 use k42_kinds::{KindName, Layout, LayoutName};
 use k42_memory::Memory;
-use k42_rule::{Pass, Sys, enter_step};
-use k42_tables::{Entered, Filled, Root, SharedRoot, SpreadRoot, finish_call, look_up, miss};
+use k42_rule::{Pass, Sys, enter_step, lock, root_step};
+use k42_tables::{
+    Entered, Filled, Root, SharedRoot, SpreadRoot, Tried, finish_call, look_up, miss, try_miss,
+};
 use std::alloc::Global;
 use std::process::Abort;
 use std::sync::Wait;
@@ -41,6 +43,32 @@ fn fill_in<L: Layout, R: Abort + Wait>(
     let answer = miss(rt, alloc, sys, pass, 0)?;
     assert_eq!(rt; answer, expected);
     Ok(())
+}
+
+/// Tries once to have the miss handled, which is to answer so.
+fn try_in<L: Layout>(
+    rt: &impl Abort,
+    alloc: Global,
+    sys: &Sys<L>,
+    pass: &mut Pass<L>,
+    expected: Tried,
+) -> Result<(), Memory>
+    requires busy { IsBusy sys.now pass.old }
+    requires missed { is_missed pass.old.view.visitor.place 0 ≡ true }
+{
+    let tried = try_miss(alloc, sys, pass, 0)?;
+    assert_eq!(rt; tried, expected);
+    Ok(())
+}
+
+/// Takes the lock of the first cell of the row that it missed.
+fn hold_first<L: Layout>(rt: &impl Abort, sys: &Sys<L>, pass: &mut Pass<L>)
+    requires busy { IsBusy sys.now pass.old }
+    requires missed { is_missed pass.old.view.visitor.place 0 ≡ true }
+{
+    let word = root_step(sys, pass, 0);
+    assert_eq!(rt; word, 0x1000_0000);
+    assert_eq!(rt; lock(sys, pass, 0), 0);
 }
 
 /// Looks up again, which is to lead to the cell.
@@ -89,9 +117,31 @@ fn meet_at_a_cell<L: Layout, R: Abort + Wait>(
         &mut second,
         Filled::Elsewhere { word: 0x11 },
     )?;
-    fill_in(rt, alloc, &sys, &mut third, Filled::Installed { cell: 1 })?;
+    let own = Tried::Filled(Filled::Installed { cell: 1 });
+    try_in(rt, alloc, &sys, &mut third, own)?;
     look_again(rt, &sys, &mut second, 0);
     finish_call(&sys, &mut second);
+    Ok(())
+}
+
+/// A caller tries at a cell that another one holds.
+fn meet_a_holder<L: Layout>(rt: &impl Abort, alloc: Global, layout: L) -> Result<(), Memory>
+    requires live { L.tag_of layout ≡ 1 }
+    requires tags { HasTags L.has_tag layout }
+{
+    let (sys, mut passes) = start_three(alloc, layout)?;
+    let mut first = passes.remove(0);
+    let mut second = passes.remove(0);
+    come_in(rt, &sys, &mut first);
+    come_in(rt, &sys, &mut second);
+    hold_first(rt, &sys, &mut second);
+    try_in(rt, alloc, &sys, &mut first, Tried::Held { holder: 1 })
+}
+
+#[test]
+fn a_try_at_a_held_cell_names_its_holder(rt: HostRuntime) -> Result<(), Fail> {
+    let counter = AnyLayout::of(KindName::Counter, LayoutName::Spread);
+    meet_a_holder(&rt, rt.alloc(), counter)?;
     Ok(())
 }
 
