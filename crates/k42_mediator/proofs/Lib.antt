@@ -6,3 +6,4 @@ pub mod Remaining
 pub mod NotesTold
 pub mod GivenBack
 pub mod AfterMark
+pub mod PartsMoved

@@ -9,10 +9,10 @@ parts_from ways procs place [] = []
 parts_from ways procs place (content ∷ contents) =
     unwrap_or content.part (ways.empty procs place) ∷ parts_from ways procs (place + 1) contents
 
--- a cell is as it was, or has been given the empty part where it had none
+-- a cell is as it was, or has the part that is due there
 abbrev pub IsKept : {S P : Type 0} → Ways S P → ℕ → ℕ → Content P → Content P → Type 0
 IsKept ways procs place old new =
-    (new ≡ old) ⊎ ((old.part ≡ None) × (new ≡ record old { part = Some (ways.empty procs place) }))
+    (new ≡ old) ⊎ (new ≡ record old { part = Some (unwrap_or old.part (ways.empty procs place)) })
 
 -- and so is each
 abbrev pub AreKept : {S P : Type 0} → Ways S P → ℕ → ℕ → List (Content P) → List (Content P) → Type 0

@@ -1,5 +1,5 @@
 //! Parts are moved between cells that a pass has taken.
-ghost use Rattle.std.specs.Prelude.{◌≡◌, ◌<◌, ◌≤◌, ◌+◌, ◌*◌, ◌++◌, ℕ, length, take, drop, IfOk, OnOk, OnErr, vec_capacity};
+ghost use Rattle.std.specs.Prelude.{◌≡◌, ◌<◌, ◌≤◌, ◌+◌, ◌*◌, ◌++◌, ℕ, None, length, take, drop, unwrap_or, IfOk, OnOk, OnErr, vec_capacity};
 ghost use Rattle.std.specs.Vec.Iter.{into_iter_items};
 ghost use Rattle.k42_limits.specs.declared.TheConstants.{PROCESSORS};
 ghost use Rattle.k42_kinds.specs.Rows.{cells_of};
@@ -10,6 +10,35 @@ use k42_memory::Memory;
 use k42_rule::Cell;
 use std::alloc::Global;
 use std::vec::IntoIter;
+
+/// Takes the part out of a cell. Where there is none, an empty one is made.
+fn lift_part<L: Layout>(
+    alloc: Global,
+    layout: &L,
+    procs: u32,
+    place: u32,
+    cell: &mut Cell<L>,
+) -> Result<L::Part, Memory>
+    requires known { (L.tag_of layout.now ≤ 2) × (place < procs) × (procs ≤ PROCESSORS) }
+    ensures part { IfOk result (λ part. part ≡ unwrap_or cell.old.part ((L.ways layout.now).empty procs place)) }
+    ensures lifted { OnOk result (cell.new ≡ record cell.old { part = None }) }
+    ensures memory { OnErr result (cell.new ≡ cell.old) }
+{
+    match cell.take_part() {
+        Some(part) => Ok(part),
+        None => layout.empty_part(alloc, place, procs),
+    }
+}
+
+/// Gives the cell this part, or none, in place of its own.
+fn replace_part<L: Layout>(cell: &mut Cell<L>, part: Option<L::Part>)
+    ensures { cell.new ≡ record cell.old { part = part } }
+{
+    cell.take_part();
+    if let Some(part) = part {
+        cell.set_part(part);
+    }
+}
 
 /// The state for which the parts stand, those taken before and those of the cells. Each cell has its part again
 /// afterwards.
@@ -32,10 +61,7 @@ fn export_behind<L: Layout>(
     let Some((cell, others)) = cells.split_first_mut() else {
         return layout.export(alloc, parts);
     };
-    let part = match cell.take_part() {
-        Some(part) => part,
-        None => layout.empty_part(alloc, place, procs)?,
-    };
+    let part = lift_part::<L>(alloc, layout, procs, place, cell)?;
     parts.push_reserved(part);
     let state = export_behind(alloc, layout, procs, others, parts);
     if let Some(part) = parts.pop() {
@@ -49,10 +75,7 @@ fn fill<L: Layout>(cells: &mut [Cell<L>], parts: &mut IntoIter<L::Part>)
     ensures { cells.new ≡ filled (into_iter_items parts.old) cells.old }
 {
     if let Some((cell, others)) = cells.split_first_mut() {
-        cell.take_part();
-        if let Some(part) = parts.next() {
-            cell.set_part(part);
-        }
+        replace_part::<L>(cell, parts.next());
         fill::<L>(others, parts);
     }
 }
