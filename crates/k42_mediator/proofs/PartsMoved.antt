@@ -1,9 +1,23 @@
 -- Parts that are moved between cells.
-use Rattle.std.proofs.Common.{◌≡◌, ℕ, ◌+◌, List, [], ◌∷◌, ◌++◌, Option, Some, None, length, refl, sym, ap, ◌∙◌, inl, inr, subst}
+use Rattle.std.proofs.Common.{◌≡◌, ℕ, suc, ◌+◌, List, [], ◌∷◌, ◌++◌, Option, Some, None, length, refl, sym, ap, ◌∙◌, inl, inr, subst}
 use Rattle.k42_kinds.specs.Rows.{Ways}
 use Rattle.k42_board.specs.declared.cell.Content.{Content}
 use Rattle.k42_mediator.specs.Parts.{AreKept}
 
-pub kept_same : {S P : Type 0} (ways : Ways S P) (procs place : ℕ) (cells : List (Content P)) → AreKept ways procs place cells cells
-kept_same ways procs place [] = tt
-kept_same ways procs place (cell ∷ cells) = (inl refl, kept_same ways procs (place + 1) cells)
+pub kept_same : {S P : Type 0} (ways : Ways S P) (procs many place : ℕ) (cells : List (Content P)) → AreKept ways procs many place cells cells
+kept_same ways procs many place [] = tt
+kept_same ways procs many place (cell ∷ cells) = (inl refl, kept_same ways procs many (place + 1) cells)
+
+pub kept_front : {S P : Type 0} (ways : Ways S P) (procs many place : ℕ) (own new rest : List (Content P)) → AreKept ways procs many place own new
+    → AreKept ways procs many place (own ++ rest) (new ++ rest)
+kept_front ways procs many place [] [] rest are = kept_same ways procs many place rest
+kept_front ways procs many place [] (y ∷ new) rest are = absurd are
+kept_front ways procs many place (x ∷ own) [] rest are = absurd are
+kept_front ways procs many place (x ∷ own) (y ∷ new) rest are = (are.0, kept_front ways procs many (place + 1) own new rest are.1)
+
+pub kept_length : {S P : Type 0} (ways : Ways S P) (procs many place : ℕ) (own new : List (Content P)) → AreKept ways procs many place own new
+    → length new ≡ length own
+kept_length ways procs many place [] [] are = refl
+kept_length ways procs many place [] (y ∷ new) are = absurd are
+kept_length ways procs many place (x ∷ own) [] are = absurd are
+kept_length ways procs many place (x ∷ own) (y ∷ new) are = ap suc (kept_length ways procs many (place + 1) own new are.1)

@@ -54,7 +54,7 @@ fn export_behind<L: Layout>(
     requires room { length parts.old.items + length cells.old ≤ vec_capacity parts.old }
     requires whole { L.whole layout.now procs (parts.old.items ++ parts_from (L.ways layout.now) procs (length parts.old.items) cells.old) }
     ensures parts { parts.new.items ≡ parts.old.items }
-    ensures kept { AreKept (L.ways layout.now) procs (length parts.old.items) cells.old cells.new }
+    ensures kept { AreKept (L.ways layout.now) procs (length parts.old.items + length cells.old) (length parts.old.items) cells.old cells.new }
     ensures state { IfOk result (λ state. state ≡ (L.ways layout.now).combine (parts.old.items ++ parts_from (L.ways layout.now) procs (length parts.old.items) cells.old)) }
 {
     let place = parts.len() as u32;
@@ -80,6 +80,35 @@ fn fill<L: Layout>(cells: &mut [Cell<L>], parts: &mut IntoIter<L::Part>)
     }
 }
 
+/// How many cells of a row have parts.
+fn cells_in<L: Layout>(layout: &L, procs: u32) -> usize
+    requires { 0 < procs }
+    ensures is { result ≡ cells_of (L.tag_of layout.now) procs }
+    ensures few { result ≤ procs }
+{
+    if layout.tag() == 1 { procs as usize } else { 1 }
+}
+
+/// The state for which a row of cells stands.
+fn export_row<L: Layout>(
+    alloc: Global,
+    layout: &L,
+    procs: u32,
+    row: &mut [Cell<L>],
+) -> Result<L::State, Memory>
+    requires known { (L.tag_of layout.now ≤ 2) × (0 < procs) × (procs ≤ PROCESSORS) }
+    requires many { length row.old ≡ procs }
+    requires whole { L.whole layout.now procs (parts_from (L.ways layout.now) procs 0 (take (cells_of (L.tag_of layout.now) procs) row.old)) }
+    ensures many { length row.new ≡ length row.old }
+    ensures kept { AreKept (L.ways layout.now) procs (cells_of (L.tag_of layout.now) procs) 0 row.old row.new }
+    ensures state { IfOk result (λ state. state ≡ (L.ways layout.now).combine (parts_from (L.ways layout.now) procs 0 (take (cells_of (L.tag_of layout.now) procs) row.old))) }
+{
+    let many = cells_in(layout, procs);
+    let mut parts = Vec::with_capacity(alloc, many)?;
+    let (own, _) = row.split_at_mut(many);
+    export_behind(alloc, layout, procs, own, &mut parts)
+}
+
 /// Exports the state of the first cells, and gives the others what the new layout imports of it.
 pub(crate) fn move_state<L: Layout>(
     alloc: Global,
@@ -93,16 +122,12 @@ pub(crate) fn move_state<L: Layout>(
     requires many { length cells.old ≡ procs + procs }
     requires whole { L.whole layout.now procs (parts_from (L.ways layout.now) procs 0 (take (cells_of (L.tag_of layout.now) procs) cells.old)) }
     ensures many { length cells.new ≡ length cells.old }
-    ensures kept { AreKept (L.ways layout.now) procs 0 (take (cells_of (L.tag_of layout.now) procs) cells.old) (take (cells_of (L.tag_of layout.now) procs) cells.new) }
-    ensures others { take procs (drop (cells_of (L.tag_of layout.now) procs) (take procs cells.new)) ≡ take procs (drop (cells_of (L.tag_of layout.now) procs) (take procs cells.old)) }
+    ensures kept { AreKept (L.ways layout.now) procs (cells_of (L.tag_of layout.now) procs) 0 (take procs cells.old) (take procs cells.new) }
     ensures filled { OnOk result (drop procs cells.new ≡ filled ((L.ways to.now).imported procs (L.admitted to.now ((L.ways layout.now).combine (parts_from (L.ways layout.now) procs 0 (take (cells_of (L.tag_of layout.now) procs) cells.old))))) (drop procs cells.old)) }
     ensures memory { OnErr result (drop procs cells.new ≡ drop procs cells.old) }
 {
-    let many = if layout.tag() == 1 { procs } else { 1 } as usize;
     let (first, others) = cells.split_at_mut(procs as usize);
-    let (own, _) = first.split_at_mut(many);
-    let mut parts = Vec::with_capacity(alloc, many)?;
-    let state = export_behind(alloc, layout, procs, own, &mut parts)?;
+    let state = export_row(alloc, layout, procs, first)?;
     let state = to.admit(state);
     let parts = to.import(alloc, &state, procs)?;
     fill::<L>(others, &mut parts.into_iter());
