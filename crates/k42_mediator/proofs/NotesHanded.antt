@@ -102,7 +102,7 @@ part_at_once (x ∷ contents) zero content once e =
     let same = same_Some x content e in
     ap (λ (z : Content _). part_in (x ∷ contents) z.number) (sym same) ∙ ap (λ b. cond b x.part (part_in contents x.number)) (eq-eqb x.number x.number refl)
     ∙ ap (λ (z : Content _). z.part) same
-part_at_once (x ∷ contents) (suc k) content once e =
+part_at_once {P = P} (x ∷ contents) (suc k) content once e =
     let parts = and_parts (not (names (numbers_of contents) x.number)) (names_once (numbers_of contents)) once in
     let apart : eqb x.number content.number ≡ false = unlike contents k (not_true (names (numbers_of contents) x.number) parts.0) e in
     ap (λ b. cond b x.part (part_in contents content.number)) apart ∙ part_at_once contents k content parts.1 e

@@ -1,5 +1,5 @@
 -- What a pass knows once it has handed a row on.
-use Rattle.std.proofs.Common.{◌≡◌, inr, ℕ, suc, ◌+◌, ◌<◌, ◌≤◌, Bool, true, false, ◌||◌, cond, eqb, List, [], ◌∷◌, ◌++◌, Option, Some, None, length, take, drop, refl, sym, ap, ◌∙◌, subst, arith}
+use Rattle.std.proofs.Common.{◌≡◌, inr, ℕ, zero, suc, ◌+◌, ◌<◌, ◌≤◌, Bool, true, false, ◌||◌, cond, eqb, List, [], ◌∷◌, ◌++◌, Option, Some, None, length, take, drop, refl, sym, ap, ◌∙◌, subst, arith}
 use Rattle.std.specs.List.{slice_get}
 use Rattle.std.proofs.lemmas.Bool.{eqb-true}
 use Rattle.std.proofs.lemmas.List.{take-append-drop}
@@ -136,7 +136,7 @@ module _ {S L P : Type 0} (F : Layouts S L P) (laws : AreLaws F) (declared : Lis
       }
     where
       first_of : (procs : ℕ) → 0 < procs → first_cell (row_cells procs o (i + 1)) ≡ cell_of o (i + 1) 0
-      first_of 0 some' = absurd (omega (arith, some'))
+      first_of zero some' = absurd (omega (arith, some'))
       first_of (suc procs) some' = refl
 
   pub has_handed : (act : Act) (old new : PassSeen P) → old.view ≡ v → new.view ≡ w → IsDrawer old new → IsDoneNext act v entry

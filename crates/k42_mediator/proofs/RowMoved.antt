@@ -29,7 +29,6 @@ use Rattle.k42_board.specs.declared.view.PassView.{PassView}
 use Rattle.k42_board.proofs.HandedOn.{once_both}
 use Rattle.k42_board.proofs.Noted.{each_named}
 use Rattle.k42_board.proofs.PartLaws.{AreOneWay, empty_moved_always}
-use Rattle.k42_board.proofs.RowCells.{number_at, place_in_row, row_once}
 use Rattle.k42_rule.proofs.PartsDue.{first_note, parts_whole}
 use Rattle.k42_mediator.specs.Parts.{parts_from, IsKept, AreKept, filled}
 use Rattle.k42_mediator.specs.Taken.{IsTaken, AreTaken, IsAlike, IsReady, AreReady}
@@ -37,34 +36,30 @@ use Rattle.k42_mediator.proofs.GivenBack.{held_due}
 
 -- lists
 
-length_made : {A : Type 0} (f : ℕ → A) (first many : ℕ) → length (made_from f first many) ≡ many
+pub length_made : {A : Type 0} (f : ℕ → A) (first many : ℕ) → length (made_from f first many) ≡ many
 length_made f first zero = refl
 length_made f first (suc many) = ap suc (length_made f (suc first) many)
 
-take_made : {A : Type 0} (f : ℕ → A) (first many k : ℕ) → k ≤ many → take k (made_from f first many) ≡ made_from f first k
+pub take_made : {A : Type 0} (f : ℕ → A) (first many k : ℕ) → k ≤ many → take k (made_from f first many) ≡ made_from f first k
 take_made f first many zero le = refl
 take_made f first zero (suc k) le = absurd (omega (arith, le))
 take_made f first (suc many) (suc k) le = ap (λ rest. f first ∷ rest) (take_made f (suc first) many k (omega (arith, le)))
 
-take_twice : {A : Type 0} (k many : ℕ) (xs : List A) → k ≤ many → take k (take many xs) ≡ take k xs
-take_twice zero many xs le = refl
-take_twice (suc k) zero xs le = absurd (omega (arith, le))
-take_twice (suc k) (suc many) [] le = refl
-take_twice (suc k) (suc many) (x ∷ xs) le = ap (λ rest. x ∷ rest) (take_twice k many xs (omega (arith, le)))
-
-at_of : {A : Type 0} (xs : List A) (k : ℕ) → k < length xs → (x : A) × (slice_get xs k ≡ Some x)
+pub at_of : {A : Type 0} (xs : List A) (k : ℕ) → k < length xs → (x : A) × (slice_get xs k ≡ Some x)
 at_of [] k lt = absurd (omega (arith, lt))
 at_of (x ∷ xs) zero lt = (x, refl)
 at_of (x ∷ xs) (suc k) lt = at_of xs k (omega (arith, lt))
 
-in_take : {A : Type 0} (n : ℕ) (xs : List A) (k : ℕ) (x : A) → slice_get (take n xs) k ≡ Some x → slice_get xs k ≡ Some x
+pub in_take : {A : Type 0} (n : ℕ) (xs : List A) (k : ℕ) (x : A) → slice_get (take n xs) k ≡ Some x → slice_get xs k ≡ Some x
 in_take zero xs k x e = absurd (cc)
 in_take (suc n) [] k x e = e
 in_take (suc n) (y ∷ xs) zero x e = e
 in_take (suc n) (y ∷ xs) (suc k) x e = in_take n xs k x e
 
-in_drop : {A : Type 0} (n : ℕ) (xs : List A) (k : ℕ) (x : A) → slice_get (drop n xs) k ≡ Some x → slice_get xs (n + k) ≡ Some x
-in_drop zero xs k x e = e
+pub in_drop : {A : Type 0} (n : ℕ) (xs : List A) (k : ℕ) (x : A) → slice_get (drop n xs) k ≡ Some x → slice_get xs (n + k) ≡ Some x
+in_drop zero xs k x e = ap (λ j. slice_get xs j) (none k) ∙ e where
+  none : (k : ℕ) → 0 + k ≡ k
+  none k = omega arith
 in_drop (suc n) [] k x e = absurd (cc)
 in_drop (suc n) (y ∷ xs) k x e = ap (λ j. slice_get (y ∷ xs) j) (after n k) ∙ in_drop n xs k x e where
   after : (n k : ℕ) → suc n + k ≡ suc (n + k)
@@ -108,7 +103,7 @@ kept_numbers ways procs many first (x ∷ olds) [] are = absurd are
 kept_numbers ways procs many first (x ∷ olds) (y ∷ news) are =
     λ i. kept_number ways procs many first x y are.0 i ∷ kept_numbers ways procs many (first + 1) olds news are.1 i
 
-kept_held : {S P : Type 0} (ways : Ways S P) (procs many place : ℕ) (old new : Content P) (v : PassView P) → IsKept ways procs many place old new
+pub kept_held : {S P : Type 0} (ways : Ways S P) (procs many place : ℕ) (old new : Content P) (v : PassView P) → IsKept ways procs many place old new
     → IsHeld v.notes old → IsHeld v.notes new
 kept_held ways procs many place old new v is held =
     ⊎_elim (λ (e : new ≡ old). subst (IsHeld v.notes) (sym e) held)
@@ -125,9 +120,7 @@ filled_numbers (part ∷ parts) (x ∷ cells) = ap (λ rest. x.number ∷ rest) 
 pub filled_parts : {P : Type 0} (parts : List P) (cells : List (Content P)) → HaveParts parts (filled parts cells)
 filled_parts parts [] k content e = absurd (cc)
 filled_parts [] (x ∷ cells) zero content e = ap (λ (z : Content _). z.part) (sym (same_Some (record x { part = None }) content e))
-filled_parts [] (x ∷ cells) (suc k) content e = filled_parts [] cells k content e ∙ none k where
-  none : (k : ℕ) → part_at [] k ≡ None
-  none k = refl
+filled_parts [] (x ∷ cells) (suc k) content e = filled_parts [] cells k content e
 filled_parts (part ∷ parts) (x ∷ cells) zero content e = ap (λ (z : Content _). z.part) (sym (same_Some (record x { part = Some part }) content e))
 filled_parts (part ∷ parts) (x ∷ cells) (suc k) content e = filled_parts parts cells k content e
 

@@ -1,9 +1,9 @@
 -- A pass that moves the state between the cells of two rows: what it may do with them.
-use Rattle.std.proofs.Common.{◌≡◌, ◌⊎◌, ⊎_elim, inl, inr, ℕ, zero, suc, ◌+◌, ◌<◌, ◌≤◌, Bool, true, false, cond, eqb, List, [], ◌∷◌, ◌++◌, Option, Some, None, length, take, drop, refl, sym, ap, ◌∙◌, subst, arith}
+use Rattle.std.proofs.Common.{◌≡◌, ◌⊎◌, ⊎_elim, inl, inr, ℕ, zero, suc, ◌+◌, ◌<◌, ◌≤◌, Bool, true, false, ◌||◌, cond, eqb, List, [], ◌∷◌, ◌++◌, Option, Some, None, length, take, drop, refl, sym, ap, ◌∙◌, subst, arith}
 use Rattle.std.specs.List.{slice_get}
 use Rattle.std.specs.Option.{unwrap_or}
-use Rattle.std.proofs.Math.Seq.{take-append_seam, drop-append_seam}
-use Rattle.std.proofs.lemmas.List.{length-map, length-append, take-map, drop-map, take-append-drop}
+use Rattle.std.proofs.Math.Seq.{take-append_seam, drop-append_seam, drop-length, take-length}
+use Rattle.std.proofs.lemmas.List.{length-map, length-append, take-map, drop-map, take-append-drop, append-nil}
 use Rattle.k42_kinds.specs.Rows.{Ways, cells_of, made_from, part_at}
 use Rattle.k42_kinds.specs.declared.entry.Answer.TheVariants.{Swapped}
 use Rattle.k42_places.specs.Places.{EachPlace}
@@ -16,7 +16,7 @@ use Rattle.k42_joined.specs.Numbers.{cell_of, row_cells}
 use Rattle.k42_joined.proofs.LocksHand.{apart_row}
 use Rattle.k42_joined.proofs.CellNumbers.{named_in_row}
 use Rattle.k42_board.specs.Cells.{cells_noted}
-use Rattle.k42_board.specs.Drawing.{IsHeld, AreHeld, HaveParts, KeepsPart, MayHandOn, numbers_of, part_noted, part_due, parts_due}
+use Rattle.k42_board.specs.Drawing.{IsHeld, AreHeld, AreTold, HaveParts, KeepsPart, MayHandOn, numbers_of, part_noted, part_due, parts_due}
 use Rattle.k42_board.specs.Generations.{MOST}
 use Rattle.k42_board.specs.Parts.{IsPart}
 use Rattle.k42_board.specs.Steps.{Always}
@@ -24,17 +24,20 @@ use Rattle.k42_board.specs.Taking.{CELLS, IsRowNoted, AreRowsNoted}
 use Rattle.k42_board.specs.Values.{layout_in, incarnation_in}
 use Rattle.k42_board.specs.Views.{word_begun}
 use Rattle.k42_board.specs.declared.cell.Content.{Content}
+use Rattle.k42_board.specs.declared.view.Note.{Note}
 use Rattle.k42_board.specs.declared.view.PassView.{PassView}
 use Rattle.k42_board.proofs.HandedOn.{once_both}
 use Rattle.k42_board.proofs.Noted.{each_named}
 use Rattle.k42_board.proofs.PartLaws.{AreOneWay, empty_moved_always}
 use Rattle.k42_board.proofs.RowCells.{place_in_row, row_once}
+use Rattle.k42_rule.proofs.HandedNotes.{numbers_more}
 use Rattle.k42_rule.proofs.PartsDue.{first_note, parts_whole}
 use Rattle.k42_mediator.specs.Parts.{parts_from, IsKept, AreKept, filled}
 use Rattle.k42_mediator.specs.Taken.{AreTaken, IsAlike, IsReady, AreReady}
 use Rattle.k42_mediator.proofs.GivenBack.{held_due}
+use Rattle.k42_mediator.proofs.PartsMoved.{take_twice, cells_few}
 use Rattle.k42_mediator.proofs.Remaining.{names_more}
-use Rattle.k42_mediator.proofs.RowMoved.{length_made, take_made, take_twice, at_of, in_take, in_drop, WasKept, kept_at, kept_numbers, kept_held, filled_numbers, filled_parts, filled_held, parts_noted}
+use Rattle.k42_mediator.proofs.RowMoved.{length_made, take_made, at_of, in_take, in_drop, WasKept, kept_at, kept_numbers, kept_held, filled_numbers, filled_parts, filled_held, parts_noted}
 
 -- two rows whose cells a pass has taken
 pub record HasRows
@@ -74,10 +77,7 @@ module _ {S L P : Type 0} (F : Layouts S L P) (laws : AreLaws F) (declared : Lis
   live = let is = (has.rows.moved o has.moved has.unhanded).1 in let tag = has.tagged in omega (arith, is, tag)
 
   pub many_few : many ≤ procs
-  many_few = go (eqb (F.tag_of layout) 1) where
-    go : (b : Bool) → cond b procs 1 ≤ procs
-    go true = omega arith
-    go false = let some = laws.some in omega (arith, some)
+  many_few = cells_few (F.tag_of layout) procs laws.some
 
   pub long : length cells ≡ procs + procs
   long =
@@ -164,7 +164,7 @@ module _ {S L P : Type 0} (F : Layouts S L P) (laws : AreLaws F) (declared : Lis
     made_due : (w : PassView P) → IsAlike v w → (n p : ℕ) → names (cells_noted w.notes) n ≡ true → part_noted w.notes n ≡ part_noted v.notes n
         → n ≡ cell_of o i p → p < procs → p < many → (own : Option P) → part_noted v.notes n ≡ own
         → Always F declared id w (λ s. IsPart F declared s n (Some (unwrap_or own (ways.empty procs p))))
-    made_due w alike n p there e named lt within (Some part) is = held_due F laws declared id n (Some part) w there (e ∙ is)
+    made_due w alike n p there e named lt within (Some part) is table r at = held_due F laws declared id n (Some part) w there (e ∙ is) table r at
     made_due w alike n p there e named lt within None is table r at =
         let first = first_note w.notes n there in
         let row : i ≡ incarnation_in (word_begun w.last) = has.row ∙ ap (λ last. incarnation_in (word_begun last)) (sym alike.last) in
@@ -206,14 +206,19 @@ module _ {S L P : Type 0} (F : Layouts S L P) (laws : AreLaws F) (declared : Lis
     → Agree (F.ways_of l) (F.ways_of m) (F.Whole l) (F.Whole m) (F.Serves l) (F.Serves m))
     (v : PassView P) (o i : ℕ) (cells : List (Content P)) (layout : L) (has : HasRows F declared v o i cells layout)
     (news : List (Content P)) (kept : AreKept (F.ways_of layout) F.procs (cells_of (F.tag_of layout) F.procs) 0 (take F.procs cells) (take F.procs news)) where
-  from_numbers : numbers_of (take F.procs news) ≡ row_cells F.procs o i
+  pub from_numbers : numbers_of (take F.procs news) ≡ row_cells F.procs o i
   from_numbers =
       kept_numbers (F.ways_of layout) F.procs (cells_of (F.tag_of layout) F.procs) 0 (take F.procs cells) (take F.procs news) kept
       ∙ old_numbers F laws declared agrees v o i cells layout has
 
   was : (k : ℕ) (new : Content P) → slice_get (take F.procs news) k ≡ Some new
       → WasKept (F.ways_of layout) F.procs (cells_of (F.tag_of layout) F.procs) k (take F.procs cells) k new
-  was k new at = kept_at (F.ways_of layout) F.procs (cells_of (F.tag_of layout) F.procs) 0 (take F.procs cells) (take F.procs news) k new kept at
+  was k new at =
+      subst (λ p. WasKept (F.ways_of layout) F.procs (cells_of (F.tag_of layout) F.procs) p (take F.procs cells) k new) (none k)
+      (kept_at (F.ways_of layout) F.procs (cells_of (F.tag_of layout) F.procs) 0 (take F.procs cells) (take F.procs news) k new kept at)
+    where
+      none : (k : ℕ) → 0 + k ≡ k
+      none k = omega arith
 
   -- without memory they are given back
   pub ready_again : (id : ℕ) → drop F.procs news ≡ drop F.procs cells → AreReady F declared id v news
@@ -256,7 +261,7 @@ module _ {S L P : Type 0} (F : Layouts S L P) (laws : AreLaws F) (declared : Lis
             let old = was k new at in
             kept_held (F.ways_of layout) F.procs (cells_of (F.tag_of layout) F.procs) k old.old new v old.kept (has.taken k old.old (in_take F.procs cells k old.old old.at)).held;
         held_onto = subst (AreHeld v.notes) (sym full) (filled_held imported (drop F.procs cells) v (λ k x at. (has.taken (F.procs + k) x (in_drop F.procs cells k x at)).held));
-        kept = λ k new at. subst (λ j. KeepsPart v.notes (parts_due (F.ways_of layout) F.procs v.notes o j (F.tag_of layout)) k new) has.row (keeps k new at);
+        kept = λ k new at. subst (λ j. KeepsPart F declared v.notes (parts_due (F.ways_of layout) F.procs v.notes o j (F.tag_of layout)) k new) has.row (keeps k new at);
         imported =
             subst (λ (j : ℕ). HaveParts ((F.ways_of to).imported F.procs (F.admitted to ((F.ways_of layout).combine (parts_due (F.ways_of layout) F.procs v.notes o j (F.tag_of layout))))) (drop F.procs news)) has.row
             (subst (λ ps. HaveParts ((F.ways_of to).imported F.procs (F.admitted to ((F.ways_of layout).combine ps))) (drop F.procs news)) (parts_are F laws declared agrees v o i cells layout has)
@@ -268,7 +273,7 @@ module _ {S L P : Type 0} (F : Layouts S L P) (laws : AreLaws F) (declared : Lis
       imported = (F.ways_of to).imported F.procs (F.admitted to ((F.ways_of layout).combine (parts_from (F.ways_of layout) F.procs 0 (take (cells_of (F.tag_of layout) F.procs) cells))))
 
       keeps : (k : ℕ) (new : Content P) → slice_get (take F.procs news) k ≡ Some new
-          → KeepsPart v.notes (parts_due (F.ways_of layout) F.procs v.notes o i (F.tag_of layout)) k new
+          → KeepsPart F declared v.notes (parts_due (F.ways_of layout) F.procs v.notes o i (F.tag_of layout)) k new
       keeps k new at =
           let old = was k new at in let part = (has.taken k old.old (in_take F.procs cells k old.old old.at)).part in
           let row = place_in_row (take F.procs cells) F.procs o i (old_numbers F laws declared agrees v o i cells layout has) has.few k old.old old.at in
@@ -277,3 +282,47 @@ module _ {S L P : Type 0} (F : Layouts S L P) (laws : AreLaws F) (declared : Lis
           inr (ap (λ (z : Content _). z.part) e.1 ∙ ap (λ own. Some (unwrap_or own ((F.ways_of layout).empty F.procs k))) (part ∙ ap (part_noted v.notes) row.0)
           ∙ sym (part_made (part_due (F.ways_of layout) F.procs v.notes o i) 0 (cells_of (F.tag_of layout) F.procs) k e.0 ∙ ap (λ j. Some (part_due (F.ways_of layout) F.procs v.notes o i j)) (omega arith))))
           old.kept
+
+-- all numbers are as they were
+pub numbers_same : {P : Type 0} (procs : ℕ) (cells news : List (Content P)) → numbers_of (take procs news) ≡ numbers_of (take procs cells)
+    → numbers_of (drop procs news) ≡ numbers_of (drop procs cells) → numbers_of news ≡ numbers_of cells
+numbers_same procs cells news front back =
+    ap numbers_of (sym (take-append-drop procs news)) ∙ numbers_more (take procs news) (drop procs news) ∙ (λ j. front j ++ back j)
+    ∙ sym (numbers_more (take procs cells) (drop procs cells)) ∙ ap numbers_of (take-append-drop procs cells)
+
+pub has_rows : {S L P : Type 0} (F : Layouts S L P) (declared : List L) (v : PassView P) (o i : ℕ) (cells : List (Content P)) (layout declaration : L)
+    → v.visitor.swap ≡ Moved o → i ≡ incarnation_in (word_begun v.last) → v.handed ≡ None → (many : ℕ) → many ≡ F.procs → many ≤ 8 → o < 16
+    → numbers_of cells ≡ row_cells F.procs o i ++ row_cells F.procs o (i + 1) → v.taker.held ≡ numbers_of cells → AreTaken v.notes cells
+    → AreRowsNoted F declared v → slice_get declared o ≡ Some declaration → F.object_of layout ≡ F.object_of declaration
+    → (tag : ℕ) → F.tag_of layout ≡ tag → tag ≡ layout_in (word_begun v.last) → HasRows F declared v o i cells layout
+has_rows F declared v o i cells layout declaration moved row unhanded many is few object numbers holds taken rows declares same tag tagged begun = record {
+  moved = moved;
+  row = row;
+  unhanded = unhanded;
+  few = subst (λ p. p ≤ 8) is few;
+  object = object;
+  numbers = numbers;
+  holds = holds;
+  taken = taken;
+  rows = rows;
+  declaration = declaration;
+  declares = declares;
+  same = same;
+  tagged = tagged ∙ begun;
+}
+
+-- a vector whose slice was written
+pub written_back : {A : Type 0} (new items : List A) (len : ℕ) → length new ≡ length items → len ≡ length items
+    → take len (new ++ drop (length new) items) ≡ new
+written_back new items len many is =
+    ap (λ k. take len (new ++ drop k items)) many ∙ ap (λ rest. take len (new ++ rest)) (drop-length items)
+    ∙ ap (take len) (append-nil new) ∙ ap (λ k. take k new) (is ∙ sym many) ∙ take-length new
+
+-- what was told has its numbers
+pub told_numbers : {P : Type 0} (notes : List (Note P)) (olds news : List (Content P)) → AreTold notes olds news → numbers_of news ≡ numbers_of olds
+told_numbers notes [] [] told = refl
+told_numbers notes [] (y ∷ news) told = absurd (let long = told.0 in omega (arith, long))
+told_numbers notes (x ∷ olds) [] told = absurd (let long = told.0 in omega (arith, long))
+told_numbers notes (x ∷ olds) (y ∷ news) told =
+    λ j. (told.1 0 x y refl refl).number j
+    ∷ told_numbers notes olds news ((let long = told.0 in omega (arith, long)), λ k a b e f. told.1 (suc k) a b e f) j
