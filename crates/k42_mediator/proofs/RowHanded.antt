@@ -40,7 +40,7 @@ use Rattle.k42_mediator.proofs.NotesHanded.{handed_part, released_handed, part_a
 use Rattle.k42_mediator.proofs.RowMoved.{at_of}
 use Rattle.k42_mediator.proofs.RowReady.{HasRows, named_small}
 
-two_rows_once : (procs o i : ℕ) → procs ≤ 8 → names_once (row_cells procs o i ++ row_cells procs o (i + 1)) ≡ true
+pub two_rows_once : (procs o i : ℕ) → procs ≤ 8 → names_once (row_cells procs o i ++ row_cells procs o (i + 1)) ≡ true
 two_rows_once procs o i few =
     once_both (row_cells procs o i) (row_cells procs o (i + 1)) (row_once procs o i few) (row_once procs o (i + 1) few)
     (λ n named.

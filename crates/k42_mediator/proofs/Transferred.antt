@@ -1,5 +1,6 @@
 -- A pass once it has transferred the state, or has found no memory.
-use Rattle.std.proofs.Common.{◌≡◌, ℕ, ◌+◌, Bool, true, false, List, [], ◌∷◌, Option, Some, None, refl, sym, ap, ◌∙◌, subst}
+use Rattle.std.proofs.Common.{◌≡◌, ℕ, ◌+◌, Bool, true, false, List, [], ◌∷◌, Option, Some, None, Result, Ok, Err, refl, sym, ap, ◌∙◌, subst}
+use Rattle.std.specs.Result.{OnOk, OnErr}
 use mathlib.Core.Option.{some}
 use lib.ListN.{get_elem?}
 use Rattle.k42_kinds.specs.declared.entry.Act.{Act}
@@ -72,10 +73,32 @@ module _ {P : Type 0} (p0 p2 p3 p4 : PassSeen P) (ns : List ℕ) (took : IsSameP
       popped = gave.popped ∙ has.drawer.popped ∙ took.popped;
     };
     entry = has.entry;
-    next = subst (λ v. IsDoneNext act v has.entry) was has.next;
+    next =
+        let is : IsDoneNext act (released ns p2.view) has.entry = record { later = has.next.later; whole = has.next.whole } in
+        let now = subst (λ v. IsDoneNext act v has.entry) was is in
+        record { later = now.later; whole = now.whole };
     knows =
         heard_now p4.view (record p0.view { taker = caller_drawn has.entry p0.view.taker; found = None; handed = Some tag }) p3.view.heard
         (back ∙ has.knows
         ∙ (λ j. hears p3.view.heard (record (was j) { taker = caller_drawn has.entry (was j).taker; found = None; handed = Some tag; untold = [] }))
         ∙ (λ j. hears p3.view.heard (record p0.view { taker = caller_drawn has.entry p0.view.taker; found = None; handed = Some tag; untold = sym told j })));
   }
+
+pub on_ok : {A E X Y : Type 0} (result : Result A E) → (X → Y) → OnOk result X → OnOk result Y
+on_ok (Ok value) f is = f is
+on_ok (Err error) f is = is
+
+pub on_err : {A E X Y : Type 0} (result : Result A E) → (X → Y) → OnErr result X → OnErr result Y
+on_err (Ok value) f is = is
+on_err (Err error) f is = f is
+
+pub same_twice : {P : Type 0} (p0 p1 p2 : PassSeen P) → IsSamePass p0 p1 → IsSamePass p1 p2 → IsSamePass p0 p2
+same_twice p0 p1 p2 first second = record {
+  table = second.table ∙ first.table;
+  seat = second.seat ∙ first.seat;
+  room = second.room ∙ first.room;
+  row_room = second.row_room ∙ first.row_room;
+  queue = second.queue ∙ first.queue;
+  pushed = second.pushed ∙ first.pushed;
+  popped = second.popped ∙ first.popped;
+}
