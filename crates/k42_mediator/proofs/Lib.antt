@@ -6,3 +6,11 @@ pub mod Remaining
 pub mod NotesTold
 pub mod GivenBack
 pub mod AfterMark
+pub mod PartsMoved
+pub mod RowTaken
+pub mod RowGiven
+pub mod NotesHanded
+pub mod RowMoved
+pub mod RowReady
+pub mod RowHanded
+pub mod Transferred

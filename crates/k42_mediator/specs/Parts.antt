@@ -1,5 +1,5 @@
 -- Parts, as they are moved between cells.
-use Rattle.std.specs.Prelude.{◌≡◌, ◌⊎◌, ℕ, ◌+◌, ⊤, List, [], ◌∷◌, Some, None, unwrap_or}
+use Rattle.std.specs.Prelude.{◌≡◌, ◌⊎◌, ℕ, ◌+◌, ◌<◌, ⊤, List, [], ◌∷◌, Some, None, unwrap_or}
 use Rattle.k42_kinds.specs.Rows.{Ways}
 use Rattle.k42_board.specs.declared.cell.Content.{Content}
 
@@ -9,17 +9,18 @@ parts_from ways procs place [] = []
 parts_from ways procs place (content ∷ contents) =
     unwrap_or content.part (ways.empty procs place) ∷ parts_from ways procs (place + 1) contents
 
--- a cell is as it was, or has been given the empty part where it had none
-abbrev pub IsKept : {S P : Type 0} → Ways S P → ℕ → ℕ → Content P → Content P → Type 0
-IsKept ways procs place old new =
-    (new ≡ old) ⊎ ((old.part ≡ None) × (new ≡ record old { part = Some (ways.empty procs place) }))
+-- a cell is as it was, or has the part that is due there, at so many places
+abbrev pub IsKept : {S P : Type 0} → Ways S P → ℕ → ℕ → ℕ → Content P → Content P → Type 0
+IsKept ways procs many place old new =
+    (new ≡ old)
+    ⊎ ((place < many) × (new ≡ record old { part = Some (unwrap_or old.part (ways.empty procs place)) }))
 
 -- and so is each
-abbrev pub AreKept : {S P : Type 0} → Ways S P → ℕ → ℕ → List (Content P) → List (Content P) → Type 0
-AreKept ways procs place [] [] = ⊤
-AreKept ways procs place (old ∷ olds) (new ∷ news) =
-    IsKept ways procs place old new × AreKept ways procs (place + 1) olds news
-AreKept ways procs place _ _ = ⊥
+abbrev pub AreKept : {S P : Type 0} → Ways S P → ℕ → ℕ → ℕ → List (Content P) → List (Content P) → Type 0
+AreKept ways procs many place [] [] = ⊤
+AreKept ways procs many place (old ∷ olds) (new ∷ news) =
+    IsKept ways procs many place old new × AreKept ways procs many (place + 1) olds news
+AreKept ways procs many place _ _ = ⊥
 
 -- the cells have these parts, as many as there are, and no other
 abbrev pub filled : {P : Type 0} → List P → List (Content P) → List (Content P)

@@ -19,6 +19,8 @@ pub(crate) fn last_of<L: Layout>(pass: &Pass<L>) -> LastBegin
     ensures settled { IsSettled pass.now.view }
     ensures bound { incarnation_in result.word ≤ LAST_INCARNATION }
 {
+    // A pass that stands between two steps tells that here.
+    let _home = pass.processor();
     pass.last_begin()
         .unwrap_or(LastBegin { object: 0, word: 0 })
 }

@@ -1,5 +1,5 @@
 //! A pass that moves its object takes the cells of a row, and gives them back.
-ghost use Rattle.std.specs.Prelude.{◌≡◌, ℕ, ◌<◌, ◌≤◌, ◌+◌, ◌++◌, true, false, [], ◌∷◌, vec_len, vec_capacity};
+ghost use Rattle.std.specs.Prelude.{◌≡◌, ℕ, ◌<◌, ◌≤◌, ◌+◌, ◌++◌, true, false, None, [], ◌∷◌, vec_len, vec_capacity};
 ghost use Rattle.k42_limits.specs.declared.TheConstants.{LAST_INCARNATION};
 ghost use Rattle.turn_core.specs.Names.{names, names_once};
 ghost use Rattle.k42_joined.specs.Numbers.{cell_of, row_cells};
@@ -33,7 +33,9 @@ fn take_next<L: Layout>(sys: &Sys<L>, pass: &mut Pass<L>, number: u32, cells: &m
     requires taken { AreTaken pass.old.view.notes cells.old.items }
     ensures same { IsSamePass pass.old pass.new }
     ensures capacity { vec_capacity cells.new ≡ vec_capacity cells.old }
+    ensures len { vec_len cells.new ≡ vec_len cells.old + 1 }
     ensures numbers { numbers_of cells.new.items ≡ numbers_of cells.old.items ++ number ∷ [] }
+    ensures back { pass.new.view.out ≡ None }
     ensures held { pass.new.view.taker.held ≡ numbers_of cells.new.items }
     ensures taken { AreTaken pass.new.view.notes cells.new.items }
     ensures released { released (numbers_of cells.new.items) pass.new.view ≡ hears pass.new.view.heard (released (numbers_of cells.old.items) pass.old.view) }
@@ -55,6 +57,7 @@ pub(crate) fn take_row<L: Layout>(
     cells: &mut Vec<Cell<L>>,
 )
     requires ours { IsOf sys.now pass.old }
+    requires some { 0 < sys.now.procs }
     requires few { object < 16 }
     requires moved { is_moving pass.old.view.visitor.swap object ≡ true }
     requires room { vec_len cells.old + sys.now.procs ≤ vec_capacity cells.old }
@@ -63,7 +66,9 @@ pub(crate) fn take_row<L: Layout>(
     requires taken { AreTaken pass.old.view.notes cells.old.items }
     ensures same { IsSamePass pass.old pass.new }
     ensures capacity { vec_capacity cells.new ≡ vec_capacity cells.old }
+    ensures len { vec_len cells.new ≡ vec_len cells.old + sys.now.procs }
     ensures numbers { numbers_of cells.new.items ≡ numbers_of cells.old.items ++ row_cells sys.now.procs object row }
+    ensures back { pass.new.view.out ≡ None }
     ensures held { pass.new.view.taker.held ≡ numbers_of cells.new.items }
     ensures taken { AreTaken pass.new.view.notes cells.new.items }
     ensures released { released (numbers_of cells.new.items) pass.new.view ≡ hears pass.new.view.heard (released (numbers_of cells.old.items) pass.old.view) }
@@ -95,6 +100,7 @@ pub(crate) fn give_next<L: Layout>(sys: &Sys<L>, pass: &mut Pass<L>, cell: Cell<
 pub(crate) fn give_back<L: Layout>(sys: &Sys<L>, pass: &mut Pass<L>, mut cells: Vec<Cell<L>>)
     requires ours { IsOf sys.now pass.old }
     requires once { names_once (numbers_of cells.items) ≡ true }
+    requires back { pass.old.view.out ≡ None }
     requires ready { AreReady
         (layouts_on L.object L.tag_of L.ways L.whole L.serves L.admitted L.act_of sys.now.procs sys.now.callers)
         sys.now.layouts pass.old.seat pass.old.view cells.items }

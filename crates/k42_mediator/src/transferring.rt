@@ -1,5 +1,6 @@
 //! The state is handed over to a row of the new layout.
 ghost use Rattle.std.specs.Prelude.{◌≡◌, ◌<◌, ◌≤◌, ◌+◌, ◌++◌, None, length, OnOk, OnErr};
+ghost use Rattle.k42_limits.specs.declared.TheConstants.{LAST_INCARNATION};
 ghost use Rattle.phase_core.specs.declared.caller.SwapAt.TheVariants.{Moved};
 ghost use Rattle.k42_joined.specs.Numbers.{row_cells};
 ghost use Rattle.k42_board.specs.Drawing.{numbers_of};
@@ -36,7 +37,8 @@ fn hand_on<L: Layout>(
     requires ours { IsPassOf sys.now pass.old }
     requires moved { pass.old.view.visitor.swap ≡ Moved row.object }
     requires row { row.incarnation ≡ incarnation_in (word_begun pass.old.view.last) }
-    requires before { row.incarnation < 1048575 }
+    requires object { row.object < 16 }
+    requires before { row.incarnation < LAST_INCARNATION }
     requires unhanded { pass.old.view.handed ≡ None }
     requires kind { IsOfKind L.object sys.now.layouts row.object to.now }
     requires known { L.tag_of to.now ≤ 2 }
@@ -49,6 +51,8 @@ fn hand_on<L: Layout>(
         (layouts_on L.object L.tag_of L.ways L.whole L.serves L.admitted L.act_of sys.now.procs sys.now.callers)
         sys.now.layouts pass.old.view }
     ensures numbers { numbers_of cells.new.items ≡ numbers_of cells.old.items }
+    ensures seat { (pass.new.table ≡ pass.old.table) × (pass.new.seat ≡ pass.old.seat) }
+    ensures back { pass.new.view.out ≡ pass.old.view.out }
     ensures ready { AreReady
         (layouts_on L.object L.tag_of L.ways L.whole L.serves L.admitted L.act_of sys.now.procs sys.now.callers)
         sys.now.layouts pass.new.seat pass.new.view cells.new.items }

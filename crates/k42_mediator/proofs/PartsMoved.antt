@@ -1,0 +1,36 @@
+-- Parts that are moved between cells.
+use Rattle.std.proofs.Common.{◌≡◌, ℕ, zero, suc, ◌+◌, ◌<◌, ◌≤◌, Bool, true, false, cond, eqb, take, arith, List, [], ◌∷◌, ◌++◌, Option, Some, None, length, refl, sym, ap, ◌∙◌, inl, inr, subst}
+use Rattle.k42_kinds.specs.Rows.{Ways, cells_of}
+use Rattle.k42_board.specs.declared.cell.Content.{Content}
+use Rattle.k42_mediator.specs.Parts.{AreKept}
+
+pub kept_same : {S P : Type 0} (ways : Ways S P) (procs many place : ℕ) (cells : List (Content P)) → AreKept ways procs many place cells cells
+kept_same ways procs many place [] = tt
+kept_same ways procs many place (cell ∷ cells) = (inl refl, kept_same ways procs many (place + 1) cells)
+
+pub kept_front : {S P : Type 0} (ways : Ways S P) (procs many place : ℕ) (own new rest : List (Content P)) → AreKept ways procs many place own new
+    → AreKept ways procs many place (own ++ rest) (new ++ rest)
+kept_front ways procs many place [] [] rest are = kept_same ways procs many place rest
+kept_front ways procs many place [] (y ∷ new) rest are = absurd are
+kept_front ways procs many place (x ∷ own) [] rest are = absurd are
+kept_front ways procs many place (x ∷ own) (y ∷ new) rest are = (are.0, kept_front ways procs many (place + 1) own new rest are.1)
+
+pub kept_length : {S P : Type 0} (ways : Ways S P) (procs many place : ℕ) (own new : List (Content P)) → AreKept ways procs many place own new
+    → length new ≡ length own
+kept_length ways procs many place [] [] are = refl
+kept_length ways procs many place [] (y ∷ new) are = absurd are
+kept_length ways procs many place (x ∷ own) [] are = absurd are
+kept_length ways procs many place (x ∷ own) (y ∷ new) are = ap suc (kept_length ways procs many (place + 1) own new are.1)
+
+-- no more cells of a row have parts than there are
+pub cells_few : (tag procs : ℕ) → 0 < procs → cells_of tag procs ≤ procs
+cells_few tag procs some = go (eqb tag 1) where
+  go : (b : Bool) → cond b procs 1 ≤ procs
+  go true = omega arith
+  go false = omega (arith, some)
+
+pub take_twice : {A : Type 0} (k many : ℕ) (xs : List A) → k ≤ many → take k (take many xs) ≡ take k xs
+take_twice zero many xs le = refl
+take_twice (suc k) zero xs le = absurd (omega (arith, le))
+take_twice (suc k) (suc many) [] le = refl
+take_twice (suc k) (suc many) (x ∷ xs) le = ap (λ rest. x ∷ rest) (take_twice k many xs (omega (arith, le)))
