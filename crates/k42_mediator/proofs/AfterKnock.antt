@@ -1,18 +1,15 @@
 -- What a pass knows after its knock.
-use Rattle.std.proofs.Common.{◌≡◌, ℕ, Bool, true, false, cond, List, None, Some, refl, sym, ap, ◌∙◌, subst}
-use Rattle.phase_core.specs.Effects.{at_place, knocked}
+use Rattle.std.proofs.Common.{◌≡◌, ℕ, Bool, true, false, cond, List, refl, sym, ap, ◌∙◌, subst}
 use Rattle.phase_core.specs.Event.{Knock}
-use Rattle.phase_core.specs.declared.caller.Place.TheVariants.{Out}
 use Rattle.k42_stamp.specs.Layouts.{Layouts}
 use Rattle.k42_joined.specs.Event.{AtPhases}
 use Rattle.std.specs.Prelude.{◌+◌, ◌%◌, ◌^◌}
 use Rattle.k42_board.specs.Steps.{StepIs}
-use Rattle.k42_board.specs.Tabling.{went, knocked_view, ended_view}
-use Rattle.k42_board.specs.Values.{has_bit, layout_in, incarnation_in}
+use Rattle.k42_board.specs.Tabling.{knocked_view, ended_view}
+use Rattle.k42_board.specs.Values.{has_bit, incarnation_in}
 use Rattle.k42_board.specs.Views.{hears}
 use Rattle.k42_board.specs.Words.{object_word}
 use Rattle.k42_board.specs.declared.view.PassView.{PassView}
-use Rattle.k42_mediator.specs.Answers.{knocked_in}
 use Rattle.k42_mediator.specs.Knocks.{out_view, IsKnock}
 use Rattle.k42_mediator.specs.declared.answers.Knocked.TheVariants.{Admitted, Blocked}
 use Rattle.k42_mediator.proofs.Heard.{heard_now}

@@ -1,7 +1,6 @@
 -- Cells that a pass takes, and gives back as it found them.
-use Rattle.std.proofs.Common.{◌≡◌, ℕ, Bool, true, false, not, ◌||◌, cond, eqb, List, [], ◌∷◌, ◌++◌, None, length, refl, sym, ap, ◌∙◌, subst}
+use Rattle.std.proofs.Common.{◌≡◌, ℕ, true, false, List, [], ◌∷◌, ◌++◌, None, refl, sym, ap, ◌∙◌, subst}
 use Rattle.std.specs.Prelude.{map}
-use Rattle.std.proofs.lemmas.Bool.{eq-eqb}
 use Rattle.k42_kinds.specs.declared.entry.Entry.{Entry}
 use Rattle.turn_core.specs.Events.{caller_drawn}
 use Rattle.turn_core.specs.Names.{names}
@@ -12,7 +11,7 @@ use Rattle.k42_board.specs.Cells.{cells_noted}
 use Rattle.k42_board.specs.Drawing.{part_noted, part_in, numbers_of, drawn_at, told_note}
 use Rattle.k42_board.specs.Parts.{IsPart}
 use Rattle.k42_board.specs.Steps.{Always}
-use Rattle.k42_board.specs.Taking.{noted, HoldsHome, locked_view, taken_view, put_view, unlocked_view}
+use Rattle.k42_board.specs.Taking.{noted, locked_view, taken_view, put_view, unlocked_view}
 use Rattle.k42_board.specs.Views.{hears}
 use Rattle.k42_board.specs.declared.cell.Content.{Content}
 use Rattle.k42_board.specs.declared.view.Note.{Note}
@@ -21,7 +20,7 @@ use Rattle.k42_board.proofs.PartLaws.{noted_always}
 use Rattle.k42_rule.proofs.PartsDue.{first_note}
 use Rattle.k42_mediator.specs.Taken.{released}
 use Rattle.k42_mediator.proofs.NotesTold.{cell_same, other_same}
-use Rattle.k42_mediator.proofs.Remaining.{remaining, remaining_all, remaining_twice, remaining_same, remaining_head, remaining_last, remaining_one, remaining_mapped}
+use Rattle.k42_mediator.proofs.Remaining.{remaining_all, remaining_twice, remaining_same, remaining_head, remaining_last, remaining_one, remaining_mapped}
 
 abbrev pub cell_in : {P : Type 0} → Note P → ℕ
 cell_in note = note.cell

@@ -1,5 +1,5 @@
 -- What a swap that is given up leaves.
-use Rattle.std.proofs.Common.{◌≡◌, ⊎_elim, ℕ, ◌+◌, ◌-◌, ◌*◌, ◌^◌, ◌<◌, ◌≤◌, Bool, true, false, eqb, List, [], ◌∷◌, Some, length, get_or, sym, refl, ap, ◌∙◌, subst, arith}
+use Rattle.std.proofs.Common.{◌≡◌, ⊎_elim, ℕ, ◌+◌, ◌-◌, ◌*◌, ◌^◌, ◌<◌, ◌≤◌, false, eqb, List, [], ◌∷◌, length, get_or, sym, refl, ap, ◌∙◌, arith}
 use Rattle.std.proofs.lemmas.Option.{slice_get-get_or}
 use Rattle.std.specs.Prelude.{◌/◌, ◌%◌, bit_and}
 use mathlib.Core.Option.{some}
@@ -7,18 +7,17 @@ use lib.ListN.{get_elem?}
 use Rattle.atomic_table.specs.Table.{State}
 use Rattle.k42_places.specs.Places.{EachPlace}
 use Rattle.phase_core.specs.Effects.{cleared}
-use Rattle.phase_core.specs.Objects.{AreClear, bits_of, IsEntry, IsTagged}
+use Rattle.phase_core.specs.Objects.{AreClear, bits_of, IsTagged}
 use Rattle.phase_core.specs.Plain.{Object, Phases}
-use Rattle.phase_core.specs.Stages.{named_by, object_named}
+use Rattle.phase_core.specs.Stages.{named_by}
 use Rattle.phase_core.specs.State.{object_at, visitor_at, fresh_object}
 use Rattle.phase_core.specs.declared.caller.SwapAt.TheVariants.{Opened}
 use Rattle.phase_core.specs.declared.object.LocalEntry.{LocalEntry}
 use Rattle.phase_core.proofs.InSound.{object_known, visitor_known}
 use Rattle.k42_stamp.specs.Layouts.{Layouts}
-use Rattle.k42_joined.specs.Answers.{is_turned}
 use Rattle.k42_board.specs.Cells.{Slot}
 use Rattle.k42_board.specs.Rule.{KnowsPass, Rule}
-use Rattle.k42_board.specs.Values.{bit, bits_value, object_value, has_bit, layout_in, incarnation_in}
+use Rattle.k42_board.specs.Values.{bit, object_value, layout_in, incarnation_in}
 use Rattle.k42_board.specs.Views.{word_begun}
 use Rattle.k42_board.specs.Words.{object_word}
 use Rattle.k42_board.specs.declared.view.PassView.{PassView}

@@ -1,5 +1,5 @@
 -- Parts that are moved between cells.
-use Rattle.std.proofs.Common.{◌≡◌, ℕ, zero, suc, ◌+◌, ◌<◌, ◌≤◌, Bool, true, false, cond, eqb, take, arith, List, [], ◌∷◌, ◌++◌, Option, Some, None, length, refl, sym, ap, ◌∙◌, inl, inr, subst}
+use Rattle.std.proofs.Common.{◌≡◌, ℕ, zero, suc, ◌+◌, ◌<◌, ◌≤◌, Bool, true, false, cond, eqb, take, arith, List, [], ◌∷◌, ◌++◌, length, refl, ap, inl}
 use Rattle.k42_kinds.specs.Rows.{Ways, cells_of}
 use Rattle.k42_board.specs.declared.cell.Content.{Content}
 use Rattle.k42_mediator.specs.Parts.{AreKept}

@@ -1,14 +1,12 @@
 -- Cells that are given back one after the other.
 use Rattle.std.proofs.Common.{◌≡◌, ℕ, zero, suc, Bool, true, false, not, ◌&&◌, ◌||◌, cond, eqb, List, [], ◌∷◌, ◌++◌, Some, None, length, refl, sym, ap, ◌∙◌, subst, arith}
 use Rattle.std.specs.List.{filter, slice_get}
-use Rattle.std.specs.Prelude.{map}
-use Rattle.std.proofs.lemmas.Bool.{eqb-true, eq-eqb, and_parts}
+use Rattle.std.proofs.lemmas.Bool.{eqb-true, and_parts}
 use Rattle.std.proofs.lemmas.Option.{same_Some}
-use Rattle.k42_places.specs.Places.{EachPlace}
 use Rattle.turn_core.specs.Names.{names, names_once}
 use Rattle.k42_stamp.specs.Layouts.{Layouts}
 use Rattle.k42_board.specs.Cells.{cells_noted}
-use Rattle.k42_board.specs.Drawing.{IsHeld, history_noted, closed_noted, part_noted, numbers_of}
+use Rattle.k42_board.specs.Drawing.{history_noted, closed_noted, part_noted, numbers_of}
 use Rattle.k42_board.specs.Seen.{PassSeen, IsSamePass}
 use Rattle.k42_board.specs.declared.cell.Content.{Content}
 use Rattle.k42_board.specs.declared.view.Note.{Note}

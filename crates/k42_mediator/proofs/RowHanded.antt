@@ -1,5 +1,5 @@
 -- What a pass knows once it has handed a row on.
-use Rattle.std.proofs.Common.{◌≡◌, inr, ℕ, zero, suc, ◌+◌, ◌<◌, ◌≤◌, Bool, true, false, ◌||◌, cond, eqb, List, [], ◌∷◌, ◌++◌, Option, Some, None, length, take, drop, refl, sym, ap, ◌∙◌, subst, arith}
+use Rattle.std.proofs.Common.{◌≡◌, inr, ℕ, zero, suc, ◌+◌, ◌<◌, ◌≤◌, Bool, true, false, ◌||◌, cond, eqb, List, [], ◌∷◌, ◌++◌, Some, None, length, take, drop, refl, sym, ap, ◌∙◌, subst, arith}
 use Rattle.std.specs.List.{slice_get}
 use Rattle.std.proofs.lemmas.Bool.{eqb-true}
 use Rattle.std.proofs.lemmas.List.{take-append-drop}
@@ -22,16 +22,15 @@ use Rattle.k42_board.specs.Cells.{cells_noted}
 use Rattle.k42_board.specs.Drawing.{AreTold, IsDrawer, entry_hand, numbers_of, part_in, part_noted, stamp_next}
 use Rattle.k42_board.specs.Handing.{handed_at}
 use Rattle.k42_board.specs.Seen.{PassSeen}
-use Rattle.k42_board.specs.Taking.{CELLS}
 use Rattle.k42_board.specs.Values.{incarnation_in}
 use Rattle.k42_board.specs.Views.{hears, word_begun}
 use Rattle.k42_board.specs.declared.cell.Content.{Content}
 use Rattle.k42_board.specs.declared.view.PassView.{PassView}
 use Rattle.k42_board.proofs.HandedOn.{once_both}
 use Rattle.k42_board.proofs.Noted.{each_named}
-use Rattle.k42_board.proofs.RowCells.{row_once, row_some}
+use Rattle.k42_board.proofs.RowCells.{row_once}
 use Rattle.k42_rule.proofs.HandedNotes.{numbers_more}
-use Rattle.k42_mediator.specs.Taken.{released, AreTaken, IsReady, AreReady}
+use Rattle.k42_mediator.specs.Taken.{released, AreTaken, AreReady}
 use Rattle.k42_mediator.specs.Transfers.{IsDoneNext, HasHanded}
 use Rattle.k42_mediator.proofs.AfterMark.{later_stamp}
 use Rattle.k42_mediator.proofs.GivenBack.{held_due}

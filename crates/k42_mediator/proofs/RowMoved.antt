@@ -1,38 +1,15 @@
 -- The cells of two rows, between which a pass moves the state.
-use Rattle.std.proofs.Common.{◌≡◌, ◌⊎◌, ⊎_elim, inl, inr, ℕ, zero, suc, ◌+◌, ◌<◌, ◌≤◌, Bool, true, false, ◌||◌, cond, eqb, List, [], ◌∷◌, ◌++◌, Option, Some, None, length, take, drop, refl, sym, ap, ◌∙◌, subst, arith}
+use Rattle.std.proofs.Common.{◌≡◌, ⊎_elim, ℕ, zero, suc, ◌+◌, ◌<◌, ◌≤◌, List, [], ◌∷◌, Some, None, length, take, drop, refl, sym, ap, ◌∙◌, subst, arith}
 use Rattle.std.specs.List.{slice_get}
 use Rattle.std.specs.Option.{unwrap_or}
-use Rattle.std.proofs.Math.Seq.{take-append_seam, drop-append_seam}
-use Rattle.std.proofs.lemmas.Bool.{eqb-true, eq-eqb}
-use Rattle.std.proofs.lemmas.List.{length-map, length-append, take-map, drop-map, take-append-drop}
 use Rattle.std.proofs.lemmas.Option.{same_Some}
-use Rattle.k42_kinds.specs.Rows.{Ways, cells_of, made_from, part_at}
-use Rattle.k42_kinds.specs.declared.entry.Answer.{Answer}
-use Rattle.k42_kinds.specs.declared.entry.Answer.TheVariants.{Swapped}
-use Rattle.k42_places.specs.Places.{EachPlace}
-use Rattle.phase_core.specs.declared.caller.SwapAt.TheVariants.{Moved}
-use Rattle.turn_core.specs.Names.{names, names_once}
-use Rattle.k42_stamp.specs.Laws.{AreLaws}
-use Rattle.k42_stamp.specs.Layouts.{Layouts}
-use Rattle.k42_joined.specs.Numbers.{cell_of, row_cells}
-use Rattle.k42_joined.proofs.LocksHand.{apart_row}
-use Rattle.k42_board.specs.Cells.{cells_noted}
-use Rattle.k42_board.specs.Drawing.{IsHeld, AreHeld, HaveParts, KeepsPart, MayHandOn, numbers_of, part_noted, part_due, parts_due}
-use Rattle.k42_board.specs.Generations.{MOST}
-use Rattle.k42_board.specs.Parts.{IsPart}
-use Rattle.k42_board.specs.Steps.{Always}
-use Rattle.k42_board.specs.Taking.{CELLS, IsRowNoted, AreRowsNoted}
-use Rattle.k42_board.specs.Values.{layout_in, incarnation_in}
-use Rattle.k42_board.specs.Views.{word_begun}
+use Rattle.k42_kinds.specs.Rows.{Ways, made_from}
+use Rattle.k42_joined.specs.Numbers.{cell_of}
+use Rattle.k42_board.specs.Drawing.{IsHeld, AreHeld, HaveParts, numbers_of, part_noted, part_due}
 use Rattle.k42_board.specs.declared.cell.Content.{Content}
 use Rattle.k42_board.specs.declared.view.PassView.{PassView}
-use Rattle.k42_board.proofs.HandedOn.{once_both}
-use Rattle.k42_board.proofs.Noted.{each_named}
-use Rattle.k42_board.proofs.PartLaws.{AreOneWay, empty_moved_always}
-use Rattle.k42_rule.proofs.PartsDue.{first_note, parts_whole}
 use Rattle.k42_mediator.specs.Parts.{parts_from, IsKept, AreKept, filled}
-use Rattle.k42_mediator.specs.Taken.{IsTaken, AreTaken, IsAlike, IsReady, AreReady}
-use Rattle.k42_mediator.proofs.GivenBack.{held_due}
+use Rattle.k42_mediator.specs.Taken.{AreTaken}
 
 -- lists
 

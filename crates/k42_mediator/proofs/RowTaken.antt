@@ -1,5 +1,5 @@
 -- The cells of a row, taken one after the other.
-use Rattle.std.proofs.Common.{◌≡◌, ℕ, zero, suc, ◌+◌, ◌<◌, ◌≤◌, Bool, true, false, ◌||◌, eqb, List, [], ◌∷◌, ◌++◌, None, refl, sym, ap, ◌∙◌, arith}
+use Rattle.std.proofs.Common.{◌≡◌, ℕ, zero, suc, ◌+◌, ◌<◌, Bool, true, false, ◌||◌, List, [], ◌∷◌, ◌++◌, None, refl, sym, ap, ◌∙◌, arith}
 use Rattle.std.proofs.lemmas.List.{append_assoc, append-nil}
 use Rattle.k42_kinds.specs.Rows.{made_from}
 use Rattle.turn_core.specs.Names.{names}
@@ -11,7 +11,6 @@ use Rattle.k42_board.specs.Seen.{PassSeen, IsSamePass}
 use Rattle.k42_board.specs.Taking.{AreRowsNoted}
 use Rattle.k42_board.specs.Views.{hears}
 use Rattle.k42_board.specs.declared.cell.Content.{Content}
-use Rattle.k42_board.specs.declared.view.PassView.{PassView}
 use Rattle.k42_mediator.specs.Taken.{released, AreTaken}
 use Rattle.k42_mediator.proofs.Remaining.{names_more}
 

@@ -1,10 +1,8 @@
 -- A pass once it has transferred the state, or has found no memory.
-use Rattle.std.proofs.Common.{◌≡◌, ℕ, ◌+◌, Bool, true, false, List, [], ◌∷◌, Option, Some, None, Result, Ok, Err, refl, sym, ap, ◌∙◌, subst}
+use Rattle.std.proofs.Common.{◌≡◌, ℕ, ◌+◌, true, List, [], ◌∷◌, Some, None, Result, Ok, Err, refl, sym, ap, ◌∙◌, subst}
 use Rattle.std.specs.Result.{OnOk, OnErr}
-use mathlib.Core.Option.{some}
-use lib.ListN.{get_elem?}
 use Rattle.k42_kinds.specs.declared.entry.Act.{Act}
-use Rattle.phase_core.specs.Stages.{IsInside, named_by}
+use Rattle.phase_core.specs.Stages.{named_by}
 use Rattle.phase_core.specs.State.{visitor_at}
 use Rattle.phase_core.specs.declared.caller.SwapAt.TheVariants.{Moved}
 use Rattle.phase_core.proofs.InSound.{object_known, visitor_known}
@@ -12,7 +10,6 @@ use Rattle.phase_core.proofs.Reached.{turn_there, moving_alone}
 use Rattle.turn_core.specs.Events.{caller_drawn}
 use Rattle.k42_stamp.specs.Layouts.{Layouts}
 use Rattle.k42_joined.specs.Swapping.{holds_none}
-use Rattle.k42_board.specs.Drawing.{IsDrawer}
 use Rattle.k42_board.specs.Rule.{KnowsPass}
 use Rattle.k42_board.specs.Seen.{PassSeen, IsSamePass}
 use Rattle.k42_board.specs.Steps.{Always}

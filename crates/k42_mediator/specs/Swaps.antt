@@ -1,5 +1,5 @@
 -- The phases of a swap: where each may begin, and what the pass knows after it.
-use Rattle.std.specs.Prelude.{◌≡◌, ℕ, ◌+◌, ◌-◌, ◌<◌, ◌≤◌, Bool, true, false, if◌then◌else◌, List, [], ◌∷◌, ◌++◌, Some, None, is_some, slice_get, slice_index}
+use Rattle.std.specs.Prelude.{◌≡◌, ℕ, ◌+◌, ◌≤◌, true, false, if◌then◌else◌, List, [], ◌∷◌, Some, None, is_some, slice_index}
 use mathlib.Core.Option.{some}
 use lib.ListN.{get_elem?}
 use Rattle.atomic_table.specs.Table.{State}
@@ -12,15 +12,12 @@ use Rattle.phase_core.specs.declared.caller.SwapAt.TheVariants.{Idle, Begun, Int
 use Rattle.phase_core.specs.declared.object.LocalEntry.{LocalEntry}
 use Rattle.turn_core.specs.Events.{caller_drawn}
 use Rattle.k42_stamp.specs.Layouts.{Layouts}
-use Rattle.k42_joined.specs.Plain.{Joined}
 use Rattle.k42_joined.specs.State.{object}
 use Rattle.k42_joined.specs.Swapping.{holds_none}
 use Rattle.k42_board.specs.Cells.{Slot}
 use Rattle.k42_board.specs.Drawing.{entry_alone}
 use Rattle.k42_board.specs.Rule.{Rule}
-use Rattle.k42_board.specs.Steps.{Always}
 use Rattle.k42_board.specs.Swapping.{object_swapped, rows_ended, clears}
-use Rattle.k42_board.specs.Tabling.{MayBegin}
 use Rattle.k42_board.specs.Values.{has_bit, answer_in, layout_in, incarnation_in}
 use Rattle.k42_board.specs.Views.{word_begun}
 use Rattle.k42_board.specs.Words.{object_word}

@@ -1,7 +1,6 @@
-use Rattle.std.proofs.Common.{rules, ap, ◌∙◌}
+use Rattle.std.proofs.Common.{rules}
 use Rattle.k42_board.specs.Plan.{layouts_on}
 use Rattle.k42_board.specs.Swapping.{object_swapped}
-use Rattle.k42_board.specs.declared.view.PassView.{PassView}
 use Rattle.k42_mediator.proofs.LeftOpen.{leaves_open}
 use Rattle.k42_mediator.proofs.abandoning.abandon.Goals as goal
 

@@ -1,8 +1,7 @@
-use Rattle.std.proofs.Common.{sym, ap, ◌∙◌, subst, arith}
-use Rattle.k42_board.specs.Seen.{IsSamePass}
+use Rattle.std.proofs.Common.{sym, ap, ◌∙◌, arith}
 use Rattle.k42_board.specs.Swapping.{next_entry}
 use Rattle.k42_board.specs.declared.view.PassView.{PassView}
-use Rattle.k42_mediator.proofs.EntriesChanged.{first_stage, next_stage, last_stage, entry_changed}
+use Rattle.k42_mediator.proofs.EntriesChanged.{next_stage, entry_changed}
 use Rattle.k42_mediator.proofs.interposing.change_entries.Goals as goal
 
 pub entry_step-requires-clause-may : goal.entry_step-requires-clause-may

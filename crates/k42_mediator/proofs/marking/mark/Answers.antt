@@ -1,11 +1,11 @@
-use Rattle.std.proofs.Common.{◌≡◌, ℕ, ◌+◌, ◌-◌, ◌<◌, cond, eqb, [], ◌∷◌, Some, refl, sym, ap, ◌∙◌, subst, arith}
+use Rattle.std.proofs.Common.{◌≡◌, ℕ, ◌+◌, ◌-◌, cond, eqb, [], ◌∷◌, refl, sym, ap, ◌∙◌, subst, arith}
 use Rattle.turn_core.specs.declared.event.TurnEvent.TheVariants.{Lock}
 use Rattle.k42_joined.specs.Event.{AtCells}
 use Rattle.k42_joined.specs.Numbers.{cell_of}
 use Rattle.k42_board.specs.Drawing.{IsTold, entry_mark, drawn_at}
 use Rattle.k42_board.specs.Plan.{layouts_on}
 use Rattle.k42_board.specs.Steps.{StepIs}
-use Rattle.k42_board.specs.Taking.{CELLS, locked_view, taken_view}
+use Rattle.k42_board.specs.Taking.{locked_view, taken_view}
 use Rattle.k42_board.specs.Values.{answer_in, incarnation_in}
 use Rattle.k42_board.specs.Views.{object_begun, word_begun}
 use Rattle.k42_board.specs.Words.{lock_word}

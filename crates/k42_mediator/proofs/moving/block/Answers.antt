@@ -1,4 +1,4 @@
-use Rattle.std.proofs.Common.{ℕ, sym, ap, ◌∙◌, subst, bit_or}
+use Rattle.std.proofs.Common.{ℕ, sym, ap, subst, bit_or}
 use Rattle.phase_core.specs.Event as phases
 use Rattle.k42_joined.specs.Event.{AtPhases}
 use Rattle.k42_board.specs.Plan.{layouts_on}

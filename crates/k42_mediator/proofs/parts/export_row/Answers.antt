@@ -1,4 +1,4 @@
-use Rattle.std.proofs.Common.{◌≡◌, ℕ, ◌+◌, ◌++◌, length, sym, ap, ◌∙◌, subst, arith}
+use Rattle.std.proofs.Common.{◌≡◌, ℕ, ◌+◌, ◌++◌, length, sym, ap, subst, arith}
 use Rattle.k42_kinds.specs.Rows.{cells_of}
 use Rattle.k42_mediator.specs.Parts.{AreKept}
 use Rattle.k42_mediator.proofs.PartsMoved.{kept_same, kept_front}

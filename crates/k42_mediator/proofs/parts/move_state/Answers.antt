@@ -1,5 +1,4 @@
 use Rattle.std.proofs.Common.{◌≡◌, ℕ, ◌++◌, length, take, drop, sym, ap, ◌∙◌}
-use Rattle.std.specs.Vec.Iter.{into_iter_items}
 use Rattle.std.proofs.Math.Seq.{drop-append_seam}
 use Rattle.k42_kinds.specs.Rows.{cells_of}
 use Rattle.k42_mediator.specs.Parts.{parts_from, filled}

@@ -1,4 +1,4 @@
-use Rattle.std.proofs.Common.{◌≡◌, ℕ, List, [], sym, ap, ◌∙◌, subst, length}
+use Rattle.std.proofs.Common.{◌≡◌, ℕ, List, [], sym, ap, ◌∙◌, subst}
 use Rattle.k42_board.specs.Drawing.{numbers_of}
 use Rattle.k42_board.specs.Plan.{layouts_on}
 use Rattle.k42_board.specs.declared.cell.Content.{Content}

@@ -1,11 +1,11 @@
-use Rattle.std.proofs.Common.{◌≡◌, ◌<◌, ℕ, refl, sym, ap, ◌∙◌, subst}
+use Rattle.std.proofs.Common.{◌<◌, ℕ, refl, sym, ap, ◌∙◌, subst}
 use Rattle.turn_core.specs.Names.{names}
 use Rattle.k42_board.specs.Cells.{cells_noted}
 use Rattle.k42_board.specs.Plan.{layouts_on}
-use Rattle.k42_board.specs.Taking.{CELLS, HoldsHome, MayPut}
+use Rattle.k42_board.specs.Taking.{CELLS, MayPut}
 use Rattle.k42_board.specs.declared.view.PassView.{PassView}
 use Rattle.k42_rule.proofs.PutBack.{may_put}
-use Rattle.k42_mediator.proofs.GivenBack.{cell_in, given_one}
+use Rattle.k42_mediator.proofs.GivenBack.{cell_in}
 use Rattle.k42_mediator.proofs.Remaining.{none_remains}
 use Rattle.k42_mediator.proofs.rows.give_next.Goals as goal
 

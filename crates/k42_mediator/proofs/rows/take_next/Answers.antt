@@ -8,7 +8,6 @@ use Rattle.k42_board.specs.declared.view.PassView.{PassView}
 use Rattle.k42_rule.proofs.HandedNotes.{numbers_more}
 use Rattle.k42_mediator.specs.Taken.{released, AreTaken}
 use Rattle.k42_mediator.proofs.GivenBack.{released_taken}
-use Rattle.k42_mediator.proofs.Heard.{heard_now}
 use Rattle.k42_mediator.proofs.NotesTold.{taken_more}
 use Rattle.k42_mediator.proofs.rows.take_next.Goals as goal
 

@@ -1,6 +1,5 @@
-use Rattle.std.proofs.Common.{◌≡◌, ℕ, false, sym, ap, ◌∙◌, subst, arith, vec_len, vec_capacity}
+use Rattle.std.proofs.Common.{ℕ, ap, ◌∙◌, arith, vec_len, vec_capacity}
 use Rattle.turn_core.specs.Names.{names}
-use Rattle.k42_joined.specs.Numbers.{cell_of}
 use Rattle.k42_board.specs.Drawing.{numbers_of}
 use Rattle.k42_board.specs.Plan.{layouts_on}
 use Rattle.k42_mediator.proofs.RowTaken.{next_apart, takes_next}

@@ -1,8 +1,8 @@
-use Rattle.std.proofs.Common.{◌≡◌, ◌≤◌, ◌<◌, ℕ, ◌+◌, ◌++◌, List, Some, length, take, drop, refl, sym, ap, ◌∙◌, subst}
+use Rattle.std.proofs.Common.{◌≡◌, ◌<◌, ℕ, ◌+◌, ◌++◌, List, length, take, drop, refl, sym, ap, ◌∙◌, subst}
 use Rattle.std.proofs.lemmas.Option.{same_Some}
 use Rattle.k42_kinds.specs.Rows.{cells_of}
 use Rattle.k42_kinds.specs.declared.entry.Answer.TheVariants.{Swapped}
-use Rattle.k42_board.specs.Drawing.{AreTold, MayHandOn, numbers_of, entry_hand}
+use Rattle.k42_board.specs.Drawing.{AreTold, numbers_of, entry_hand}
 use Rattle.k42_board.specs.Handing.{handed_at}
 use Rattle.k42_board.specs.Plan.{layouts_on}
 use Rattle.k42_board.specs.declared.cell.Content.{Content}
@@ -113,8 +113,8 @@ draw_done-requires-clause-may g c κs within =
     (λ j. (is j, value j, sym back j)) c.move_state.ensures.kept in
     let front = from_numbers F laws declared agrees v o i items layout has cells kept ∙ sym (old_numbers F laws declared agrees v o i items layout has) in
     let full : drop F.procs cells
-        ≡ filled ((F.ways_of c.args.to.now).imported F.procs (F.admitted c.args.to.now ((F.ways_of layout).combine (parts_from (F.ways_of layout) F.procs 0 (take (cells_of (F.tag_of layout) F.procs) items)))))
-        (drop F.procs items) =
+    ≡ filled ((F.ways_of c.args.to.now).imported F.procs (F.admitted c.args.to.now ((F.ways_of layout).combine (parts_from (F.ways_of layout) F.procs 0 (take (cells_of (F.tag_of layout) F.procs) items)))))
+    (drop F.procs items) =
     subst (λ (z : ℕ × List (Content _) × List (Content _)). drop z.0 z.2
     ≡ filled ((F.ways_of c.args.to.now).imported z.0 (F.admitted c.args.to.now ((F.ways_of layout).combine (parts_from (F.ways_of layout) z.0 0 (take (cells_of (F.tag_of layout) z.0) z.1)))))
     (drop z.0 z.1)) (λ j. (is j, value j, sym back j)) c.in_ok-move_state.ensures.filled in
@@ -140,8 +140,8 @@ returns-clause-numbers g c =
     (λ j. (is j, value j, sym back j)) c.move_state.ensures.kept in
     let front = from_numbers F laws declared agrees v o i items layout has cells kept ∙ sym (old_numbers F laws declared agrees v o i items layout has) in
     let full : drop F.procs cells
-        ≡ filled ((F.ways_of c.args.to.now).imported F.procs (F.admitted c.args.to.now ((F.ways_of layout).combine (parts_from (F.ways_of layout) F.procs 0 (take (cells_of (F.tag_of layout) F.procs) items)))))
-        (drop F.procs items) =
+    ≡ filled ((F.ways_of c.args.to.now).imported F.procs (F.admitted c.args.to.now ((F.ways_of layout).combine (parts_from (F.ways_of layout) F.procs 0 (take (cells_of (F.tag_of layout) F.procs) items)))))
+    (drop F.procs items) =
     subst (λ (z : ℕ × List (Content _) × List (Content _)). drop z.0 z.2
     ≡ filled ((F.ways_of c.args.to.now).imported z.0 (F.admitted c.args.to.now ((F.ways_of layout).combine (parts_from (F.ways_of layout) z.0 0 (take (cells_of (F.tag_of layout) z.0) z.1)))))
     (drop z.0 z.1)) (λ j. (is j, value j, sym back j)) c.in_ok-move_state.ensures.filled in
@@ -166,8 +166,8 @@ returns-clause-ready g c =
     (λ j. (is j, value j, sym back j)) c.move_state.ensures.kept in
     let front = from_numbers F laws declared agrees v o i items layout has cells kept ∙ sym (old_numbers F laws declared agrees v o i items layout has) in
     let full : drop F.procs cells
-        ≡ filled ((F.ways_of c.args.to.now).imported F.procs (F.admitted c.args.to.now ((F.ways_of layout).combine (parts_from (F.ways_of layout) F.procs 0 (take (cells_of (F.tag_of layout) F.procs) items)))))
-        (drop F.procs items) =
+    ≡ filled ((F.ways_of c.args.to.now).imported F.procs (F.admitted c.args.to.now ((F.ways_of layout).combine (parts_from (F.ways_of layout) F.procs 0 (take (cells_of (F.tag_of layout) F.procs) items)))))
+    (drop F.procs items) =
     subst (λ (z : ℕ × List (Content _) × List (Content _)). drop z.0 z.2
     ≡ filled ((F.ways_of c.args.to.now).imported z.0 (F.admitted c.args.to.now ((F.ways_of layout).combine (parts_from (F.ways_of layout) z.0 0 (take (cells_of (F.tag_of layout) z.0) z.1)))))
     (drop z.0 z.1)) (λ j. (is j, value j, sym back j)) c.in_ok-move_state.ensures.filled in
@@ -197,8 +197,8 @@ returns-clause-handed g c =
     (λ j. (is j, value j, sym back j)) c.move_state.ensures.kept in
     let front = from_numbers F laws declared agrees v o i items layout has cells kept ∙ sym (old_numbers F laws declared agrees v o i items layout has) in
     let full : drop F.procs cells
-        ≡ filled ((F.ways_of c.args.to.now).imported F.procs (F.admitted c.args.to.now ((F.ways_of layout).combine (parts_from (F.ways_of layout) F.procs 0 (take (cells_of (F.tag_of layout) F.procs) items)))))
-        (drop F.procs items) =
+    ≡ filled ((F.ways_of c.args.to.now).imported F.procs (F.admitted c.args.to.now ((F.ways_of layout).combine (parts_from (F.ways_of layout) F.procs 0 (take (cells_of (F.tag_of layout) F.procs) items)))))
+    (drop F.procs items) =
     subst (λ (z : ℕ × List (Content _) × List (Content _)). drop z.0 z.2
     ≡ filled ((F.ways_of c.args.to.now).imported z.0 (F.admitted c.args.to.now ((F.ways_of layout).combine (parts_from (F.ways_of layout) z.0 0 (take (cells_of (F.tag_of layout) z.0) z.1)))))
     (drop z.0 z.1)) (λ j. (is j, value j, sym back j)) c.in_ok-move_state.ensures.filled in

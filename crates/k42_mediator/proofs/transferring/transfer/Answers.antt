@@ -1,4 +1,4 @@
-use Rattle.std.proofs.Common.{◌≡◌, ◌≤◌, ℕ, ◌+◌, ◌++◌, List, [], inr, sym, ap, ◌∙◌, subst, arith}
+use Rattle.std.proofs.Common.{◌≡◌, ◌≤◌, ℕ, ◌+◌, ◌++◌, List, [], inr, ap, ◌∙◌, subst, arith}
 use Rattle.phase_core.specs.Plain.{Visitor}
 use Rattle.turn_core.specs.Names.{names, names_once}
 use Rattle.k42_joined.specs.Numbers.{cell_of, row_cells}
