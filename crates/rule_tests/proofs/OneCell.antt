@@ -1,5 +1,5 @@
 -- A call at one cell: what it needs to step the part, to draw, and to put the cell back.
-use Rattle.std.proofs.Common.{◌≡◌, ℕ, zero, suc, ◌+◌, ◌*◌, ◌%◌, ◌<◌, ◌≤◌, Bool, true, false, cond, eqb, List, [], ◌∷◌, ◌++◌, Option, Some, None, length, refl, sym, ap, ◌∙◌, subst, arith}
+use Rattle.std.proofs.Common.{◌≡◌, ℕ, zero, suc, ◌<◌, ◌≤◌, Bool, true, false, cond, eqb, List, [], ◌∷◌, ◌++◌, Option, Some, None, length, refl, sym, ap, ◌∙◌, subst, arith}
 use Rattle.std.specs.Prelude.{IsTrue, is_some}
 use Rattle.std.specs.List.{slice_get}
 use Rattle.std.specs.Option.{unwrap_or}
@@ -8,9 +8,8 @@ use Rattle.std.proofs.lemmas.List.{length-append}
 use Rattle.std.proofs.lemmas.Option.{same_Some}
 use Rattle.k42_places.specs.Places.{EachPlace}
 use Rattle.k42_kinds.specs.LayoutLaws.{Agree, IsReached}
-use Rattle.k42_kinds.specs.Rows.{Ways, cells_of, IsWithin}
+use Rattle.k42_kinds.specs.Rows.{cells_of, IsWithin}
 use Rattle.k42_kinds.specs.declared.entry.Entry.{Entry}
-use Rattle.k42_kinds.specs.declared.entry.Reach.{Reach}
 use Rattle.k42_kinds.specs.declared.entry.Reach.TheVariants.{One}
 use Rattle.k42_kinds.specs.declared.operation.Op.{Op}
 use Rattle.k42_kinds.specs.declared.operation.Reply.{Reply}
@@ -24,11 +23,10 @@ use Rattle.k42_stamp.specs.Layouts.{Layouts}
 use Rattle.k42_joined.specs.Numbers.{cell_of}
 use Rattle.k42_joined.specs.Rows.{cells_reached}
 use Rattle.k42_board.specs.Cells.{cells_noted}
-use Rattle.k42_board.specs.Drawing.{AreTold, history_noted, closed_noted, part_noted, part_due, part_in, numbers_of, IsHeld, IsTold, MayDrawCall, IsStepped, drawn_at, told_note}
+use Rattle.k42_board.specs.Drawing.{AreTold, history_noted, closed_noted, part_noted, part_due, IsHeld, IsTold, MayDrawCall, IsStepped, drawn_at}
 use Rattle.k42_board.specs.Generations.{MOST}
 use Rattle.k42_board.specs.Parts.{IsPart}
 use Rattle.k42_board.specs.Phases.{is_served}
-use Rattle.k42_board.specs.Seats.{told_by}
 use Rattle.k42_board.specs.Steps.{Always}
 use Rattle.k42_board.specs.Taking.{CELLS, MayPut, AreRowsNoted, taken_view, locked_view}
 use Rattle.k42_board.specs.Seen.{inside_in}
@@ -39,7 +37,7 @@ use Rattle.k42_board.specs.declared.view.PassView.{PassView}
 use Rattle.k42_board.proofs.PartLaws.{noted_always}
 use Rattle.k42_rule.proofs.PartsDue.{first_note, part_reached}
 use Rattle.rule_tests.specs.Ready.{IsServing, IsLayoutOf}
-use Rattle.k42_rule.proofs.PutBack.{AgreesWithNotes, taken_agrees, taken_part, may_put}
+use Rattle.k42_rule.proofs.PutBack.{taken_agrees, taken_part, may_put}
 
 pub served_inside : (place : Place) → is_served place ≡ true → IsInside place (object_of place) (row_of place)
 served_inside (Direct o i) e = (refl, refl)

@@ -1,9 +1,9 @@
 -- Steps after which a pass is one of the system as before, and holds no cell.
-use Rattle.std.proofs.Common.{◌≡◌, ℕ, zero, suc, ◌<◌, Bool, true, false, cond, eqb, List, [], ◌∷◌, length, refl, sym, ap, ◌∙◌, subst}
+use Rattle.std.proofs.Common.{◌≡◌, ℕ, zero, suc, ◌<◌, Bool, true, false, eqb, length, refl, sym, ap, ◌∙◌, subst}
 use Rattle.k42_kinds.specs.Rows.{made_from}
 use Rattle.k42_board.specs.Gracing.{role_view}
-use Rattle.k42_board.specs.Noting.{notes_due, due_note}
-use Rattle.k42_board.specs.Seen.{SysSeen, PassSeen, IsPassOf, IsSamePass}
+use Rattle.k42_board.specs.Noting.{due_note}
+use Rattle.k42_board.specs.Seen.{SysSeen, PassSeen, IsSamePass}
 use Rattle.k42_board.specs.declared.view.PassView.{PassView}
 use Rattle.rule_tests.specs.Ready.{IsFree}
 
