@@ -1,5 +1,5 @@
 -- Passes between two phases of a test.
-use Rattle.std.specs.Prelude.{◌≡◌, ℕ, true, List, length}
+use Rattle.std.specs.Prelude.{◌≡◌, ℕ, true, List}
 use Rattle.k42_places.specs.Places.{EachPlace}
 use Rattle.k42_joined.specs.Swapping.{holds_none}
 use Rattle.k42_board.specs.Seen.{SysSeen, PassSeen, IsPassOf, is_at_rest}
