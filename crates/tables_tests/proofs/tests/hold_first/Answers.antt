@@ -1,4 +1,4 @@
-use Rattle.std.proofs.Common.{rules, ◌≡◌}
+use Rattle.std.proofs.Common.{rules}
 use Rattle.tables_tests.proofs.Fresh.{may_lock_first}
 use Rattle.tables_tests.proofs.tests.hold_first.Goals as goal
 

@@ -1,4 +1,4 @@
-use Rattle.std.proofs.Common.{◌≡◌, ℕ, ◌<◌, length, arith}
+use Rattle.std.proofs.Common.{arith}
 use Rattle.tables_tests.specs.Callers.{AreFresh}
 use Rattle.tables_tests.proofs.Fresh.{fresh_first, fresh_rest, many_rest}
 use Rattle.tables_tests.proofs.tests.meet_at_a_cell.Goals as goal

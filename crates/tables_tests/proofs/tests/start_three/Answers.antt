@@ -1,4 +1,4 @@
-use Rattle.std.proofs.Common.{rules, ◌≡◌, ℕ, length}
+use Rattle.std.proofs.Common.{rules}
 use Rattle.tables_tests.proofs.Fresh.{all_fresh, if_ok_then}
 use Rattle.tables_tests.proofs.tests.start_three.Goals as goal
 
