@@ -1,20 +1,18 @@
-ghost use Rattle.std.specs.Prelude.{◌≡◌, ◌<◌, true, length, OnOk};
-ghost use Rattle.swap_tests.specs.Ready.{IsFree};
-
 use crate::tests::crews::{finish, last, start};
 use crate::tests::phases::swap;
-use k42_kinds::{Act, Answer, Entry, LayoutName};
+use k42_kinds::{Answer, Entry};
 use k42_rule::Row;
 use std::test::Fail;
 
 mod crews;
 mod phases;
+mod rows;
 
-/// Whether the entry tells of the swap of the first object to its incarnation of that number.
-fn is_swap(entry: &Entry, stamp: u64, number: u32) -> bool {
+/// Whether the entry tells of the swap that led the first object from one incarnation to the next.
+fn is_swap(entry: &Entry, stamp: u64, incarnation: u32, number: u32) -> bool {
     entry.object == 0
         && entry.stamp == stamp
-        && entry.incarnation + 1 == number
+        && entry.incarnation == incarnation
         && entry.answer == Answer::Swapped(number)
 }
 
@@ -42,6 +40,6 @@ fn a_second_swap_frees_the_row_of_the_first(rt: HostRuntime) -> Result<(), Fail>
     assert_eq!(rt; lists.len(), 3);
     assert!(rt; lists[0].is_empty() && lists[2].is_empty());
     assert_eq!(rt; lists[1].len(), 2);
-    assert!(rt; is_swap(&lists[1][0], 1, 1) && is_swap(&lists[1][1], 2, 2));
+    assert!(rt; is_swap(&lists[1][0], 1, 0, 1) && is_swap(&lists[1][1], 2, 1, 2));
     Ok(())
 }

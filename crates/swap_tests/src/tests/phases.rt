@@ -1,5 +1,6 @@
 //! A swap of one pass, phase by phase.
-ghost use Rattle.std.specs.Prelude.{◌≡◌, ◌<◌, ◌≤◌, true, length, OnOk};
+ghost use Rattle.std.specs.Prelude.{◌≡◌, true, None, OnOk};
+ghost use Rattle.phase_core.specs.declared.caller.SwapAt.TheVariants.{Moved};
 ghost use Rattle.k42_board.specs.Gracing.{MayTakeRole};
 ghost use Rattle.k42_board.specs.Swapping.{object_swapped, MayBlock, MayMove};
 ghost use Rattle.k42_mediator.specs.Swaps.{HasBegun, HasMoved, HasTransferred, HasOpened};
@@ -63,13 +64,33 @@ fn may_block(pass: &Walk) -> bool
     matches!(pass.swap(), SwapAt::Drained(_)) && pass.grace() == GraceAt::Idle
 }
 
+#[tactic(auto, using(crate::proofs::Handed::unhanded))]
 fn may_move(pass: &Walk) -> bool
-    ensures { result ≡ true → MayMove pass.now.view }
+    ensures may { result ≡ true → MayMove pass.now.view }
+    ensures unhanded { result ≡ true → pass.now.view.handed ≡ None }
 {
     matches!(pass.swap(), SwapAt::Blocking(_))
 }
 
-/// Keeps the object shut, and begins to move its state: nobody is counted.
+fn has_moved(pass: &Walk) -> bool
+    ensures { result ≡ true → pass.now.view.visitor.swap ≡ Moved (object_swapped pass.now.view) }
+{
+    matches!(pass.swap(), SwapAt::Moved(_))
+}
+
+/// Begins to move the state of a shut object: nobody is counted.
+#[tactic(auto, using(crate::proofs::Handed::still_unhanded))]
+fn move_now(rt: &impl Abort, sys: &Sys<AnyLayout>, pass: &mut Walk)
+    requires free { IsFree sys.now pass.old }
+    requires may { MayMove pass.old.view }
+    requires unhanded { pass.old.view.handed ≡ None }
+    ensures free { IsFree sys.now pass.new }
+    ensures unhanded { pass.new.view.handed ≡ None }
+{
+    assert_eq!(rt; try_move(sys, pass), Moving::Moved);
+}
+
+/// Keeps the object shut, and begins to move its state.
 fn shut(rt: &impl Abort, sys: &Sys<AnyLayout>, pass: &mut Walk)
     requires free { IsFree sys.now pass.old }
     ensures free { IsFree sys.now pass.new }
@@ -78,8 +99,8 @@ fn shut(rt: &impl Abort, sys: &Sys<AnyLayout>, pass: &mut Walk)
     assert!(rt; may_block(pass));
     block(sys, pass);
     assert!(rt; may_move(pass));
-    assert_eq!(rt; try_move(sys, pass), Moving::Moved);
-    assert!(rt; matches!(pass.swap(), SwapAt::Moved(_)));
+    move_now(rt, sys, pass);
+    assert!(rt; has_moved(pass));
 }
 
 /// Hands the state on to the layout of that tag.
