@@ -1,7 +1,9 @@
 ghost use Rattle.std.specs.Prelude.{◌≡◌, ◌<◌, true, length, OnOk};
 ghost use Rattle.mediator_tests.specs.Ready.{IsFree};
 
-use crate::tests::calls::{end_activity, end_call, find_busy, keep_out, let_in, look, start_activity};
+use crate::tests::calls::{
+    end_activity, end_call, find_busy, keep_out, let_in, look, start_activity,
+};
 use crate::tests::crews::{Walk, finish, last, start};
 use crate::tests::phases::{give_up, move_now, send_to_mediator, shut, wait_quiet};
 use co_any::AnyLayout;

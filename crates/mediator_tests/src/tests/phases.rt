@@ -1,7 +1,8 @@
 //! The phases of a swap that is given up.
-ghost use Rattle.std.specs.Prelude.{◌≡◌, ◌<◌, ◌≤◌, true, length, OnOk};
+ghost use Rattle.std.specs.Prelude.{◌≡◌, true, None, OnOk};
+ghost use Rattle.phase_core.specs.declared.caller.SwapAt.TheVariants.{Moved};
 ghost use Rattle.k42_board.specs.Gracing.{MayTakeRole};
-ghost use Rattle.k42_board.specs.Swapping.{MayBlock, MayMove};
+ghost use Rattle.k42_board.specs.Swapping.{object_swapped, MayBlock, MayMove};
 ghost use Rattle.k42_mediator.specs.Swaps.{HasBegun, HasMoved};
 ghost use Rattle.mediator_tests.specs.Ready.{IsFree};
 
@@ -61,8 +62,10 @@ fn may_block(pass: &Walk) -> bool
     matches!(pass.swap(), SwapAt::Drained(_)) && pass.grace() == GraceAt::Idle
 }
 
+#[tactic(auto, using(crate::proofs::Handed::unhanded))]
 fn may_move(pass: &Walk) -> bool
-    ensures { result ≡ true → MayMove pass.now.view }
+    ensures may { result ≡ true → MayMove pass.now.view }
+    ensures unhanded { result ≡ true → pass.now.view.handed ≡ None }
 {
     matches!(pass.swap(), SwapAt::Blocking(_))
 }
@@ -78,15 +81,33 @@ pub(super) fn shut(rt: &impl Abort, sys: &Sys<AnyLayout>, pass: &mut Walk)
     assert_eq!(rt; try_move(sys, pass), Moving::InFlight { count: 1 });
 }
 
-/// Begins to move the state: nobody is counted.
+fn has_moved(pass: &Walk) -> bool
+    ensures { result ≡ true → pass.now.view.visitor.swap ≡ Moved (object_swapped pass.now.view) }
+{
+    matches!(pass.swap(), SwapAt::Moved(_))
+}
+
+/// Tries to move the state of a shut object, in which nobody is counted any more.
+#[tactic(auto, using(crate::proofs::Handed::still_unhanded))]
+fn try_again(rt: &impl Abort, sys: &Sys<AnyLayout>, pass: &mut Walk)
+    requires free { IsFree sys.now pass.old }
+    requires may { MayMove pass.old.view }
+    requires unhanded { pass.old.view.handed ≡ None }
+    ensures free { IsFree sys.now pass.new }
+    ensures unhanded { pass.new.view.handed ≡ None }
+{
+    assert_eq!(rt; try_move(sys, pass), Moving::Moved);
+}
+
+/// Begins to move the state.
 pub(super) fn move_now(rt: &impl Abort, sys: &Sys<AnyLayout>, pass: &mut Walk)
     requires { IsFree sys.now pass.old }
     ensures free { IsFree sys.now pass.new }
     ensures moved { HasMoved pass.new.view }
 {
     assert!(rt; may_move(pass));
-    assert_eq!(rt; try_move(sys, pass), Moving::Moved);
-    assert!(rt; matches!(pass.swap(), SwapAt::Moved(_)));
+    try_again(rt, sys, pass);
+    assert!(rt; has_moved(pass));
 }
 
 /// Gives up the swap to the layout with a cell for each processor.
