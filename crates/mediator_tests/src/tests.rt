@@ -1,0 +1,70 @@
+ghost use Rattle.std.specs.Prelude.{◌≡◌, ◌<◌, true, length, OnOk};
+ghost use Rattle.mediator_tests.specs.Ready.{IsFree};
+
+use crate::tests::calls::{
+    end_activity, end_call, find_busy, keep_out, let_in, look, start_activity,
+};
+use crate::tests::crews::{Walk, finish, last, start};
+use crate::tests::phases::{give_up, move_now, send_to_mediator, shut, wait_quiet};
+use co_any::AnyLayout;
+use k42_kinds::{Act, Answer, Entry, LayoutName};
+use k42_memory::Memory;
+use k42_rule::Sys;
+use std::process::Abort;
+use std::test::Fail;
+
+mod calls;
+mod crews;
+mod phases;
+
+/// One pass swaps an object and gives up. Another one meets it three times.
+fn meet(
+    rt: &impl Abort,
+    sys: &Sys<AnyLayout>,
+    caller: &mut Walk,
+    swapper: &mut Walk,
+) -> Result<(), Memory>
+    requires caller { IsFree sys.now caller.old }
+    requires swapper { IsFree sys.now swapper.old }
+    ensures caller { OnOk result (IsFree sys.now caller.new) }
+    ensures swapper { OnOk result (IsFree sys.now swapper.new) }
+{
+    send_to_mediator(rt, sys, swapper, 0);
+    find_busy(rt, sys, caller, 0);
+    wait_quiet(rt, sys, swapper);
+    start_activity(rt, sys, caller);
+    look(rt, sys, caller, 0);
+    let_in(rt, sys, caller, 0);
+    shut(rt, sys, swapper);
+    end_call(sys, caller);
+    look(rt, sys, caller, 0);
+    keep_out(rt, sys, caller, 0);
+    end_activity(sys, caller);
+    move_now(rt, sys, swapper);
+    give_up(rt, sys, swapper, 0)
+}
+
+/// Whether the entry tells that the first swap of the first object was given up.
+fn is_given_up(entry: &Entry) -> bool {
+    entry.object == 0
+        && entry.incarnation == 0
+        && entry.act == Act::Swap(LayoutName::Spread)
+        && entry.answer == Answer::Abandoned(1)
+}
+
+#[test]
+fn callers_meet_a_mediator(rt: HostRuntime) -> Result<(), Fail> {
+    let (sys, mut passes) = start(rt.alloc())?;
+    let (Some(mut one), Some(mut zero)) = (last(&sys, &mut passes), last(&sys, &mut passes)) else {
+        return Err("no passes")?;
+    };
+    meet(&rt, &sys, &mut zero, &mut one)?;
+    let Some(lists) = finish(rt.alloc(), sys, zero, one)? else {
+        return Err("a pass does not rest")?;
+    };
+    assert_eq!(rt; lists.len(), 2);
+    assert!(rt; lists[0].is_empty());
+    assert_eq!(rt; lists[1].len(), 1);
+    assert!(rt; is_given_up(&lists[1][0]));
+    Ok(())
+}
