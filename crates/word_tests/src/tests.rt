@@ -8,9 +8,7 @@ use crate::tests::phases::{
     begin_alone, hand_on, has_moved, has_opened, may_block, may_move, move_now, swap, wait_free,
 };
 use co_any::AnyLayout;
-use k42_mediator::{
-    Begun, Moving, Phase, begin, block, end, interpose, open_entries, try_move,
-};
+use k42_mediator::{Begun, Moving, Phase, begin, block, end, interpose, open_entries, try_move};
 use k42_memory::Memory;
 use k42_rule::Sys;
 use std::alloc::Global;
@@ -149,7 +147,14 @@ fn three_swaps_and_a_fourth_show_the_words_of_the_table(rt: HostRuntime) -> Resu
     begin_alone(&rt, &sys, &mut swapper, 0);
     interpose(&sys, &mut swapper);
     wait_free(&rt, &sys, &mut swapper, 1);
-    block_two(&rt, &sys, &mut swapper, &mut caller, &mut other, &mut observer);
+    block_two(
+        &rt,
+        &sys,
+        &mut swapper,
+        &mut caller,
+        &mut other,
+        &mut observer,
+    );
     move_shut(&rt, &sys, &mut swapper, &mut observer);
     turn(&rt, rt.alloc(), &sys, &mut swapper, &mut observer)?;
     Ok(())
