@@ -1,0 +1,30 @@
+//! A system of one shared counter on six processors, and the passes of its four callers.
+ghost use Rattle.std.specs.Prelude.{IfOk, IfSome};
+ghost use Rattle.word_tests.specs.Ready.{IsFree, AreFree};
+
+use co_any::AnyLayout;
+use k42_kinds::{KindName, LayoutName};
+use k42_memory::Memory;
+use k42_rule::{Pass, Sys};
+use std::alloc::Global;
+
+pub(super) type Walk = Pass<AnyLayout>;
+
+#[tactic(auto, using(crate::proofs::Crews::any_tags))]
+pub(super) fn start(alloc: Global) -> Result<(Sys<AnyLayout>, Vec<Walk>), Memory>
+    ensures { IfOk result (λ made. AreFree made.0 made.1.items) }
+{
+    let layouts = vec![in alloc; AnyLayout::of(KindName::Counter, LayoutName::Shared)]?;
+    let callers = vec![in alloc; 0, 5, 2, 1]?;
+    let (sys, passes) = Sys::start(alloc, layouts, 6, callers)?;
+    Ok((sys, passes))
+}
+
+/// Takes the last pass out of the list.
+pub(super) fn last(sys: &Sys<AnyLayout>, passes: &mut Vec<Walk>) -> Option<Walk>
+    requires free { AreFree sys.now passes.old.items }
+    ensures free { AreFree sys.now passes.new.items }
+    ensures out { IfSome result (λ pass. IsFree sys.now pass) }
+{
+    passes.pop()
+}
