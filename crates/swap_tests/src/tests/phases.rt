@@ -10,9 +10,7 @@ use crate::tests::crews::Walk;
 use co_any::AnyLayout;
 use gen_core::GraceAt;
 use k42_kinds::Layout;
-use k42_mediator::{
-    Begun, Moving, begin, block, end, interpose, open_entries, transfer, try_move,
-};
+use k42_mediator::{Begun, Moving, begin, block, end, interpose, open_entries, transfer, try_move};
 use k42_memory::Memory;
 use k42_quiesce::{grace, reclaim};
 use k42_rule::Sys;
