@@ -1,5 +1,6 @@
 //! A swap of one pass, phase by phase, while others call.
-ghost use Rattle.std.specs.Prelude.{◌≡◌, ◌<◌, ◌≤◌, true, length, OnOk};
+ghost use Rattle.std.specs.Prelude.{◌≡◌, ◌<◌, ◌≤◌, true, None, length, OnOk};
+ghost use Rattle.phase_core.specs.declared.caller.SwapAt.TheVariants.{Moved};
 ghost use Rattle.k42_board.specs.Gracing.{MayTakeRole};
 ghost use Rattle.k42_board.specs.Swapping.{object_swapped, MayBlock, MayMove};
 ghost use Rattle.k42_mediator.specs.Swaps.{HasBegun, HasMoved, HasTransferred, HasOpened};
@@ -10,9 +11,7 @@ use co_any::AnyLayout;
 use crossbeam_utils::Backoff;
 use gen_core::GraceAt;
 use k42_kinds::Layout;
-use k42_mediator::{
-    Begun, Moving, begin, block, end, interpose, open_entries, transfer, try_move,
-};
+use k42_mediator::{Begun, Moving, begin, block, end, interpose, open_entries, transfer, try_move};
 use k42_memory::Memory;
 use k42_quiesce::{grace, reclaim};
 use k42_rule::Sys;
@@ -64,10 +63,30 @@ fn may_block(pass: &Walk) -> bool
     matches!(pass.swap(), SwapAt::Drained(_)) && pass.grace() == GraceAt::Idle
 }
 
+#[tactic(auto, using(crate::proofs::Handed::unhanded))]
 fn may_move(pass: &Walk) -> bool
-    ensures { result ≡ true → MayMove pass.now.view }
+    ensures may { result ≡ true → MayMove pass.now.view }
+    ensures unhanded { result ≡ true → pass.now.view.handed ≡ None }
 {
     matches!(pass.swap(), SwapAt::Blocking(_))
+}
+
+fn has_moved(pass: &Walk) -> bool
+    ensures { result ≡ true → pass.now.view.visitor.swap ≡ Moved (object_swapped pass.now.view) }
+{
+    matches!(pass.swap(), SwapAt::Moved(_))
+}
+
+/// Begins to move the state, unless callers are still counted.
+#[tactic(auto, using(crate::proofs::Handed::still_unhanded))]
+fn move_now(sys: &Sys<AnyLayout>, pass: &mut Walk) -> bool
+    requires free { IsFree sys.now pass.old }
+    requires may { MayMove pass.old.view }
+    requires unhanded { pass.old.view.handed ≡ None }
+    ensures free { IsFree sys.now pass.new }
+    ensures unhanded { pass.new.view.handed ≡ None }
+{
+    try_move(sys, pass) == Moving::Moved
 }
 
 /// Tries to begin to move the state, and answers whether nobody was counted.
@@ -77,10 +96,10 @@ fn try_shut(rt: &impl Abort, sys: &Sys<AnyLayout>, pass: &mut Walk) -> bool
     ensures moved { result ≡ true → HasMoved pass.new.view }
 {
     assert!(rt; may_move(pass));
-    if try_move(sys, pass) != Moving::Moved {
+    if !move_now(sys, pass) {
         return false;
     }
-    assert!(rt; matches!(pass.swap(), SwapAt::Moved(_)));
+    assert!(rt; has_moved(pass));
     true
 }
 

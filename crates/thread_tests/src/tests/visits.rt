@@ -78,6 +78,46 @@ fn call<R: Wait>(
     }
 }
 
+/// Ends a call that is in a row.
+fn go_out(sys: &Sys<AnyLayout>, pass: &mut Walk)
+    requires free { IsFree sys.now pass.old }
+    requires served { IsServed pass.old.view }
+    ensures free { IsFree sys.now pass.new }
+    ensures out { IsIn pass.new.view }
+{
+    finish_call(sys, pass);
+}
+
+/// Ends the activity.
+fn go_home(sys: &Sys<AnyLayout>, pass: &mut Walk)
+    requires free { IsFree sys.now pass.old }
+    requires out { IsIn pass.old.view }
+    ensures free { IsFree sys.now pass.new }
+{
+    leave(sys, pass);
+}
+
+/// A call in an activity, and the end of both. Answers whether it was served.
+fn stay<R: Wait>(
+    rt: &R,
+    alloc: Global,
+    sys: &Sys<AnyLayout>,
+    pass: &mut Walk,
+    object: u32,
+) -> Result<bool, Memory>
+    requires free { IsFree sys.now pass.old }
+    requires entered { IsIn pass.old.view }
+    requires there { object < length sys.now.layouts }
+    ensures free { OnOk result (IsFree sys.now pass.new) }
+{
+    let served = call(rt, alloc, sys, pass, object)?;
+    if served {
+        go_out(sys, pass);
+    }
+    go_home(sys, pass);
+    Ok(served)
+}
+
 /// A call in an activity of its own. Answers whether it was served.
 fn visit<R: Abort + Wait>(
     rt: &R,
@@ -91,12 +131,7 @@ fn visit<R: Abort + Wait>(
 {
     assert!(rt; object < sys.objects());
     come_in(rt, sys, pass);
-    let served = call(rt, alloc, sys, pass, object)?;
-    if served {
-        finish_call(sys, pass);
-    }
-    leave(sys, pass);
-    Ok(served)
+    stay(rt, alloc, sys, pass, object)
 }
 
 /// Visits the object so many times, and pauses where the object was blocked.
