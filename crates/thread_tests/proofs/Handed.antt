@@ -1,5 +1,5 @@
 -- What a pass that blocks its object has handed on: nothing yet.
-use Rattle.std.proofs.Common.{◌≡◌, ℕ, Bool, true, false, Option, Some, None, is_some, refl, ap, ◌∙◌, ◌==◌, if◌then◌else◌}
+use Rattle.std.proofs.Common.{◌≡◌, ℕ, Bool, true, false, Option, Some, None, refl, ap, ◌∙◌, ◌==◌, if◌then◌else◌}
 use Rattle.phase_core.specs.Stages.{is_moved}
 use Rattle.phase_core.specs.declared.caller.SwapAt.{SwapAt}
 use Rattle.k42_board.specs.Swapping.{FitsSwap, object_swapped, at_swap, moved_view, blocked_word}

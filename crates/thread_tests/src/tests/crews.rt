@@ -1,5 +1,5 @@
 //! Systems of one counter on two processors, and the passes of their four callers.
-ghost use Rattle.std.specs.Prelude.{◌≡◌, true, length, IfOk, IfSome, OnOk};
+ghost use Rattle.std.specs.Prelude.{◌≡◌, true, length, IfOk, IfSome};
 ghost use Rattle.thread_tests.specs.Ready.{IsFree, AreFree, RestsAt};
 
 use co_any::AnyLayout;
