@@ -1,0 +1,63 @@
+//! Systems of one counter on two processors, and the passes of their four callers.
+ghost use Rattle.std.specs.Prelude.{◌≡◌, true, length, IfOk, IfSome};
+ghost use Rattle.thread_tests.specs.Ready.{IsFree, AreFree, RestsAt};
+
+use co_any::AnyLayout;
+use k42_kinds::{Entry, KindName, LayoutName};
+use k42_memory::Memory;
+use k42_rule::{Pass, Sys};
+use std::alloc::Global;
+
+pub(super) type Walk = Pass<AnyLayout>;
+
+#[tactic(auto, using(crate::proofs::Crews::any_tags))]
+pub(super) fn start(alloc: Global) -> Result<(Sys<AnyLayout>, Vec<Walk>), Memory>
+    ensures { IfOk result (λ made. AreFree made.0 made.1.items × (length made.0.callers ≡ 4)) }
+{
+    let layouts = vec![in alloc; AnyLayout::of(KindName::Counter, LayoutName::Spread)]?;
+    let callers = vec![in alloc; 0, 1, 0, 1]?;
+    let (sys, passes) = Sys::start(alloc, layouts, 2, callers)?;
+    Ok((sys, passes))
+}
+
+/// Takes the last pass out of the list.
+pub(super) fn last(sys: &Sys<AnyLayout>, passes: &mut Vec<Walk>) -> Option<Walk>
+    requires free { AreFree sys.now passes.old.items }
+    ensures free { AreFree sys.now passes.new.items }
+    ensures out { IfSome result (λ pass. IsFree sys.now pass) }
+{
+    passes.pop()
+}
+
+fn rests(pass: &Walk, caller: u32) -> bool
+    ensures { result ≡ true → RestsAt caller pass.now }
+{
+    pass.caller() == caller && pass.is_idle()
+}
+
+/// The lists of the four callers, where they rest.
+pub(super) fn finish(
+    alloc: Global,
+    sys: Sys<AnyLayout>,
+    one: Walk,
+    two: Walk,
+    three: Walk,
+    four: Walk,
+) -> Result<Option<Vec<Vec<Entry>>>, Memory>
+    requires callers { length sys.callers ≡ 4 }
+    requires front { IsFree sys one × IsFree sys two }
+    requires back { IsFree sys three × IsFree sys four }
+{
+    if !rests(&one, 0) || !rests(&two, 1) || !rests(&three, 2) || !rests(&four, 3) {
+        return Ok(None);
+    }
+    let mut passes = Vec::new(alloc);
+    passes.push(one)?;
+    passes.push(two)?;
+    passes.push(three)?;
+    passes.push(four)?;
+    match sys.finish(alloc, passes) {
+        Ok(lists) => Ok(Some(lists)),
+        Err(_) => Err(Memory),
+    }
+}

@@ -1,0 +1,183 @@
+//! A swap of one pass, phase by phase, while others call.
+ghost use Rattle.std.specs.Prelude.{◌≡◌, true, None, OnOk};
+ghost use Rattle.phase_core.specs.declared.caller.SwapAt.TheVariants.{Moved};
+ghost use Rattle.k42_board.specs.Gracing.{MayTakeRole};
+ghost use Rattle.k42_board.specs.Swapping.{object_swapped, MayBlock, MayMove};
+ghost use Rattle.k42_mediator.specs.Swaps.{HasBegun, HasMoved, HasTransferred, HasOpened};
+ghost use Rattle.thread_tests.specs.Ready.{IsFree};
+
+use crate::tests::crews::Walk;
+use co_any::AnyLayout;
+use crossbeam_utils::Backoff;
+use gen_core::GraceAt;
+use k42_kinds::Layout;
+use k42_mediator::{Begun, Moving, begin, block, end, interpose, open_entries, transfer, try_move};
+use k42_memory::Memory;
+use k42_quiesce::{grace, reclaim};
+use k42_rule::Sys;
+use phase_core::SwapAt;
+use std::alloc::Global;
+use std::process::Abort;
+use std::sync::Wait;
+
+fn has_begun(pass: &Walk) -> bool
+    ensures { result ≡ true → HasBegun pass.now.view }
+{
+    matches!(pass.swap(), SwapAt::Begun(_))
+}
+
+/// Begins a swap, which is to be the only one of the object.
+fn begin_alone(rt: &impl Abort, sys: &Sys<AnyLayout>, pass: &mut Walk, object: u32)
+    requires free { IsFree sys.now pass.old }
+    ensures free { IsFree sys.now pass.new }
+    ensures begun { HasBegun pass.new.view }
+{
+    assert!(rt; pass.is_idle() && object < sys.objects());
+    assert_eq!(rt; begin(sys, pass, object), Begun::Begun);
+    assert!(rt; has_begun(pass));
+}
+
+/// Whether the pass may begin a grace.
+fn may_wait(pass: &Walk) -> bool
+    ensures { result ≡ true → MayTakeRole pass.now.view }
+{
+    !pass.is_active()
+        && pass.grace() == GraceAt::Idle
+        && matches!(pass.swap(), SwapAt::Idle | SwapAt::Interposed(_))
+        && pass.graces() < 1_048_576
+}
+
+/// Waits for a grace, which is to free so many rows.
+fn wait_free<R: Abort + Wait>(rt: &R, sys: &Sys<AnyLayout>, pass: &mut Walk, freed: u32)
+    requires free { IsFree sys.now pass.old }
+    ensures free { IsFree sys.now pass.new }
+{
+    assert!(rt; may_wait(pass));
+    grace(rt, sys, pass);
+    assert_eq!(rt; reclaim(sys, pass), freed);
+}
+
+fn may_block(pass: &Walk) -> bool
+    ensures { result ≡ true → MayBlock pass.now.view }
+{
+    matches!(pass.swap(), SwapAt::Drained(_)) && pass.grace() == GraceAt::Idle
+}
+
+#[tactic(auto, using(crate::proofs::Handed::unhanded))]
+fn may_move(pass: &Walk) -> bool
+    ensures may { result ≡ true → MayMove pass.now.view }
+    ensures unhanded { result ≡ true → pass.now.view.handed ≡ None }
+{
+    matches!(pass.swap(), SwapAt::Blocking(_))
+}
+
+fn has_moved(pass: &Walk) -> bool
+    ensures { result ≡ true → pass.now.view.visitor.swap ≡ Moved (object_swapped pass.now.view) }
+{
+    matches!(pass.swap(), SwapAt::Moved(_))
+}
+
+/// Begins to move the state, unless callers are still counted.
+#[tactic(auto, using(crate::proofs::Handed::still_unhanded))]
+fn move_now(sys: &Sys<AnyLayout>, pass: &mut Walk) -> bool
+    requires free { IsFree sys.now pass.old }
+    requires may { MayMove pass.old.view }
+    requires unhanded { pass.old.view.handed ≡ None }
+    ensures free { IsFree sys.now pass.new }
+    ensures unhanded { pass.new.view.handed ≡ None }
+{
+    try_move(sys, pass) == Moving::Moved
+}
+
+/// Tries to begin to move the state, and answers whether nobody was counted.
+fn try_shut(rt: &impl Abort, sys: &Sys<AnyLayout>, pass: &mut Walk) -> bool
+    requires free { IsFree sys.now pass.old }
+    ensures free { IsFree sys.now pass.new }
+    ensures moved { result ≡ true → HasMoved pass.new.view }
+{
+    assert!(rt; may_move(pass));
+    if !move_now(sys, pass) {
+        return false;
+    }
+    assert!(rt; has_moved(pass));
+    true
+}
+
+/// Keeps the object shut, waits until nobody is counted, and begins to move its state.
+fn shut<R: Abort + Wait>(rt: &R, sys: &Sys<AnyLayout>, pass: &mut Walk)
+    requires free { IsFree sys.now pass.old }
+    ensures free { IsFree sys.now pass.new }
+    ensures moved { HasMoved pass.new.view }
+{
+    assert!(rt; may_block(pass));
+    block(sys, pass);
+    let backoff = Backoff::new();
+    for _ in rt.forever() {
+        if try_shut(rt, sys, pass) {
+            return;
+        }
+        backoff.snooze();
+    }
+    unreachable!()
+}
+
+/// Hands the state on to the layout of that tag.
+fn hand_on(
+    rt: &impl Abort,
+    alloc: Global,
+    sys: &Sys<AnyLayout>,
+    pass: &mut Walk,
+    object: u32,
+    tag: u32,
+) -> Result<(), Memory>
+    requires free { IsFree sys.now pass.old }
+    requires moved { HasMoved pass.old.view }
+    ensures free { OnOk result (IsFree sys.now pass.new) }
+    ensures transferred { OnOk result (HasTransferred pass.new.view) }
+{
+    assert!(rt; object < sys.objects() && tag <= 2);
+    assert!(rt; pass.swap() == SwapAt::Moved(object));
+    pass.reserve()?;
+    assert!(rt; pass.entries().len() < 1_048_576);
+    let to = sys.declared(object).with_tag(tag);
+    transfer(alloc, sys, pass, &to)
+}
+
+fn has_opened(pass: &Walk) -> bool
+    ensures { result ≡ true → HasOpened pass.now.view }
+{
+    matches!(pass.swap(), SwapAt::Opened(_)) && pass.has_turned()
+}
+
+/// Opens the new row, and ends the swap.
+fn open(rt: &impl Abort, sys: &Sys<AnyLayout>, pass: &mut Walk)
+    requires free { IsFree sys.now pass.old }
+    requires transferred { HasTransferred pass.old.view }
+    ensures free { IsFree sys.now pass.new }
+{
+    open_entries(sys, pass);
+    assert!(rt; has_opened(pass) && pass.row_room() > 0);
+    end(sys, pass);
+}
+
+/// Swaps the object to the layout of that tag. The grace of the swap is to free so many rows.
+pub(super) fn swap<R: Abort + Wait>(
+    rt: &R,
+    alloc: Global,
+    sys: &Sys<AnyLayout>,
+    pass: &mut Walk,
+    object: u32,
+    tag: u32,
+    freed: u32,
+) -> Result<(), Memory>
+    requires free { IsFree sys.now pass.old }
+    ensures free { OnOk result (IsFree sys.now pass.new) }
+{
+    begin_alone(rt, sys, pass, object);
+    interpose(sys, pass);
+    wait_free(rt, sys, pass, freed);
+    shut(rt, sys, pass);
+    hand_on(rt, alloc, sys, pass, object, tag)?;
+    open(rt, sys, pass);
+    Ok(())
+}

@@ -1,0 +1,155 @@
+//! Activities in which an object is looked up.
+ghost use Rattle.std.specs.Prelude.{◌≡◌, ◌<◌, true, false, length, is_some, OnOk, IfOk};
+ghost use Rattle.phase_core.specs.Stages.{is_missed, is_at_mediator};
+ghost use Rattle.thread_tests.specs.Ready.{IsFree, IsIn, IsServed};
+
+use crate::tests::crews::Walk;
+use co_any::AnyLayout;
+use crossbeam_utils::Backoff;
+use k42_mediator::{Knocked, knock};
+use k42_memory::Memory;
+use k42_quiesce::{enter, leave};
+use k42_rule::Sys;
+use k42_tables::{Entered, Filled, finish_call, look_up, miss};
+use std::alloc::Global;
+use std::process::Abort;
+use std::sync::Wait;
+
+/// Begins an activity.
+fn come_in(rt: &impl Abort, sys: &Sys<AnyLayout>, pass: &mut Walk)
+    requires free { IsFree sys.now pass.old }
+    ensures free { IsFree sys.now pass.new }
+    ensures entered { IsIn pass.new.view }
+{
+    assert!(rt; pass.is_idle() && pass.activities() < 1_048_576);
+    enter(sys, pass);
+}
+
+/// Has a miss handled, and answers whether the call is in the row then.
+fn fill_in<R: Wait>(
+    rt: &R,
+    alloc: Global,
+    sys: &Sys<AnyLayout>,
+    pass: &mut Walk,
+    object: u32,
+) -> Result<bool, Memory>
+    requires free { IsFree sys.now pass.old }
+    requires active { is_some pass.old.view.turn.active ≡ true }
+    requires missed { (is_missed pass.old.view.visitor.place object ≡ true) × (object < length sys.now.layouts) }
+    ensures free { OnOk result (IsFree sys.now pass.new) }
+    ensures served { IfOk result (λ served. served ≡ true → IsServed pass.new.view) }
+    ensures out { IfOk result (λ served. served ≡ false → IsIn pass.new.view) }
+{
+    let filled = miss(rt, alloc, sys, pass, object)?;
+    Ok(matches!(filled, Filled::Installed { .. }))
+}
+
+/// Knocks at the mediator, and answers whether it has let the call in.
+fn knock_at(sys: &Sys<AnyLayout>, pass: &mut Walk, object: u32) -> bool
+    requires free { IsFree sys.now pass.old }
+    requires active { is_some pass.old.view.turn.active ≡ true }
+    requires sent { (is_at_mediator pass.old.view.visitor.place object ≡ true) × (object < length sys.now.layouts) }
+    ensures free { IsFree sys.now pass.new }
+    ensures served { result ≡ true → IsServed pass.new.view }
+    ensures out { result ≡ false → IsIn pass.new.view }
+{
+    matches!(knock(sys, pass, object), Knocked::Admitted { .. })
+}
+
+/// Looks the object up, goes wherever its entry leads, and answers whether the call is in a row then.
+fn call<R: Wait>(
+    rt: &R,
+    alloc: Global,
+    sys: &Sys<AnyLayout>,
+    pass: &mut Walk,
+    object: u32,
+) -> Result<bool, Memory>
+    requires free { IsFree sys.now pass.old }
+    requires entered { IsIn pass.old.view }
+    requires there { object < length sys.now.layouts }
+    ensures free { OnOk result (IsFree sys.now pass.new) }
+    ensures served { IfOk result (λ served. served ≡ true → IsServed pass.new.view) }
+    ensures out { IfOk result (λ served. served ≡ false → IsIn pass.new.view) }
+{
+    match look_up(sys, pass, object) {
+        Entered::Direct { .. } => Ok(true),
+        Entered::Missed => fill_in(rt, alloc, sys, pass, object),
+        Entered::Mediated => Ok(knock_at(sys, pass, object)),
+    }
+}
+
+/// Ends a call that is in a row.
+fn go_out(sys: &Sys<AnyLayout>, pass: &mut Walk)
+    requires free { IsFree sys.now pass.old }
+    requires served { IsServed pass.old.view }
+    ensures free { IsFree sys.now pass.new }
+    ensures out { IsIn pass.new.view }
+{
+    finish_call(sys, pass);
+}
+
+/// Ends the activity.
+fn go_home(sys: &Sys<AnyLayout>, pass: &mut Walk)
+    requires free { IsFree sys.now pass.old }
+    requires out { IsIn pass.old.view }
+    ensures free { IsFree sys.now pass.new }
+{
+    leave(sys, pass);
+}
+
+/// A call in an activity, and the end of both. Answers whether it was served.
+fn stay<R: Wait>(
+    rt: &R,
+    alloc: Global,
+    sys: &Sys<AnyLayout>,
+    pass: &mut Walk,
+    object: u32,
+) -> Result<bool, Memory>
+    requires free { IsFree sys.now pass.old }
+    requires entered { IsIn pass.old.view }
+    requires there { object < length sys.now.layouts }
+    ensures free { OnOk result (IsFree sys.now pass.new) }
+{
+    let served = call(rt, alloc, sys, pass, object)?;
+    if served {
+        go_out(sys, pass);
+    }
+    go_home(sys, pass);
+    Ok(served)
+}
+
+/// A call in an activity of its own. Answers whether it was served.
+fn visit<R: Abort + Wait>(
+    rt: &R,
+    alloc: Global,
+    sys: &Sys<AnyLayout>,
+    pass: &mut Walk,
+    object: u32,
+) -> Result<bool, Memory>
+    requires free { IsFree sys.now pass.old }
+    ensures free { OnOk result (IsFree sys.now pass.new) }
+{
+    assert!(rt; object < sys.objects());
+    come_in(rt, sys, pass);
+    stay(rt, alloc, sys, pass, object)
+}
+
+/// Visits the object so many times, and pauses where the object was blocked.
+pub(super) fn visit_often<R: Abort + Wait>(
+    rt: &R,
+    alloc: Global,
+    sys: &Sys<AnyLayout>,
+    mut pass: Walk,
+    times: u32,
+) -> Result<Walk, Memory>
+    requires { IsFree sys.now pass }
+    ensures { IfOk result (λ out. IsFree sys.now out) }
+{
+    let backoff = Backoff::new();
+    for _ in 0..times {
+        if !visit(rt, alloc, sys, &mut pass, 0)? {
+            backoff.snooze();
+        }
+    }
+    Ok(pass)
+}
