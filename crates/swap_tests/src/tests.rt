@@ -1,3 +1,5 @@
+ghost use Rattle.std.specs.Prelude.{◌<◌};
+
 use crate::tests::calls::call;
 use crate::tests::crews::{finish, last, start};
 use crate::tests::phases::swap;
@@ -6,26 +8,54 @@ use k42_rule::Row;
 use std::test::Fail;
 
 mod calls;
+mod counted;
 mod crews;
+mod given_up;
 mod phases;
 mod rows;
 
-/// Whether the entry has that stamp, and tells that the swap led the first object from one incarnation to the next.
-fn is_swap(entry: &Entry, stamp: u64, incarnation: u32, to: LayoutName, number: u32) -> bool {
-    entry.object == 0
-        && entry.stamp == stamp
-        && entry.incarnation == incarnation
-        && entry.act == Act::Swap(to)
-        && entry.answer == Answer::Swapped(number)
+/// The entry of a call of the first object by the first caller.
+fn called(stamp: u64, index: u32, incarnation: u32, op: Op, reply: Reply) -> Entry
+    requires { incarnation < 1_048_575 }
+{
+    Entry {
+        stamp,
+        caller: 0,
+        index,
+        object: 0,
+        incarnation,
+        cell: incarnation % 2 * 8,
+        act: Act::Call(op),
+        answer: Answer::Replied(reply),
+        proc: 0,
+        generation: Some(incarnation),
+    }
 }
 
-/// Whether the entry has that stamp, and tells of a call of the first object in that incarnation.
-fn is_call(entry: &Entry, stamp: u64, incarnation: u32, op: Op, reply: Reply) -> bool {
-    entry.object == 0
-        && entry.stamp == stamp
-        && entry.incarnation == incarnation
-        && entry.act == Act::Call(op)
-        && entry.answer == Answer::Replied(reply)
+/// The entry of a swap of the first object, where the caller drew it in so many before.
+fn swapped(caller: u32, stamp: u64, index: u32, incarnation: u32, to: LayoutName) -> Entry
+    requires { incarnation < 1_048_575 }
+{
+    Entry {
+        stamp,
+        caller,
+        index,
+        object: 0,
+        incarnation,
+        cell: (incarnation + 1) % 2 * 8,
+        act: Act::Swap(to),
+        answer: Answer::Swapped(incarnation + 1),
+        proc: 0,
+        generation: None,
+    }
+}
+
+/// Whether the caller has drawn just these entries.
+fn has_drawn(lists: &[Vec<Entry>], caller: usize, due: &[Entry]) -> bool {
+    match lists.get(caller) {
+        Some(list) => list.as_slice() == due,
+        None => false,
+    }
 }
 
 #[test]
@@ -54,12 +84,17 @@ fn a_swap_hands_the_state_on_and_a_second_one_frees_its_row(rt: HostRuntime) -> 
         return Err("a pass does not rest")?;
     };
     assert_eq!(rt; lists.len(), 3);
-    let (calls, swaps) = (&lists[0], &lists[1]);
-    assert!(rt; calls.len() == 3 && swaps.len() == 2 && lists[2].is_empty());
-    assert!(rt; is_call(&calls[0], 1, 0, Op::Add(5), Reply::Done));
-    assert!(rt; is_swap(&swaps[0], 2, 0, LayoutName::Spread, 1));
-    assert!(rt; is_call(&calls[1], 3, 1, Op::Add(7), Reply::Done));
-    assert!(rt; is_swap(&swaps[1], 4, 1, LayoutName::Shared, 2));
-    assert!(rt; is_call(&calls[2], 5, 2, Op::Get, Reply::Number(12)));
+    let calls = [
+        called(1, 0, 0, Op::Add(5), Reply::Done),
+        called(3, 1, 1, Op::Add(7), Reply::Done),
+        called(5, 2, 2, Op::Get, Reply::Number(12)),
+    ];
+    assert!(rt; has_drawn(lists.as_slice(), 0, calls.as_slice()));
+    let swaps = [
+        swapped(1, 2, 0, 0, LayoutName::Spread),
+        swapped(1, 4, 1, 1, LayoutName::Shared),
+    ];
+    assert!(rt; has_drawn(lists.as_slice(), 1, swaps.as_slice()));
+    assert!(rt; has_drawn(lists.as_slice(), 2, [].as_slice()));
     Ok(())
 }
