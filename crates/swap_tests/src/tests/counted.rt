@@ -5,7 +5,7 @@ ghost use Rattle.swap_tests.specs.Ready.{IsFree, IsIn, IsServing};
 use crate::tests::calls::{end, enter, leave, look_up, step};
 use crate::tests::crews::{Walk, finish, last, start};
 use crate::tests::phases::{close, hand_on, lead_in, move_out, open, try_early, wait_free};
-use crate::tests::{called, has_drawn, swapped};
+use crate::tests::{called, has_drawn, has_drawn_nothing, swapped};
 use co_any::AnyLayout;
 use k42_kinds::{LayoutName, Op, Reply};
 use k42_memory::Memory;
@@ -74,6 +74,6 @@ fn a_swap_waits_for_the_call_that_is_counted(rt: HostRuntime) -> Result<(), Fail
     assert!(rt; has_drawn(lists.as_slice(), 0, [call].as_slice()));
     let swap = swapped(1, 2, 0, 0, LayoutName::Spread);
     assert!(rt; has_drawn(lists.as_slice(), 1, [swap].as_slice()));
-    assert!(rt; has_drawn(lists.as_slice(), 2, [].as_slice()));
+    assert!(rt; has_drawn_nothing(lists.as_slice(), 2));
     Ok(())
 }
