@@ -1,45 +1,108 @@
+ghost use Rattle.std.specs.Prelude.{◌<◌};
+
+use crate::tests::calls::call;
 use crate::tests::crews::{finish, last, start};
 use crate::tests::phases::swap;
-use k42_kinds::{Answer, Entry};
+use k42_kinds::{Act, Answer, Entry, LayoutName, Op, Reply};
 use k42_rule::Row;
 use std::test::Fail;
 
+mod calls;
+mod counted;
 mod crews;
+mod given_up;
 mod phases;
 mod rows;
 
-/// Whether the entry tells of the swap that led the first object from one incarnation to the next.
-fn is_swap(entry: &Entry, stamp: u64, incarnation: u32, number: u32) -> bool {
-    entry.object == 0
-        && entry.stamp == stamp
-        && entry.incarnation == incarnation
-        && entry.answer == Answer::Swapped(number)
+/// The entry of a call of the first object by the first caller.
+fn called(stamp: u64, index: u32, incarnation: u32, op: Op, reply: Reply) -> Entry
+    requires { incarnation < 1_048_575 }
+{
+    Entry {
+        stamp,
+        caller: 0,
+        index,
+        object: 0,
+        incarnation,
+        cell: incarnation % 2 * 8,
+        act: Act::Call(op),
+        answer: Answer::Replied(reply),
+        proc: 0,
+        generation: Some(incarnation),
+    }
+}
+
+/// The entry of a swap of the first object, where the caller drew it in so many before.
+fn swapped(caller: u32, stamp: u64, index: u32, incarnation: u32, to: LayoutName) -> Entry
+    requires { incarnation < 1_048_575 }
+{
+    Entry {
+        stamp,
+        caller,
+        index,
+        object: 0,
+        incarnation,
+        cell: (incarnation + 1) % 2 * 8,
+        act: Act::Swap(to),
+        answer: Answer::Swapped(incarnation + 1),
+        proc: 0,
+        generation: None,
+    }
+}
+
+/// Whether the caller has drawn just these entries.
+fn has_drawn(lists: &[Vec<Entry>], caller: usize, due: &[Entry]) -> bool {
+    match lists.get(caller) {
+        Some(list) => list.as_slice() == due,
+        None => false,
+    }
+}
+
+/// Whether the caller has drawn no entry.
+fn has_drawn_nothing(lists: &[Vec<Entry>], caller: usize) -> bool {
+    match lists.get(caller) {
+        Some(list) => list.is_empty(),
+        None => false,
+    }
 }
 
 #[test]
-fn a_second_swap_frees_the_row_of_the_first(rt: HostRuntime) -> Result<(), Fail> {
+fn a_swap_hands_the_state_on_and_a_second_one_frees_its_row(rt: HostRuntime) -> Result<(), Fail> {
     let (sys, mut passes) = start(rt.alloc())?;
-    let (Some(two), Some(mut one), Some(zero)) = (
+    let (Some(two), Some(mut one), Some(mut zero)) = (
         last(&sys, &mut passes),
         last(&sys, &mut passes),
         last(&sys, &mut passes),
     ) else {
         return Err("no passes")?;
     };
-    swap(&rt, rt.alloc(), &sys, &mut one, 0, 1, 0)?;
+    let alloc = rt.alloc();
+    assert_eq!(rt; call(alloc, &sys, &mut zero, 0, &Op::Add(5))?, Some(1));
+    swap(&rt, alloc, &sys, &mut one, 0, 1, 0)?;
     let row = Row {
         object: 0,
         incarnation: 0,
     };
     assert!(rt; one.rows() == [row].as_slice());
-    swap(&rt, rt.alloc(), &sys, &mut one, 0, 0, 1)?;
+    assert_eq!(rt; call(alloc, &sys, &mut zero, 0, &Op::Add(7))?, Some(3));
+    swap(&rt, alloc, &sys, &mut one, 0, 0, 1)?;
     assert_eq!(rt; one.rows().len(), 1);
-    let Some(lists) = finish(rt.alloc(), sys, zero, one, two)? else {
+    assert_eq!(rt; call(alloc, &sys, &mut zero, 0, &Op::Get)?, Some(5));
+    let Some(lists) = finish(alloc, sys, zero, one, two)? else {
         return Err("a pass does not rest")?;
     };
     assert_eq!(rt; lists.len(), 3);
-    assert!(rt; lists[0].is_empty() && lists[2].is_empty());
-    assert_eq!(rt; lists[1].len(), 2);
-    assert!(rt; is_swap(&lists[1][0], 1, 0, 1) && is_swap(&lists[1][1], 2, 1, 2));
+    let calls = [
+        called(1, 0, 0, Op::Add(5), Reply::Done),
+        called(3, 1, 1, Op::Add(7), Reply::Done),
+        called(5, 2, 2, Op::Get, Reply::Number(12)),
+    ];
+    assert!(rt; has_drawn(lists.as_slice(), 0, calls.as_slice()));
+    let swaps = [
+        swapped(1, 2, 0, 0, LayoutName::Spread),
+        swapped(1, 4, 1, 1, LayoutName::Shared),
+    ];
+    assert!(rt; has_drawn(lists.as_slice(), 1, swaps.as_slice()));
+    assert!(rt; has_drawn_nothing(lists.as_slice(), 2));
     Ok(())
 }

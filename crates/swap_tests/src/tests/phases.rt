@@ -10,7 +10,9 @@ use crate::tests::crews::Walk;
 use co_any::AnyLayout;
 use gen_core::GraceAt;
 use k42_kinds::Layout;
-use k42_mediator::{Begun, Moving, begin, block, end, interpose, open_entries, transfer, try_move};
+use k42_mediator::{
+    Begun, Moving, Phase, abandon, begin, block, end, interpose, open_entries, transfer, try_move,
+};
 use k42_memory::Memory;
 use k42_quiesce::{grace, reclaim};
 use k42_rule::Sys;
@@ -34,6 +36,15 @@ fn begin_alone(rt: &impl Abort, sys: &Sys<AnyLayout>, pass: &mut Walk, object: u
     assert!(rt; pass.is_idle() && object < sys.objects());
     assert_eq!(rt; begin(sys, pass, object), Begun::Begun);
     assert!(rt; has_begun(pass));
+}
+
+/// Begins a swap, and leads all entries to the mediator.
+pub(super) fn lead_in(rt: &impl Abort, sys: &Sys<AnyLayout>, pass: &mut Walk, object: u32)
+    requires free { IsFree sys.now pass.old }
+    ensures free { IsFree sys.now pass.new }
+{
+    begin_alone(rt, sys, pass, object);
+    interpose(sys, pass);
 }
 
 /// Whether the pass may begin a grace.
@@ -88,21 +99,47 @@ fn move_now(rt: &impl Abort, sys: &Sys<AnyLayout>, pass: &mut Walk)
     assert_eq!(rt; try_move(sys, pass), Moving::Moved);
 }
 
-/// Keeps the object shut, and begins to move its state.
-fn shut(rt: &impl Abort, sys: &Sys<AnyLayout>, pass: &mut Walk)
+/// Keeps out whoever knocks from now on.
+pub(super) fn close(rt: &impl Abort, sys: &Sys<AnyLayout>, pass: &mut Walk)
+    requires free { IsFree sys.now pass.old }
+    ensures free { IsFree sys.now pass.new }
+{
+    assert!(rt; may_block(pass));
+    block(sys, pass);
+}
+
+/// Tries to move the state, while so many callers are counted.
+pub(super) fn try_early(rt: &impl Abort, sys: &Sys<AnyLayout>, pass: &mut Walk, count: u32)
+    requires free { IsFree sys.now pass.old }
+    ensures free { IsFree sys.now pass.new }
+{
+    assert!(rt; may_move(pass));
+    assert_eq!(rt; try_move(sys, pass), Moving::InFlight { count });
+}
+
+/// Begins to move the state.
+pub(super) fn move_out(rt: &impl Abort, sys: &Sys<AnyLayout>, pass: &mut Walk)
     requires free { IsFree sys.now pass.old }
     ensures free { IsFree sys.now pass.new }
     ensures moved { HasMoved pass.new.view }
 {
-    assert!(rt; may_block(pass));
-    block(sys, pass);
     assert!(rt; may_move(pass));
     move_now(rt, sys, pass);
     assert!(rt; has_moved(pass));
 }
 
+/// Keeps the object shut, and begins to move its state.
+pub(super) fn shut(rt: &impl Abort, sys: &Sys<AnyLayout>, pass: &mut Walk)
+    requires free { IsFree sys.now pass.old }
+    ensures free { IsFree sys.now pass.new }
+    ensures moved { HasMoved pass.new.view }
+{
+    close(rt, sys, pass);
+    move_out(rt, sys, pass);
+}
+
 /// Hands the state on to the layout of that tag.
-fn hand_on(
+pub(super) fn hand_on(
     rt: &impl Abort,
     alloc: Global,
     sys: &Sys<AnyLayout>,
@@ -123,6 +160,25 @@ fn hand_on(
     transfer(alloc, sys, pass, &to)
 }
 
+/// Gives up the swap to the layout of that tag.
+pub(super) fn give_up(
+    rt: &impl Abort,
+    sys: &Sys<AnyLayout>,
+    pass: &mut Walk,
+    tag: u32,
+) -> Result<(), Memory>
+    requires free { IsFree sys.now pass.old }
+    requires moved { HasMoved pass.old.view }
+    ensures free { OnOk result (IsFree sys.now pass.new) }
+{
+    assert!(rt; sys.objects() > 0 && tag <= 2);
+    pass.reserve()?;
+    assert!(rt; pass.entries().len() < 1_048_576);
+    let to = sys.declared(0).with_tag(tag);
+    abandon(sys, pass, &to);
+    Ok(())
+}
+
 fn has_opened(pass: &Walk) -> bool
     ensures { result ≡ true → HasOpened pass.now.view }
 {
@@ -130,7 +186,7 @@ fn has_opened(pass: &Walk) -> bool
 }
 
 /// Opens the new row, and ends the swap.
-fn open(rt: &impl Abort, sys: &Sys<AnyLayout>, pass: &mut Walk)
+pub(super) fn open(rt: &impl Abort, sys: &Sys<AnyLayout>, pass: &mut Walk)
     requires free { IsFree sys.now pass.old }
     requires transferred { HasTransferred pass.old.view }
     ensures free { IsFree sys.now pass.new }
@@ -138,6 +194,23 @@ fn open(rt: &impl Abort, sys: &Sys<AnyLayout>, pass: &mut Walk)
     open_entries(sys, pass);
     assert!(rt; has_opened(pass) && pass.row_room() > 0);
     end(sys, pass);
+}
+
+/// Tries to begin a swap of the object, which another pass is to swap already.
+pub(super) fn begin_late(
+    rt: &impl Abort,
+    sys: &Sys<AnyLayout>,
+    pass: &mut Walk,
+    object: u32,
+    number: u32,
+    phase: Phase,
+)
+    requires free { IsFree sys.now pass.old }
+    ensures free { IsFree sys.now pass.new }
+{
+    assert!(rt; pass.is_idle() && object < sys.objects());
+    let busy = Begun::Busy { number, phase };
+    assert_eq!(rt; begin(sys, pass, object), busy);
 }
 
 /// Swaps the object to the layout of that tag. The grace of the swap is to free so many rows.
@@ -153,8 +226,7 @@ pub(super) fn swap<R: Abort + Wait>(
     requires free { IsFree sys.now pass.old }
     ensures free { OnOk result (IsFree sys.now pass.new) }
 {
-    begin_alone(rt, sys, pass, object);
-    interpose(sys, pass);
+    lead_in(rt, sys, pass, object);
     wait_free(rt, sys, pass, freed);
     shut(rt, sys, pass);
     hand_on(rt, alloc, sys, pass, object, tag)?;

@@ -1,0 +1,79 @@
+//! A swap under which calls are in the row.
+ghost use Rattle.std.specs.Prelude.{◌≡◌, true, false, OnOk};
+ghost use Rattle.swap_tests.specs.Ready.{IsFree, IsIn, IsServing};
+
+use crate::tests::calls::{end, enter, leave, look_up, step};
+use crate::tests::crews::{Walk, finish, last, start};
+use crate::tests::phases::{close, hand_on, lead_in, move_out, open, try_early, wait_free};
+use crate::tests::{called, has_drawn, has_drawn_nothing, swapped};
+use co_any::AnyLayout;
+use k42_kinds::{LayoutName, Op, Reply};
+use k42_memory::Memory;
+use k42_rule::Sys;
+use std::alloc::Global;
+use std::process::Abort;
+use std::test::Fail;
+
+/// Begins an activity and a call of the first object, which is let in or not.
+fn come_in(rt: &impl Abort, sys: &Sys<AnyLayout>, pass: &mut Walk, served: bool)
+    requires free { IsFree sys.now pass.old }
+    ensures free { IsFree sys.now pass.new }
+    ensures serving { served ≡ true → IsServing pass.new.view }
+    ensures out { served ≡ false → IsIn pass.new.view }
+{
+    assert!(rt; sys.objects() > 0 && enter(sys, pass).is_some());
+    assert_eq!(rt; look_up(sys, pass, 0).served, served);
+}
+
+/// Makes the operation, and ends the call and the activity.
+fn go_out(
+    alloc: Global,
+    sys: &Sys<AnyLayout>,
+    pass: &mut Walk,
+    op: &Op,
+) -> Result<Option<u64>, Memory>
+    requires free { IsFree sys.now pass.old }
+    requires serving { IsServing pass.old.view }
+    ensures free { OnOk result (IsFree sys.now pass.new) }
+{
+    let stamp = step(alloc, sys, pass, op)?;
+    end(sys, pass);
+    leave(sys, pass);
+    Ok(stamp)
+}
+
+#[test]
+fn a_swap_waits_for_the_call_that_is_counted(rt: HostRuntime) -> Result<(), Fail> {
+    let (sys, mut passes) = start(rt.alloc())?;
+    let (Some(mut two), Some(mut one), Some(mut zero)) = (
+        last(&sys, &mut passes),
+        last(&sys, &mut passes),
+        last(&sys, &mut passes),
+    ) else {
+        return Err("no passes")?;
+    };
+    let alloc = rt.alloc();
+    lead_in(&rt, &sys, &mut one, 0);
+    wait_free(&rt, &sys, &mut one, 0);
+    come_in(&rt, &sys, &mut zero, true);
+    close(&rt, &sys, &mut one);
+    try_early(&rt, &sys, &mut one, 1);
+    come_in(&rt, &sys, &mut two, false);
+    leave(&sys, &mut two);
+    assert_eq!(rt; go_out(alloc, &sys, &mut zero, &Op::Add(5))?, Some(1));
+    move_out(&rt, &sys, &mut one);
+    hand_on(&rt, alloc, &sys, &mut one, 0, 1)?;
+    open(&rt, &sys, &mut one);
+    let Some(lists) = finish(alloc, sys, zero, one, two)? else {
+        return Err("a pass does not rest")?;
+    };
+    assert_eq!(rt; lists.len(), 3);
+    let mut call = called(1, 0, 0, Op::Add(5), Reply::Done);
+    // It began after the grace of the swap.
+    call.generation = Some(1);
+    assert!(rt; has_drawn(lists.as_slice(), 0, [call].as_slice()));
+    let swap = swapped(1, 2, 0, 0, LayoutName::Spread);
+    assert!(rt; has_drawn(lists.as_slice(), 1, [swap].as_slice()));
+    assert!(rt; has_drawn_nothing(lists.as_slice(), 2));
+    Ok(())
+}
