@@ -1,0 +1,18 @@
+-- The history of a closed system.
+use Rattle.std.specs.Prelude.{◌≡◌, ℕ, ◌<◌, List, length, All, Some, slice_get}
+use Rattle.k42_kinds.specs.Histories.{IsInOrder}
+use Rattle.k42_kinds.specs.Legal.{IsLegalHistory}
+use Rattle.k42_kinds.specs.declared.entry.Entry.{Entry}
+use Rattle.k42_runtime.specs.Plans.{PlanSeen, kinds_of}
+
+-- its entries, in order, and the plan of its system
+pub record HistorySeen : Type 0 where
+  pub entries : List Entry
+  pub plan : PlanSeen
+
+-- One legal history of the plan's objects, in which the entries of each caller stand once and in order, and no others.
+pub record IsClosed (plan : PlanSeen) (lists : List (List Entry)) (history : HistorySeen) : Type 0 where
+  pub plan_is : history.plan ≡ plan
+  pub legal : IsLegalHistory (kinds_of plan) history.entries
+  pub in_order : (c : ℕ) (list : List Entry) → slice_get lists c ≡ Some list → IsInOrder history.entries c list
+  pub no_stranger : All (λ entry. entry.caller < length plan.callers) history.entries

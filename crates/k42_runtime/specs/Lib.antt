@@ -1,0 +1,5 @@
+pub mod Plans
+pub mod Systems
+pub mod Calls
+pub mod Swaps
+pub mod Histories

@@ -1,0 +1,114 @@
+//! Calls, which may be stepped where nobody may wait.
+ghost use Rattle.std.specs.Prelude.{◌≡◌, ◌<◌, false, length, IfOk, OnErr};
+ghost use Rattle.k42_kinds.specs.declared.operation.Reply.{Reply};
+ghost use Rattle.k42_board.specs.Generations.{MOST};
+ghost use Rattle.k42_runtime.specs.Calls.{IsAsked, HasCalled, HasNotCalled, HoldsUp, is_last};
+ghost use Rattle.k42_runtime.specs.Systems.{IsPassHere, IsAtWork, layouts_in};
+ghost use Rattle.k42_runtime.specs.declared.calls.CallCause.{CallCause};
+ghost use Rattle.k42_runtime.specs.declared.calls.CallStep.TheVariants as CallStep;
+
+use crate::system::{Pass, System};
+use k42_kinds::{Op, Reply};
+use k42_memory::Memory;
+use std::alloc::Global;
+use std::marker::Model;
+use std::sync::Wait;
+
+/// What holds a call up.
+#[derive(Clone, Copy, Debug, PartialEq, Eq)]
+pub enum CallCause {
+    /// A swap keeps the object shut.
+    Blocked,
+    /// The entry led elsewhere by then, which is this word.
+    Elsewhere { word: u64 },
+    /// The caller of this number held a cell.
+    CellHeld { holder: u32 },
+}
+
+/// How far a step has brought a call.
+#[derive(Clone, Copy, Debug, PartialEq, Eq)]
+pub enum CallStep {
+    /// The pass is in its activity, inside no call, and holds no cell.
+    Again(CallCause),
+    Ended(Reply),
+    Memory,
+}
+
+/// A call of an object.
+#[derive(Drop)]
+pub struct Call {
+    object: u32,
+    op: Op,
+    ended: bool,
+}
+
+impl Model for Call {
+    ghost use Rattle.k42_runtime.specs.Calls.{CallSeen};
+
+    ghost Value = { CallSeen };
+
+    ghost view = { λ c. record { object = c.object; op = c.op; ended = c.ended } };
+}
+
+impl Call {
+    /// A call that has not begun.
+    pub fn new(object: u32, op: Op) -> Call
+        ensures { result ≡ record { object = object; op = op; ended = false } }
+    {
+        Call {
+            object,
+            op,
+            ended: false,
+        }
+    }
+
+    /// Whether it has answered `Ended` or `Memory`.
+    pub fn ended(&self) -> bool
+        ensures { result ≡ self.now.ended }
+    {
+        self.ended
+    }
+
+    /// Tries the call once, and does not wait.
+    pub fn step(&mut self, alloc: Global, system: &System, pass: &mut Pass) -> CallStep
+        requires ours { IsPassHere system.now pass.old }
+        requires works { IsAtWork pass.old.view }
+        requires asked { IsAsked system.now.plan self.old.object self.old.op }
+        requires few { length pass.old.view.taker.mine < MOST }
+        requires going { self.old.ended ≡ false }
+        ensures here { IsPassHere system.now pass.new }
+        ensures works { IsAtWork pass.new.view }
+        ensures same { self.new ≡ record self.old { ended = is_last result } }
+        ensures ended { (reply : Reply) → result ≡ CallStep.Ended reply → HasCalled self.old.object self.old.op reply pass.old.view pass.new.view }
+        ensures again { (cause : CallCause) → result ≡ CallStep.Again cause → HasNotCalled pass.old.view pass.new.view }
+        ensures found { (cause : CallCause) → result ≡ CallStep.Again cause
+            → HoldsUp (layouts_in system.now) system.now.sys.layouts pass.old.seat cause self.old.object pass.old.view pass.new.view }
+        ensures memory { result ≡ CallStep.Memory → HasNotCalled pass.old.view pass.new.view }
+    {
+        unreachable!()
+    }
+}
+
+impl System {
+    /// Makes the operation, and answers its reply. Waits while the object is shut for a swap, and while another caller
+    /// holds a cell that the operation needs. For want of memory nothing is done.
+    pub fn call<R: Wait>(
+        &self,
+        rt: &R,
+        alloc: Global,
+        pass: &mut Pass,
+        object: u32,
+        op: Op,
+    ) -> Result<Reply, Memory>
+        requires ours { IsPassHere self.now pass.old }
+        requires works { IsAtWork pass.old.view }
+        requires asked { IsAsked self.now.plan object op }
+        requires few { length pass.old.view.taker.mine < MOST }
+        ensures here { IsPassHere self.now pass.new }
+        ensures works { IsAtWork pass.new.view }
+        ensures called { IfOk result (λ reply. HasCalled object op reply pass.old.view pass.new.view) }
+        ensures memory { OnErr result (HasNotCalled pass.old.view pass.new.view) }
+    {
+        unreachable!()
+    }
+}

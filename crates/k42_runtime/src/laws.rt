@@ -1,0 +1,31 @@
+ghost use Rattle.std.specs.Prelude.{◌≡◌, true, List};
+ghost use Rattle.atomic_table.specs.Table.{State};
+ghost use Rattle.co_any.specs.declared.part.AnyPart.{AnyPart};
+ghost use Rattle.k42_board.specs.Cells.{Slot};
+ghost use Rattle.k42_board.specs.Rule.{Rule};
+ghost use Rattle.k42_board.specs.declared.view.View.{View};
+ghost use Rattle.k42_joined.specs.Fitting.{lists_of};
+ghost use Rattle.k42_kinds.specs.Histories.{AtEachPlace};
+ghost use Rattle.k42_kinds.specs.Legal.{IsSoFarAmongObjects};
+ghost use Rattle.k42_kinds.specs.Objects.{plain_object};
+ghost use Rattle.k42_kinds.specs.declared.entry.Entry.{Entry};
+ghost use Rattle.k42_stamp.specs.Lists.{IsMerged, is_drawn};
+ghost use Rattle.k42_runtime.specs.Plans.{kinds_of};
+ghost use Rattle.k42_runtime.specs.Systems.{layouts_in};
+
+use crate::system::System;
+use co_any::AnyLayout;
+use k42_joined::trace_is_legal;
+use k42_rule::layouts_are_lawful;
+
+/// At every moment between two steps, the entries of all passes, in order and numbered anew, are legal so far: each
+/// call, and each swap or destroy that was done, spent or gone.
+pub fn traces_are_legal(system: &System)
+    ensures { (table : State (Slot AnyPart) (View AnyPart)) (rule : Rule (layouts_in system.now) system.now.sys.layouts table)
+        (merged : List Entry) → IsMerged (lists_of rule.state) merged
+        → AtEachPlace (λ before entry after. is_drawn entry.act entry.answer ≡ true
+        → IsSoFarAmongObjects plain_object (kinds_of system.now.plan) before entry after) merged }
+{
+    layouts_are_lawful(&system.sys);
+    trace_is_legal::<AnyLayout>(system.sys.procs());
+}

@@ -1,0 +1,22 @@
+//! Clustered objects of three kinds, which are called on any thread, swapped and destroyed while they are called, and
+//! closed into one legal history.
+#![tactic(auto)]
+
+mod calls;
+mod cells;
+mod closing;
+mod history;
+mod laws;
+mod phases;
+mod plan;
+mod serving;
+mod swaps;
+mod system;
+mod waiting;
+
+pub use calls::{Call, CallCause, CallStep};
+pub use history::{History, Unclosed};
+pub use laws::traces_are_legal;
+pub use plan::{ObjectPlan, Plan, PlanFault};
+pub use swaps::{Cause, Step, Swap, Swapped, To};
+pub use system::{Pass, System};

@@ -1,0 +1,131 @@
+//! Swaps and destroys, which may be stepped where nobody may wait.
+ghost use Rattle.std.specs.Prelude.{◌≡◌, ◌≤◌, ◌+◌, false, length, None};
+ghost use Rattle.k42_board.specs.Views.{word_begun};
+ghost use Rattle.k42_runtime.specs.Swaps.{IsAtStage, IsSameCaller, HasSwapped, HasGivenUp, IsFound, IsStepBy, is_over, is_last, graces_due};
+ghost use Rattle.k42_runtime.specs.Systems.{IsPassHere, layouts_in};
+ghost use Rattle.k42_runtime.specs.declared.swaps.Cause.{Cause};
+ghost use Rattle.k42_runtime.specs.declared.swaps.Stage.TheVariants as Stage;
+ghost use Rattle.k42_runtime.specs.declared.swaps.Step.TheVariants as Step;
+ghost use Rattle.k42_runtime.specs.declared.swaps.Swapped.{Swapped};
+
+use crate::system::{Pass, System};
+use k42_kinds::LayoutName;
+use k42_quiesce::Grace;
+use std::alloc::Global;
+use std::marker::Model;
+
+/// What an object is swapped to.
+#[derive(Clone, Copy, Debug, PartialEq, Eq)]
+pub enum To {
+    Layout(LayoutName),
+    /// It is destroyed.
+    Dead,
+}
+
+/// How a swap ended. The numbers count the object's swaps from 1.
+#[derive(Clone, Copy, Debug, PartialEq, Eq)]
+pub enum Swapped {
+    Done(u32),
+    /// Another swap of the object was under way.
+    Busy(u32),
+    /// The object was at its last incarnation.
+    Spent,
+    /// The object was dead.
+    Gone,
+}
+
+/// What holds a swap up.
+#[derive(Clone, Copy, Debug, PartialEq, Eq)]
+pub enum Cause {
+    /// So many activities of the former generation have not left the processor.
+    Left { proc: u32, left: u32 },
+    /// Another caller has the role for its grace.
+    RoleHeld { holder: u32 },
+    /// So many callers are still counted.
+    InFlight { count: u32 },
+    /// The caller of this number held the cell at which the swap is to tell that its object is over.
+    CellHeld { holder: u32 },
+}
+
+/// How far a step has brought a swap.
+#[derive(Clone, Copy, Debug, PartialEq, Eq)]
+pub enum Step {
+    Again(Cause),
+    Ended(Swapped),
+    /// The old implementation is open, and the pass is idle.
+    Memory,
+}
+
+/// How far a swap is.
+#[derive(Clone, Copy, Debug, PartialEq, Eq)]
+pub enum Stage {
+    New,
+    Waiting,
+    Shut,
+    Marking,
+    Over,
+}
+
+/// A swap of an object.
+#[derive(Drop)]
+pub struct Swap {
+    pub(crate) object: u32,
+    pub(crate) to: To,
+    pub(crate) stage: Stage,
+    pub(crate) grace: Grace,
+}
+
+impl Model for Swap {
+    ghost use Rattle.k42_runtime.specs.Swaps.{SwapSeen};
+
+    ghost Value = { SwapSeen };
+
+    ghost view = { λ s. record { object = s.object; to = s.to; stage = s.stage; holder = s.grace } };
+}
+
+impl Swap {
+    /// A swap that has not begun.
+    pub fn new(object: u32, to: To) -> Swap
+        ensures { result ≡ record { object = object; to = to; stage = Stage.New; holder = None } }
+    {
+        Swap {
+            object,
+            to,
+            stage: Stage::New,
+            grace: Grace::new(),
+        }
+    }
+
+    /// Whether it has answered `Ended` or `Memory`.
+    pub fn ended(&self) -> bool
+        ensures { result ≡ is_over self.now.stage }
+    {
+        self.stage == Stage::Over
+    }
+
+    /// Goes on as far as it can without waiting. It is always stepped with the same pass, which is used for nothing else
+    /// meanwhile. For want of memory the swap ends, with nothing begun, or given up.
+    pub fn step(&mut self, alloc: Global, system: &System, pass: &mut Pass) -> Step
+        requires ours { IsPassHere system.now pass.old }
+        requires stage { IsAtStage self.old.stage (length system.now.plan.objects) self.old pass.old }
+        requires going { is_over self.old.stage ≡ false }
+        ensures here { IsPassHere system.now pass.new }
+        ensures stage { IsAtStage self.new.stage (length system.now.plan.objects) self.new pass.new }
+        ensures same { (self.new.object ≡ self.old.object) × (self.new.to ≡ self.old.to) }
+        ensures over { is_over self.new.stage ≡ is_last result }
+        ensures caller { IsSameCaller pass.old.view pass.new.view }
+        ensures graces { pass.new.view.graces + graces_due self.new.stage self.new.holder ≤ pass.old.view.graces + graces_due self.old.stage self.old.holder }
+        ensures told { IsStepBy (word_begun pass.new.view.last) result }
+        ensures ended { (end : Swapped) → result ≡ Step.Ended end → HasSwapped self.old.object self.old.to end pass.old.view pass.new.view }
+        ensures again { (cause : Cause) → result ≡ Step.Again cause → (pass.new.view.taker.mine ≡ pass.old.view.taker.mine) × IsFound cause pass.new.view }
+        ensures memory { result ≡ Step.Memory → HasGivenUp (layouts_in system.now) system.now.sys.layouts pass.old.seat self.old.object self.old.to pass.old.view pass.new.view }
+    {
+        match self.stage {
+            Stage::New => self.begin(alloc, system, pass),
+            Stage::Waiting => self.wait(alloc, system, pass),
+            Stage::Shut => self.shut(alloc, system, pass),
+            Stage::Marking => self.mark(system, pass),
+            Stage::Over => unreachable!(),
+        }
+    }
+}

@@ -1,0 +1,102 @@
+//! A system: its table and its plan.
+ghost use Rattle.std.specs.Prelude.{◌≡◌, ◌<◌, ℕ, Some, length, map, slice_get, IfOk};
+ghost use Rattle.k42_board.specs.Generating.{entered_view, left_view};
+ghost use Rattle.k42_board.specs.Generations.{MOST};
+ghost use Rattle.k42_board.specs.Seen.{IsSamePass};
+ghost use Rattle.k42_quiesce.specs.Activities.{HasEntered};
+ghost use Rattle.k42_runtime.specs.Plans.{kinds_of, layout_of};
+ghost use Rattle.k42_runtime.specs.Systems.{IsPassHere, IsAtWork, IsAtRest, HasStarted};
+
+use crate::plan::{ObjectPlan, Plan};
+use co_any::AnyLayout;
+use k42_kinds::KindName;
+use k42_memory::Memory;
+use k42_rule::Sys;
+use std::alloc::Global;
+use std::marker::Model;
+
+/// What one caller steps with.
+pub type Pass = k42_rule::Pass<AnyLayout>;
+
+/// Clustered objects, each under calls and swaps of any passes.
+#[derive(Drop)]
+pub struct System {
+    pub(crate) sys: Sys<AnyLayout>,
+    pub(crate) plan: Plan,
+}
+
+impl Model for System {
+    ghost use Rattle.k42_runtime.specs.Systems.{SystemSeen, IsPlanned};
+
+    ghost Value = { SystemSeen };
+
+    ghost view = { λ s. record { sys = s.sys; plan = s.plan } };
+
+    ghost invariant = { λ s. IsPlanned (record { sys = s.sys; plan = s.plan }) };
+}
+
+/// The layouts in which the objects start.
+fn layouts_for(alloc: Global, objects: &[ObjectPlan]) -> Result<Vec<AnyLayout>, Memory>
+    ensures { IfOk result (λ layouts. layouts.items ≡ map layout_of objects.now) }
+{
+    let mut layouts = Vec::with_capacity(alloc, objects.len())?;
+    for object in objects {
+        layouts.push_reserved(AnyLayout::of(object.kind, object.layout));
+    }
+    Ok(layouts)
+}
+
+/// The same numbers again.
+fn copied(alloc: Global, homes: &[u32]) -> Result<Vec<u32>, Memory>
+    ensures { IfOk result (λ copy. copy.items ≡ homes.now) }
+{
+    let mut copy = Vec::new(alloc);
+    copy.extend_from_slice(homes)?;
+    Ok(copy)
+}
+
+impl System {
+    /// A system of empty objects, and its passes in the order of the plan's callers.
+    pub fn start(alloc: Global, plan: Plan) -> Result<(System, Vec<Pass>), Memory>
+        ensures { IfOk result (λ made. HasStarted plan made.0 made.1.items) }
+    {
+        let layouts = layouts_for(alloc, plan.objects.as_slice())?;
+        let callers = copied(alloc, plan.callers.as_slice())?;
+        let (sys, passes) = Sys::start(alloc, layouts, plan.procs, callers)?;
+        Ok((System { sys, plan }, passes))
+    }
+
+    /// The kind of an object.
+    pub fn kind_of(&self, object: u32) -> KindName
+        requires { object < length self.now.plan.objects }
+        ensures { slice_get (kinds_of self.now.plan) object ≡ Some result }
+    {
+        self.plan.objects[object as usize].kind
+    }
+
+    /// Begins an activity, in which the pass may call.
+    pub fn enter(&self, pass: &mut Pass)
+        requires ours { IsPassHere self.now pass.old }
+        requires rests { IsAtRest pass.old.view }
+        requires few { pass.old.view.activities < MOST }
+        ensures here { IsPassHere self.now pass.new }
+        ensures same { IsSamePass pass.old pass.new }
+        ensures works { IsAtWork pass.new.view }
+        ensures entered { HasEntered pass.new.view }
+        ensures knows { (found : ℕ) × (pass.new.view ≡ entered_view found pass.old.view) }
+    {
+        k42_quiesce::enter(&self.sys, pass);
+    }
+
+    /// Ends the activity.
+    pub fn leave(&self, pass: &mut Pass)
+        requires ours { IsPassHere self.now pass.old }
+        requires works { IsAtWork pass.old.view }
+        ensures here { IsPassHere self.now pass.new }
+        ensures same { IsSamePass pass.old pass.new }
+        ensures rests { IsAtRest pass.new.view }
+        ensures knows { (found : ℕ) × (pass.new.view ≡ left_view found pass.old.view) }
+    {
+        k42_quiesce::leave(&self.sys, pass);
+    }
+}

@@ -1,0 +1,84 @@
+//! Swaps and destroys that wait, and rows that are freed.
+ghost use Rattle.std.specs.Prelude.{◌≡◌, ◌≤◌, ◌+◌, ◌++◌, ◌<◌, ℕ, List, [], Option, length, IfOk, OnErr};
+ghost use Rattle.k42_board.specs.Generations.{MOST};
+ghost use Rattle.k42_board.specs.Steps.{Always};
+ghost use Rattle.k42_board.specs.Views.{word_begun};
+ghost use Rattle.k42_board.specs.declared.view.Row.{Row};
+ghost use Rattle.k42_quiesce.specs.Reclaiming.{Reclaims, AreRowsFreed};
+ghost use Rattle.k42_runtime.specs.Swaps.{MayStart, IsSameCaller, HasSwapped, HasGivenUp, IsEndBy};
+ghost use Rattle.k42_runtime.specs.Systems.{IsPassHere, IsAtRest, layouts_in};
+ghost use Rattle.k42_runtime.specs.declared.swaps.To.TheVariants as To;
+
+use crate::swaps::{Step, Swap, Swapped, To};
+use crate::system::{Pass, System};
+use crossbeam_utils::Backoff;
+use k42_kinds::LayoutName;
+use k42_memory::Memory;
+use k42_quiesce::{collect, grace, hand_over};
+use std::alloc::Global;
+use std::sync::Wait;
+
+impl System {
+    /// Replaces the implementation of the object while it is called. Waits for the activities that are open, for the calls
+    /// that are inside, and for the graces of others.
+    pub fn swap<R: Wait>(
+        &self,
+        rt: &R,
+        alloc: Global,
+        pass: &mut Pass,
+        object: u32,
+        to: LayoutName,
+    ) -> Result<Swapped, Memory>
+        requires ours { IsPassHere self.now pass.old }
+        requires may { MayStart (length self.now.plan.objects) object pass.old }
+        ensures here { IsPassHere self.now pass.new }
+        ensures rests { IsAtRest pass.new.view }
+        ensures caller { IsSameCaller pass.old.view pass.new.view }
+        ensures graces { pass.new.view.graces ≤ pass.old.view.graces + 1 }
+        ensures told { IfOk result (IsEndBy (word_begun pass.new.view.last)) }
+        ensures ended { IfOk result (λ end. HasSwapped object (To.Layout to) end pass.old.view pass.new.view) }
+        ensures memory { OnErr result (HasGivenUp (layouts_in self.now) self.now.sys.layouts pass.old.seat object (To.Layout to) pass.old.view pass.new.view) }
+    {
+        unreachable!()
+    }
+
+    /// The same with the dead implementation, which answers every call with `Gone`.
+    pub fn destroy<R: Wait>(
+        &self,
+        rt: &R,
+        alloc: Global,
+        pass: &mut Pass,
+        object: u32,
+    ) -> Result<Swapped, Memory>
+        requires ours { IsPassHere self.now pass.old }
+        requires may { MayStart (length self.now.plan.objects) object pass.old }
+        ensures here { IsPassHere self.now pass.new }
+        ensures rests { IsAtRest pass.new.view }
+        ensures caller { IsSameCaller pass.old.view pass.new.view }
+        ensures graces { pass.new.view.graces ≤ pass.old.view.graces + 1 }
+        ensures told { IfOk result (IsEndBy (word_begun pass.new.view.last)) }
+        ensures ended { IfOk result (λ end. HasSwapped object To.Dead end pass.old.view pass.new.view) }
+        ensures memory { OnErr result (HasGivenUp (layouts_in self.now) self.now.sys.layouts pass.old.seat object To.Dead pass.old.view pass.new.view) }
+    {
+        unreachable!()
+    }
+
+    /// Frees the old rows that the pass holds and those that were handed over to it, once nobody can reach them, and
+    /// answers how many rows it has freed.
+    pub fn reclaim<R: Wait>(&self, rt: &R, pass: &mut Pass) -> u32
+        requires ours { IsPassHere self.now pass.old }
+        requires rests { IsAtRest pass.old.view }
+        requires few { pass.old.view.graces < MOST }
+        ensures here { IsPassHere self.now pass.new }
+        ensures rests { IsAtRest pass.new.view }
+        ensures caller { IsSameCaller pass.old.view pass.new.view }
+        ensures graces { pass.new.view.graces ≡ pass.old.view.graces + 1 }
+        ensures entries { pass.new.view.taker.mine ≡ pass.old.view.taker.mine }
+        ensures none { pass.new.view.rows ≡ [] }
+        ensures freed { (noted : List (Option ℕ)) × Reclaims (layouts_in self.now) self.now.sys.layouts pass.old.seat noted result }
+        ensures rows { (collected : List Row) × Always (layouts_in self.now) self.now.sys.layouts pass.old.seat pass.new.view
+            (AreRowsFreed (pass.old.view.rows ++ collected)) }
+    {
+        unreachable!()
+    }
+}
