@@ -3,3 +3,4 @@ pub mod Systems
 pub mod Calls
 pub mod Swaps
 pub mod Histories
+pub mod Closing

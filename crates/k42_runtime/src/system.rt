@@ -39,9 +39,9 @@ impl Model for System {
 fn layouts_for(alloc: Global, objects: &[ObjectPlan]) -> Result<Vec<AnyLayout>, Memory>
     ensures { IfOk result (λ layouts. layouts.items ≡ map layout_of objects.now) }
 {
-    let mut layouts = Vec::with_capacity(alloc, objects.len())?;
+    let mut layouts = Vec::new(alloc);
     for object in objects {
-        layouts.push_reserved(AnyLayout::of(object.kind, object.layout));
+        layouts.push(AnyLayout::of(object.kind, object.layout))?;
     }
     Ok(layouts)
 }
