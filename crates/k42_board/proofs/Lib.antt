@@ -4,6 +4,7 @@ pub mod Turning
 pub mod Begun
 pub mod Entering
 pub mod Leaving
+pub mod Recounted
 pub mod Moves
 pub mod Notings
 pub mod Roles
