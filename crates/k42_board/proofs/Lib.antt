@@ -52,5 +52,6 @@ pub mod FirstParts
 pub mod Replaced
 pub mod Dealing
 pub mod Carrying
+pub mod FewRows
 pub mod Naming
 pub mod Starting
