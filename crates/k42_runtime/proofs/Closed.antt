@@ -5,14 +5,12 @@ use Rattle.std.proofs.lemmas.List.Elements.{All-from_recursion}
 use Rattle.std.proofs.lemmas.List.{length-map}
 use Rattle.std.proofs.lemmas.Option.{same_Some, slice_get_within}
 use Rattle.k42_kinds.specs.declared.entry.Entry.{Entry}
-use Rattle.k42_places.specs.Places.{EachPlace}
 use Rattle.k42_stamp.specs.Lists.{IsListOf, AreLists, InSome, IsMerged, numbered_from}
 use Rattle.k42_stamp.specs.Orders.{In}
 use Rattle.k42_stamp.proofs.Elements.{all_at}
 use Rattle.k42_board.specs.Seen.{SysSeen, PassSeen}
 use Rattle.k42_rule.specs.Finishing.{AreAtRest, AreLastLists, IsResting}
 use Rattle.co_any.specs.declared.layout.AnyLayout.{AnyLayout}
-use Rattle.gen_core.specs.State as gens
 use Rattle.k42_kinds.specs.Histories.{IsInOrder}
 use Rattle.k42_kinds.specs.Legal.{IsLegalHistoryOf}
 use Rattle.k42_kinds.specs.Objects.{plain_object}
@@ -29,7 +27,7 @@ use Rattle.turn_core.specs.State.{fresh_caller}
 use Rattle.k42_runtime.specs.Closing.{AreNumbered, AreListsFrom}
 use Rattle.k42_runtime.specs.Histories.{IsClosed}
 use Rattle.k42_runtime.specs.Systems.{SystemSeen, IsPlanned, any_with, layouts_in}
-use Rattle.k42_runtime.proofs.Traces.{legal}
+use Rattle.k42_runtime.proofs.Traces.{legal, all_placed}
 
 -- the passes at rest are numbered in order
 numbered_at : {L P : Type 0} (sys : SysSeen L) (first : ℕ) (passes : List (PassSeen P))
@@ -100,11 +98,6 @@ TraceLaw procs =
     → (declared : List AnyLayout) (s : Joined AnyLayout) (merged : List Entry)
     → IsSound (any_with procs proc_of) declared s → IsAtRest s → IsMerged (lists_of s) merged → IsHistoryOf (any_with procs proc_of) declared s merged
 
-homes : (procs : ℕ) (callers : List ℕ) → 0 < procs → EachPlace (λ c p. p < procs) callers → (c : ℕ) → slice_index_or callers c 0 < procs
-homes procs [] some placed c = some
-homes procs (p ∷ callers) some placed zero = placed 0 p refl
-homes procs (p ∷ callers) some placed (suc c) = homes procs callers some (λ i q at. placed (suc i) q at) c
-
 pub closed : (system : SystemSeen) → IsPlanned system → TraceLaw system.sys.procs → (lists : List (List Entry)) (merged : List Entry)
     → AreListsFrom 0 lists → AreLastLists (layouts_in system) system.sys.layouts (length system.sys.callers) lists → IsMerged lists merged
     → IsClosed system.plan lists (record { entries = merged; plan = system.plan })
@@ -120,15 +113,9 @@ closed system planned law lists merged from last is = record {
   s : Joined AnyLayout
   s = last.state
 
-  turns_are : gens.IsPlan system.sys.procs system.sys.callers
-  turns_are = subst (λ (z : ℕ × List ℕ). gens.IsPlan z.0 z.1) (λ k. (sym planned.procs k, sym planned.callers k)) planned.sound.turns
-
-  placed : (c : ℕ) → slice_index_or system.sys.callers c 0 < system.sys.procs
-  placed = homes system.sys.procs system.sys.callers turns_are.limits.some_procs turns_are.placed
-
   history : IsHistoryOf (layouts_in system) system.sys.layouts s merged
   history =
-      law (λ c. slice_index_or system.sys.callers c 0) placed system.sys.layouts s merged last.sound
+      law (λ c. slice_index_or system.sys.callers c 0) (all_placed system planned) system.sys.layouts s merged last.sound
       (rests s (length system.sys.callers) last.many last.resting) (subst (λ ls. IsMerged ls merged) last.drawn is)
 
   many : length lists ≡ length system.sys.callers
