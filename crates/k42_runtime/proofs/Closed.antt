@@ -1,5 +1,5 @@
 -- The one history of a system that is closed.
-use Rattle.std.proofs.Common.{◌≡◌, ℕ, zero, suc, ◌+◌, ◌<◌, true, List, [], ◌∷◌, Option, Some, None, length, map, slice_index_or, refl, sym, ap, ◌∙◌, subst, arith}
+use Rattle.std.proofs.Common.{inl, inr, ◌≡◌, ℕ, zero, suc, ◌+◌, ◌<◌, true, List, [], ◌∷◌, Option, Some, None, length, map, slice_index_or, refl, sym, ap, ◌∙◌, subst, arith}
 use Rattle.std.specs.List.{slice_get, AllByRecursion, All}
 use Rattle.std.proofs.lemmas.List.Elements.{All-from_recursion}
 use Rattle.std.proofs.lemmas.List.{length-map}
@@ -39,7 +39,7 @@ numbered_at sys first (pass ∷ passes) is = (
 )
 
 pub numbered : {L P : Type 0} (sys : SysSeen L) (passes : List (PassSeen P)) → AreAtRest sys passes → AreNumbered 0 passes
-numbered sys passes is = numbered_at sys 0 passes (λ i pass at. (is.each i pass at).number)
+numbered sys passes is = numbered_at sys 0 passes (λ i pass at. let here = (is.each i pass at).number in omega (arith, here))
 
 lists_at : (first : ℕ) (lists : List (List Entry)) → AreListsFrom first lists → (i : ℕ) (list : List Entry) → slice_get lists i ≡ Some list → IsListOf (first + i) list
 lists_at first [] are i list at = absurd (cc)
@@ -49,7 +49,7 @@ lists_at first (here ∷ lists) are (suc i) list at =
     subst (λ n. IsListOf n list) (let same : first + 1 + i ≡ first + suc i = omega arith in same) (lists_at (first + 1) lists are.1 i list at)
 
 pub listed : (lists : List (List Entry)) → AreListsFrom 0 lists → AreLists lists
-listed lists are i list at = lists_at 0 lists are i list at
+listed lists are i list at = subst (λ n. IsListOf n list) (let same : 0 + i ≡ i = omega arith in same) (lists_at 0 lists are i list at)
 
 -- no other caller has an entry
 below : (limit n : ℕ) (entries : List Entry) → ((entry : Entry) → In entry entries → entry.caller < limit) → AllByRecursion (λ (entry : Entry). entry.caller < limit) (numbered_from n entries)

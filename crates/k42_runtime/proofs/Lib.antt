@@ -1,3 +1,4 @@
 pub mod Planned
 pub mod Traces
 pub mod Closed
+pub mod Started
