@@ -3,3 +3,7 @@ pub mod SwapGraces
 pub mod SwapEnds
 pub mod SwapMoves
 pub mod SwapBegins
+pub mod Planned
+pub mod Traces
+pub mod Closed
+pub mod Started

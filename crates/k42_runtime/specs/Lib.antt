@@ -4,3 +4,4 @@ pub mod Calls
 pub mod Swaps
 pub mod Phases
 pub mod Histories
+pub mod Closing
