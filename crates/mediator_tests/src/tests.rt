@@ -12,10 +12,13 @@ use k42_rule::{Pass, Sys};
 use std::process::Abort;
 use std::test::Fail;
 
+mod balky;
 mod calls;
 mod crews;
 mod over;
 mod phases;
+mod refused;
+mod steps;
 
 /// One pass swaps an object and gives up. Another one meets it three times.
 fn meet(
