@@ -74,6 +74,8 @@ gave_up F declared id object to v w x kept knows swaps begun opened =
           (sym (ap (λ (u : PassView _). incarnation_in (word_begun u.last)) is))
           (alone_next v (act_asked to) (Abandoned (k + 1)) object k (no_call to) begun (less k));
       drawn = ap (λ (u : PassView _). u.taker.mine) is;
+      rows = x.rows;
+      granted = x.granted;
       opened =
           subst (λ o. LeavesOpen F declared id (staged (Opened o) x)) (ap (λ (u : PassView _). object_swapped u) kept ∙ swaps) opened;
     }

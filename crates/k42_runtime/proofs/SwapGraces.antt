@@ -168,8 +168,9 @@ module _ {P : Type 0} (objects : ℕ) (s t : SwapSeen) (old new : PassSeen P) (s
         told =
             told_free (word_begun new.view.last) (causes.RoleHeld holder)
             (ap (λ (v : PassView P). begun_in (word_begun v.last)) knows ∙ free) tt;
-        found =
-            (ap (λ (v : PassView P). v.heard) knows,
-            λ same. is.0.another (same ∙ ap (λ (v : PassView P). v.number) knows),
-            is.0.caller);
+        found = (
+          ap (λ (v : PassView P). v.heard) knows,
+          λ same. is.0.another (same ∙ ap (λ (v : PassView P). v.number) knows),
+          is.0.caller,
+        );
       }

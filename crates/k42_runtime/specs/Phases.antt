@@ -1,5 +1,5 @@
 -- The steps of a swap, one phase after the other.
-use Rattle.std.specs.Prelude.{◌≡◌, ℕ, ◌+◌, ◌≤◌, ◌==◌, if◌then◌else◌, true, length, None}
+use Rattle.std.specs.Prelude.{◌≡◌, ℕ, ◌+◌, ◌≤◌, ◌==◌, if◌then◌else◌, true, length, None, Result, Ok, Err, IfOk, OnErr}
 use Rattle.gen_core.specs.Events.{is_idle}
 use Rattle.co_any.specs.declared.part.AnyPart.{AnyPart}
 use Rattle.phase_core.specs.declared.caller.SwapAt.TheVariants.{Moved}
@@ -9,14 +9,15 @@ use Rattle.k42_board.specs.Views.{object_begun, word_begun}
 use Rattle.k42_board.specs.declared.view.PassView.{PassView}
 use Rattle.k42_quiesce.specs.declared.steps.Held.{Held}
 use Rattle.k42_quiesce.specs.declared.steps.Held.TheVariants as graces
-use Rattle.k42_runtime.specs.Swaps.{SwapSeen, IsAtStage, IsFound, IsSameCaller, IsStepBy, HasSwapped, HasGivenUp, is_over, is_last, graces_due}
-use Rattle.k42_runtime.specs.Systems.{SystemSeen, IsPassHere, layouts_in}
+use Rattle.k42_runtime.specs.Swaps.{SwapSeen, IsAtStage, IsFound, IsSameCaller, IsEndBy, IsStepBy, HasSwapped, HasGivenUp, is_over, is_last, graces_due}
+use Rattle.k42_runtime.specs.Systems.{SystemSeen, IsPassHere, IsAtRest, layouts_in}
 use Rattle.k42_runtime.specs.declared.swaps.Cause.{Cause}
 use Rattle.k42_runtime.specs.declared.swaps.Cause.TheVariants as causes
 use Rattle.k42_runtime.specs.declared.swaps.Step.{Step}
 use Rattle.k42_runtime.specs.declared.swaps.Step.TheVariants as steps
 use Rattle.k42_runtime.specs.declared.swaps.Swapped.{Swapped}
 use Rattle.k42_runtime.specs.declared.swaps.Swapped.TheVariants as ends
+use Rattle.k42_runtime.specs.declared.swaps.To.{To}
 
 -- it has begun to move its object, in which nobody is any more, and has not handed the row on
 pub record IsMoving {P : Type 0} (object : ℕ) (v : PassView P) : Type 0 where
@@ -65,3 +66,20 @@ pub record HasStepped (system : SystemSeen) (result : Step) (s t : SwapSeen) (ol
       new.view.graces + graces_due t.stage t.holder ≤ old.view.graces + graces_due s.stage s.holder
   pub told : IsStepBy (word_begun new.view.last) result
   pub brought : HasBrought system result s old new
+
+-- the step that brings a swap to this end
+abbrev pub last_step : {E : Type 0} → Result Swapped E → Step
+last_step (Ok end) = steps.Ended end
+last_step (Err error) = steps.Memory
+
+-- the pass once a swap has ended for which it has waited
+pub record HasEnded {E : Type 0} (system : SystemSeen) (object : ℕ) (to : To) (result : Result Swapped E) (old new : PassSeen AnyPart)
+    : Type 0 where
+  pub here : IsPassHere system new
+  pub rests : IsAtRest new.view
+  pub caller : IsSameCaller old.view new.view
+  pub graces : new.view.graces ≤ old.view.graces + 1
+  pub told : IfOk result (IsEndBy (word_begun new.view.last))
+  pub ended : IfOk result (λ end. HasSwapped object to end old.view new.view)
+  pub memory :
+      OnErr result (HasGivenUp (layouts_in system) system.sys.layouts old.seat object to old.view new.view)

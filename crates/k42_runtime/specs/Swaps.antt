@@ -16,6 +16,7 @@ use Rattle.k42_board.specs.Swapping.{object_swapped}
 use Rattle.k42_board.specs.Values.{count_in, incarnation_in}
 use Rattle.k42_board.specs.Views.{object_begun, word_begun}
 use Rattle.k42_board.specs.declared.view.PassView.{PassView}
+use Rattle.k42_board.specs.declared.view.Row.{Row}
 use Rattle.k42_mediator.specs.Answers.{begun_in}
 use Rattle.k42_mediator.specs.Entries.{IsNext}
 use Rattle.k42_mediator.specs.Marks.{MayMark}
@@ -182,7 +183,11 @@ module _ {S L P : Type 0} (F : Layouts S L P) (declared : List L) (id : ℕ) whe
         IsNext old object (incarnation_in (word_begun new.last)) 0 (act_asked to)
         (answers.Abandoned (incarnation_in (word_begun new.last) + 1)) entry
     pub drawn : new.taker.mine ≡ old.taker.mine ++ entry ∷ []
-    pub opened : LeavesOpen F declared id (staged (Opened object) new)
+    -- as it ended it held these rows
+    pub rows : List Row
+    pub granted : ℕ
+    pub opened :
+        LeavesOpen F declared id (staged (Opened object) (record new { rows = rows; granted = granted }))
 
   abbrev pub HasGivenUp : ℕ → To → PassView P → PassView P → Type 0
   HasGivenUp object to old new = HasNotBegun old new ⊎ HasAbandoned object to old new
