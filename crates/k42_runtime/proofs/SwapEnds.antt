@@ -1,33 +1,27 @@
 -- What a pass has drawn that ends its swap.
-use Rattle.std.proofs.Common.{◌≡◌, ℕ, ◌+◌, ◌-◌, ◌≤◌, Bool, true, false, ◌&&◌, ◌||◌, cond, eqb, List, [], ◌∷◌, ◌++◌, Some, None, Result, Ok, Err, length, refl, sym, ap, ◌∙◌, subst, arith}
+use Rattle.std.proofs.Common.{◌≡◌, ℕ, ◌+◌, ◌-◌, ◌≤◌, Bool, true, false, ◌||◌, cond, eqb, List, [], Some, None, Result, Ok, Err, length, refl, sym, ap, ◌∙◌, subst, arith}
 use Rattle.std.specs.Result.{OnErr, is_err}
-use Rattle.std.specs.Prelude.{◌==◌, if◌then◌else◌}
 use Rattle.std.proofs.lemmas.Option.{same_Some}
-use Rattle.gen_core.specs.Events.{is_idle}
 use Rattle.k42_limits.specs.declared.TheConstants.{LAST_INCARNATION}
 use Rattle.k42_kinds.specs.Histories.{is_call}
 use Rattle.k42_kinds.specs.declared.entry.Act.{Act}
 use Rattle.k42_kinds.specs.declared.entry.Answer.{Answer}
 use Rattle.k42_kinds.specs.declared.entry.Answer.TheVariants.{Abandoned, Busy, Spent, Gone}
-use Rattle.k42_kinds.specs.declared.entry.Entry.{Entry}
-use Rattle.phase_core.specs.declared.caller.SwapAt.TheVariants.{Idle, Opened}
-use Rattle.turn_core.specs.Events.{caller_drawn}
+use Rattle.phase_core.specs.declared.caller.SwapAt.TheVariants.{Opened}
 use Rattle.k42_stamp.specs.Layouts.{Layouts}
 use Rattle.k42_board.specs.Drawing.{entry_alone, alone_view, number_told}
-use Rattle.k42_board.specs.Seen.{PassSeen, is_at_rest}
+use Rattle.k42_board.specs.Seen.{PassSeen}
 use Rattle.k42_board.specs.Swapping.{object_swapped}
 use Rattle.k42_board.specs.Tabling.{is_over_in}
 use Rattle.k42_board.specs.Values.{answer_in, layout_in, incarnation_in}
 use Rattle.k42_board.specs.Views.{hears, object_begun, word_begun}
 use Rattle.k42_board.specs.declared.view.PassView.{PassView}
-use Rattle.k42_mediator.specs.Answers.{begun_in}
 use Rattle.k42_mediator.specs.Entries.{IsNext}
 use Rattle.k42_mediator.specs.Marks.{HasMarked, cell_marked}
 use Rattle.k42_mediator.specs.Swaps.{abandoned_view, staged, LeavesOpen}
 use Rattle.k42_mediator.proofs.AfterMark.{later_stamp}
 use Rattle.k42_runtime.specs.Phases.{end_in}
 use Rattle.k42_runtime.specs.Swaps.{IsSameCaller, HasSwapped, HasAbandoned, IsEndBy, act_asked, answer_told, incarnation_told}
-use Rattle.k42_runtime.specs.declared.swaps.Swapped.{Swapped}
 use Rattle.k42_runtime.specs.declared.swaps.Swapped.TheVariants as ends
 use Rattle.k42_runtime.specs.declared.swaps.To.{To}
 use Rattle.k42_runtime.specs.declared.swaps.To.TheVariants as tos

@@ -1,19 +1,16 @@
 -- A step of the grace that a swap waits for.
 use Rattle.std.proofs.Common.{◌≡◌, ℕ, ◌+◌, ◌<◌, ◌≤◌, Bool, true, false, ◌&&◌, Option, Some, None, refl, sym, ap, ◌∙◌, subst, arith}
-use Rattle.std.specs.Prelude.{◌≢◌, is_none, length}
+use Rattle.std.specs.Prelude.{is_none, length}
 use Rattle.gen_core.specs.Events.{is_idle, is_looking}
 use Rattle.gen_core.specs.Plain.{Caller}
-use Rattle.gen_core.specs.declared.state.GraceAt.TheVariants.{Looking}
 use Rattle.phase_core.specs.Effects.{drained_at, draining_from}
 use Rattle.phase_core.specs.Plain.{Visitor}
 use Rattle.phase_core.specs.declared.caller.SwapAt.{SwapAt}
 use Rattle.phase_core.specs.declared.caller.SwapAt.TheVariants.{Draining}
 use Rattle.turn_core.specs.Plain as turns
-use Rattle.k42_board.specs.Gracing.{MayTakeRole}
 use Rattle.k42_board.specs.Generations.{MOST}
 use Rattle.k42_board.specs.Seen.{PassSeen, IsSamePass}
 use Rattle.k42_board.specs.Views.{hears, word_begun}
-use Rattle.k42_board.specs.declared.view.Note.{Note}
 use Rattle.k42_board.specs.declared.view.PassView.{PassView}
 use Rattle.k42_quiesce.specs.Gracing as gracing
 use Rattle.k42_quiesce.specs.Gracing.{MayStep, IsLeft, IsRoleHeld, has_role, with_role}

@@ -1,5 +1,5 @@
 -- A swap that tries to move its object has drawn nothing.
-use Rattle.std.proofs.Common.{◌≡◌, ℕ, ◌+◌, ◌≤◌, Bool, true, false, cond, eqb, None, Option, refl, sym, ap, ◌∙◌, subst, arith}
+use Rattle.std.proofs.Common.{◌≡◌, Bool, true, false, cond, eqb, refl, ap, ◌∙◌, arith}
 use Rattle.phase_core.specs.declared.caller.SwapAt.TheVariants.{Moved}
 use Rattle.k42_board.specs.Seen.{PassSeen, IsSamePass}
 use Rattle.k42_board.specs.Swapping.{at_swap, blocked_word, moved_view, object_swapped}

@@ -1,21 +1,19 @@
 -- A swap that is stepped until it is over.
-use Rattle.std.proofs.Common.{◌≡◌, ⊎_elim, inl, inr, ℕ, ◌+◌, ◌≤◌, ◌<◌, true, false, List, [], ◌∷◌, ◌++◌, None, Result, Ok, Err, length, take, refl, sym, ap, ◌∙◌, subst, arith}
-use Rattle.std.specs.Result.{OnOk, OnErr, IfOk}
+use Rattle.std.proofs.Common.{◌≡◌, ⊎_elim, inl, inr, ℕ, ◌+◌, ◌≤◌, ◌<◌, true, false, List, ◌++◌, None, Result, Ok, Err, length, take, refl, sym, ap, ◌∙◌, subst, arith}
+use Rattle.std.specs.Result.{OnOk, OnErr}
 use Rattle.std.proofs.Math.Seq.{take-length}
 use Rattle.k42_stamp.specs.Layouts.{Layouts}
 use Rattle.co_any.specs.declared.part.AnyPart.{AnyPart}
 use Rattle.phase_core.specs.Stages.{is_out}
-use Rattle.phase_core.specs.declared.caller.SwapAt.TheVariants.{Opened}
 use Rattle.k42_board.specs.Gracing.{role_view}
 use Rattle.k42_board.specs.Seen.{PassSeen}
 use Rattle.k42_board.specs.Views.{word_begun}
 use Rattle.k42_board.specs.declared.view.PassView.{PassView}
 use Rattle.k42_board.specs.declared.view.Row.{Row}
-use Rattle.k42_mediator.specs.Swaps.{staged, LeavesOpen}
 use Rattle.k42_quiesce.specs.Collecting.{HasCollected, HasHandedOver}
 use Rattle.k42_quiesce.specs.Gracing.{GoesOn}
 use Rattle.k42_runtime.specs.Phases.{HasGoneOn, HasBrought, HasStepped, HasEnded, last_step}
-use Rattle.k42_runtime.specs.Swaps.{SwapSeen, IsAtStage, IsFound, IsSameCaller, IsEndBy, IsStepBy, HasSwapped, HasNotBegun, HasAbandoned, HasGivenUp, is_over, is_last, graces_due}
+use Rattle.k42_runtime.specs.Swaps.{SwapSeen, IsAtStage, IsFound, IsSameCaller, IsEndBy, HasSwapped, HasNotBegun, HasAbandoned, HasGivenUp, is_over, graces_due}
 use Rattle.k42_runtime.specs.Systems.{SystemSeen, IsPassHere, IsAtRest, layouts_in}
 use Rattle.k42_runtime.specs.declared.swaps.Cause.{Cause}
 use Rattle.k42_runtime.specs.declared.swaps.Stage.{Stage}
@@ -24,7 +22,7 @@ use Rattle.k42_runtime.specs.declared.swaps.Step.{Step}
 use Rattle.k42_runtime.specs.declared.swaps.Step.TheVariants.{Again, Ended, Memory}
 use Rattle.k42_runtime.specs.declared.swaps.Swapped.{Swapped}
 use Rattle.k42_runtime.specs.declared.swaps.To.{To}
-use Rattle.k42_runtime.proofs.SwapSteps.{same_caller, stepped_before}
+use Rattle.k42_runtime.proofs.SwapSteps.{stepped_before}
 
 -- a step that has answered, by its clauses
 pub brought_by : (system : SystemSeen) (result : Step) (swap : SwapSeen) (old new : PassSeen AnyPart)

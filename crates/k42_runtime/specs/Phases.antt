@@ -5,7 +5,7 @@ use Rattle.co_any.specs.declared.part.AnyPart.{AnyPart}
 use Rattle.phase_core.specs.declared.caller.SwapAt.TheVariants.{Moved}
 use Rattle.k42_board.specs.Seen.{PassSeen}
 use Rattle.k42_board.specs.Values.{layout_in}
-use Rattle.k42_board.specs.Views.{object_begun, word_begun}
+use Rattle.k42_board.specs.Views.{word_begun}
 use Rattle.k42_board.specs.declared.view.PassView.{PassView}
 use Rattle.k42_quiesce.specs.declared.steps.Held.{Held}
 use Rattle.k42_quiesce.specs.declared.steps.Held.TheVariants as graces

@@ -1,5 +1,5 @@
 -- Swaps and destroys, which are swaps to the dead layout: their stages, their answers, and what holds one up.
-use Rattle.std.specs.Prelude.{◌≡◌, ◌≢◌, ◌⊎◌, ℕ, ◌+◌, ◌-◌, ◌<◌, ◌≤◌, Bool, true, false, ⊤, List, [], ◌∷◌, ◌++◌, length, Option, Some, None}
+use Rattle.std.specs.Prelude.{◌≡◌, ◌≢◌, ◌⊎◌, ℕ, ◌+◌, ◌-◌, ◌<◌, Bool, true, false, ⊤, List, [], ◌∷◌, ◌++◌, length, Option, Some, None}
 use Rattle.k42_limits.specs.declared.TheConstants.{CALLERS}
 use Rattle.gen_core.specs.Events as graces
 use Rattle.k42_kinds.specs.declared.entry.Act.{Act}
@@ -12,7 +12,6 @@ use Rattle.phase_core.specs.declared.caller.SwapAt.TheVariants.{Interposed, Drai
 use Rattle.k42_stamp.specs.Layouts.{Layouts}
 use Rattle.k42_board.specs.Generations.{MOST}
 use Rattle.k42_board.specs.Seen.{PassSeen}
-use Rattle.k42_board.specs.Swapping.{object_swapped}
 use Rattle.k42_board.specs.Values.{count_in, incarnation_in}
 use Rattle.k42_board.specs.Views.{object_begun, word_begun}
 use Rattle.k42_board.specs.declared.view.PassView.{PassView}
@@ -24,7 +23,7 @@ use Rattle.k42_mediator.specs.Swaps.{staged, LeavesOpen}
 use Rattle.k42_mediator.specs.declared.answers.Begun.{Begun}
 use Rattle.k42_mediator.specs.declared.answers.Begun.TheVariants as begins
 use Rattle.k42_quiesce.specs.Gracing.{MayStep, IsLeft}
-use Rattle.k42_runtime.specs.Systems.{SystemSeen, IsAtRest}
+use Rattle.k42_runtime.specs.Systems.{IsAtRest}
 use Rattle.k42_runtime.specs.declared.swaps.Cause.{Cause}
 use Rattle.k42_runtime.specs.declared.swaps.Cause.TheVariants as causes
 use Rattle.k42_runtime.specs.declared.swaps.Stage.{Stage}

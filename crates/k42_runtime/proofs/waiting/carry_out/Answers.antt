@@ -1,6 +1,6 @@
-use Rattle.std.proofs.Common.{rules, ◌≡◌, refl, sym, ap, ◌∙◌, subst}
+use Rattle.std.proofs.Common.{subst}
 use Rattle.k42_runtime.specs.Phases.{HasStepped}
-use Rattle.k42_runtime.specs.declared.swaps.Step.TheVariants.{Again, Ended, Memory}
+use Rattle.k42_runtime.specs.declared.swaps.Step.TheVariants.{Ended, Memory}
 use Rattle.k42_runtime.proofs.SwapSteps.{stepped_before}
 use Rattle.k42_runtime.proofs.SwapWaits.{brought_by, not_stepped, stepped_again}
 use Rattle.k42_runtime.proofs.waiting.carry_out.Goals as goal

@@ -5,8 +5,6 @@ use Rattle.k42_runtime.specs.Phases.{HasStepped}
 use Rattle.k42_runtime.specs.Swaps.{SwapSeen, act_asked, graces_due}
 use Rattle.k42_runtime.specs.Systems.{IsPassHere, IsAtRest}
 use Rattle.k42_runtime.specs.declared.swaps.Stage.TheVariants.{New, Waiting, Marking, Over}
-use Rattle.k42_runtime.specs.declared.swaps.Step.TheVariants.{Ended}
-use Rattle.k42_runtime.specs.declared.swaps.Swapped.TheVariants.{Busy}
 use Rattle.k42_runtime.proofs.SwapBegins.{marks_on, waits_on, refused_now, refused_caller, refused_graces, refused_seat, refused_told}
 use Rattle.k42_runtime.proofs.SwapEnds.{few}
 use Rattle.k42_runtime.proofs.SwapSteps.{stepped_before}

@@ -1,16 +1,12 @@
-use Rattle.std.proofs.Common.{rules, ◌≡◌, ℕ, ◌+◌, ◌≤◌, true, inr, length, refl, sym, ap, ◌∙◌, subst, arith}
+use Rattle.std.proofs.Common.{rules, ◌≡◌, ℕ, inr, refl, sym, ap, ◌∙◌, subst}
 use Rattle.phase_core.specs.Stages.{object_named}
 use Rattle.k42_board.specs.Swapping.{object_swapped}
 use Rattle.k42_board.specs.Views.{hears, object_begun}
-use Rattle.k42_board.specs.declared.view.PassView.{PassView}
 use Rattle.k42_mediator.specs.Swaps.{staged, LeavesOpen, abandoned_view}
 use Rattle.k42_mediator.specs.Transfers.{HasKept}
 use Rattle.phase_core.specs.declared.caller.SwapAt.TheVariants.{Opened}
 use Rattle.k42_runtime.specs.Swaps.{SwapSeen, act_asked, graces_due}
 use Rattle.k42_runtime.specs.Systems.{SystemSeen, IsPassHere, IsAtRest, layouts_in}
-use Rattle.k42_runtime.specs.Phases.{HasStepped}
-use Rattle.k42_runtime.specs.declared.swaps.Stage.TheVariants.{Over}
-use Rattle.k42_runtime.specs.declared.swaps.Step.TheVariants.{Memory}
 use Rattle.k42_runtime.proofs.SwapEnds.{on_error, gave_up, abandoned_caller, abandoned_graces, few}
 use Rattle.k42_runtime.proofs.swaps.Swap.hand_on.Goals as goal
 

@@ -1,15 +1,11 @@
-use Rattle.std.proofs.Common.{rules, ◌≡◌, ℕ, ◌+◌, ◌≤◌, true, length, refl, sym, ap, ◌∙◌, subst, arith}
-use Rattle.k42_board.specs.Plan.{layouts_on}
-use Rattle.k42_board.specs.Values.{incarnation_in}
+use Rattle.std.proofs.Common.{rules, ◌≡◌, ℕ, refl, sym, ap, ◌∙◌, subst}
 use Rattle.k42_board.specs.Views.{word_begun}
-use Rattle.k42_board.specs.declared.view.PassView.{PassView}
-use Rattle.k42_mediator.specs.Marks.{IsMark, HasMarked}
-use Rattle.k42_runtime.specs.Swaps.{SwapSeen, act_asked, graces_due, IsEndBy, HasSwapped}
-use Rattle.k42_runtime.specs.Systems.{SystemSeen, IsPassHere, IsAtRest, any_layouts}
+use Rattle.k42_mediator.specs.Marks.{HasMarked}
+use Rattle.k42_runtime.specs.Swaps.{act_asked, graces_due, IsEndBy}
+use Rattle.k42_runtime.specs.Systems.{IsPassHere, IsAtRest}
 use Rattle.k42_runtime.specs.Phases.{HasStepped, end_in}
 use Rattle.k42_runtime.specs.declared.swaps.Stage.TheVariants.{Over}
 use Rattle.k42_runtime.specs.declared.swaps.Step.TheVariants.{Ended}
-use Rattle.k42_runtime.specs.declared.swaps.Swapped.{Swapped}
 use Rattle.k42_runtime.proofs.SwapEnds.{marked, over_ends, marked_last, marked_caller, marked_graces, few}
 use Rattle.k42_runtime.proofs.swaps.Swap.mark.Goals as goal
 

@@ -1,4 +1,4 @@
-use Rattle.std.proofs.Common.{◌≡◌, ℕ, ◌+◌, ◌≤◌, true, length, refl, sym, ap, ◌∙◌, subst, arith}
+use Rattle.std.proofs.Common.{◌≡◌, ℕ, ◌+◌, ◌≤◌, length, refl, sym, ap, ◌∙◌, subst, arith}
 use Rattle.phase_core.specs.Stages.{is_out}
 use Rattle.turn_core.specs.Plain as turns
 use Rattle.k42_board.specs.Seen.{IsPassOf}
@@ -6,7 +6,7 @@ use Rattle.k42_board.specs.declared.view.PassView.{PassView}
 use Rattle.k42_quiesce.specs.Gracing.{has_role}
 use Rattle.k42_runtime.specs.Swaps.{SwapSeen, IsAtStage, is_over, graces_due}
 use Rattle.k42_runtime.specs.Systems.{SystemSeen}
-use Rattle.k42_runtime.specs.Phases.{HasGoneOn, HasStepped}
+use Rattle.k42_runtime.specs.Phases.{HasStepped}
 use Rattle.k42_runtime.specs.declared.swaps.Stage.TheVariants.{Waiting, Shut}
 use Rattle.k42_runtime.specs.declared.swaps.Step.TheVariants.{Again}
 use Rattle.k42_runtime.proofs.SwapGraces.{held_up, has_role_now}

@@ -1,5 +1,5 @@
-use Rattle.std.proofs.Common.{rules, ◌≡◌, refl, sym, ap, ◌∙◌, subst}
-use Rattle.k42_runtime.specs.Phases.{HasStepped, HasEnded, last_step}
+use Rattle.std.proofs.Common.{subst}
+use Rattle.k42_runtime.specs.Phases.{HasStepped, last_step}
 use Rattle.k42_runtime.specs.Swaps.{SwapSeen}
 use Rattle.k42_runtime.specs.Systems.{IsPassHere}
 use Rattle.k42_runtime.proofs.SwapSteps.{stepped_before}

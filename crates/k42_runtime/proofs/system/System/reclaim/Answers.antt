@@ -1,6 +1,5 @@
-use Rattle.std.proofs.Common.{◌≡◌, ℕ, List, ◌++◌, take, length, refl, sym, ap, ◌∙◌, subst}
+use Rattle.std.proofs.Common.{◌≡◌, ℕ, List, ◌++◌, take, ◌∙◌, subst}
 use Rattle.k42_board.specs.Steps.{Always}
-use Rattle.k42_board.specs.declared.view.PassView.{PassView}
 use Rattle.k42_board.specs.declared.view.Row.{Row}
 use Rattle.k42_quiesce.specs.Reclaiming.{Reclaims, AreRowsFreed}
 use Rattle.k42_runtime.specs.Systems.{SystemSeen, layouts_in}
