@@ -8,3 +8,4 @@ pub mod Traces
 pub mod Closed
 pub mod Started
 pub mod SwapWaits
+pub mod SwapRows

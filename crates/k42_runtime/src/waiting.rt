@@ -1,12 +1,9 @@
 //! Swaps and destroys that wait, and rows that are freed.
-ghost use Rattle.std.specs.Prelude.{◌≡◌, false, ◌≤◌, ◌+◌, ◌++◌, ◌<◌, ℕ, List, [], Option, length, IfOk, OnErr};
+ghost use Rattle.std.specs.Prelude.{◌≡◌, ◌+◌, ◌<◌, false, [], length};
 ghost use Rattle.k42_board.specs.Generations.{MOST};
-ghost use Rattle.k42_board.specs.Steps.{Always};
-ghost use Rattle.k42_board.specs.Views.{word_begun};
-ghost use Rattle.k42_board.specs.declared.view.Row.{Row};
-ghost use Rattle.k42_quiesce.specs.Reclaiming.{Reclaims, AreRowsFreed};
-ghost use Rattle.k42_runtime.specs.Phases.{HasStepped, HasEnded, last_step};
-ghost use Rattle.k42_runtime.specs.Swaps.{MayStart, IsAtStage, IsSameCaller, HasSwapped, HasGivenUp, IsEndBy, is_over};
+ghost use Rattle.k42_runtime.specs.Phases.{last_step};
+ghost use Rattle.k42_runtime.specs.Reclaims.{HasReclaimed};
+ghost use Rattle.k42_runtime.specs.Swaps.{MayStart, IsAtStage, IsSameCaller, HasStepped, HasEnded, is_over};
 ghost use Rattle.k42_runtime.specs.Systems.{IsPassHere, IsAtRest, layouts_in};
 ghost use Rattle.k42_runtime.specs.declared.swaps.To.TheVariants as To;
 
@@ -46,7 +43,7 @@ fn carry_out<R: Wait>(
 impl System {
     /// Swaps the object to that, or destroys it. Its grace serves the rows that others have handed over, and those that
     /// are not freed yet are handed over to the next.
-    fn change<R: Wait>(
+    fn swap_to<R: Wait>(
         &self,
         rt: &R,
         alloc: Global,
@@ -78,15 +75,9 @@ impl System {
     ) -> Result<Swapped, Memory>
         requires ours { IsPassHere self.now pass.old }
         requires may { MayStart (length self.now.plan.objects) object pass.old }
-        ensures here { IsPassHere self.now pass.new }
-        ensures rests { IsAtRest pass.new.view }
-        ensures caller { IsSameCaller pass.old.view pass.new.view }
-        ensures graces { pass.new.view.graces ≤ pass.old.view.graces + 1 }
-        ensures told { IfOk result (IsEndBy (word_begun pass.new.view.last)) }
-        ensures ended { IfOk result (λ end. HasSwapped object (To.Layout to) end pass.old.view pass.new.view) }
-        ensures memory { OnErr result (HasGivenUp (layouts_in self.now) self.now.sys.layouts pass.old.seat object (To.Layout to) pass.old.view pass.new.view) }
+        ensures { HasEnded self.now object (To.Layout to) result pass.old pass.new }
     {
-        self.change(rt, alloc, pass, object, To::Layout(to))
+        self.swap_to(rt, alloc, pass, object, To::Layout(to))
     }
 
     /// The same with the dead implementation, which answers every call with `Gone`.
@@ -99,15 +90,9 @@ impl System {
     ) -> Result<Swapped, Memory>
         requires ours { IsPassHere self.now pass.old }
         requires may { MayStart (length self.now.plan.objects) object pass.old }
-        ensures here { IsPassHere self.now pass.new }
-        ensures rests { IsAtRest pass.new.view }
-        ensures caller { IsSameCaller pass.old.view pass.new.view }
-        ensures graces { pass.new.view.graces ≤ pass.old.view.graces + 1 }
-        ensures told { IfOk result (IsEndBy (word_begun pass.new.view.last)) }
-        ensures ended { IfOk result (λ end. HasSwapped object To.Dead end pass.old.view pass.new.view) }
-        ensures memory { OnErr result (HasGivenUp (layouts_in self.now) self.now.sys.layouts pass.old.seat object To.Dead pass.old.view pass.new.view) }
+        ensures { HasEnded self.now object To.Dead result pass.old pass.new }
     {
-        self.change(rt, alloc, pass, object, To::Dead)
+        self.swap_to(rt, alloc, pass, object, To::Dead)
     }
 
     /// Frees the old rows that the pass holds and those that were handed over to it, once nobody can reach them, and
@@ -118,13 +103,12 @@ impl System {
         requires few { pass.old.view.graces < MOST }
         ensures here { IsPassHere self.now pass.new }
         ensures rests { IsAtRest pass.new.view }
+        ensures seat { pass.new.seat ≡ pass.old.seat }
         ensures caller { IsSameCaller pass.old.view pass.new.view }
         ensures graces { pass.new.view.graces ≡ pass.old.view.graces + 1 }
         ensures entries { pass.new.view.taker.mine ≡ pass.old.view.taker.mine }
         ensures none { pass.new.view.rows ≡ [] }
-        ensures freed { (noted : List (Option ℕ)) × Reclaims (layouts_in self.now) self.now.sys.layouts pass.old.seat noted result }
-        ensures rows { (collected : List Row) × Always (layouts_in self.now) self.now.sys.layouts pass.old.seat pass.new.view
-            (AreRowsFreed (pass.old.view.rows ++ collected)) }
+        ensures reclaimed { HasReclaimed (layouts_in self.now) self.now.sys.layouts result pass.old pass.new }
     {
         collect(rt, &self.sys, pass);
         grace(rt, &self.sys, pass);

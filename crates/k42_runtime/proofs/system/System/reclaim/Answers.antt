@@ -1,28 +1,30 @@
-use Rattle.std.proofs.Common.{◌≡◌, ℕ, List, ◌++◌, take, ◌∙◌, subst}
+use Rattle.std.proofs.Common.{◌≡◌, ℕ, List, Option, ◌++◌, take, sym, ap, ◌∙◌, subst}
+use Rattle.k42_board.specs.Noting.{notes_due}
 use Rattle.k42_board.specs.Steps.{Always}
 use Rattle.k42_board.specs.declared.view.Row.{Row}
 use Rattle.k42_quiesce.specs.Reclaiming.{Reclaims, AreRowsFreed}
+use Rattle.k42_runtime.specs.Reclaims.{with_rows}
 use Rattle.k42_runtime.specs.Systems.{SystemSeen, layouts_in}
-use Rattle.k42_runtime.proofs.SwapWaits.{taken_all}
+use Rattle.k42_runtime.proofs.SwapRows.{serves_all, notes_all, collects_all}
 use Rattle.k42_runtime.proofs.system.System.reclaim.Goals as goal
 
-pub returns-clause-freed : goal.returns-clause-freed
-returns-clause-freed g c =
-    let noted = c.grace.new.pass.view.visitor.noted in
-    let seat : c.grace.new.pass.seat ≡ c.args.pass.now.seat = c.grace.ensures.same.seat ∙ c.collect.ensures.collected.2.seat in (
-      noted,
-      subst (λ (x : SystemSeen). Reclaims (layouts_in x) x.sys.layouts c.args.pass.now.seat noted c.reclaim.result) c.self.view_is
-          (subst (λ (id : ℕ). Reclaims (layouts_in (record { sys = c.self.inside.sys; plan = c.self.inside.plan })) c.self.inside.sys.layouts id noted c.reclaim.result) seat c.reclaim.ensures.freed),
-    )
-
-pub returns-clause-rows : goal.returns-clause-rows
-returns-clause-rows g c =
-    let more = c.collect.ensures.collected.0 in let new = c.reclaim.new.pass.view in
-    let seat : c.grace.new.pass.seat ≡ c.args.pass.now.seat = c.grace.ensures.same.seat ∙ c.collect.ensures.collected.2.seat in
-    let rows : take c.grace.new.pass.view.granted c.grace.new.pass.view.rows ≡ c.args.pass.now.view.rows ++ more =
-    taken_all c.args.pass.now c.collect.new.pass more c.grace.new.pass.view c.collect.ensures.collected.2 c.grace.ensures.goes in (
-      more,
-      subst (λ (x : SystemSeen). Always (layouts_in x) x.sys.layouts c.args.pass.now.seat new (AreRowsFreed (c.args.pass.now.view.rows ++ more))) c.self.view_is
-          (subst (λ (z : ℕ × List Row). Always (layouts_in (record { sys = c.self.inside.sys; plan = c.self.inside.plan })) c.self.inside.sys.layouts z.0 new (AreRowsFreed z.1))
-          (λ j. (seat j, rows j)) c.reclaim.ensures.rows),
-    )
+pub returns-clause-reclaimed : goal.returns-clause-reclaimed
+returns-clause-reclaimed g c =
+    let old = c.args.pass.now in let mid = c.collect.new.pass in let w = c.grace.new.pass.view in let new = c.reclaim.new.pass in
+    let more = c.collect.ensures.collected.0 in let collected = c.collect.ensures.collected.2 in let goes = c.grace.ensures.goes in
+    let F = layouts_in (record { sys = c.self.inside.sys; plan = c.self.inside.plan }) in let declared = c.self.inside.sys.layouts in
+    let seat : c.grace.new.pass.seat ≡ old.seat = c.grace.ensures.same.seat ∙ collected.seat in
+    let noted : w.visitor.noted ≡ notes_due (with_rows more old.view) = notes_all old mid more w collected goes in
+    let rows : take w.granted w.rows ≡ old.view.rows ++ more = serves_all old mid more w collected goes in
+    record {
+      collected = more;
+      popped = c.reclaim.ensures.same.popped ∙ c.grace.ensures.same.popped ∙ collected.popped;
+      pushed = c.reclaim.ensures.same.pushed ∙ c.grace.ensures.same.pushed ∙ collected.pushed;
+      all = collects_all old mid more w collected goes c.collect.ensures.all;
+      freed =
+          subst (λ (x : SystemSeen). Reclaims (layouts_in x) x.sys.layouts old.seat (notes_due (with_rows more old.view)) c.reclaim.result) c.self.view_is
+          (subst (λ (z : ℕ × List (Option ℕ)). Reclaims F declared z.0 z.1 c.reclaim.result) (λ j. (seat j, noted j)) c.reclaim.ensures.freed);
+      rows =
+          subst (λ (x : SystemSeen). Always (layouts_in x) x.sys.layouts old.seat new.view (AreRowsFreed (old.view.rows ++ more))) c.self.view_is
+          (subst (λ (z : ℕ × List Row). Always F declared z.0 new.view (AreRowsFreed z.1)) (λ j. (seat j, rows j)) c.reclaim.ensures.rows);
+    }
