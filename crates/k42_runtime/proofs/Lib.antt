@@ -7,3 +7,5 @@ pub mod Planned
 pub mod Traces
 pub mod Closed
 pub mod Started
+pub mod SwapWaits
+pub mod SwapRows

@@ -3,5 +3,6 @@ pub mod Systems
 pub mod Calls
 pub mod Swaps
 pub mod Phases
+pub mod Reclaims
 pub mod Histories
 pub mod Closing
