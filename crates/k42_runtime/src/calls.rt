@@ -7,9 +7,12 @@ ghost use Rattle.k42_runtime.specs.Systems.{IsPassHere, IsAtWork, layouts_in};
 ghost use Rattle.k42_runtime.specs.declared.calls.CallCause.{CallCause};
 ghost use Rattle.k42_runtime.specs.declared.calls.CallStep.TheVariants as CallStep;
 
+use crate::serving::{go_inside, serve};
 use crate::system::{Pass, System};
+use crossbeam_utils::Backoff;
 use k42_kinds::{Op, Reply};
 use k42_memory::Memory;
+use k42_tables::finish_call;
 use std::alloc::Global;
 use std::marker::Model;
 use std::sync::Wait;
@@ -50,6 +53,22 @@ impl Model for Call {
     ghost view = { λ c. record { object = c.object; op = c.op; ended = c.ended } };
 }
 
+/// One try of a call.
+fn try_once(alloc: Global, system: &System, pass: &mut Pass, object: u32, op: &Op) -> CallStep {
+    let Ok(()) = pass.reserve() else {
+        return CallStep::Memory;
+    };
+    match go_inside(alloc, system, pass, object) {
+        Ok(None) => {
+            let step = serve(alloc, system, pass, op);
+            finish_call(&system.sys, pass);
+            step
+        }
+        Ok(Some(cause)) => CallStep::Again(cause),
+        Err(Memory) => CallStep::Memory,
+    }
+}
+
 impl Call {
     /// A call that has not begun.
     pub fn new(object: u32, op: Op) -> Call
@@ -85,7 +104,9 @@ impl Call {
             → HoldsUp (layouts_in system.now) system.now.sys.layouts pass.old.seat cause self.old.object pass.old.view pass.new.view }
         ensures memory { result ≡ CallStep.Memory → HasNotCalled pass.old.view pass.new.view }
     {
-        unreachable!()
+        let step = try_once(alloc, system, pass, self.object, &self.op);
+        self.ended = !matches!(step, CallStep::Again(_));
+        step
     }
 }
 
@@ -109,6 +130,15 @@ impl System {
         ensures called { IfOk result (λ reply. HasCalled object op reply pass.old.view pass.new.view) }
         ensures memory { OnErr result (HasNotCalled pass.old.view pass.new.view) }
     {
+        let mut call = Call::new(object, op);
+        let backoff = Backoff::new();
+        for _ in rt.forever() {
+            match call.step(alloc, self, pass) {
+                CallStep::Ended(reply) => return Ok(reply),
+                CallStep::Memory => return Err(Memory),
+                CallStep::Again(_) => backoff.snooze(),
+            }
+        }
         unreachable!()
     }
 }

@@ -10,6 +10,7 @@ mod laws;
 mod phases;
 mod plan;
 mod serving;
+mod stepping;
 mod swaps;
 mod system;
 mod waiting;
@@ -20,3 +21,6 @@ pub use laws::traces_are_legal;
 pub use plan::{ObjectPlan, Plan, PlanFault};
 pub use swaps::{Cause, Step, Swap, Swapped, To};
 pub use system::{Pass, System};
+
+#[cfg(test)]
+mod trial;
