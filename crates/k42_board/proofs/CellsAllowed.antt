@@ -1,11 +1,12 @@
 -- The steps on cells, as the table asks for them, and as contracts tell them.
-use Rattle.std.proofs.Common.{◌≡◌, ℕ, ◌+◌, ◌<◌, Bool, true, false, cond, eqb, List, [], ◌∷◌, Some, None, sym, refl, ap, ◌∙◌, subst}
+use Rattle.std.proofs.Common.{◌≡◌, ℕ, ◌+◌, ◌<◌, Bool, true, false, cond, eqb, List, [], ◌∷◌, Some, None, get_or, set, sym, refl, ap, ◌∙◌, subst}
 use Rattle.std.specs.List.{slice_get}
 use Rattle.std.proofs.lemmas.Option.{same_Some}
 use mathlib.Core.Option.{none, some}
 use prog.Atomic.{either}
 use Rattle.atomic_table.specs.Table.{State, Step, step, rest, takes, gives, Allows}
 use Rattle.atomic_table.proofs.Lists.{set_here}
+use Rattle.turn_core.specs.Events.{caller_locked}
 use Rattle.turn_core.specs.State.{cell_at}
 use Rattle.turn_core.specs.declared.event.TurnEvent.TheVariants.{Lock, Take, Put, Unlock}
 use Rattle.k42_stamp.specs.Laws.{AreLaws}
@@ -32,6 +33,7 @@ use Rattle.k42_board.specs.Views.{pass_in}
 use Rattle.k42_board.proofs.CellsEvents.{locks, lock_found, unlocks, may_take, may_put, take_found, takes_away, gives_back, reach_found, reaches, puts, note_there}
 use Rattle.k42_board.proofs.Moves.{Moves, Finds, seat_allowed, seat_allowed_with, seat_is}
 use Rattle.k42_board.proofs.OnePass.{known}
+use Rattle.k42_board.proofs.Recounted.{recounted}
 use Rattle.k42_board.proofs.PartLaws.{rows_noted}
 
 abbrev pub lock_value : ℕ → ℕ → ℕ
@@ -43,7 +45,14 @@ module _ {S L P : Type 0} (F : Layouts S L P) (laws : AreLaws F) (declared : Lis
 
   pub lock_moves : MayLock F.procs n v → v.out ≡ None
       → Moves F declared (AtCells (Lock v.number n)) (lock_word n) (lock_value v.number) (locked_view n) id v
-  lock_moves may idle = record { from = λ table r at. locks F laws declared table r id v at n may idle }
+  lock_moves may idle = record {
+    from = λ table r at.
+        let after = locks F laws declared table r id v at n may idle in
+        let found : ℕ = get_or table.words (lock_word n) 0 in
+        let again = recounted F declared table (set table.words (lock_word n) (lock_value v.number found)) table.homes id
+        (record v { taker = cond (eqb found 0) (caller_locked n v.taker) v.taker; heard = found }) at after.0 v.installed (cond (eqb found 0) v.refused found) v.knocked in
+        (again.0, again.1 ∙ after.1, after.2);
+  }
 
   pub lock_finds : MayLock F.procs n v → Finds F declared (lock_word n) (LockFound n) id v
   lock_finds may table r at = lock_found F laws declared table r id v at n may

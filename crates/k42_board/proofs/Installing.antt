@@ -27,7 +27,7 @@ use Rattle.k42_board.specs.Rule.{KnowsPass, Rule, Ruled}
 use Rattle.k42_board.specs.Seen.{IsSeatOf}
 use Rattle.k42_board.specs.Views.{pass_in}
 use Rattle.k42_board.specs.Steps.{Seated, Tells}
-use Rattle.k42_board.specs.Tabling.{went, entry_object, layout_learned, MayInstall, empty_before, direct_after, installs, installed_view}
+use Rattle.k42_board.specs.Tabling.{went, entry_object, layout_learned, MayInstall, empty_before, direct_after, direct_view, installs, installed_view}
 use Rattle.k42_board.specs.Values.{local_value}
 use Rattle.k42_board.specs.Words.{local_word}
 use Rattle.k42_board.specs.declared.view.PassView.{PassView}
@@ -38,6 +38,7 @@ use Rattle.k42_board.proofs.Fields.{IsEntryOf}
 use Rattle.k42_board.proofs.Looking.{missed_is, place_is, reads, entry_at_home, home_there', object_is}
 use Rattle.k42_board.proofs.Moves.{Moves, seat_allowed}
 use Rattle.k42_board.proofs.OnePass.{with_pass, known}
+use Rattle.k42_board.proofs.Recounted.{recounted}
 
 pub both_or_none : (a b : Bool) → (a ≡ true → b ≡ true) → (b ≡ true → a ≡ true) → a ≡ b
 both_or_none true b f g = sym (f refl)
@@ -179,8 +180,20 @@ module _ {S L P : Type 0} (F : Layouts S L P) (laws : AreLaws F) (declared : Lis
         learned = λ served none. absurd (let has = may.rooted in cc);
       }))
 
-  pub installed : Goal (eqb found (empty_before v))
-  installed = by_test (eqb found (empty_before v)) effect_is
+  -- the pass keeps that it has installed
+  abbrev Counted : Bool → Type 0
+  Counted b =
+      Steps F declared r.state (AtPhases (Install c o)) (with_pass table (set table.words (local_word p o) (cond b (direct_after v) found)) table.homes id
+      (cond b (direct_view o found v) (went found v (at_place v.visitor Out) None)))
+
+  counted : (b : Bool) → Goal b → Counted b
+  counted false after = after
+  counted true after =
+      let again = recounted F declared table (set table.words (local_word p o) (direct_after v)) table.homes id (went found v x v.layout) at after.0 (o ∷ v.installed) v.refused v.knocked in
+      (again.0, again.1 ∙ after.1, after.2)
+
+  pub installed : Counted (eqb found (empty_before v))
+  installed = counted (eqb found (empty_before v)) (by_test (eqb found (empty_before v)) effect_is)
 
 pub install_moves : {S L P : Type 0} (F : Layouts S L P) → AreLaws F → (declared : List L) (id home o cell : ℕ) (v : PassView P)
     → MayInstall (length declared) o cell v → v.turn.proc ≡ home

@@ -38,6 +38,7 @@ use Rattle.k42_board.proofs.Fields.{IsRead, object_fits, counted_more, counted_l
 use Rattle.k42_board.proofs.Looking.{place_is, object_shown, object_is_read, object_seen}
 use Rattle.k42_board.proofs.Moves.{Moves, Finds, seat_allowed_with}
 use Rattle.k42_board.proofs.OnePass.{with_pass, known}
+use Rattle.k42_board.proofs.Recounted.{recounted}
 
 module _ {S L P : Type 0} (F : Layouts S L P) (laws : AreLaws F) (declared : List L)
     (table : State (Slot P) (View P)) (r : Rule F declared table) (id : ℕ) (v : PassView P)
@@ -127,8 +128,13 @@ module _ {S L P : Type 0} (F : Layouts S L P) (laws : AreLaws F) (declared : Lis
         (λ l q i told inside. ap (λ z. (object_at s z).layout) (sym inside.0) ∙ sym is_read.layout ∙ same_Some (layout_in found) l told)
         (λ served none. cc)
 
-    pub knocked_at : Goal (has_bit found 25)
-    knocked_at = by_block (has_bit found 25) effect_is
+    -- the pass keeps what it found
+    pub knocked_at : Steps F declared r.state (AtPhases (Knock c o)) (with_pass table (set table.words (object_word o) ((found + 1) % 2 ^ 64)) table.homes id (knocked_view o found v))
+    knocked_at =
+        let after = by_block (has_bit found 25) effect_is in
+        let again = recounted F declared table (set table.words (object_word o) ((found + 1) % 2 ^ 64)) table.homes id
+        (went found v (knocked v.visitor o (incarnation_in found) (has_bit found 25)) (cond (has_bit found 25) None (Some (layout_in found)))) at after.0 v.installed v.refused found in
+        (again.0, again.1 ∙ after.1, after.2)
 
   -- a counted caller's object counts it
   counted_there : (place : Place) → (visitor_at s c).place ≡ place → is_counted place ≡ true

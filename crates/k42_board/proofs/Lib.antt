@@ -4,6 +4,7 @@ pub mod Turning
 pub mod Begun
 pub mod Entering
 pub mod Leaving
+pub mod Recounted
 pub mod Moves
 pub mod Notings
 pub mod Roles
@@ -51,5 +52,6 @@ pub mod FirstParts
 pub mod Replaced
 pub mod Dealing
 pub mod Carrying
+pub mod FewRows
 pub mod Naming
 pub mod Starting

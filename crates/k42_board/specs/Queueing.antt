@@ -1,8 +1,9 @@
 -- The queue of retired rows: each row's pops so far and its places in the queue are together as many as its pushes.
-use Rattle.std.specs.Prelude.{◌≡◌, ℕ, ◌+◌, ◌-◌, ◌==◌, ◌&&◌, Bool, true, false, List, [], ◌∷◌, ◌++◌, count_by, sum_by, drop, take}
+use Rattle.std.specs.Prelude.{◌≡◌, ℕ, ◌+◌, ◌-◌, ◌*◌, ◌≤◌, ◌==◌, ◌&&◌, Bool, true, false, List, [], ◌∷◌, ◌++◌, count_by, sum_by, drop, length, take}
 use mathlib.Core.Option.{some}
 use lib.ListN.{get_elem?}
 use Rattle.atomic_table.specs.Seated.{TableId}
+use Rattle.k42_limits.specs.declared.TheConstants.{LAST_INCARNATION, OBJECTS}
 use Rattle.k42_places.specs.Places.{EachPlace}
 use Rattle.k42_board.specs.Phases.{IsGranted}
 use Rattle.k42_board.specs.Seen.{PassSeen}
@@ -136,6 +137,13 @@ takes_in view named = on_pass (with_newest (row_named named)) view
 -- the granted rows are below what the grace has noted
 abbrev pub AreGranted : {P : Type 0} → PassView P → ℕ → Type 0
 AreGranted v found = EachPlace (λ place row. IsGranted v.visitor.noted row) (take v.granted v.rows)
+
+-- a pass holds each row once, and so not more than there are
+abbrev pub MOST_ROWS : ℕ
+MOST_ROWS = OBJECTS * LAST_INCARNATION
+
+abbrev pub HoldsFew : {P : Type 0} → PassView P → ℕ → Type 0
+HoldsFew v found = length v.rows ≤ MOST_ROWS
 
 -- what a pass is after it has pushed its oldest row, or popped one
 

@@ -1,5 +1,5 @@
 -- The steps on tables, for one pass: where each may be taken, and what the pass knows after it.
-use Rattle.std.specs.Prelude.{◌≡◌, ℕ, ◌-◌, ◌/◌, ◌%◌, ◌<◌, ◌≤◌, ◌^◌, ◌==◌, ◌||◌, Bool, true, if◌then◌else◌, Option, Some, None, is_some, unwrap_or}
+use Rattle.std.specs.Prelude.{◌≡◌, ℕ, ◌-◌, ◌/◌, ◌%◌, ◌<◌, ◌≤◌, ◌^◌, ◌==◌, ◌||◌, Bool, true, if◌then◌else◌, ◌∷◌, Option, Some, None, is_some, unwrap_or}
 use Rattle.k42_limits.specs.declared.TheConstants.{LAST_INCARNATION}
 use Rattle.gen_core.specs.Events.{is_free}
 use Rattle.phase_core.specs.Effects.{root_of, at_place, looked_up, direct_entry, knocked, at_stage, begun_as}
@@ -90,11 +90,16 @@ direct_after v = local_value (direct_entry (layout_learned v) v.turn.proc (row_o
 abbrev pub installs : {P : Type 0} → PassView P → ℕ → ℕ
 installs v word = if word == empty_before v then direct_after v else word
 
+-- it has led the entry to its cell, and keeps that it has
+abbrev pub direct_view : {P : Type 0} → ℕ → ℕ → PassView P → PassView P
+direct_view o found v =
+    record (went found v (at_place v.visitor (Direct o (row_of v.visitor.place))) v.layout) {
+      installed = o ∷ v.installed;
+    }
+
 abbrev pub installed_view : {P : Type 0} → ℕ → ℕ → PassView P → PassView P
 installed_view o found v =
-    if found == empty_before v
-    then went found v (at_place v.visitor (Direct o (row_of v.visitor.place))) v.layout
-    else went found v (at_place v.visitor Out) None
+    if found == empty_before v then direct_view o found v else went found v (at_place v.visitor Out) None
 
 -- it is in a direct call, or has found its entry empty, and holds no cell
 pub record MayEndCall {P : Type 0} (v : PassView P) : Type 0 where
@@ -113,11 +118,11 @@ pub record MayKnock {P : Type 0} (objects o : ℕ) (v : PassView P) : Type 0 whe
   pub sent : is_at_mediator v.visitor.place o ≡ true
   pub there : o < objects
 
--- it is let in, and learns the row and its layout, unless the swap blocks
+-- it is let in, and learns the row and its layout, unless the swap blocks; it keeps what it found
 abbrev pub knocked_view : {P : Type 0} → ℕ → ℕ → PassView P → PassView P
 knocked_view o found v =
-    went found v (knocked v.visitor o (incarnation_in found) (has_bit found 25))
-    (if has_bit found 25 then None else Some (layout_in found))
+    record (went found v (knocked v.visitor o (incarnation_in found) (has_bit found 25))
+    (if has_bit found 25 then None else Some (layout_in found))) { knocked = found }
 
 -- the mediator counts it, and it holds no cell; its call is over then
 pub record MayStepOut {P : Type 0} (v : PassView P) : Type 0 where

@@ -53,9 +53,12 @@ without n notes = filter (λ note. not (note.cell == n)) notes
 
 -- the pass after each step
 
--- it has the lock, where that was found free
+-- it has the lock, where that was found free, and else keeps whose it is
 abbrev pub locked_view : {P : Type 0} → ℕ → ℕ → PassView P → PassView P
-locked_view n found v = hears found (record v { taker = if found == 0 then caller_locked n v.taker else v.taker })
+locked_view n found v = hears found (record v {
+  taker = if found == 0 then caller_locked n v.taker else v.taker;
+  refused = if found == 0 then v.refused else found;
+})
 
 abbrev pub unlocked_view : {P : Type 0} → ℕ → PassView P → PassView P
 unlocked_view n v = record v { taker = caller_unlocked n v.taker }

@@ -54,6 +54,9 @@ new_pass procs objects number home = record {
   out = None;
   untold = [];
   heard = 0;
+  installed = [];
+  refused = 0;
+  knocked = 0;
 }
 
 -- the pass that alone has the view of a seat

@@ -2,7 +2,7 @@
 ghost use Rattle.std.specs.Prelude.{◌≡◌, ◌<◌, ◌≤◌, [], true, false, if◌then◌else◌, length};
 ghost use Rattle.atomic_table.specs.Seated.{TableId};
 ghost use Rattle.crossbeam_queue.specs.SegTies.{IsSegPassOf};
-ghost use Rattle.k42_board.specs.Queueing.{IsTied, AreGranted, oldest, row_named, without_oldest, with_oldest, with_newest};
+ghost use Rattle.k42_board.specs.Queueing.{IsTied, AreGranted, HoldsFew, oldest, row_named, without_oldest, with_oldest, with_newest};
 ghost use Rattle.k42_board.specs.Phases.{IsGranted};
 ghost use Rattle.k42_board.specs.Seen.{IsSeatOf};
 ghost use Rattle.k42_board.specs.Views.{pass_in};
@@ -140,6 +140,15 @@ impl<P: Drop> Play<Option<Content<P>>, View<P>> for See {
     ghost then = { TellsWith (λ found v. v) AreGranted };
 }
 
+struct Count;
+
+impl<P: Drop> Play<Option<Content<P>>, View<P>> for Count {
+    ghost use Rattle.k42_board.specs.Queueing.{HoldsFew};
+    ghost use Rattle.k42_board.specs.Steps.{TellsWith};
+
+    ghost then = { TellsWith (λ found v. v) HoldsFew };
+}
+
 struct Name;
 
 impl<P> atomic_table::Split<View<P>> for Name {
@@ -222,6 +231,8 @@ pub fn take_in<L: Layout>(board: &Board<L>, seat: &mut Place<L>, named: Place<L>
     requires few { (pass_in seat.old.me.0).granted ≤ length (pass_in seat.old.me.0).rows }
     ensures ours { (seat.new.table_id ≡ seat.old.table_id) × (seat.new.id ≡ seat.old.id) }
     ensures told { IsSeatOf seat.new.me (with_newest (row_named named.me.0) (pass_in seat.old.me.0)) }
+    ensures few { HoldsFew (with_newest (row_named named.me.0) (pass_in seat.old.me.0)) 0 }
 {
     board.shared.join_seat::<TakeIn>(seat, named);
+    board.shared.load::<Count>(seat, 0);
 }

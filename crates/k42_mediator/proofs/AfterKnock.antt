@@ -19,7 +19,7 @@ false_true e = cc
 
 -- a blocked caller that has stepped out is out
 stepped_out : {P : Type 0} (o found left : ℕ) (v : PassView P) (b : Bool) → has_bit found 25 ≡ b → b ≡ true
-    → ended_view left (knocked_view o found v) ≡ hears left (cond (has_bit found 25) (out_view v) (knocked_view o found v))
+    → ended_view left (knocked_view o found v) ≡ hears left (cond (has_bit found 25) (out_view found v) (knocked_view o found v))
 stepped_out o found left v true e same = rw e refl
 stepped_out o found left v false e same = absurd (false_true same)
 
@@ -33,14 +33,16 @@ module _ {S L P : Type 0} (F : Layouts S L P) (declared : List L) (id o found : 
   let_in open' = record {
     found = found;
     event = told;
+    told = ap (λ (w : PassView _). w.knocked) knows;
     answer_is = ap (λ b. cond b Blocked (Admitted (incarnation_in found))) (sym open');
-    knows = heard_now mid (cond (has_bit found 25) (out_view old) (knocked_view o found old)) found (knows ∙ ap (λ b. hears found (cond b (out_view old) (knocked_view o found old))) (sym open'));
+    knows = heard_now mid (cond (has_bit found 25) (out_view found old) (knocked_view o found old)) found (knows ∙ ap (λ b. hears found (cond b (out_view found old) (knocked_view o found old))) (sym open'));
   }
 
   pub kept_out : (left : ℕ) (new : PassView P) → has_bit found 25 ≡ true → new ≡ ended_view left mid → IsKnock F declared id o old new Blocked
   kept_out left new closed e = record {
     found = found;
     event = told;
+    told = ap (λ (w : PassView _). w.knocked) (e ∙ ap (ended_view left) knows);
     answer_is = ap (λ b. cond b Blocked (Admitted (incarnation_in found))) (sym closed);
-    knows = heard_now new (cond (has_bit found 25) (out_view old) (knocked_view o found old)) left (e ∙ ap (ended_view left) knows ∙ stepped_out o found left old true closed refl);
+    knows = heard_now new (cond (has_bit found 25) (out_view found old) (knocked_view o found old)) left (e ∙ ap (ended_view left) knows ∙ stepped_out o found left old true closed refl);
   }

@@ -1,5 +1,5 @@
 //! Rows are handed over to whoever collects them.
-ghost use Rattle.std.specs.Prelude.{◌≡◌, ◌<◌, ◌^◌, ◌-◌, ℕ, List, length, min, OnOk, OnErr};
+ghost use Rattle.std.specs.Prelude.{◌≡◌, ◌<◌, ℕ, List, length, OnOk, OnErr};
 ghost use Rattle.k42_board.specs.Seen.{IsPassOf};
 ghost use Rattle.k42_board.specs.declared.view.Row.{Row};
 ghost use Rattle.k42_quiesce.specs.Collecting.{HasHandedOver, HasCollected, CollectsAll};
@@ -21,15 +21,15 @@ pub fn hand_over<L: Layout, R: Wait>(rt: &R, sys: &Sys<L>, pass: &mut Pass<L>) -
     Ok(())
 }
 
-/// Pops rows for the pass, and answers how many, or `u32::MAX` where they are more.
+/// Pops rows for the pass, and answers how many.
 pub fn collect<L: Layout, R: Wait>(rt: &R, sys: &Sys<L>, pass: &mut Pass<L>) -> u32
     requires ours { IsPassOf sys.now pass.old }
-    ensures collected { (rows : List Row) × (result ≡ min (length rows) (2 ^ 32 - 1)) × HasCollected rows pass.old pass.new }
+    ensures collected { (rows : List Row) × (result ≡ length rows) × HasCollected rows pass.old pass.new }
     ensures all { CollectsAll L.Part pass.new.row_room }
 {
     let mut count: u32 = 0;
     while pass.row_room() > 1 && pop_row(rt, sys, pass) {
-        count = count.saturating_add(1);
+        count += 1;
     }
     count
 }

@@ -192,6 +192,7 @@ impl<P: Drop> Walker<P> {
         ensures is { result ≡ self.now.view.last }
         ensures object { object_begun self.now.view.last < 16 }
         ensures incarnation { incarnation_in (word_begun self.now.view.last) ≤ LAST_INCARNATION }
+        ensures settled { IsSettled self.now.view }
     {
         self.last
     }

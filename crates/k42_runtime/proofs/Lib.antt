@@ -1,1 +1,5 @@
+pub mod Planned
+pub mod Traces
+pub mod Closed
+pub mod Started
 pub mod CallStepped

@@ -81,7 +81,7 @@ module _ {S L P : Type 0} (F : Layouts S L P) (declared : List L) (id : ℕ) whe
   HoldsUp causes.Blocked object old new = (before : PassView P) × IsKnock F declared id object before new Blocked
   HoldsUp (causes.Elsewhere word) object old new =
       (before : PassView P) × HasFilled F declared id object before new (Elsewhere word)
-  HoldsUp (causes.CellHeld holder) object old new = (new.locked ≡ holder + 1) × WasHeld holder
+  HoldsUp (causes.CellHeld holder) object old new = (new.refused ≡ holder + 1) × WasHeld holder
 
 -- whether a step ends its call
 abbrev pub is_last : CallStep → Bool

@@ -5,3 +5,4 @@ pub mod Stepping
 pub mod Reaching
 pub mod Swaps
 pub mod Histories
+pub mod Closing

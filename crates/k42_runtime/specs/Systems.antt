@@ -1,16 +1,15 @@
 -- A system, and its passes between two of their calls.
-use Rattle.std.specs.Prelude.{◌≡◌, ℕ, ◌<◌, true, List, [], length, is_some, slice_index}
+use Rattle.std.specs.Prelude.{◌≡◌, ℕ, ◌<◌, true, List, [], length, is_some, slice_index, slice_index_or}
 use Rattle.gen_core.specs.Events as graces
 use Rattle.k42_kinds.specs.declared.states.AnyState.{AnyState}
 use Rattle.k42_kinds.specs.Objects.{plain_object}
 use Rattle.k42_places.specs.Places.{EachPlace}
 use Rattle.phase_core.specs.Stages as swaps
 use Rattle.phase_core.specs.Stages.{is_out}
-use Rattle.k42_stamp.specs.Layouts.{Layouts}
+use Rattle.k42_stamp.specs.Layouts.{Layouts, layouts_with}
 use Rattle.co_any.specs.Layouts.{ways_of, whole_of, serves_of, admitted_of, act_of}
 use Rattle.co_any.specs.declared.layout.AnyLayout.{AnyLayout}
 use Rattle.co_any.specs.declared.part.AnyPart.{AnyPart}
-use Rattle.k42_board.specs.Plan.{layouts_on}
 use Rattle.k42_board.specs.Seen.{SysSeen, PassSeen, IsPassOf, is_at_rest, own_in}
 use Rattle.k42_board.specs.Views.{new_pass}
 use Rattle.k42_board.specs.declared.view.PassView.{PassView}
@@ -30,12 +29,15 @@ pub record IsPlanned (system : SystemSeen) : Type 0 where
   pub callers : system.sys.callers ≡ system.plan.callers
 
 -- the layouts of all kinds, on so many processors and for callers there
-abbrev pub any_layouts : ℕ → List ℕ → Layouts AnyState AnyLayout AnyPart
-any_layouts =
-    layouts_on (λ (layout : AnyLayout). plain_object layout.kind) (λ (layout : AnyLayout). layout.tag)
+abbrev pub any_with : ℕ → (ℕ → ℕ) → Layouts AnyState AnyLayout AnyPart
+any_with =
+    layouts_with (λ (layout : AnyLayout). plain_object layout.kind) (λ (layout : AnyLayout). layout.tag)
     (λ (layout : AnyLayout). ways_of layout.kind layout.tag) (λ (layout : AnyLayout). whole_of layout.kind layout.tag)
     (λ (layout : AnyLayout). serves_of layout.kind layout.tag) (λ (layout : AnyLayout). admitted_of layout.tag)
     (λ (layout : AnyLayout). act_of layout.tag)
+
+abbrev pub any_layouts : ℕ → List ℕ → Layouts AnyState AnyLayout AnyPart
+any_layouts procs callers = any_with procs (λ c. slice_index_or callers c 0)
 
 abbrev pub layouts_in : SystemSeen → Layouts AnyState AnyLayout AnyPart
 layouts_in system = any_layouts system.sys.procs system.sys.callers

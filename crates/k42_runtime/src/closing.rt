@@ -1,7 +1,9 @@
 //! A system is closed.
-ghost use Rattle.std.specs.Prelude.{◌≡◌, map, vec_items, IfOk, IfErr};
+ghost use Rattle.std.specs.Prelude.{◌≡◌, ◌≤◌, ◌+◌, ◌++◌, length, map, vec_items, IfOk, IfErr, OnOk};
+ghost use Rattle.k42_limits.specs.declared.TheConstants.{CALLERS};
 ghost use Rattle.k42_rule.specs.Finishing.{AreAtRest, lists_in};
-ghost use Rattle.k42_stamp.specs.Lists.{AreLists, IsMerged};
+ghost use Rattle.k42_stamp.specs.Lists.{IsMerged};
+ghost use Rattle.k42_runtime.specs.Closing.{AreNumbered, AreListsFrom};
 ghost use Rattle.k42_runtime.specs.Histories.{IsClosed};
 
 use crate::history::{History, Unclosed};
@@ -14,25 +16,36 @@ use k42_rule::{Unfinished, layouts_are_lawful};
 use k42_stamp::merge;
 use std::alloc::Global;
 
-/// The entries of each pass again.
-fn copies(alloc: Global, passes: &[Pass]) -> Result<Vec<Vec<Entry>>, Memory>
-    ensures { IfOk result (λ lists. map vec_items lists.items ≡ lists_in passes.now) }
+/// Puts the entries of each pass behind the lists. The passes are counted from a first caller.
+fn copy_behind(
+    alloc: Global,
+    first: u32,
+    passes: &[Pass],
+    lists: &mut Vec<Vec<Entry>>,
+) -> Result<(), Memory>
+    requires numbered { AreNumbered first passes.now }
+    requires few { first + length passes.now ≤ CALLERS }
+    ensures lists { OnOk result (map vec_items lists.new.items ≡ map vec_items lists.old.items ++ lists_in passes.now) }
+    ensures listed { OnOk result (AreListsFrom first (lists_in passes.now)) }
 {
-    let mut lists = Vec::with_capacity(alloc, passes.len())?;
-    for pass in passes {
-        let mut list = Vec::new(alloc);
-        list.extend_from_slice(pass.entries())?;
-        lists.push_reserved(list);
-    }
-    Ok(lists)
+    let Some((pass, others)) = passes.split_first() else {
+        return Ok(());
+    };
+    let mut list = Vec::new(alloc);
+    list.extend_from_slice(pass.entries())?;
+    lists.push(list)?;
+    copy_behind(alloc, first + 1, others, lists)
 }
 
 /// The entries of all passes in one order, numbered anew.
 fn merged(alloc: Global, passes: &[Pass]) -> Result<Vec<Entry>, Memory>
-    requires { AreLists (lists_in passes.now) }
-    ensures { IfOk result (λ entries. IsMerged (lists_in passes.now) entries.items) }
+    requires numbered { AreNumbered 0 passes.now }
+    requires few { length passes.now ≤ CALLERS }
+    ensures merged { IfOk result (λ entries. IsMerged (lists_in passes.now) entries.items) }
+    ensures listed { OnOk result (AreListsFrom 0 (lists_in passes.now)) }
 {
-    let lists = copies(alloc, passes)?;
+    let mut lists = Vec::new(alloc);
+    copy_behind(alloc, 0, passes, &mut lists)?;
     merge(alloc, lists)
 }
 

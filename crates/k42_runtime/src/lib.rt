@@ -21,6 +21,3 @@ pub use laws::traces_are_legal;
 pub use plan::{ObjectPlan, Plan, PlanFault};
 pub use swaps::{Cause, Step, Swap, Swapped, To};
 pub use system::{Pass, System};
-
-#[cfg(test)]
-mod trial;

@@ -58,6 +58,22 @@ fn stray(procs: u32, first: u32, homes: &[u32]) -> Option<PlanFault>
     }
 }
 
+/// The first fault of such a plan, in the order in which they are listed.
+fn first_fault(procs: u32, objects: &[ObjectPlan], callers: &[u32]) -> Option<PlanFault>
+    ensures { result ≡ plan_fault (record { procs = procs; objects = objects.now; callers = callers.now }) }
+{
+    if procs == 0 || procs > PROCESSORS {
+        return Some(PlanFault::Procs);
+    }
+    if objects.is_empty() || objects.len() > OBJECTS {
+        return Some(PlanFault::Objects);
+    }
+    if callers.is_empty() || callers.len() > CALLERS {
+        return Some(PlanFault::Callers);
+    }
+    stray(procs, 0, callers)
+}
+
 impl Plan {
     /// A plan with these fields, or the first of their faults, in the order in which they are listed.
     pub fn new(procs: u32, objects: Vec<ObjectPlan>, callers: Vec<u32>) -> Result<Plan, PlanFault>
@@ -65,16 +81,7 @@ impl Plan {
         ensures sound { IfOk result (λ plan. plan_fault plan ≡ None) }
         ensures fault { IfErr result (λ fault. plan_fault (record { procs = procs; objects = objects.items; callers = callers.items }) ≡ Some fault) }
     {
-        if procs == 0 || procs > PROCESSORS {
-            return Err(PlanFault::Procs);
-        }
-        if objects.is_empty() || objects.len() > OBJECTS {
-            return Err(PlanFault::Objects);
-        }
-        if callers.is_empty() || callers.len() > CALLERS {
-            return Err(PlanFault::Callers);
-        }
-        match stray(procs, 0, callers.as_slice()) {
+        match first_fault(procs, objects.as_slice(), callers.as_slice()) {
             Some(fault) => Err(fault),
             None => Ok(Plan {
                 procs,

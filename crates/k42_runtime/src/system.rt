@@ -1,15 +1,16 @@
 //! A system: its table and its plan.
-ghost use Rattle.std.specs.Prelude.{◌≡◌, ◌<◌, ℕ, Some, length, map, slice_get, IfOk};
+ghost use Rattle.std.specs.Prelude.{◌≡◌, ◌<◌, ◌↔◌, ℕ, true, Some, length, map, slice_get, IfOk};
 ghost use Rattle.k42_board.specs.Generating.{entered_view, left_view};
 ghost use Rattle.k42_board.specs.Generations.{MOST};
 ghost use Rattle.k42_board.specs.Seen.{IsSamePass};
 ghost use Rattle.k42_quiesce.specs.Activities.{HasEntered};
+ghost use Rattle.k42_runtime.specs.Calls.{IsAsked};
 ghost use Rattle.k42_runtime.specs.Plans.{kinds_of, layout_of};
 ghost use Rattle.k42_runtime.specs.Systems.{IsPassHere, IsAtWork, IsAtRest, HasStarted};
 
 use crate::plan::{ObjectPlan, Plan};
 use co_any::AnyLayout;
-use k42_kinds::KindName;
+use k42_kinds::{KindName, Op, kind_of};
 use k42_memory::Memory;
 use k42_rule::Sys;
 use std::alloc::Global;
@@ -39,9 +40,9 @@ impl Model for System {
 fn layouts_for(alloc: Global, objects: &[ObjectPlan]) -> Result<Vec<AnyLayout>, Memory>
     ensures { IfOk result (λ layouts. layouts.items ≡ map layout_of objects.now) }
 {
-    let mut layouts = Vec::with_capacity(alloc, objects.len())?;
+    let mut layouts = Vec::new(alloc);
     for object in objects {
-        layouts.push_reserved(AnyLayout::of(object.kind, object.layout));
+        layouts.push(AnyLayout::of(object.kind, object.layout))?;
     }
     Ok(layouts)
 }
@@ -72,6 +73,37 @@ impl System {
         ensures { slice_get (kinds_of self.now.plan) object ≡ Some result }
     {
         self.plan.objects[object as usize].kind
+    }
+
+    /// Its table, for whoever takes the phases of a swap one by one.
+    pub fn table(&self) -> &Sys<AnyLayout>
+        ensures { result.now ≡ self.now.sys }
+    {
+        &self.sys
+    }
+
+    /// How many objects it has.
+    pub fn objects(&self) -> u32
+        ensures { result ≡ length self.now.plan.objects }
+    {
+        self.plan.objects.len() as u32
+    }
+
+    /// How many callers it was started for.
+    pub fn callers(&self) -> u32
+        ensures { result ≡ length self.now.plan.callers }
+    {
+        self.plan.callers.len() as u32
+    }
+
+    /// Whether there is such an object, and whether the operation is of its kind.
+    pub fn takes(&self, object: u32, op: &Op) -> bool
+        ensures { (result ≡ true) ↔ IsAsked self.now.plan object op.now }
+    {
+        match self.plan.objects.get(object as usize) {
+            Some(declared) => declared.kind == kind_of(op),
+            None => false,
+        }
     }
 
     /// Begins an activity, in which the pass may call.

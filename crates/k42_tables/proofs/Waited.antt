@@ -13,10 +13,10 @@ use Rattle.k42_board.specs.Tabling.{installs, ended_view}
 use Rattle.k42_board.specs.Taking.{locked_view}
 use Rattle.k42_board.specs.Words.{local_word}
 use Rattle.k42_board.specs.declared.view.PassView.{PassView}
-use Rattle.k42_tables.specs.Missing.{MayMiss, IsStillThere, IsRooted, cell_named, HasFilled, HasGivenUp, IsHeldUp, HasFoundHeld}
+use Rattle.k42_tables.specs.Missing.{MayMiss, IsStillThere, HasEnded, IsRooted, cell_named, HasFilled, HasGivenUp, IsHeldUp, HasFoundHeld}
 use Rattle.k42_tables.specs.Walks.{WalksAside}
 use Rattle.k42_tables.specs.declared.answers.Filled.{Filled}
-use Rattle.k42_tables.proofs.Missed.{ended_there, represented_from}
+use Rattle.k42_tables.proofs.Missed.{ended_there, ended_further, none_installed, represented_from}
 use Rattle.k42_tables.proofs.Walking.{lock_walk, end_walk, walk_none, walk_on, walk_at}
 
 pub on_err_any : {X E A : Type 0} (r : Result X E) → A → OnErr r A
@@ -44,19 +44,19 @@ module _ {P : Type 0} where
   }
 
   still_further : (v u w : PassView P) → IsStillThere v u → IsStillThere u w → IsStillThere v w
-  still_further v u w first second = second ∙ ap (λ (x : PassView P). record x { layout = w.layout; heard = w.heard }) first
+  still_further v u w first second = second ∙ ap (λ (x : PassView P). record x { layout = w.layout; heard = w.heard; refused = w.refused }) first
 
   rooted_further : (v u w : PassView P) → IsStillThere v u → IsRooted u w → IsRooted v w
   rooted_further v u w first second = record { there = still_further v u w first second.there; layout = second.layout; learned = second.learned; known = second.known }
 
-  -- a lock that was found taken changes nothing but the word found
-  found_held : (n holder : ℕ) (v : PassView P) → locked_view n (holder + 1) v ≡ record v { heard = holder + 1 }
+  -- a lock that was found taken changes nothing but the words found
+  found_held : (n holder : ℕ) (v : PassView P) → locked_view n (holder + 1) v ≡ record v { heard = holder + 1; refused = holder + 1 }
   found_held n holder v = let taken : eqb (holder + 1) 0 ≡ false = grind (arith, nat_tests) in rw taken refl
 
   pub held_there : (v u w : PassView P) (n holder : ℕ) → IsRooted v u → w ≡ locked_view n (holder + 1) u → IsStillThere v w
   held_there v u w n holder rooted is =
-      let same : w ≡ record u { heard = holder + 1 } = is ∙ found_held n holder u in
-      subst (IsStillThere v) (sym (same ∙ ap (λ (x : PassView P). record x { heard = holder + 1 }) rooted.there)) refl
+      let same : w ≡ record u { heard = holder + 1; refused = holder + 1 } = is ∙ found_held n holder u in
+      subst (IsStillThere v) (sym (same ∙ ap (λ (x : PassView P). record x { heard = holder + 1; refused = holder + 1 }) rooted.there)) refl
 
   pub may_still : (objects o : ℕ) (v w : PassView P) → IsStillThere v w → MayMiss objects o v → MayMiss objects o w
   may_still objects o v w there may = record {
@@ -88,10 +88,13 @@ module _ {S L P : Type 0} (F : Layouts S L P) (declared : List L) where
     seat = waits.same.seat
 
     pub given_up : (w : PassView P) → HasGivenUp F declared now.seat now.view w → HasGivenUp F declared old.seat old.view w
-    given_up w is = record {
-      walk = walk_on F declared old.seat old.view now.view w waits.walk (walk_at F declared old.seat now.seat now.view w seat is.walk);
-      out = ended_there old.view now.view w w.heard waits.there is.out;
-    }
+    given_up w is =
+        let out : HasEnded old.view w = ended_further old.view now.view w waits.there is.out in
+        record {
+          walk = walk_on F declared old.seat old.view now.view w waits.walk (walk_at F declared old.seat now.seat now.view w seat is.walk);
+          out = out;
+          installed = none_installed old.view w out;
+        }
 
     pub has_filled : (o : ℕ) (w : PassView P) (answer : Filled) → HasFilled F declared now.seat o now.view w answer → HasFilled F declared old.seat o old.view w answer
     has_filled o w answer is' =
@@ -124,11 +127,16 @@ module _ {S L P : Type 0} (F : Layouts S L P) (declared : List L) where
   pub gives_up_held : (id o holder id' found : ℕ) (v u w : PassView P) → id' ≡ id → IsHeldUp F declared id o v u holder
       → StepIs F declared (AtPhases (phases.EndCall u.number)) (local_word u.turn.proc (object_of u.visitor.place)) (λ word. word) id' u found w
       → w ≡ ended_view found u → HasFoundHeld F declared id o v w holder
-  gives_up_held id o holder id' found v u w same is end out = record {
-    before = is.before;
-    rooted = is.rooted;
-    walk = is.walk;
-    held = is.held;
-    rest = subst (λ x. WalksAside F declared id x w) is.view (walk_at F declared id id' u w same (end_walk F declared id' u w found end));
-    out = ended_there v u w found (held_there v is.before u (cell_named o is.before) holder is.rooted is.view) out;
-  }
+  gives_up_held id o holder id' found v u w same is end out =
+      let n = cell_named o is.before in
+      let over : HasEnded v w = ended_there v u w found (held_there v is.before u n holder is.rooted is.view) out in
+      record {
+        before = is.before;
+        rooted = is.rooted;
+        walk = is.walk;
+        held = is.held;
+        rest = subst (λ x. WalksAside F declared id x w) is.view (walk_at F declared id id' u w same (end_walk F declared id' u w found end));
+        out = over;
+        refused = ap (λ (x : PassView _). x.refused) out ∙ ap (λ (x : PassView _). x.refused) (is.view ∙ found_held n holder is.before);
+        installed = none_installed v w over;
+      }

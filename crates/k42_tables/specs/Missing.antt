@@ -26,9 +26,13 @@ pub record MayMiss {P : Type 0} (objects o : ℕ) (v : PassView P) : Type 0 wher
   pub there : o < objects
   pub free : holds_none v.taker.held ≡ true
 
--- a pass that may have learned a layout since, and have found other words
+-- a pass that may have learned a layout since, and have found other words and locks held
 abbrev pub IsStillThere : {P : Type 0} → PassView P → PassView P → Type 0
-IsStillThere old v = v ≡ record old { layout = v.layout; heard = v.heard }
+IsStillThere old v = v ≡ record old { layout = v.layout; heard = v.heard; refused = v.refused }
+
+-- and one whose call is over
+abbrev pub HasEnded : {P : Type 0} → PassView P → PassView P → Type 0
+HasEnded old v = v ≡ record (ended_view v.heard old) { refused = v.refused }
 
 -- and one that has learned the layout of the row which it missed
 pub record IsRooted {P : Type 0} (old v : PassView P) : Type 0 where
@@ -51,12 +55,13 @@ filled_in row place found = if found == local_value (empty_entry row) then Insta
 abbrev pub filled_by : {P : Type 0} → PassView P → ℕ → Filled
 filled_by v found = filled_in (row_of v.visitor.place) (place_named v) found
 
--- it has changed no object and no entry, and is inside no call
+-- it has changed no object and no entry, has installed nothing, and is inside no call
 pub record HasGivenUp
     {S L P : Type 0} (F : Layouts S L P) (declared : List L) (id : ℕ) (old new : PassView P)
     : Type 0 where
   pub walk : WalksAside F declared id old new
-  pub out : new ≡ ended_view new.heard old
+  pub out : HasEnded old new
+  pub installed : new.installed ≡ old.installed
 
 module _ {S L P : Type 0} (F : Layouts S L P) (declared : List L) (id o : ℕ) where
   -- Its cell has a part then, and the last step is an Install. What this found is the word that the pass knows, and
@@ -89,11 +94,13 @@ module _ {S L P : Type 0} (F : Layouts S L P) (declared : List L) (id o : ℕ) w
     pub held : FoundHeld before holder
     pub view : new ≡ locked_view (cell_named o before) (holder + 1) before
 
-  -- it has found its cell held, and has given up
+  -- it has found its cell held, which is the last lock that it was refused, has installed nothing, and has given up
   pub record HasFoundHeld (old new : PassView P) (holder : ℕ) : Type 0 where
     pub before : PassView P
     pub rooted : IsRooted old before
     pub walk : WalksAside F declared id old before
     pub held : FoundHeld before holder
     pub rest : WalksAside F declared id (locked_view (cell_named o before) (holder + 1) before) new
-    pub out : new ≡ ended_view new.heard old
+    pub out : HasEnded old new
+    pub refused : new.refused ≡ holder + 1
+    pub installed : new.installed ≡ old.installed

@@ -1,0 +1,128 @@
+-- The one history of a system that is closed.
+use Rattle.std.proofs.Common.{inl, inr, ◌≡◌, ℕ, zero, suc, ◌+◌, ◌<◌, true, List, [], ◌∷◌, Option, Some, None, length, map, slice_index_or, refl, sym, ap, ◌∙◌, subst, arith}
+use Rattle.std.specs.List.{slice_get, AllByRecursion, All}
+use Rattle.std.proofs.lemmas.List.Elements.{All-from_recursion}
+use Rattle.std.proofs.lemmas.List.{length-map}
+use Rattle.std.proofs.lemmas.Option.{same_Some, slice_get_within}
+use Rattle.k42_kinds.specs.declared.entry.Entry.{Entry}
+use Rattle.k42_stamp.specs.Lists.{IsListOf, AreLists, InSome, IsMerged, numbered_from}
+use Rattle.k42_stamp.specs.Orders.{In}
+use Rattle.k42_stamp.proofs.Elements.{all_at}
+use Rattle.k42_board.specs.Seen.{SysSeen, PassSeen}
+use Rattle.k42_rule.specs.Finishing.{AreAtRest, AreLastLists, IsResting}
+use Rattle.co_any.specs.declared.layout.AnyLayout.{AnyLayout}
+use Rattle.k42_kinds.specs.Histories.{IsInOrder}
+use Rattle.k42_kinds.specs.Legal.{IsLegalHistoryOf}
+use Rattle.k42_kinds.specs.Objects.{plain_object}
+use Rattle.k42_joined.specs.Fitting.{lists_of}
+use Rattle.k42_joined.specs.Plain.{Joined}
+use Rattle.k42_joined.specs.Rest.{IsAtRest, IsHistoryOf}
+use Rattle.k42_joined.specs.Sound.{IsSound}
+use Rattle.k42_joined.specs.State.{many_callers, swap_of}
+use Rattle.phase_core.specs.Stages.{is_idle, named_by}
+use Rattle.phase_core.specs.declared.caller.SwapAt.{SwapAt}
+use Rattle.phase_core.specs.declared.caller.SwapAt.TheVariants.{Idle, Refused, Begun, Interposing, Interposed, Draining, Drained, Blocking, Moved, Opening, Reopening, Opened}
+use Rattle.turn_core.specs.Plain.{Caller}
+use Rattle.turn_core.specs.State.{fresh_caller}
+use Rattle.k42_runtime.specs.Closing.{AreNumbered, AreListsFrom}
+use Rattle.k42_runtime.specs.Histories.{IsClosed}
+use Rattle.k42_runtime.specs.Systems.{SystemSeen, IsPlanned, any_with, layouts_in}
+use Rattle.k42_runtime.proofs.Traces.{legal, all_placed}
+
+-- the passes at rest are numbered in order
+numbered_at : {L P : Type 0} (sys : SysSeen L) (first : ℕ) (passes : List (PassSeen P))
+    → ((i : ℕ) (pass : PassSeen P) → slice_get passes i ≡ Some pass → pass.view.number ≡ first + i) → AreNumbered first passes
+numbered_at sys first [] is = tt
+numbered_at sys first (pass ∷ passes) is = (
+  let here = is 0 pass refl in omega (arith, here),
+  numbered_at sys (first + 1) passes (λ i other at. let there = is (suc i) other at in omega (arith, there)),
+)
+
+pub numbered : {L P : Type 0} (sys : SysSeen L) (passes : List (PassSeen P)) → AreAtRest sys passes → AreNumbered 0 passes
+numbered sys passes is = numbered_at sys 0 passes (λ i pass at. let here = (is.each i pass at).number in omega (arith, here))
+
+lists_at : (first : ℕ) (lists : List (List Entry)) → AreListsFrom first lists → (i : ℕ) (list : List Entry) → slice_get lists i ≡ Some list → IsListOf (first + i) list
+lists_at first [] are i list at = absurd (cc)
+lists_at first (here ∷ lists) are zero list at =
+    subst (λ n. IsListOf n list) (let same : first ≡ first + 0 = omega arith in same) (subst (IsListOf first) (same_Some here list at) are.0)
+lists_at first (here ∷ lists) are (suc i) list at =
+    subst (λ n. IsListOf n list) (let same : first + 1 + i ≡ first + suc i = omega arith in same) (lists_at (first + 1) lists are.1 i list at)
+
+pub listed : (lists : List (List Entry)) → AreListsFrom 0 lists → AreLists lists
+listed lists are i list at = subst (λ n. IsListOf n list) (let same : 0 + i ≡ i = omega arith in same) (lists_at 0 lists are i list at)
+
+-- no other caller has an entry
+below : (limit n : ℕ) (entries : List Entry) → ((entry : Entry) → In entry entries → entry.caller < limit) → AllByRecursion (λ (entry : Entry). entry.caller < limit) (numbered_from n entries)
+below limit n [] each = tt
+below limit n (entry ∷ entries) each = (each entry (inl refl), below limit (suc n) entries (λ other is. each other (inr is)))
+
+pub no_stranger : (lists : List (List Entry)) (merged : List Entry) → AreLists lists → IsMerged lists merged → All (λ (entry : Entry). entry.caller < length lists) merged
+no_stranger lists merged are is =
+    subst (All (λ (entry : Entry). entry.caller < length lists)) (sym is.numbered)
+    (All-from_recursion (λ (entry : Entry). entry.caller < length lists) (numbered_from 1 is.trace) (below (length lists) 1 is.trace each)) where
+  each : (entry : Entry) → In entry is.trace → entry.caller < length lists
+  each entry has =
+      let some = is.just.only entry has in
+      let own = all_at (λ (e : Entry). e.caller ≡ some.place) some.list entry (are some.place some.list some.there).own some.has in
+      let lt = slice_get_within lists some.place some.list some.there in omega (arith, own, lt)
+
+-- a state in which everybody rests is at rest
+unnamed : (swap : SwapAt) (o : ℕ) → is_idle swap ≡ true → named_by swap ≡ Some o → ⊥
+unnamed Idle o idle named = absurd (cc)
+unnamed (Refused p) o idle named = absurd (cc)
+unnamed (Begun p) o idle named = absurd (cc)
+unnamed (Interposing p q) o idle named = absurd (cc)
+unnamed (Interposed p) o idle named = absurd (cc)
+unnamed (Draining p) o idle named = absurd (cc)
+unnamed (Drained p) o idle named = absurd (cc)
+unnamed (Blocking p) o idle named = absurd (cc)
+unnamed (Moved p) o idle named = absurd (cc)
+unnamed (Opening p q) o idle named = absurd (cc)
+unnamed (Reopening p q) o idle named = absurd (cc)
+unnamed (Opened p) o idle named = absurd (cc)
+
+rests : {L : Type 0} (s : Joined L) (callers : ℕ) → many_callers s ≡ callers → ((c : ℕ) → c < callers → IsResting s c) → IsAtRest s
+rests s callers many each c o lt named = absurd (unnamed (swap_of s c) o (each c (subst (λ n. c < n) many lt)).swap named)
+
+-- the list of a caller is what it drew
+mine_at : (callers : List Caller) (c : ℕ) (list : List Entry) → slice_get (map (λ (x : Caller). x.mine) callers) c ≡ Some list
+    → (slice_index_or callers c fresh_caller).mine ≡ list
+mine_at [] c list at = absurd (cc)
+mine_at (x ∷ callers) zero list at = same_Some x.mine list at
+mine_at (x ∷ callers) (suc c) list at = mine_at callers c list at
+
+-- what closing needs of the law
+abbrev pub TraceLaw : ℕ → Type 0
+TraceLaw procs =
+    (proc_of : ℕ → ℕ) → ((caller : ℕ) → proc_of caller < procs)
+    → (declared : List AnyLayout) (s : Joined AnyLayout) (merged : List Entry)
+    → IsSound (any_with procs proc_of) declared s → IsAtRest s → IsMerged (lists_of s) merged → IsHistoryOf (any_with procs proc_of) declared s merged
+
+pub closed : (system : SystemSeen) → IsPlanned system → TraceLaw system.sys.procs → (lists : List (List Entry)) (merged : List Entry)
+    → AreListsFrom 0 lists → AreLastLists (layouts_in system) system.sys.layouts (length system.sys.callers) lists → IsMerged lists merged
+    → IsClosed system.plan lists (record { entries = merged; plan = system.plan })
+closed system planned law lists merged from last is = record {
+  plan_is = refl;
+  legal = legal system.plan merged (subst (λ declared. IsLegalHistoryOf (λ (layout : AnyLayout). plain_object layout.kind) declared merged) planned.layouts history.legal);
+  in_order = λ c list at. in_order c list at;
+  no_stranger =
+      subst (λ n. All (λ (entry : Entry). entry.caller < n) merged)
+      (many ∙ ap length planned.callers)
+      (no_stranger lists merged (listed lists from) is);
+} where
+  s : Joined AnyLayout
+  s = last.state
+
+  history : IsHistoryOf (layouts_in system) system.sys.layouts s merged
+  history =
+      law (λ c. slice_index_or system.sys.callers c 0) (all_placed system planned) system.sys.layouts s merged last.sound
+      (rests s (length system.sys.callers) last.many last.resting) (subst (λ ls. IsMerged ls merged) last.drawn is)
+
+  many : length lists ≡ length system.sys.callers
+  many = ap length last.drawn ∙ length-map s.turns.callers (λ (x : Caller). x.mine) ∙ last.sound.cells.locks.many.callers ∙ last.many
+
+  in_order : (c : ℕ) (list : List Entry) → slice_get lists c ≡ Some list → IsInOrder merged c list
+  in_order c list at =
+      let lt = slice_get_within lists c list at in
+      let there : c < many_callers s = subst (λ n. c < n) (many ∙ sym last.many) lt in
+      subst (IsInOrder merged c) (mine_at s.turns.callers c list (ap (λ ls. slice_get ls c) (sym last.drawn) ∙ at)) (history.in_order c there)

@@ -1,0 +1,66 @@
+-- A plan is what a table asks of a start, and its passes are the first of the system.
+use Rattle.std.proofs.Common.{◌≡◌, ℕ, zero, suc, ◌<◌, ◌≤◌, true, leb, List, [], ◌∷◌, Option, Some, length, map, slice_index, refl, sym, ap, ◌∙◌, subst, arith}
+use Rattle.std.specs.List.{slice_get}
+use Rattle.std.proofs.lemmas.List.{length-map}
+use Rattle.std.proofs.lemmas.Option.{same_Some}
+use Rattle.co_any.specs.Layouts.{tag_named}
+use Rattle.co_any.specs.declared.layout.AnyLayout.{AnyLayout}
+use Rattle.co_any.specs.declared.part.AnyPart.{AnyPart}
+use Rattle.k42_kinds.specs.declared.operation.LayoutName.{LayoutName}
+use Rattle.k42_kinds.specs.declared.operation.LayoutName.TheVariants.{Shared, Spread}
+use Rattle.k42_places.specs.Places.{EachPlace}
+use Rattle.phase_core.specs.Stages.{is_out}
+use Rattle.k42_board.specs.Seen.{SysSeen, PassSeen}
+use Rattle.k42_board.specs.Starting.{IsStart, IsStarted}
+use Rattle.k42_board.specs.Views.{new_pass}
+use Rattle.k42_board.specs.declared.view.PassView.{PassView}
+use Rattle.k42_rule.specs.Opened.{IsOpened}
+use Rattle.k42_runtime.specs.Plans.{PlanSeen, IsSoundPlan, layout_of, layouts_of}
+use Rattle.k42_runtime.specs.Systems.{SystemSeen, IsPlanned, IsFirst, HasStarted, any_layouts}
+use Rattle.k42_runtime.specs.declared.plan.ObjectPlan.{ObjectPlan}
+
+low : (layout : LayoutName) → tag_named layout ≤ 1
+low Shared = omega arith
+low Spread = omega arith
+
+live : (objects : List ObjectPlan) → EachPlace (λ o (layout : AnyLayout). layout.tag ≤ 1) (map layout_of objects)
+live [] o layout at = absurd (cc)
+live (object ∷ objects) zero layout at = subst (λ (l : AnyLayout). l.tag ≤ 1) (same_Some (layout_of object) layout at) (low object.layout)
+live (object ∷ objects) (suc o) layout at = live objects o layout at
+
+pub is_start : (plan : PlanSeen) → IsSoundPlan plan → IsStart (λ (layout : AnyLayout). layout.tag) (layouts_of plan) plan.procs plan.callers
+is_start plan sound = record {
+  turns = sound.turns;
+  some_objects = let some = sound.some_objects in let same = length-map plan.objects layout_of in omega (arith, some, same);
+  few_objects = let few = sound.few_objects in let same = length-map plan.objects layout_of in omega (arith, few, same);
+  live = live plan.objects;
+}
+
+-- a system that was started so
+pub started : (plan : PlanSeen) (sys : SysSeen AnyLayout) (passes : List (PassSeen AnyPart)) → IsStarted (layouts_of plan) plan.procs plan.callers sys passes
+    → IsOpened (any_layouts plan.procs plan.callers) (layouts_of plan) plan.callers
+    → HasStarted plan (record { sys = sys; plan = plan }) passes
+started plan sys passes is opened = record {
+  plan_is = refl;
+  opened = opened;
+  many = is.dealt.many;
+  each = each;
+} where
+  each : EachPlace (λ c pass. IsFirst (record { sys = sys; plan = plan }) c (slice_index plan.callers c) pass) passes
+  each c pass at =
+      let dealt = is.dealt.each c pass at in record {
+        here = record {
+          ours = is.passes_are c pass at;
+          out = ap (λ (v : PassView AnyPart). is_out v.visitor.place) dealt.new;
+          held = ap (λ (v : PassView AnyPart). v.taker.held) dealt.new;
+          notes = ap (λ (v : PassView AnyPart). v.notes) dealt.new;
+        };
+        new = dealt.new ∙ ap (λ n. new_pass plan.procs n c (slice_index plan.callers c)) (length-map plan.objects layout_of);
+        rows = dealt.rows;
+      }
+
+-- and its table is the plan's
+pub planned : (plan : PlanSeen) (sys : SysSeen AnyLayout) (passes : List (PassSeen AnyPart)) → IsSoundPlan plan → IsStarted (layouts_of plan) plan.procs plan.callers sys passes
+    → IsPlanned (record { sys = sys; plan = plan })
+planned plan sys passes sound is = record { sound = sound; procs = is.procs_are; layouts = is.layouts_are; callers = is.callers_are }
+
