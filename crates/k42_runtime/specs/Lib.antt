@@ -3,6 +3,7 @@ pub mod Systems
 pub mod Calls
 pub mod Stepping
 pub mod Reaching
+pub mod Serving
 pub mod Swaps
 pub mod Histories
 pub mod Closing

@@ -19,7 +19,7 @@ IsThere procs All = 0 < procs
 
 -- a pass that has found a lock with this caller, and knows nothing else that is new
 abbrev pub refused_view : {P : Type 0} → ℕ → PassView P → PassView P
-refused_view holder v = hears (holder + 1) v
+refused_view holder v = hears (holder + 1) (record v { refused = holder + 1 })
 
 module _ {S L P : Type 0} (F : Layouts S L P) (declared : List L) where
   -- it has taken a cell, behind those that it had

@@ -1,17 +1,22 @@
 //! Calls, which may be stepped where nobody may wait.
-ghost use Rattle.std.specs.Prelude.{◌≡◌, ◌<◌, false, length, IfOk, OnErr};
+ghost use Rattle.std.specs.Prelude.{◌≡◌, ◌<◌, false, [], length, IfOk, OnErr};
 ghost use Rattle.k42_kinds.specs.declared.operation.Reply.{Reply};
 ghost use Rattle.k42_board.specs.Generations.{MOST};
+ghost use Rattle.k42_board.specs.Seen.{IsPassOf};
+ghost use Rattle.k42_board.specs.Tabling.{MayLookUp};
 ghost use Rattle.k42_runtime.specs.Calls.{IsAsked, HasCalled, HasNotCalled, HoldsUp, is_last};
-ghost use Rattle.k42_runtime.specs.Systems.{IsPassHere, IsAtWork, layouts_in};
+ghost use Rattle.k42_runtime.specs.Serving.{IsAskedOf, IsSameSeat, HasTried};
+ghost use Rattle.k42_runtime.specs.Systems.{IsPassHere, IsAtWork, any_layouts, layouts_in};
 ghost use Rattle.k42_runtime.specs.declared.calls.CallCause.{CallCause};
 ghost use Rattle.k42_runtime.specs.declared.calls.CallStep.TheVariants as CallStep;
 
 use crate::serving::{go_inside, serve};
 use crate::system::{Pass, System};
+use co_any::AnyLayout;
 use crossbeam_utils::Backoff;
 use k42_kinds::{Op, Reply};
 use k42_memory::Memory;
+use k42_rule::Sys;
 use k42_tables::finish_call;
 use std::alloc::Global;
 use std::marker::Model;
@@ -46,6 +51,8 @@ pub struct Call {
 }
 
 impl Model for Call {
+    ghost use Rattle.k42_board.specs.Seen.{IsPassOf};
+    ghost use Rattle.k42_board.specs.Tabling.{MayLookUp};
     ghost use Rattle.k42_runtime.specs.Calls.{CallSeen};
 
     ghost Value = { CallSeen };
@@ -54,14 +61,23 @@ impl Model for Call {
 }
 
 /// One try of a call.
-fn try_once(alloc: Global, system: &System, pass: &mut Pass, object: u32, op: &Op) -> CallStep {
+fn try_once(alloc: Global, sys: &Sys<AnyLayout>, pass: &mut Pass, object: u32, op: &Op) -> CallStep
+    requires ours { IsPassOf sys.now pass.old }
+    requires may { MayLookUp (length sys.now.layouts) object pass.old.view }
+    requires asked { IsAskedOf sys.now.layouts object op.now }
+    requires held { pass.old.view.taker.held ≡ [] }
+    requires notes { pass.old.view.notes ≡ [] }
+    requires few { length pass.old.view.taker.mine < MOST }
+    ensures same { IsSameSeat pass.old pass.new }
+    ensures tried { HasTried (any_layouts sys.now.procs sys.now.callers) sys.now.layouts pass.old.seat result object op.now pass.old.view pass.new.view }
+{
     let Ok(()) = pass.reserve() else {
         return CallStep::Memory;
     };
-    match go_inside(alloc, system, pass, object) {
+    match go_inside(alloc, sys, pass, object) {
         Ok(None) => {
-            let step = serve(alloc, system, pass, op);
-            finish_call(&system.sys, pass);
+            let step = serve(alloc, sys, pass, op);
+            finish_call(sys, pass);
             step
         }
         Ok(Some(cause)) => CallStep::Again(cause),
@@ -104,7 +120,7 @@ impl Call {
             → HoldsUp (layouts_in system.now) system.now.sys.layouts pass.old.seat cause self.old.object pass.old.view pass.new.view }
         ensures memory { result ≡ CallStep.Memory → HasNotCalled pass.old.view pass.new.view }
     {
-        let step = try_once(alloc, system, pass, self.object, &self.op);
+        let step = try_once(alloc, &system.sys, pass, self.object, &self.op);
         self.ended = !matches!(step, CallStep::Again(_));
         step
     }
