@@ -77,4 +77,3 @@ rests_over stages.Marking objects t new e is = absurd (cc)
 
 abbrev pub new_swap : ℕ → To → SwapSeen
 new_swap object to = record { object = object; to = to; stage = stages.New; holder = None }
-
