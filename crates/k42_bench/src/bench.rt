@@ -16,6 +16,7 @@ use std::thread::Threads;
 const LIMIT: u32 = 1_048_576;
 
 /// How many calls and swaps were done, and whether the history has just the entries of the passes.
+#[derive(Clone, Copy, Debug, PartialEq, Eq)]
 pub struct Done {
     pub calls: usize,
     pub swaps: usize,
