@@ -76,9 +76,9 @@ module _ (system : SystemSeen) (s m t : SwapSeen) (old mid new : PassSeen AnyPar
   brought_before Memory is =
       ⊎_elim (λ (is : (m.stage ≡ New) × (new.view ≡ mid.view)). let was = goes.waits is.0 in inl (was.0, is.1 ∙ was.1))
       (λ (is : HasAbandoned (layouts_in system) system.sys.layouts mid.seat m.object m.to mid.view new.view). inr (
-        subst (λ (x : ℕ × ℕ × To). HasAbandoned (layouts_in system) system.sys.layouts x.0 x.1 x.2 old.view new.view)
-        (λ j. (goes.seat j, goes.object j, goes.to j))
-        (abandoned_before old.view mid.view new.view goes.caller goes.drawn (layouts_in system) system.sys.layouts mid.seat m.object m.to is)))
+      subst (λ (x : ℕ × ℕ × To). HasAbandoned (layouts_in system) system.sys.layouts x.0 x.1 x.2 old.view new.view)
+      (λ j. (goes.seat j, goes.object j, goes.to j))
+      (abandoned_before old.view mid.view new.view goes.caller goes.drawn (layouts_in system) system.sys.layouts mid.seat m.object m.to is)))
       is
 
   pub stepped_before : (result : Step) → HasStepped system result m t mid new → HasStepped system result s t old new
