@@ -13,7 +13,8 @@ use std::env;
 use std::io::ErrorKind;
 use std::process::ExitCode;
 
-const USAGE: &str = "usage: k42_bench counter|directory|pages shared|spread near|mix THREADS CALLS SWAPS";
+const USAGE: &str =
+    "usage: k42_bench counter|directory|pages shared|spread near|mix THREADS CALLS SWAPS";
 
 /// The words behind the program's name. Words that are not UTF-8 are none.
 fn words_of(rt: &HostRuntime) -> Result<Vec<String>, Memory> {

@@ -62,11 +62,11 @@ pub no_stranger : (lists : List (List Entry)) (merged : List Entry) → AreLists
 no_stranger lists merged are is =
     subst (All (λ (entry : Entry). entry.caller < length lists)) (sym is.numbered)
     (All-from_recursion (λ (entry : Entry). entry.caller < length lists) (numbered_from 1 is.trace) (below (length lists) 1 is.trace each)) where
-  each : (entry : Entry) → In entry is.trace → entry.caller < length lists
-  each entry has =
-      let some = is.just.only entry has in
-      let own = all_at (λ (e : Entry). e.caller ≡ some.place) some.list entry (are some.place some.list some.there).own some.has in
-      let lt = slice_get_within lists some.place some.list some.there in omega (arith, own, lt)
+      each : (entry : Entry) → In entry is.trace → entry.caller < length lists
+      each entry has =
+          let some = is.just.only entry has in
+          let own = all_at (λ (e : Entry). e.caller ≡ some.place) some.list entry (are some.place some.list some.there).own some.has in
+          let lt = slice_get_within lists some.place some.list some.there in omega (arith, own, lt)
 
 -- a state in which everybody rests is at rest
 unnamed : (swap : SwapAt) (o : ℕ) → is_idle swap ≡ true → named_by swap ≡ Some o → ⊥

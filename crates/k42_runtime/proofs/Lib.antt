@@ -9,3 +9,7 @@ pub mod Closed
 pub mod Started
 pub mod SwapWaits
 pub mod SwapRows
+pub mod CallStepped
+pub mod CallTaken
+pub mod CallInside
+pub mod CallMade

@@ -13,7 +13,7 @@ merged-requires-clause-numbered c =
 
 pub finish-requires-after_bounds : goal.finish-requires-after_bounds
 finish-requires-after_bounds c κs =
-    let may : MayClose (record { sys = c.self.inside.sys; plan = c.self.inside.plan }) c.args.passes.items = subst (λ system. MayClose system c.args.passes.items) c.self.view_is c.requires in
+    let may : MayClose (record { sys = c.self.inside.sys; plan = c.self.inside.plan }) c.args.passes.items = subst (λ system. MayClose system c.args.passes.items) (sym c.self.view_is) c.requires in
     at_rest (record { sys = c.self.inside.sys; plan = c.self.inside.plan }) c.args.passes.items c.self.invariant may
 
 pub returns-in-Ok-finish-clause-ok : goal.returns-in-Ok-finish-clause-ok
