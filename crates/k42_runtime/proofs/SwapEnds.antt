@@ -17,7 +17,7 @@ use Rattle.k42_board.specs.Views.{hears, object_begun, word_begun}
 use Rattle.k42_board.specs.declared.view.PassView.{PassView}
 use Rattle.k42_mediator.specs.Answers.{begun_in}
 use Rattle.k42_mediator.specs.Entries.{IsNext}
-use Rattle.k42_mediator.specs.Marks.{HasMarked, cell_marked}
+use Rattle.k42_mediator.specs.Marks.{HasMarked}
 use Rattle.k42_mediator.specs.Swaps.{abandoned_view}
 use Rattle.k42_mediator.proofs.AfterMark.{later_stamp}
 use Rattle.k42_mediator.proofs.LeftOpen.{leaves_open}

@@ -1,26 +1,14 @@
 -- A swap that is stepped until it is over.
-use Rattle.std.proofs.Common.{◌≡◌, ⊎_elim, inl, inr, ℕ, ◌+◌, ◌≤◌, ◌<◌, true, false, List, ◌++◌, None, Result, Ok, Err, length, take, refl, sym, ap, ◌∙◌, subst, arith}
-use Rattle.std.specs.Result.{OnOk, OnErr}
-use Rattle.std.proofs.Math.Seq.{take-length}
-use Rattle.k42_stamp.specs.Layouts.{Layouts}
+use Rattle.std.proofs.Common.{◌≡◌, ℕ, true, false, None, length, refl, arith}
 use Rattle.co_any.specs.declared.part.AnyPart.{AnyPart}
-use Rattle.phase_core.specs.Stages.{is_out}
-use Rattle.k42_board.specs.Gracing.{role_view}
 use Rattle.k42_board.specs.Seen.{PassSeen}
-use Rattle.k42_board.specs.Views.{word_begun}
-use Rattle.k42_board.specs.declared.view.PassView.{PassView}
-use Rattle.k42_board.specs.declared.view.Row.{Row}
-use Rattle.k42_quiesce.specs.Collecting.{HasCollected, HasHandedOver}
-use Rattle.k42_quiesce.specs.Gracing.{GoesOn}
-use Rattle.k42_runtime.specs.Phases.{HasGoneOn, HasBrought, HasStepped, HasEnded, last_step}
-use Rattle.k42_runtime.specs.Swaps.{SwapSeen, IsAtStage, IsFound, IsSameCaller, IsEndBy, HasSwapped, HasNotBegun, HasAbandoned, HasGivenUp, is_over, graces_due}
-use Rattle.k42_runtime.specs.Systems.{SystemSeen, IsPassHere, IsAtRest, layouts_in}
+use Rattle.k42_runtime.specs.Phases.{HasGoneOn}
+use Rattle.k42_runtime.specs.Swaps.{SwapSeen, IsAtStage, HasStepped, is_over}
+use Rattle.k42_runtime.specs.Systems.{SystemSeen, IsPassHere, IsAtRest}
 use Rattle.k42_runtime.specs.declared.swaps.Cause.{Cause}
 use Rattle.k42_runtime.specs.declared.swaps.Stage.{Stage}
 use Rattle.k42_runtime.specs.declared.swaps.Stage.TheVariants as stages
-use Rattle.k42_runtime.specs.declared.swaps.Step.{Step}
-use Rattle.k42_runtime.specs.declared.swaps.Step.TheVariants.{Again, Ended, Memory}
-use Rattle.k42_runtime.specs.declared.swaps.Swapped.{Swapped}
+use Rattle.k42_runtime.specs.declared.swaps.Step.TheVariants.{Again}
 use Rattle.k42_runtime.specs.declared.swaps.To.{To}
 use Rattle.k42_runtime.proofs.SwapSteps.{stepped_before}
 
@@ -67,7 +55,7 @@ stepped_again system s m t old mid new cause is step =
       };
     }
 
-rests_over : {P : Type 0} (stage : Stage) (objects : ℕ) (t : SwapSeen) (new : PassSeen P) → is_over stage ≡ true → IsAtStage stage objects t new
+pub rests_over : {P : Type 0} (stage : Stage) (objects : ℕ) (t : SwapSeen) (new : PassSeen P) → is_over stage ≡ true → IsAtStage stage objects t new
     → IsAtRest new.view
 rests_over stages.Over objects t new e is = is
 rests_over stages.New objects t new e is = absurd (cc)

@@ -1,7 +1,7 @@
 use Rattle.std.proofs.Common.{rules, ◌≡◌, ℕ, refl, sym, ap, ◌∙◌, subst}
 use Rattle.k42_board.specs.Views.{word_begun}
 use Rattle.k42_mediator.specs.Marks.{IsMark, IsHeldBy, HasMarked}
-use Rattle.k42_runtime.specs.Swaps.{SwapSeen, act_asked, HasFoundCell, HasStepped, graces_due, IsEndBy}
+use Rattle.k42_runtime.specs.Swaps.{act_asked, HasFoundCell, HasStepped, graces_due, IsEndBy}
 use Rattle.k42_runtime.specs.Systems.{SystemSeen, IsPassHere, IsAtRest, layouts_in}
 use Rattle.k42_runtime.specs.Phases.{end_in}
 use Rattle.k42_runtime.specs.declared.swaps.Stage.TheVariants.{New, Marking, Over}

@@ -1,4 +1,4 @@
-use Rattle.std.proofs.Common.{◌≡◌, ℕ, List, Option, ◌++◌, take, sym, ap, ◌∙◌, subst}
+use Rattle.std.proofs.Common.{◌≡◌, ℕ, List, Option, ◌++◌, take, ◌∙◌, subst}
 use Rattle.k42_board.specs.Noting.{notes_due}
 use Rattle.k42_board.specs.Steps.{Always}
 use Rattle.k42_board.specs.declared.view.Row.{Row}

@@ -1,4 +1,4 @@
-use Rattle.std.proofs.Common.{◌≡◌, subst}
+use Rattle.std.proofs.Common.{subst}
 use Rattle.k42_runtime.specs.Phases.{last_step}
 use Rattle.k42_runtime.specs.Swaps.{SwapSeen, HasStepped}
 use Rattle.k42_runtime.proofs.SwapRows.{has_collected, handed_some, has_handed, handed_here, ended_now, ended_still}
