@@ -31,23 +31,23 @@ module _ {P : Type 0} (o : ℕ) (old roomy new : PassSeen P) (room : IsRoomier o
   since : new.view ≡ hears new.view.heard (begun_now o (word_begun new.view.last) old.view)
   since = knows ∙ ap (λ (u : PassView P). hears new.view.heard (begun_now o (word_begun new.view.last) u)) room.view
 
-  pub begun_caller : IsSameCaller old.view new.view
+  begun_caller : IsSameCaller old.view new.view
   begun_caller = record {
     number = ap (λ (u : PassView P). u.number) since;
     proc = ap (λ (u : PassView P). u.turn.proc) since;
     activities = ap (λ (u : PassView P). u.activities) since;
   }
 
-  pub begun_seat : new.seat ≡ old.seat
+  begun_seat : new.seat ≡ old.seat
   begun_seat = same.seat ∙ room.seat
 
-  pub begun_drawn : new.view.taker.mine ≡ old.view.taker.mine
+  begun_drawn : new.view.taker.mine ≡ old.view.taker.mine
   begun_drawn = ap (λ (u : PassView P). u.taker.mine) since
 
-  pub begun_graces : new.view.graces ≡ old.view.graces
+  begun_graces : new.view.graces ≡ old.view.graces
   begun_graces = ap (λ (u : PassView P). u.graces) since
 
-  pub begun_object : object_begun new.view.last ≡ o
+  begun_object : object_begun new.view.last ≡ o
   begun_object = ap (λ (u : PassView P). object_begun u.last) since
 
   -- the object is over

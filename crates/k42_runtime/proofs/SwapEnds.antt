@@ -31,12 +31,12 @@ pub on_error : {A E X : Type 0} (result : Result A E) → is_err result ≡ true
 on_error (Err error) failed is = is
 on_error (Ok value) failed is = absurd (cc)
 
-pub no_call : (to : To) → is_call (act_asked to) ≡ false
+no_call : (to : To) → is_call (act_asked to) ≡ false
 no_call (tos.Layout layout) = refl
 no_call tos.Dead = refl
 
 -- an entry that is drawn at no cell
-pub alone_next : {P : Type 0} (v : PassView P) (act : Act) (answer : Answer) (object incarnation : ℕ) → is_call act ≡ false
+alone_next : {P : Type 0} (v : PassView P) (act : Act) (answer : Answer) (object incarnation : ℕ) → is_call act ≡ false
     → object_begun v.last ≡ object → number_told answer - 1 ≡ incarnation
     → IsNext v object incarnation 0 act answer (entry_alone v act answer)
 alone_next v act answer object incarnation act_is o i = record {

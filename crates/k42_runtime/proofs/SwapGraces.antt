@@ -13,7 +13,7 @@ use Rattle.k42_board.specs.Generations.{MOST}
 use Rattle.k42_board.specs.Seen.{PassSeen, IsSamePass}
 use Rattle.k42_board.specs.Views.{hears, word_begun}
 use Rattle.k42_board.specs.declared.view.PassView.{PassView}
-use Rattle.k42_quiesce.specs.Gracing.{MayStep, IsLeft, IsRoleHeld, GoesOn, HasLooked, TriesRole, has_role, with_role}
+use Rattle.k42_quiesce.specs.Gracing.{IsLeft, IsRoleHeld, GoesOn, HasLooked, TriesRole, has_role, with_role}
 use Rattle.k42_quiesce.specs.declared.steps.GraceStep.{GraceStep}
 use Rattle.k42_quiesce.specs.declared.steps.GraceStep.TheVariants.{Again}
 use Rattle.k42_quiesce.specs.declared.steps.Held.{Held}
@@ -31,10 +31,6 @@ inactive : (idle : Bool) (active : Option ℕ) → idle && is_none active ≡ tr
 inactive idle None e = refl
 inactive true (Some generation) e = absurd (cc)
 inactive false (Some generation) e = absurd (cc)
-
-pub may_step : {P : Type 0} (object : ℕ) (holder : Option ℕ) (v : PassView P) → IsWaiting object holder v → MayStep holder v
-may_step object None v is = is.1
-may_step object (Some holder) v is = is.2
 
 module _ {P : Type 0} (object : ℕ) where
   -- the grace has the role, and has gone on
