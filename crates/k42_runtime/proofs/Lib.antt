@@ -1,7 +1,14 @@
+pub mod SwapSteps
+pub mod SwapGraces
+pub mod SwapEnds
+pub mod SwapMoves
+pub mod SwapBegins
 pub mod Planned
 pub mod Traces
 pub mod Closed
 pub mod Started
+pub mod SwapWaits
+pub mod SwapRows
 pub mod CallStepped
 pub mod CallTaken
 pub mod CallInside

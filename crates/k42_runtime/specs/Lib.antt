@@ -5,5 +5,7 @@ pub mod Stepping
 pub mod Reaching
 pub mod Serving
 pub mod Swaps
+pub mod Phases
+pub mod Reclaims
 pub mod Histories
 pub mod Closing
