@@ -13,3 +13,4 @@ pub mod CallStepped
 pub mod CallTaken
 pub mod CallInside
 pub mod CallMade
+pub mod CallWaited
