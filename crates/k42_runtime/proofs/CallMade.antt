@@ -1,5 +1,5 @@
 -- A call at the cells that it needs: its operation is made on their parts, and the entry drawn.
-use Rattle.std.proofs.Common.{◌≡◌, ℕ, zero, suc, ◌+◌, ◌<◌, ◌≤◌, Bool, true, false, cond, eqb, List, [], ◌∷◌, ◌++◌, Option, Some, None, length, refl, sym, ap, ◌∙◌, subst, arith}
+use Rattle.std.proofs.Common.{◌≡◌, ℕ, zero, suc, ◌<◌, ◌≤◌, Bool, true, false, cond, eqb, List, [], ◌∷◌, Some, None, length, refl, sym, ap, ◌∙◌, subst, arith}
 use Rattle.std.specs.List.{slice_get}
 use Rattle.std.specs.Option.{unwrap_or}
 use Rattle.std.proofs.lemmas.List.{length-map}
@@ -34,8 +34,8 @@ use Rattle.k42_board.specs.declared.view.PassView.{PassView}
 use Rattle.k42_board.proofs.Noted.{each_named}
 use Rattle.k42_board.proofs.RowCells.{row_once, place_in_row}
 use Rattle.k42_rule.proofs.PartsDue.{part_reached, parts_whole}
-use Rattle.k42_mediator.specs.Parts.{parts_from, filled}
-use Rattle.k42_mediator.specs.Taken.{released, AreTaken}
+use Rattle.k42_mediator.specs.Parts.{parts_from}
+use Rattle.k42_mediator.specs.Taken.{released}
 use Rattle.k42_mediator.proofs.AfterMark.{later_stamp}
 use Rattle.k42_mediator.proofs.GivenBack.{held_due, released_drawn}
 use Rattle.k42_mediator.proofs.Heard.{heard_now}

@@ -20,7 +20,7 @@ use Rattle.k42_board.specs.declared.view.PassView.{PassView}
 use Rattle.k42_board.proofs.Noted.{each_named}
 use Rattle.k42_board.proofs.RowCells.{row_once}
 use Rattle.k42_rule.proofs.HandedNotes.{numbers_more}
-use Rattle.k42_mediator.specs.Taken.{released, AreTaken, AreReady}
+use Rattle.k42_mediator.specs.Taken.{released, AreTaken}
 use Rattle.k42_mediator.proofs.AfterMark.{kept_waiting}
 use Rattle.k42_mediator.proofs.GivenBack.{held_due, released_taken}
 use Rattle.k42_mediator.proofs.NotesTold.{taken_more}

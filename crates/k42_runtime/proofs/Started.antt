@@ -1,6 +1,5 @@
 -- A plan is what a table asks of a start, and its passes are the first of the system.
-use Rattle.std.proofs.Common.{◌≡◌, ℕ, zero, suc, ◌<◌, ◌≤◌, true, leb, List, [], ◌∷◌, Option, Some, length, map, slice_index, refl, sym, ap, ◌∙◌, subst, arith}
-use Rattle.std.specs.List.{slice_get}
+use Rattle.std.proofs.Common.{zero, suc, ◌≤◌, List, [], ◌∷◌, map, slice_index, refl, ap, ◌∙◌, subst, arith}
 use Rattle.std.proofs.lemmas.List.{length-map}
 use Rattle.std.proofs.lemmas.Option.{same_Some}
 use Rattle.co_any.specs.Layouts.{tag_named}
@@ -16,7 +15,7 @@ use Rattle.k42_board.specs.Views.{new_pass}
 use Rattle.k42_board.specs.declared.view.PassView.{PassView}
 use Rattle.k42_rule.specs.Opened.{IsOpened}
 use Rattle.k42_runtime.specs.Plans.{PlanSeen, IsSoundPlan, layout_of, layouts_of}
-use Rattle.k42_runtime.specs.Systems.{SystemSeen, IsPlanned, IsFirst, HasStarted, any_layouts}
+use Rattle.k42_runtime.specs.Systems.{IsPlanned, IsFirst, HasStarted, any_layouts}
 use Rattle.k42_runtime.specs.declared.plan.ObjectPlan.{ObjectPlan}
 
 low : (layout : LayoutName) → tag_named layout ≤ 1

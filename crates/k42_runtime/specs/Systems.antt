@@ -1,5 +1,5 @@
 -- A system, and its passes between two of their calls.
-use Rattle.std.specs.Prelude.{◌≡◌, ℕ, ◌<◌, true, List, [], length, is_some, slice_index, slice_index_or}
+use Rattle.std.specs.Prelude.{◌≡◌, ℕ, true, List, [], length, is_some, slice_index, slice_index_or}
 use Rattle.gen_core.specs.Events as graces
 use Rattle.k42_kinds.specs.declared.states.AnyState.{AnyState}
 use Rattle.k42_kinds.specs.Objects.{plain_object}

@@ -1,4 +1,4 @@
-use Rattle.std.proofs.Common.{◌≡◌, ◌≤◌, ◌<◌, ℕ, ◌+◌, refl, ap, ◌∙◌, arith, vec_len, vec_capacity}
+use Rattle.std.proofs.Common.{◌≤◌, ℕ, refl, ap, ◌∙◌, arith, vec_len, vec_capacity}
 use Rattle.turn_core.specs.Names.{names}
 use Rattle.k42_joined.specs.Numbers.{cell_of}
 use Rattle.k42_board.specs.Drawing.{numbers_of}

@@ -1,4 +1,4 @@
-use Rattle.std.proofs.Common.{rules, subst}
+use Rattle.std.proofs.Common.{subst}
 use Rattle.k42_runtime.proofs.Traces.{LegalLaw, shown}
 use Rattle.k42_runtime.proofs.laws.traces_are_legal.Goals as goal
 

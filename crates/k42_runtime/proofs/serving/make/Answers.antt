@@ -1,16 +1,13 @@
-use Rattle.std.proofs.Common.{◌≡◌, ◌≤◌, ℕ, ◌++◌, List, length, take, drop, refl, sym, ap, ◌∙◌, subst}
-use Rattle.k42_kinds.specs.LayoutLaws.{Agree}
+use Rattle.std.proofs.Common.{◌≡◌, ◌≤◌, ℕ, ◌++◌, List, length, take, drop, sym, ap, ◌∙◌, subst}
 use Rattle.k42_kinds.specs.declared.entry.Act.TheVariants.{Call}
 use Rattle.k42_kinds.specs.declared.entry.Answer.TheVariants.{Replied}
 use Rattle.k42_board.specs.Drawing.{AreTold, MayDrawCall, numbers_of, entry_call, drawn_at}
 use Rattle.k42_board.specs.declared.cell.Content.{Content}
 use Rattle.k42_board.specs.declared.view.PassView.{PassView}
 use Rattle.co_any.specs.AnyLaws.{any_agrees}
-use Rattle.co_any.specs.Layouts.{ways_of, whole_of, serves_of}
 use Rattle.co_any.specs.declared.layout.AnyLayout.{AnyLayout}
 use Rattle.k42_mediator.proofs.RowReady.{written_back, told_numbers}
 use Rattle.k42_runtime.specs.Reaching.{MayGiveBack}
-use Rattle.k42_runtime.specs.Serving.{HasCells}
 use Rattle.k42_runtime.specs.Stepping.{MayStepCells, HasSteppedCells}
 use Rattle.k42_runtime.specs.Systems.{any_layouts}
 use Rattle.k42_runtime.proofs.CallMade.{may_step, may_draw, numbers_stepped, long_stepped, may_give_taken, may_give_drawn, has_made}

@@ -1,11 +1,11 @@
-use Rattle.std.proofs.Common.{◌≡◌, ℕ, suc, ◌+◌, ◌<◌, cond, List, [], ◌∷◌, ◌++◌, Some, None, length, take, drop, refl, sym, ap, subst, ◌∙◌, arith, vec_len}
+use Rattle.std.proofs.Common.{◌≡◌, ℕ, ◌+◌, ◌<◌, cond, [], ◌∷◌, ◌++◌, None, length, take, drop, refl, sym, ap, subst, ◌∙◌, arith}
 use Rattle.std.specs.Option.{unwrap_or}
 use Rattle.std.proofs.lemmas.List.{length-append, append_assoc}
 use Rattle.k42_board.specs.declared.cell.Content.{Content}
 use Rattle.k42_mediator.specs.Parts.{parts_from, filled}
 use Rattle.co_any.specs.Layouts.{ways_of}
 use Rattle.k42_runtime.specs.Stepping.{row_behind}
-use Rattle.k42_runtime.proofs.CallStepped.{last_popped, set_behind, own_behind, on_ok_3, on_err_3}
+use Rattle.k42_runtime.proofs.CallStepped.{set_behind, own_behind, on_ok_3, on_err_3}
 use Rattle.k42_runtime.proofs.stepping.+step_behind.Goals as goal
 
 pub returns-clause-cells : goal.returns-clause-cells

@@ -1,6 +1,5 @@
-use Rattle.std.proofs.Common.{◌≡◌, ℕ, subst, sym}
+use Rattle.std.proofs.Common.{subst, sym}
 use Rattle.k42_runtime.specs.Calls.{CallSeen, IsAsked}
-use Rattle.k42_runtime.specs.Serving.{IsAskedOf}
 use Rattle.k42_runtime.specs.Systems.{SystemSeen}
 use Rattle.k42_runtime.proofs.CallWaited.{asked_of}
 use Rattle.k42_runtime.proofs.calls.Call.step.Goals as goal

@@ -1,4 +1,4 @@
-use Rattle.std.proofs.Common.{rules, ◌≡◌, length, sym, subst}
+use Rattle.std.proofs.Common.{rules, length, sym, subst}
 use Rattle.k42_rule.specs.Finishing.{AreLastLists, lists_in}
 use Rattle.k42_stamp.specs.Lists.{IsMerged}
 use Rattle.k42_runtime.specs.Closing.{AreNumbered, AreListsFrom}
