@@ -71,14 +71,15 @@ fn swap_once<R: Abort + Wait>(
     system: &System,
     pass: &mut Pass,
     to: LayoutName,
-    due: (Op, Reply),
+    kind: KindName,
 ) -> Result<bool, Memory>
     requires { IsFree system.now pass.old }
     ensures { IsFree system.now pass.new }
 {
     swap(rt, alloc, system, pass, 0, to)?;
-    let reply = call_once(rt, alloc, system, pass, 0, due.0)?;
-    Ok(reply == due.1)
+    let (op, due) = whole(kind);
+    let reply = call_once(rt, alloc, system, pass, 0, op)?;
+    Ok(reply == due)
 }
 
 /// Swaps to and fro until all have called.
@@ -92,10 +93,9 @@ fn swap_often<R: Abort + Wait>(
     requires { IsFree system.now pass }
     ensures { IfOk result (λ out. IsFree system.now out) }
 {
-    let due = whole(kind);
     for _ in rt.forever() {
-        let done = swap_once(rt, alloc, system, &mut pass, LayoutName::Shared, due)?;
-        if swap_once(rt, alloc, system, &mut pass, LayoutName::Spread, due)? && done {
+        let done = swap_once(rt, alloc, system, &mut pass, LayoutName::Shared, kind)?;
+        if swap_once(rt, alloc, system, &mut pass, LayoutName::Spread, kind)? && done {
             return Ok(pass);
         }
     }
