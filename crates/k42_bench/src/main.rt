@@ -34,7 +34,7 @@ fn words_of(rt: &HostRuntime) -> Result<Vec<String>, Memory> {
 fn bench(rt: &HostRuntime) -> Result<Option<Done>, Memory> {
     let words = words_of(rt)?;
     match load_of(&words) {
-        Some(load) => Ok(Some(run(rt, rt.alloc(), &load)?)),
+        Some(load) => run(rt, rt.alloc(), &load),
         None => Ok(None),
     }
 }

@@ -1,3 +1,8 @@
+pub mod SwapSteps
+pub mod SwapGraces
+pub mod SwapEnds
+pub mod SwapMoves
+pub mod SwapBegins
 pub mod Planned
 pub mod Traces
 pub mod Closed

@@ -54,8 +54,9 @@ answer_told (ends.Busy number) = answers.Busy number
 answer_told ends.Spent = answers.Spent
 answer_told ends.Gone = answers.Gone
 
--- the pass has room for the entry and the row of a swap
-pub record HasRoom {P : Type 0} (pass : PassSeen P) : Type 0 where
+-- a swap of one of so many objects is under way, and the pass has room for its entry and its row
+pub record IsUnderWay (objects object : ℕ) {P : Type 0} (pass : PassSeen P) : Type 0 where
+  pub there : object < objects
   pub entry : 0 < pass.room
   pub row : 0 < pass.row_room
   pub few : length pass.view.taker.mine < MOST
@@ -86,16 +87,18 @@ pub record IsShut {P : Type 0} (object : ℕ) (v : PassView P) : Type 0 where
 -- it found its object over, and has not told so yet
 pub record IsToMark {P : Type 0} (object : ℕ) (act : Act) (v : PassView P) : Type 0 where
   pub rests : IsAtRest v
-  pub object : object_begun v.last ≡ object
+  pub begun : object_begun v.last ≡ object
   pub may : MayMark act v
 
 -- The pass is as the last step of the swap left it.
 abbrev pub IsAtStage : {P : Type 0} → Stage → ℕ → SwapSeen → PassSeen P → Type 0
-IsAtStage stages.New objects swap pass = MayStart objects swap.object pass
+IsAtStage stages.New objects swap pass = (swap.holder ≡ None) × MayStart objects swap.object pass
 IsAtStage stages.Waiting objects swap pass =
-    HasRoom pass × HasFoundFree pass.view × IsWaiting swap.object swap.holder pass.view
-IsAtStage stages.Shut objects swap pass = HasRoom pass × HasFoundFree pass.view × IsShut swap.object pass.view
-IsAtStage stages.Marking objects swap pass = HasRoom pass × IsToMark swap.object (act_asked swap.to) pass.view
+    IsUnderWay objects swap.object pass × HasFoundFree pass.view × IsWaiting swap.object swap.holder pass.view
+IsAtStage stages.Shut objects swap pass =
+    IsUnderWay objects swap.object pass × HasFoundFree pass.view × IsShut swap.object pass.view
+IsAtStage stages.Marking objects swap pass =
+    IsUnderWay objects swap.object pass × IsToMark swap.object (act_asked swap.to) pass.view
 IsAtStage stages.Over objects swap pass = IsAtRest pass.view
 
 abbrev pub is_over : Stage → Bool
@@ -120,7 +123,7 @@ IsEndTo begins.Begun word (ends.Done number) = number ≡ incarnation_in word + 
 IsEndTo (begins.Busy number phase) word (ends.Busy told) = told ≡ number
 IsEndTo begins.Spent word ends.Spent = ⊤
 IsEndTo begins.Gone word ends.Gone = ⊤
-IsEndTo begun word end = ⊥
+IsEndTo answer word end = ⊥
 
 -- and may be held up so
 abbrev pub MayHoldUp : Begun → Cause → Type 0
@@ -128,7 +131,7 @@ MayHoldUp begins.Begun (causes.CellHeld holder) = ⊥
 MayHoldUp begins.Begun cause = ⊤
 MayHoldUp begins.Spent (causes.CellHeld holder) = ⊤
 MayHoldUp begins.Gone (causes.CellHeld holder) = ⊤
-MayHoldUp begun cause = ⊥
+MayHoldUp answer cause = ⊥
 
 -- the word that its Begin found decides, but for want of memory
 abbrev pub IsEndBy : ℕ → Swapped → Type 0

@@ -1,5 +1,17 @@
 //! The phases of a swap, each as far as it can go without waiting.
-ghost use Rattle.std.specs.Prelude.{◌≡◌};
+ghost use Rattle.std.specs.Prelude.{◌≡◌, ◌<◌, ◌≤◌, ◌+◌, true, length};
+ghost use Rattle.k42_limits.specs.declared.TheConstants.{LAST_INCARNATION};
+ghost use Rattle.k42_kinds.specs.Objects.{plain_object};
+ghost use Rattle.co_any.specs.Layouts.{act_of};
+ghost use Rattle.k42_board.specs.Tabling.{is_over_in};
+ghost use Rattle.k42_board.specs.Values.{incarnation_in};
+ghost use Rattle.k42_board.specs.Views.{word_begun};
+ghost use Rattle.k42_mediator.specs.Transfers.{IsOfKind};
+ghost use Rattle.k42_runtime.specs.Phases.{IsMoving, cause_in, end_in, HasStepped};
+ghost use Rattle.k42_runtime.specs.Swaps.{IsAtStage, IsUnderWay, HasFoundFree, act_asked};
+ghost use Rattle.k42_runtime.specs.Systems.{IsPassHere};
+ghost use Rattle.k42_runtime.specs.declared.swaps.Stage.TheVariants as Stage;
+ghost use Rattle.k42_runtime.specs.declared.swaps.Step.TheVariants as Step;
 
 use crate::swaps::{Cause, Stage, Step, Swap, Swapped, To};
 use crate::system::{Pass, System};
@@ -10,11 +22,14 @@ use k42_mediator::{
     try_move,
 };
 use k42_quiesce::{GraceStep, Held, reclaim};
-use k42_rule::draw_alone;
+use k42_rule::{LastBegin, draw_alone};
 use std::alloc::Global;
 
 /// The tag of what an object is swapped to.
-fn tag_to(to: To) -> u32 {
+fn tag_to(to: To) -> u32
+    ensures is { act_of result ≡ act_asked to }
+    ensures known { result ≤ 2 }
+{
     match to {
         To::Layout(LayoutName::Shared) => 0,
         To::Layout(LayoutName::Spread) => 1,
@@ -22,18 +37,69 @@ fn tag_to(to: To) -> u32 {
     }
 }
 
+/// The word that the pass found as it began.
+fn word_of(pass: &Pass) -> u64
+    ensures is { result ≡ word_begun pass.now.view.last }
+    ensures bound { incarnation_in result ≤ LAST_INCARNATION }
+{
+    pass.last_begin()
+        .unwrap_or(LastBegin { object: 0, word: 0 })
+        .word
+}
+
+/// The number of the swap that the pass has begun.
+fn number_begun(pass: &Pass) -> u32
+    ensures { result ≡ incarnation_in (word_begun pass.now.view.last) + 1 }
+{
+    (word_of(pass) >> 32) as u32 + 1
+}
+
+/// How a swap ended that found its object over.
+fn end_over(pass: &Pass) -> Swapped
+    ensures { result ≡ end_in (word_begun pass.now.view.last) }
+{
+    if word_of(pass) / 268_435_456 % 4 == 2 {
+        Swapped::Gone
+    } else {
+        Swapped::Spent
+    }
+}
+
+/// What holds a swap up whose grace is held up so.
+fn cause_of(held: Held) -> Cause
+    ensures { result ≡ cause_in held }
+{
+    match held {
+        Held::Left { proc, left } => Cause::Left { proc, left },
+        Held::RoleHeld { holder } => Cause::RoleHeld { holder },
+    }
+}
+
 impl Swap {
-    fn layout(&self, system: &System) -> AnyLayout {
+    fn layout(&self, system: &System) -> AnyLayout
+        requires there { self.now.object < length system.now.plan.objects }
+        ensures kind { IsOfKind (λ (layout : AnyLayout). plain_object layout.kind) system.now.sys.layouts self.now.object result }
+        ensures act { act_of result.tag ≡ act_asked self.now.to }
+        ensures known { result.tag ≤ 2 }
+    {
         system.sys.declared(self.object).with_tag(tag_to(self.to))
     }
 
-    fn over(&mut self, end: Swapped) -> Step {
+    fn over(&mut self, end: Swapped) -> Step
+        ensures over { self.new ≡ record self.old { stage = Stage.Over } }
+        ensures ended { result ≡ Step.Ended end }
+    {
         self.stage = Stage::Over;
         Step::Ended(end)
     }
 
     /// Begins, and goes on by what was found.
-    pub(crate) fn begin(&mut self, alloc: Global, system: &System, pass: &mut Pass) -> Step {
+    pub(crate) fn begin(&mut self, alloc: Global, system: &System, pass: &mut Pass) -> Step
+        requires ours { IsPassHere system.now pass.old }
+        requires stage { self.old.stage ≡ Stage.New }
+        requires new { IsAtStage Stage.New (length system.now.plan.objects) self.old pass.old }
+        ensures { HasStepped system.now result self.old self.new pass.old pass.new }
+    {
         if pass.reserve().is_err() {
             self.stage = Stage::Over;
             return Step::Memory;
@@ -57,10 +123,14 @@ impl Swap {
     }
 
     /// Steps its grace, and shuts the object once that is quiet.
-    pub(crate) fn wait(&mut self, alloc: Global, system: &System, pass: &mut Pass) -> Step {
+    pub(crate) fn wait(&mut self, alloc: Global, system: &System, pass: &mut Pass) -> Step
+        requires ours { IsPassHere system.now pass.old }
+        requires stage { self.old.stage ≡ Stage.Waiting }
+        requires waiting { IsAtStage Stage.Waiting (length system.now.plan.objects) self.old pass.old }
+        ensures { HasStepped system.now result self.old self.new pass.old pass.new }
+    {
         match self.grace.step(&system.sys, pass) {
-            GraceStep::Again(Held::Left { proc, left }) => Step::Again(Cause::Left { proc, left }),
-            GraceStep::Again(Held::RoleHeld { holder }) => Step::Again(Cause::RoleHeld { holder }),
+            GraceStep::Again(held) => Step::Again(cause_of(held)),
             GraceStep::Quiet => {
                 reclaim(&system.sys, pass);
                 block(&system.sys, pass);
@@ -71,14 +141,30 @@ impl Swap {
     }
 
     /// Moves the state once nobody is counted.
-    pub(crate) fn shut(&mut self, alloc: Global, system: &System, pass: &mut Pass) -> Step {
+    pub(crate) fn shut(&mut self, alloc: Global, system: &System, pass: &mut Pass) -> Step
+        requires ours { IsPassHere system.now pass.old }
+        requires stage { self.old.stage ≡ Stage.Shut }
+        requires shut { IsAtStage Stage.Shut (length system.now.plan.objects) self.old pass.old }
+        ensures { HasStepped system.now result self.old self.new pass.old pass.new }
+    {
+        // A pass that stands between two steps tells how its swap fits together.
+        let _swap = pass.swap();
         match try_move(&system.sys, pass) {
             Moving::InFlight { count } => Step::Again(Cause::InFlight { count }),
             Moving::Moved => self.hand_on(alloc, system, pass),
         }
     }
 
-    fn hand_on(&mut self, alloc: Global, system: &System, pass: &mut Pass) -> Step {
+    /// Hands the state on, and opens the new row; for want of memory it opens the old one.
+    fn hand_on(&mut self, alloc: Global, system: &System, pass: &mut Pass) -> Step
+        requires ours { IsPassHere system.now pass.old }
+        requires way { IsUnderWay (length system.now.plan.objects) self.old.object pass.old }
+        requires found { HasFoundFree pass.old.view }
+        requires moving { IsMoving self.old.object pass.old.view }
+        ensures { HasStepped system.now result self.old self.new pass.old pass.new }
+    {
+        // A pass that stands between two steps tells how its swap fits together.
+        let _swap = pass.swap();
         let to = self.layout(system);
         if transfer(alloc, &system.sys, pass, &to).is_err() {
             abandon(&system.sys, pass, &to);
@@ -91,21 +177,16 @@ impl Swap {
     }
 
     /// Draws that its object is over.
-    pub(crate) fn mark(&mut self, system: &System, pass: &mut Pass) -> Step {
+    pub(crate) fn mark(&mut self, system: &System, pass: &mut Pass) -> Step
+        requires ours { IsPassHere system.now pass.old }
+        requires stage { self.old.stage ≡ Stage.Marking }
+        requires marking { IsAtStage Stage.Marking (length system.now.plan.objects) self.old pass.old }
+        ensures { HasStepped system.now result self.old self.new pass.old pass.new }
+    {
         let act = self.layout(system).act();
         match mark(&system.sys, pass, act) {
             Marked::Held { holder } => Step::Again(Cause::CellHeld { holder }),
             Marked::Marked => self.over(end_over(pass)),
         }
     }
-}
-
-/// The number of the swap that the pass has begun.
-fn number_begun(pass: &Pass) -> u32 {
-    unreachable!()
-}
-
-/// How a swap ended that found its object over.
-fn end_over(pass: &Pass) -> Swapped {
-    unreachable!()
 }

@@ -113,6 +113,7 @@ impl Swap {
         ensures stage { IsAtStage self.new.stage (length system.now.plan.objects) self.new pass.new }
         ensures same { (self.new.object ≡ self.old.object) × (self.new.to ≡ self.old.to) }
         ensures over { is_over self.new.stage ≡ is_last result }
+        ensures seat { pass.new.seat ≡ pass.old.seat }
         ensures caller { IsSameCaller pass.old.view pass.new.view }
         ensures graces { pass.new.view.graces + graces_due self.new.stage self.new.holder ≤ pass.old.view.graces + graces_due self.old.stage self.old.holder }
         ensures told { IsStepBy (word_begun pass.new.view.last) result }

@@ -89,6 +89,13 @@ impl System {
         self.plan.objects.len() as u32
     }
 
+    /// How many callers it was started for.
+    pub fn callers(&self) -> u32
+        ensures { result ≡ length self.now.plan.callers }
+    {
+        self.plan.callers.len() as u32
+    }
+
     /// Whether there is such an object, and whether the operation is of its kind.
     pub fn takes(&self, object: u32, op: &Op) -> bool
         ensures { (result ≡ true) ↔ IsAsked self.now.plan object op.now }

@@ -1,0 +1,101 @@
+-- A swap that has tried to begin.
+use Rattle.std.proofs.Common.{◌≡◌, ℕ, ◌+◌, ◌≤◌, None, refl, sym, ap, ◌∙◌, subst, arith}
+use Rattle.k42_kinds.specs.declared.entry.Answer.TheVariants as answers
+use Rattle.k42_board.specs.Drawing.{IsDrawer, entry_alone, alone_view}
+use Rattle.k42_board.specs.Seen.{PassSeen, IsRoomier, IsSamePass}
+use Rattle.k42_board.specs.Views.{hears, object_begun, word_begun}
+use Rattle.k42_board.specs.declared.view.PassView.{PassView}
+use Rattle.k42_mediator.specs.Answers.{begun_in}
+use Rattle.k42_mediator.specs.Swaps.{begun_now, interposed_view}
+use Rattle.k42_mediator.specs.declared.answers.Begun.{Begun}
+use Rattle.k42_mediator.specs.declared.answers.Begun.TheVariants as begins
+use Rattle.k42_mediator.specs.declared.answers.Phase.{Phase}
+use Rattle.k42_runtime.specs.Phases.{HasGoneOn}
+use Rattle.k42_runtime.specs.Swaps.{SwapSeen, IsSameCaller, HasSwapped, IsEndTo, IsEndBy, act_asked, graces_due}
+use Rattle.k42_runtime.specs.declared.swaps.Stage.TheVariants.{New, Waiting, Marking}
+use Rattle.k42_runtime.specs.declared.swaps.Swapped.TheVariants as ends
+use Rattle.k42_runtime.specs.declared.swaps.To.{To}
+use Rattle.k42_runtime.proofs.SwapEnds.{refused}
+use Rattle.k42_runtime.proofs.SwapSteps.{swapped_before}
+
+module _ {P : Type 0} (o : ℕ) (old roomy new : PassSeen P) (room : IsRoomier old roomy) (same : IsSamePass roomy new)
+    (knows : new.view ≡ hears new.view.heard (begun_now o (word_begun new.view.last) roomy.view)) where
+  since : new.view ≡ hears new.view.heard (begun_now o (word_begun new.view.last) old.view)
+  since = knows ∙ ap (λ (u : PassView P). hears new.view.heard (begun_now o (word_begun new.view.last) u)) room.view
+
+  pub begun_caller : IsSameCaller old.view new.view
+  begun_caller = record {
+    number = ap (λ (u : PassView P). u.number) since;
+    proc = ap (λ (u : PassView P). u.turn.proc) since;
+    activities = ap (λ (u : PassView P). u.activities) since;
+  }
+
+  pub begun_seat : new.seat ≡ old.seat
+  begun_seat = same.seat ∙ room.seat
+
+  pub begun_drawn : new.view.taker.mine ≡ old.view.taker.mine
+  begun_drawn = ap (λ (u : PassView P). u.taker.mine) since
+
+  pub begun_graces : new.view.graces ≡ old.view.graces
+  begun_graces = ap (λ (u : PassView P). u.graces) since
+
+  pub begun_object : object_begun new.view.last ≡ o
+  begun_object = ap (λ (u : PassView P). object_begun u.last) since
+
+  -- the object is over
+  pub marks_on : (s m : SwapSeen) → s.stage ≡ New → m.stage ≡ Marking → m.object ≡ s.object → m.to ≡ s.to → HasGoneOn s m old new
+  marks_on s m first next object to = record {
+    object = object;
+    to = to;
+    seat = begun_seat;
+    caller = begun_caller;
+    drawn = begun_drawn;
+    graces =
+        let n = begun_graces in
+        subst (λ (x : ℕ × ℕ). new.view.graces + x.0 ≤ old.view.graces + x.1)
+        (λ j. (graces_due (sym next j) m.holder, graces_due (sym first j) s.holder)) (omega (arith, n));
+  }
+
+  -- it has begun, and leads all entries to the mediator
+  pub waits_on : (s m : SwapSeen) (led : PassSeen P) → s.stage ≡ New → m.stage ≡ Waiting → m.holder ≡ None → m.object ≡ s.object → m.to ≡ s.to
+      → IsSamePass new led → led.view ≡ hears led.view.heard (interposed_view new.view) → HasGoneOn s m old led
+  waits_on s m led first next none object to next_same leads = record {
+    object = object;
+    to = to;
+    seat = next_same.seat ∙ begun_seat;
+    caller = record {
+      number = ap (λ (u : PassView P). u.number) leads ∙ begun_caller.number;
+      proc = ap (λ (u : PassView P). u.turn.proc) leads ∙ begun_caller.proc;
+      activities = ap (λ (u : PassView P). u.activities) leads ∙ begun_caller.activities;
+    };
+    drawn = ap (λ (u : PassView P). u.taker.mine) leads ∙ begun_drawn;
+    graces =
+        let n = ap (λ (u : PassView P). u.graces) leads ∙ begun_graces in
+        subst (λ (x : ℕ × ℕ). led.view.graces + x.0 ≤ old.view.graces + x.1)
+        (λ j. (graces_due (sym next j) (sym none j), graces_due (sym first j) s.holder)) (omega (arith, n));
+  }
+
+  -- another swap is under way
+  module _ (drawn : PassSeen P) (to : To) (number : ℕ) (draws : IsDrawer new drawn)
+      (is : drawn.view ≡ alone_view (entry_alone new.view (act_asked to) (answers.Busy number)) new.view) where
+    pub refused_now : HasSwapped o to (ends.Busy number) old.view drawn.view
+    refused_now = swapped_before old.view new.view drawn.view begun_caller begun_drawn o to (ends.Busy number) (refused o number to new.view drawn.view begun_object is)
+
+    pub refused_caller : IsSameCaller old.view drawn.view
+    refused_caller = record {
+      number = ap (λ (u : PassView P). u.number) is ∙ begun_caller.number;
+      proc = ap (λ (u : PassView P). u.turn.proc) is ∙ begun_caller.proc;
+      activities = ap (λ (u : PassView P). u.activities) is ∙ begun_caller.activities;
+    }
+
+    pub refused_graces : drawn.view.graces ≡ old.view.graces
+    refused_graces = ap (λ (u : PassView P). u.graces) is ∙ begun_graces
+
+    pub refused_seat : drawn.seat ≡ old.seat
+    refused_seat = draws.seat ∙ begun_seat
+
+    pub refused_told : (answer : Begun) (phase : Phase) → answer ≡ begun_in (word_begun new.view.last) → answer ≡ begins.Busy number phase
+        → IsEndBy (word_begun drawn.view.last) (ends.Busy number)
+    refused_told answer phase found busy =
+        subst (λ (word : ℕ). IsEndBy word (ends.Busy number)) (sym (ap (λ (u : PassView P). word_begun u.last) is))
+        (subst (λ (b : Begun). IsEndTo b (word_begun new.view.last) (ends.Busy number)) (sym busy ∙ found) refl)

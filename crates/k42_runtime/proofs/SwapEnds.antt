@@ -1,0 +1,163 @@
+-- What a pass has drawn that ends its swap.
+use Rattle.std.proofs.Common.{◌≡◌, ℕ, ◌+◌, ◌-◌, ◌≤◌, Bool, true, false, ◌&&◌, ◌||◌, cond, eqb, List, [], ◌∷◌, ◌++◌, Some, None, Result, Ok, Err, length, refl, sym, ap, ◌∙◌, subst, arith}
+use Rattle.std.specs.Result.{OnErr, is_err}
+use Rattle.std.specs.Prelude.{◌==◌, if◌then◌else◌}
+use Rattle.std.proofs.lemmas.Option.{same_Some}
+use Rattle.gen_core.specs.Events.{is_idle}
+use Rattle.k42_limits.specs.declared.TheConstants.{LAST_INCARNATION}
+use Rattle.k42_kinds.specs.Histories.{is_call}
+use Rattle.k42_kinds.specs.declared.entry.Act.{Act}
+use Rattle.k42_kinds.specs.declared.entry.Answer.{Answer}
+use Rattle.k42_kinds.specs.declared.entry.Answer.TheVariants.{Abandoned, Busy, Spent, Gone}
+use Rattle.k42_kinds.specs.declared.entry.Entry.{Entry}
+use Rattle.phase_core.specs.declared.caller.SwapAt.TheVariants.{Idle, Opened}
+use Rattle.turn_core.specs.Events.{caller_drawn}
+use Rattle.k42_stamp.specs.Layouts.{Layouts}
+use Rattle.k42_board.specs.Drawing.{entry_alone, alone_view, number_told}
+use Rattle.k42_board.specs.Seen.{PassSeen, is_at_rest}
+use Rattle.k42_board.specs.Swapping.{object_swapped}
+use Rattle.k42_board.specs.Tabling.{is_over_in}
+use Rattle.k42_board.specs.Values.{answer_in, layout_in, incarnation_in}
+use Rattle.k42_board.specs.Views.{hears, object_begun, word_begun}
+use Rattle.k42_board.specs.declared.view.PassView.{PassView}
+use Rattle.k42_mediator.specs.Answers.{begun_in}
+use Rattle.k42_mediator.specs.Entries.{IsNext}
+use Rattle.k42_mediator.specs.Marks.{HasMarked, cell_marked}
+use Rattle.k42_mediator.specs.Swaps.{abandoned_view, staged, LeavesOpen}
+use Rattle.k42_mediator.proofs.AfterMark.{later_stamp}
+use Rattle.k42_runtime.specs.Phases.{end_in}
+use Rattle.k42_runtime.specs.Swaps.{IsSameCaller, HasSwapped, HasAbandoned, IsEndBy, act_asked, answer_told, incarnation_told}
+use Rattle.k42_runtime.specs.declared.swaps.Swapped.{Swapped}
+use Rattle.k42_runtime.specs.declared.swaps.Swapped.TheVariants as ends
+use Rattle.k42_runtime.specs.declared.swaps.To.{To}
+use Rattle.k42_runtime.specs.declared.swaps.To.TheVariants as tos
+
+pub on_error : {A E X : Type 0} (result : Result A E) → is_err result ≡ true → OnErr result X → X
+on_error (Err error) failed is = is
+on_error (Ok value) failed is = absurd (cc)
+
+pub no_call : (to : To) → is_call (act_asked to) ≡ false
+no_call (tos.Layout layout) = refl
+no_call tos.Dead = refl
+
+-- an entry that is drawn at no cell
+pub alone_next : {P : Type 0} (v : PassView P) (act : Act) (answer : Answer) (object incarnation : ℕ) → is_call act ≡ false
+    → object_begun v.last ≡ object → number_told answer - 1 ≡ incarnation
+    → IsNext v object incarnation 0 act answer (entry_alone v act answer)
+alone_next v act answer object incarnation act_is o i = record {
+  later = later_stamp v [];
+  whole = λ j. record {
+    stamp = (entry_alone v act answer).stamp;
+    caller = v.number;
+    index = length v.taker.mine;
+    object = o j;
+    incarnation = i j;
+    cell = 0;
+    act = act;
+    answer = answer;
+    proc = v.turn.proc;
+    generation = cond (act_is j) v.turn.active None;
+  };
+}
+
+-- the swap was given up
+pub gave_up : {S L P : Type 0} (F : Layouts S L P) (declared : List L) (id object : ℕ) (to : To) (v w x : PassView P) → w ≡ hears w.heard v
+    → x ≡ hears x.heard (abandoned_view (act_asked to) w) → object_swapped v ≡ object → object_begun v.last ≡ object
+    → LeavesOpen F declared id (staged (Opened (object_swapped w)) x) → HasAbandoned F declared id object to v x
+gave_up F declared id object to v w x kept knows swaps begun opened =
+    let is : x ≡ hears x.heard (abandoned_view (act_asked to) v) = knows ∙ ap (λ (u : PassView _). hears x.heard (abandoned_view (act_asked to) u)) kept in
+    let k : ℕ = incarnation_in (word_begun v.last) in
+    record {
+      entry = entry_alone v (act_asked to) (Abandoned (k + 1));
+      next =
+          subst (λ (i : ℕ). IsNext v object i 0 (act_asked to) (Abandoned (i + 1)) (entry_alone v (act_asked to) (Abandoned (k + 1))))
+          (sym (ap (λ (u : PassView _). incarnation_in (word_begun u.last)) is))
+          (alone_next v (act_asked to) (Abandoned (k + 1)) object k (no_call to) begun (less k));
+      drawn = ap (λ (u : PassView _). u.taker.mine) is;
+      opened =
+          subst (λ o. LeavesOpen F declared id (staged (Opened o) x)) (ap (λ (u : PassView _). object_swapped u) kept ∙ swaps) opened;
+    }
+  where
+    less : (n : ℕ) → n + 1 - 1 ≡ n
+    less n = omega arith
+
+-- another swap was under way
+pub refused : {P : Type 0} (object number : ℕ) (to : To) (w x : PassView P) → object_begun w.last ≡ object
+    → x ≡ alone_view (entry_alone w (act_asked to) (Busy number)) w → HasSwapped object to (ends.Busy number) w x
+refused object number to w x begun knows = record {
+  begun = ap (λ (u : PassView _). object_begun u.last) knows ∙ begun;
+  cell = 0;
+  entry = entry_alone w (act_asked to) (Busy number);
+  next = alone_next w (act_asked to) (Busy number) object (number - 1) (no_call to) begun refl;
+  drawn = ap (λ (u : PassView _). u.taker.mine) knows;
+}
+
+-- what an object that is over answers
+pub record IsOverTo (word : ℕ) (answer : Answer) : Type 0 where
+  pub told : answer ≡ answer_told (end_in word)
+  pub incarnation : (other : ℕ) → incarnation_told (end_in word) other ≡ incarnation_in other
+  pub ends : IsEndBy word (end_in word)
+
+pub over_ends : (word : ℕ) (answer : Answer) → is_over_in word ≡ true → answer_in word ≡ Some answer → IsOverTo word answer
+over_ends word answer over told = go (eqb (layout_in word) 2) (eqb (incarnation_in word) LAST_INCARNATION) refl refl where
+  go : (dead last : Bool) → eqb (layout_in word) 2 ≡ dead → eqb (incarnation_in word) LAST_INCARNATION ≡ last → IsOverTo word answer
+  go true last e f = record {
+    told = let same : Some Gone ≡ Some answer = rw e at told in rw e (sym (same_Some Gone answer same));
+    incarnation = λ other. rw e refl;
+    ends = rw e tt;
+  }
+  go false true e f = record {
+    told = let same : Some Spent ≡ Some answer = rw (e, f) at told in rw e (sym (same_Some Spent answer same));
+    incarnation = λ other. rw e refl;
+    ends = rw (e, f) tt;
+  }
+  go false false e f = absurd (let no : true ≡ false = sym over ∙ (λ j. e j || f j) in cc)
+
+-- it was told so
+pub marked : {P : Type 0} (object : ℕ) (to : To) (old new : PassSeen P) → object_begun old.view.last ≡ object
+    → is_over_in (word_begun old.view.last) ≡ true → HasMarked (act_asked to) old new
+    → HasSwapped object to (end_in (word_begun old.view.last)) old.view new.view
+marked object to old new begun over has =
+    let word : ℕ = word_begun old.view.last in
+    let is = over_ends word has.answer over has.told in
+    record {
+      begun = ap (λ (u : PassView _). object_begun u.last) has.knows ∙ begun;
+      cell = cell_marked old.view;
+      entry = has.entry;
+      next =
+          subst (λ (x : ℕ × ℕ × Answer). IsNext old.view x.0 x.1 (cell_marked old.view) (act_asked to) x.2 has.entry)
+          (λ j. (begun j, (sym (is.incarnation (word_begun new.view.last) ∙ ap (λ (u : PassView _). incarnation_in (word_begun u.last)) has.knows)) j, is.told j))
+          has.next;
+      drawn = ap (λ (u : PassView _). u.taker.mine) has.knows;
+    }
+
+-- what stays of the pass
+
+module _ {P : Type 0} (act : Act) (old new : PassSeen P) (has : HasMarked act old new) where
+  pub marked_last : new.view.last ≡ old.view.last
+  marked_last = ap (λ (u : PassView _). u.last) has.knows
+
+  pub marked_caller : IsSameCaller old.view new.view
+  marked_caller = record {
+    number = ap (λ (u : PassView _). u.number) has.knows;
+    proc = ap (λ (u : PassView _). u.turn.proc) has.knows;
+    activities = ap (λ (u : PassView _). u.activities) has.knows;
+  }
+
+  pub marked_graces : new.view.graces ≡ old.view.graces
+  marked_graces = ap (λ (u : PassView _). u.graces) has.knows
+
+module _ {P : Type 0} (act : Act) (v w x : PassView P) (kept : w ≡ hears w.heard v) (knows : x ≡ hears x.heard (abandoned_view act w)) where
+  pub abandoned_caller : IsSameCaller v x
+  abandoned_caller = record {
+    number = ap (λ (u : PassView _). u.number) knows ∙ ap (λ (u : PassView _). u.number) kept;
+    proc = ap (λ (u : PassView _). u.turn.proc) knows ∙ ap (λ (u : PassView _). u.turn.proc) kept;
+    activities = ap (λ (u : PassView _). u.activities) knows ∙ ap (λ (u : PassView _). u.activities) kept;
+  }
+
+  pub abandoned_graces : x.graces ≡ v.graces
+  abandoned_graces = ap (λ (u : PassView _). u.graces) knows ∙ ap (λ (u : PassView _). u.graces) kept
+
+-- a swap that is over begins no grace any more
+pub few : (new old due : ℕ) → new ≡ old → new + 0 ≤ old + due
+few new old due same = omega (arith, same)

@@ -1,0 +1,95 @@
+-- A swap that is stepped on: what its steps bring, seen from a step before.
+use Rattle.std.proofs.Common.{◌≡◌, ⊎_elim, inl, inr, ℕ, ◌+◌, ◌<◌, ◌≤◌, List, [], ◌∷◌, ◌++◌, None, length, sym, ap, ◌∙◌, subst, arith}
+use Rattle.k42_kinds.specs.declared.entry.Act.{Act}
+use Rattle.k42_kinds.specs.declared.entry.Answer.{Answer}
+use Rattle.k42_kinds.specs.declared.entry.Entry.{Entry}
+use Rattle.turn_core.specs.Stamps.{last_stamp}
+use Rattle.k42_stamp.specs.Layouts.{Layouts}
+use Rattle.co_any.specs.declared.part.AnyPart.{AnyPart}
+use Rattle.k42_board.specs.Seen.{PassSeen}
+use Rattle.k42_board.specs.declared.view.PassView.{PassView}
+use Rattle.k42_mediator.specs.Entries.{IsNext}
+use Rattle.k42_runtime.specs.Phases.{HasGoneOn, HasBrought, HasStepped}
+use Rattle.k42_runtime.specs.Swaps.{SwapSeen, IsSameCaller, HasSwapped, HasNotBegun, HasAbandoned, HasGivenUp, graces_due}
+use Rattle.k42_runtime.specs.Systems.{SystemSeen, layouts_in}
+use Rattle.k42_runtime.specs.declared.swaps.Step.{Step}
+use Rattle.k42_runtime.specs.declared.swaps.Step.TheVariants.{Again, Ended, Memory}
+use Rattle.k42_runtime.specs.declared.swaps.Swapped.{Swapped}
+use Rattle.k42_runtime.specs.declared.swaps.To.{To}
+
+pub same_caller : {P : Type 0} (u v w : PassView P) → IsSameCaller u v → IsSameCaller v w → IsSameCaller u w
+same_caller u v w first second = record {
+  number = second.number ∙ first.number;
+  proc = second.proc ∙ first.proc;
+  activities = second.activities ∙ first.activities;
+}
+
+-- of a pass that has drawn nothing in between
+module _ {P : Type 0} (u v w : PassView P) (same : IsSameCaller u v) (drawn : v.taker.mine ≡ u.taker.mine) where
+  next_before : (object incarnation cell : ℕ) (act : Act) (answer : Answer) (entry : Entry) → IsNext v object incarnation cell act answer entry
+      → IsNext u object incarnation cell act answer entry
+  next_before object incarnation cell act answer entry next = record {
+    later = subst (λ mine. last_stamp mine < entry.stamp) drawn next.later;
+    whole = next.whole ∙ (λ j. record {
+      stamp = entry.stamp;
+      caller = same.number j;
+      index = length (drawn j);
+      object = object;
+      incarnation = incarnation;
+      cell = cell;
+      act = act;
+      answer = answer;
+      proc = same.proc j;
+      generation = None;
+    });
+  }
+
+  pub swapped_before : (object : ℕ) (to : To) (end : Swapped) → HasSwapped object to end v w → HasSwapped object to end u w
+  swapped_before object to end is = record {
+    begun = is.begun;
+    cell = is.cell;
+    entry = is.entry;
+    next = next_before object _ is.cell _ _ is.entry is.next;
+    drawn = is.drawn ∙ ap (λ mine. mine ++ is.entry ∷ []) drawn;
+  }
+
+  pub given_up_before : {S L : Type 0} (F : Layouts S L P) (declared : List L) (id object : ℕ) (to : To) → HasGivenUp F declared id object to v w
+      → HasGivenUp F declared id object to u w
+  given_up_before F declared id object to =
+      ⊎_elim (λ (is : HasNotBegun v w). inl (is ∙ drawn))
+      (λ (is : HasAbandoned F declared id object to v w). inr (record {
+        entry = is.entry;
+        next = next_before object _ 0 _ _ is.entry is.next;
+        drawn = is.drawn ∙ ap (λ mine. mine ++ is.entry ∷ []) drawn;
+        opened = is.opened;
+      }))
+
+module _ (system : SystemSeen) (s m t : SwapSeen) (old mid new : PassSeen AnyPart) (goes : HasGoneOn s m old mid) where
+  brought_before : (result : Step) → HasBrought system result m mid new → HasBrought system result s old new
+  brought_before (Ended end) is =
+      subst (λ (x : ℕ × To). HasSwapped x.0 x.1 end old.view new.view) (λ j. (goes.object j, goes.to j))
+      (swapped_before old.view mid.view new.view goes.caller goes.drawn m.object m.to end is)
+  brought_before (Again cause) is = (is.0 ∙ goes.drawn, is.1)
+  brought_before Memory is =
+      subst (λ (x : ℕ × ℕ × To). HasGivenUp (layouts_in system) system.sys.layouts x.0 x.1 x.2 old.view new.view)
+      (λ j. (goes.seat j, goes.object j, goes.to j))
+      (given_up_before old.view mid.view new.view goes.caller goes.drawn (layouts_in system) system.sys.layouts mid.seat m.object m.to is)
+
+  pub stepped_before : (result : Step) → HasStepped system result m t mid new → HasStepped system result s t old new
+  stepped_before result is = record {
+    here = is.here;
+    stage = is.stage;
+    object = is.object ∙ goes.object;
+    to = is.to ∙ goes.to;
+    over = is.over;
+    seat = is.seat ∙ goes.seat;
+    caller = same_caller old.view mid.view new.view goes.caller is.caller;
+    graces =
+        let first = goes.graces in let second = is.graces in
+        fewer (old.view.graces + graces_due s.stage s.holder) (mid.view.graces + graces_due m.stage m.holder)
+        (new.view.graces + graces_due t.stage t.holder) first second;
+    told = is.told;
+    brought = brought_before result is.brought;
+  } where
+    fewer : (a b c : ℕ) → b ≤ a → c ≤ b → c ≤ a
+    fewer a b c first second = omega (arith, first, second)

@@ -1,0 +1,64 @@
+use Rattle.std.proofs.Common.{rules, ◌≡◌, ℕ, refl, sym, ap, ◌∙◌, subst}
+use Rattle.k42_board.specs.Drawing.{entry_alone, alone_view}
+use Rattle.k42_kinds.specs.declared.entry.Answer.TheVariants as answers
+use Rattle.k42_runtime.specs.Phases.{HasStepped}
+use Rattle.k42_runtime.specs.Swaps.{SwapSeen, act_asked, graces_due}
+use Rattle.k42_runtime.specs.Systems.{IsPassHere, IsAtRest}
+use Rattle.k42_runtime.specs.declared.swaps.Stage.TheVariants.{New, Waiting, Marking, Over}
+use Rattle.k42_runtime.specs.declared.swaps.Step.TheVariants.{Ended}
+use Rattle.k42_runtime.specs.declared.swaps.Swapped.TheVariants.{Busy}
+use Rattle.k42_runtime.proofs.SwapBegins.{marks_on, waits_on, refused_now, refused_caller, refused_graces, refused_seat, refused_told}
+use Rattle.k42_runtime.proofs.SwapEnds.{few}
+use Rattle.k42_runtime.proofs.SwapSteps.{stepped_before}
+use Rattle.k42_runtime.proofs.swaps.Swap.begin.Goals as goal
+
+pub returns-in-Begun : goal.returns-in-Begun
+returns-in-Begun c =
+    let old = c.args.pass.now in
+    let s : SwapSeen = record { object = c.self.inside.object; to = c.self.inside.to; stage = c.self.inside.stage; holder = c.self.inside.grace } in
+    let m : SwapSeen = record { object = c.self.inside.object; to = c.self.inside.to; stage = Waiting; holder = c.self.inside.grace } in
+    let is : s ≡ c.args.self.now = c.self.view_is in
+    let first : s.stage ≡ New = ap (λ (x : SwapSeen). x.stage) is ∙ c.requires.stage in
+    subst (λ s. HasStepped c.args.system.now c.wait.result s c.wait.new.self old c.wait.new.pass) is
+    (stepped_before c.args.system.now s m c.wait.new.self old c.interpose.new.pass c.wait.new.pass
+    (waits_on s.object old c.reserve.new.self c.begin.new.pass c.reserve.ensures.same c.begin.ensures.same c.begin.ensures.knows s m c.interpose.new.pass
+    first refl (ap (λ (x : SwapSeen). x.holder) is ∙ c.requires.new.0) refl refl c.interpose.ensures.same c.interpose.ensures.knows)
+    c.wait.result c.wait.ensures)
+
+pub returns-in-Busy : goal.returns-in-Busy
+returns-in-Busy c =
+    let old = c.args.pass.now in let new = c.draw_alone.new.pass in let number : ℕ = c.in-Busy.number in
+    let s : SwapSeen = record { object = c.self.inside.object; to = c.self.inside.to; stage = c.self.inside.stage; holder = c.self.inside.grace } in
+    let is : s ≡ c.args.self.now = c.self.view_is in
+    let drawn : new.view ≡ alone_view (entry_alone c.begin.new.pass.view (act_asked s.to) (answers.Busy number)) c.begin.new.pass.view = search rules in
+    let here : IsPassHere c.args.system.now new = search rules in
+    let rests : IsAtRest new.view = search rules in
+    subst (λ s. HasStepped c.args.system.now c.over.result s c.over.new.self old new) is
+    (subst (λ t. HasStepped c.args.system.now c.over.result s t old new) (sym (c.over.ensures.over ∙ ap (λ (x : SwapSeen). record x { stage = Over }) (sym is)))
+    (subst (λ answer. HasStepped c.args.system.now answer s (record s { stage = Over }) old new) (sym c.over.ensures.ended)
+    (record {
+      here = here;
+      stage = rests;
+      object = refl;
+      to = refl;
+      over = refl;
+      seat = refused_seat s.object old c.reserve.new.self c.begin.new.pass c.reserve.ensures.same c.begin.ensures.same c.begin.ensures.knows new s.to number c.draw_alone.ensures.same drawn;
+      caller = refused_caller s.object old c.reserve.new.self c.begin.new.pass c.reserve.ensures.same c.begin.ensures.same c.begin.ensures.knows new s.to number c.draw_alone.ensures.same drawn;
+      graces =
+          few new.view.graces old.view.graces (graces_due s.stage s.holder)
+          (refused_graces s.object old c.reserve.new.self c.begin.new.pass c.reserve.ensures.same c.begin.ensures.same c.begin.ensures.knows new s.to number c.draw_alone.ensures.same drawn);
+      told = refused_told s.object old c.reserve.new.self c.begin.new.pass c.reserve.ensures.same c.begin.ensures.same c.begin.ensures.knows new s.to number c.draw_alone.ensures.same drawn c.begin.result c.in-Busy.phase c.begin.ensures.answer c.in-Busy.is;
+      brought = refused_now s.object old c.reserve.new.self c.begin.new.pass c.reserve.ensures.same c.begin.ensures.same c.begin.ensures.knows new s.to number c.draw_alone.ensures.same drawn;
+    })))
+
+pub returns-in-Spent : goal.returns-in-Spent
+returns-in-Spent c =
+    let old = c.args.pass.now in
+    let s : SwapSeen = record { object = c.self.inside.object; to = c.self.inside.to; stage = c.self.inside.stage; holder = c.self.inside.grace } in
+    let m : SwapSeen = record { object = c.self.inside.object; to = c.self.inside.to; stage = Marking; holder = c.self.inside.grace } in
+    let is : s ≡ c.args.self.now = c.self.view_is in
+    let first : s.stage ≡ New = ap (λ (x : SwapSeen). x.stage) is ∙ c.requires.stage in
+    subst (λ s. HasStepped c.args.system.now c.mark.result s c.mark.new.self old c.mark.new.pass) is
+    (stepped_before c.args.system.now s m c.mark.new.self old c.begin.new.pass c.mark.new.pass
+    (marks_on s.object old c.reserve.new.self c.begin.new.pass c.reserve.ensures.same c.begin.ensures.same c.begin.ensures.knows s m first refl refl refl)
+    c.mark.result c.mark.ensures)

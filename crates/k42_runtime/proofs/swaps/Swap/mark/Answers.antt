@@ -1,0 +1,40 @@
+use Rattle.std.proofs.Common.{rules, ◌≡◌, ℕ, ◌+◌, ◌≤◌, true, length, refl, sym, ap, ◌∙◌, subst, arith}
+use Rattle.k42_board.specs.Plan.{layouts_on}
+use Rattle.k42_board.specs.Values.{incarnation_in}
+use Rattle.k42_board.specs.Views.{word_begun}
+use Rattle.k42_board.specs.declared.view.PassView.{PassView}
+use Rattle.k42_mediator.specs.Marks.{IsMark, HasMarked}
+use Rattle.k42_runtime.specs.Swaps.{SwapSeen, act_asked, graces_due, IsEndBy, HasSwapped}
+use Rattle.k42_runtime.specs.Systems.{SystemSeen, IsPassHere, IsAtRest, any_layouts}
+use Rattle.k42_runtime.specs.Phases.{HasStepped, end_in}
+use Rattle.k42_runtime.specs.declared.swaps.Stage.TheVariants.{Over}
+use Rattle.k42_runtime.specs.declared.swaps.Step.TheVariants.{Ended}
+use Rattle.k42_runtime.specs.declared.swaps.Swapped.{Swapped}
+use Rattle.k42_runtime.proofs.SwapEnds.{marked, over_ends, marked_last, marked_caller, marked_graces, few}
+use Rattle.k42_runtime.proofs.swaps.Swap.mark.Goals as goal
+
+pub returns-in-Marked : goal.returns-in-Marked
+returns-in-Marked c =
+    let old = c.args.pass.now in let new = c.mark.new.pass in let s = c.args.self.now in
+    let stage = c.requires.marking in
+    let has : HasMarked (act_asked s.to) old new = search rules in
+    let last : new.view.last ≡ old.view.last = marked_last (act_asked s.to) old new has in
+    let word : ℕ = word_begun old.view.last in
+    let is = over_ends word has.answer stage.1.may.over has.told in
+    let end : c.end_over.result ≡ end_in word = c.end_over.ensures ∙ ap (λ l. end_in (word_begun l)) last in
+    let here : IsPassHere c.args.system.now new = search rules in
+    let rests : IsAtRest new.view = search rules in
+    subst (λ t. HasStepped c.args.system.now c.over.result s t old new) (sym c.over.ensures.over)
+    (subst (λ answer. HasStepped c.args.system.now answer s (record s { stage = Over }) old new) (sym (c.over.ensures.ended ∙ ap Ended end))
+    (record {
+      here = here;
+      stage = rests;
+      object = refl;
+      to = refl;
+      over = refl;
+      seat = has.drawer.seat;
+      caller = marked_caller (act_asked s.to) old new has;
+      graces = few new.view.graces old.view.graces (graces_due s.stage s.holder) (marked_graces (act_asked s.to) old new has);
+      told = subst (λ (l : ℕ). IsEndBy l (end_in word)) (sym (ap word_begun last)) is.ends;
+      brought = marked s.object s.to old new stage.1.begun stage.1.may.over has;
+    }))

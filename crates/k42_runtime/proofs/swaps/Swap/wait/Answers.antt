@@ -1,0 +1,77 @@
+use Rattle.std.proofs.Common.{◌≡◌, ℕ, ◌+◌, ◌≤◌, true, length, refl, sym, ap, ◌∙◌, subst, arith}
+use Rattle.phase_core.specs.Stages.{is_out}
+use Rattle.turn_core.specs.Plain as turns
+use Rattle.k42_board.specs.Seen.{IsPassOf}
+use Rattle.k42_board.specs.declared.view.PassView.{PassView}
+use Rattle.k42_quiesce.specs.Gracing.{has_role}
+use Rattle.k42_runtime.specs.Swaps.{SwapSeen, IsAtStage, is_over, graces_due}
+use Rattle.k42_runtime.specs.Systems.{SystemSeen}
+use Rattle.k42_runtime.specs.Phases.{HasGoneOn, HasStepped}
+use Rattle.k42_runtime.specs.declared.swaps.Stage.TheVariants.{Waiting, Shut}
+use Rattle.k42_runtime.specs.declared.swaps.Step.TheVariants.{Again}
+use Rattle.k42_runtime.proofs.SwapGraces.{held_up, has_role_now}
+use Rattle.k42_runtime.proofs.SwapSteps.{same_caller, stepped_before}
+use Rattle.k42_runtime.proofs.swaps.Swap.wait.Goals as goal
+
+pub returns-in-Again : goal.returns-in-Again
+returns-in-Again c =
+    let old = c.args.pass.now in let new = c.step.new.pass in let objects : ℕ = length c.args.system.now.plan.objects in
+    let s : SwapSeen = record { object = c.self.inside.object; to = c.self.inside.to; stage = c.self.inside.stage; holder = c.self.inside.grace } in
+    let t : SwapSeen = record { object = c.self.inside.object; to = c.self.inside.to; stage = c.self.inside.stage; holder = c.step.new.self } in
+    let is : s ≡ c.args.self.now = c.self.view_is in
+    let first : s.stage ≡ Waiting = ap (λ (x : SwapSeen). x.stage) is ∙ c.requires.stage in
+    let waits = subst (λ s. IsAtStage Waiting objects s old) (sym is) c.requires.waiting in
+    let same = c.step.ensures.same in
+    let up =
+    held_up objects s t old new same first refl refl waits.0 waits.1 waits.2 c.step.result c.in-Again.held c.in-Again.is c.step.ensures.left
+    c.step.ensures.role_held c.step.ensures.goes in
+    subst (λ s. HasStepped c.args.system.now (Again c.cause_of.result) s t old new) is
+    (subst (λ cause. HasStepped c.args.system.now (Again cause) s t old new) (sym c.cause_of.ensures)
+    (record {
+      here = record {
+        ours = subst (λ (z : SystemSeen). IsPassOf z.sys new) c.system.view_is c.step.ensures.ours;
+        out = ap is_out up.place ∙ c.requires.ours.out;
+        held = ap (λ (x : turns.Caller). x.held) up.taker ∙ c.requires.ours.held;
+        notes = up.notes ∙ c.requires.ours.notes;
+      };
+      stage = up.stage;
+      object = refl;
+      to = refl;
+      over = ap is_over first;
+      seat = same.seat;
+      caller = up.caller;
+      graces = up.graces;
+      told = up.told;
+      brought = (ap (λ (x : turns.Caller). x.mine) up.taker, up.found);
+    }))
+
+pub returns-in-Quiet : goal.returns-in-Quiet
+returns-in-Quiet c =
+    let old = c.args.pass.now in let mid = c.block.new.pass in let objects : ℕ = length c.args.system.now.plan.objects in
+    let s : SwapSeen = record { object = c.self.inside.object; to = c.self.inside.to; stage = c.self.inside.stage; holder = c.self.inside.grace } in
+    let m : SwapSeen = record { object = c.self.inside.object; to = c.self.inside.to; stage = Shut; holder = c.step.new.self } in
+    let is : s ≡ c.args.self.now = c.self.view_is in
+    let first : s.stage ≡ Waiting = ap (λ (x : SwapSeen). x.stage) is ∙ c.requires.stage in
+    let waits = subst (λ s. IsAtStage Waiting objects s old) (sym is) c.requires.waiting in
+    let has = has_role_now s.object s.holder old.view c.step.new.pass.view waits.2 (c.step.ensures.goes (ap has_role c.in-Quiet.is)).0 in
+    let reclaimed = c.reclaim.ensures.knows in let blocked = c.block.ensures.knows in
+    subst (λ s. HasStepped c.args.system.now c.shut.result s c.shut.new.self old c.shut.new.pass) is
+    (stepped_before c.args.system.now s m c.shut.new.self old mid c.shut.new.pass
+    (record {
+      object = refl;
+      to = refl;
+      seat = c.block.ensures.same.seat ∙ c.reclaim.ensures.same.seat ∙ c.step.ensures.same.seat;
+      caller =
+          same_caller old.view c.step.new.pass.view mid.view has.caller (record {
+            number = ap (λ (v : PassView _). v.number) blocked ∙ ap (λ (v : PassView _). v.number) reclaimed;
+            proc = ap (λ (v : PassView _). v.turn.proc) blocked ∙ ap (λ (v : PassView _). v.turn.proc) reclaimed;
+            activities = ap (λ (v : PassView _). v.activities) blocked ∙ ap (λ (v : PassView _). v.activities) reclaimed;
+          });
+      drawn =
+          ap (λ (v : PassView _). v.taker.mine) blocked ∙ ap (λ (v : PassView _). v.taker.mine) reclaimed
+          ∙ ap (λ (x : turns.Caller). x.mine) has.taker;
+      graces =
+          let n = ap (λ (v : PassView _). v.graces) blocked ∙ ap (λ (v : PassView _). v.graces) reclaimed ∙ has.graces in
+          subst (λ stage. mid.view.graces + 0 ≤ old.view.graces + graces_due stage s.holder) (sym first) (omega (arith, n));
+    })
+    c.shut.result c.shut.ensures)
