@@ -1,3 +1,5 @@
 pub mod Filtered
 pub mod Judged
 pub mod Working
+pub mod Planned
+pub mod Ended

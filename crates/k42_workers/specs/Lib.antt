@@ -1,2 +1,4 @@
 pub mod Workers
 pub mod Lines
+pub mod Plans
+pub mod Passes
