@@ -1,9 +1,9 @@
 -- The pass of a worker, item by item.
-use Rattle.std.proofs.Common.{◌≡◌, ℕ, zero, suc, ◌+◌, ◌<◌, ◌≤◌, ◌^◌, Bool, true, false, ◌&&◌, List, [], ◌∷◌, ◌++◌, Option, Some, None, length, map, drop, is_none, refl, sym, ap, ◌∙◌, subst, arith}
+use Rattle.std.proofs.Common.{◌≡◌, ℕ, zero, suc, ◌+◌, ◌-◌, ◌<◌, ◌≤◌, ◌^◌, Bool, true, false, ◌&&◌, List, [], ◌∷◌, ◌++◌, Option, Some, None, length, map, take, drop, is_none, refl, sym, ap, ◌∙◌, subst, arith}
 use Rattle.std.specs.Prelude.{All, slice_get}
 use Rattle.std.specs.List.{AllByRecursion}
-use Rattle.std.proofs.lemmas.List.{length-append, length-map}
-use Rattle.std.proofs.lemmas.List.Elements.{recursion_from_All}
+use Rattle.std.proofs.lemmas.List.{length-append, length-map, length-drop, length-take-le}
+use Rattle.std.proofs.lemmas.List.Elements.{recursion_from_All, All-take, All-drop}
 use Rattle.std.proofs.lemmas.Option.{same_Some}
 use Rattle.k42_places.proofs.Rests.{drop_at}
 use Rattle.gen_core.specs.Events as graces
@@ -23,7 +23,8 @@ use Rattle.k42_board.specs.Seen.{PassSeen, is_at_rest}
 use Rattle.k42_board.specs.declared.view.PassView.{PassView}
 use Rattle.k42_runtime.specs.Systems.{SystemSeen, IsPassHere, IsAtRest}
 use Rattle.k42_workers.specs.Lines.{Standing, Follows}
-use Rattle.k42_workers.specs.Passes.{MayAskLine, IsReady, standing_of, IsBetween, HasFew, RestsFor, MayFollow, GoesOnBy, IsFresh, HasWorked}
+use Rattle.k42_workers.specs.Passes.{MayAskLine, IsReady, standing_of, IsBetween, HasFew, RestsFor, MayFollow, GoesOnBy, IsFresh, HasWorked, MayWork}
+use Rattle.k42_workers.proofs.Halved.{pair_front, pair_back}
 use Rattle.k42_workers.proofs.Working.{IsUnderWay, under_way_at_start, under_way_on, done_at_end, idle_at_end}
 
 -- So many items are behind the pass.
@@ -155,3 +156,26 @@ module _ (system : SystemSeen) (number : ℕ) (worker : WorkerLines) where
           way = under_way_on worker place inside after item (standing_of pass.view) (standing_of new.view) found at.way
               (subst (λ proc. Follows item proc inside after (standing_of pass.view) (standing_of new.view)) at.proc follows);
         }
+
+-- both halves may work
+pub front_may : (system : SystemSeen) (first n : ℕ) (workers : List WorkerLines) (passes : List (PassSeen AnyPart)) → n ≤ length workers → MayWork system first workers passes → MayWork system first (take n workers) (take n passes)
+front_may system first n workers passes within may =
+    let left = length-take-le n workers within in
+    let front = length-take-le n passes (omega (arith, may.many, within)) in
+    record {
+      many = front ∙ sym left;
+      few = omega (arith, may.few, left, within);
+      ready = All-take (IsReady system.plan) n workers may.ready;
+      fresh = pair_front (IsFresh system) first n workers passes may.fresh;
+    }
+
+pub back_may : (system : SystemSeen) (first n : ℕ) (workers : List WorkerLines) (passes : List (PassSeen AnyPart)) → n ≤ length workers → MayWork system first workers passes → MayWork system (first + n) (drop n workers) (drop n passes)
+back_may system first n workers passes within may =
+    let right = length-drop n workers in
+    let back = length-drop n passes in
+    record {
+      many = omega (arith, right, back, may.many);
+      few = omega (arith, may.few, right, within);
+      ready = All-drop (IsReady system.plan) n workers may.ready;
+      fresh = pair_back (IsFresh system) first n workers passes may.fresh;
+    }

@@ -1,12 +1,13 @@
 -- Passes of a system that has started are fresh, and when all have worked they rest, and the closed history is that of a run.
-use Rattle.std.proofs.Common.{◌≡◌, ℕ, ◌+◌, ◌<◌, Bool, true, false, List, [], ◌∷◌, Option, Some, None, length, map, get_or, slice_index, refl, sym, ap, ◌∙◌, subst, arith}
+use Rattle.std.proofs.Common.{◌≡◌, ℕ, ◌+◌, ◌<◌, ◌≤◌, Bool, true, false, List, [], ◌∷◌, ◌++◌, Option, Some, None, length, take, drop, map, get_or, slice_index, refl, sym, ap, ◌∙◌, subst, arith}
 use Rattle.std.specs.Prelude.{All, slice_get}
 use Rattle.std.specs.Option.{option_map}
 use Rattle.std.specs.List.{list_any}
 use Rattle.std.proofs.lemmas.Bool.{eq-eqb}
-use Rattle.std.proofs.lemmas.List.{length-map}
+use Rattle.std.proofs.lemmas.List.{length-map, append-nil, take_all}
 use Rattle.std.proofs.lemmas.List.Elements.{All-nil}
 use Rattle.std.proofs.lemmas.Option.{same_Some, slice_get-map, slice_get_within, get_or_from_slice_get, none-some}
+use Rattle.std.proofs.Math.ListN.{drop_of_length-le}
 use Rattle.co_any.specs.declared.part.AnyPart.{AnyPart}
 use Rattle.k42_kinds.specs.Histories.{entries_of, unstamped}
 use Rattle.k42_kinds.specs.Legal.{IsLegalHistory}
@@ -24,11 +25,11 @@ use Rattle.k42_rule.specs.Finishing.{lists_in}
 use Rattle.k42_runtime.specs.Histories.{HistorySeen, IsClosed, MayClose}
 use Rattle.k42_runtime.specs.Plans as plans
 use Rattle.k42_runtime.specs.Systems.{SystemSeen, HasStarted}
-use Rattle.k42_workers.specs.Passes.{IsFresh, AreFresh, HasWorked, HaveWorked}
+use Rattle.k42_workers.specs.Passes.{IsReady, AreFresh, HaveWorked, MayWork}
 use Rattle.k42_workers.specs.Plans.{plan_of, idle_plan, asks}
 use Rattle.k42_workers.specs.Workers.{IsMadeBy, IsRunOf}
 use Rattle.k42_workers.proofs.Filtered.{found_at}
-use Rattle.k42_workers.proofs.Planned.{kinds_planned, has_none, none_asking}
+use Rattle.k42_workers.proofs.Planned.{kinds_planned, all_ready, has_none, none_asking}
 
 
 module _ (script : Script) (system : SystemSeen) where
@@ -36,17 +37,27 @@ module _ (script : Script) (system : SystemSeen) where
   pub fresh : (passes : List (PassSeen AnyPart)) → HasStarted (plan_of script) system passes → AreFresh system 0 script.workers passes
   fresh passes started number worker pass found there =
       let first = started.each number pass there in
+      let plain : number ≡ 0 + number = omega arith in
       let homes = map (λ (w : WorkerLines). w.proc) script.workers in
       let home : slice_index homes number ≡ worker.proc = get_or_from_slice_get homes number worker.proc _ (slice_get-map (λ (w : WorkerLines). w.proc) script.workers number ∙ ap (option_map (λ (w : WorkerLines). w.proc)) found) in
       record {
         here = first.here;
         rests = ap (λ (v : PassView AnyPart). is_at_rest v) first.new;
-        caller = ap (λ (v : PassView AnyPart). v.number) first.new;
+        caller = ap (λ (v : PassView AnyPart). v.number) first.new ∙ plain;
         proc = ap (λ (v : PassView AnyPart). v.turn.proc) first.new ∙ home;
         entries = ap (λ (v : PassView AnyPart). v.taker.mine) first.new;
         activities = ap (λ (v : PassView AnyPart). v.activities) first.new;
         graces = ap (λ (v : PassView AnyPart). v.graces) first.new;
       }
+
+  -- and so they may begin
+  pub may_work : (passes : List (PassSeen AnyPart)) → IsSound script → HasStarted (plan_of script) system passes → MayWork system 0 script.workers passes
+  may_work passes sound started = record {
+    many = started.many ∙ length-map script.workers (λ (w : WorkerLines). w.proc);
+    few = omega (arith, sound.callers);
+    ready = subst (λ plan. All (IsReady plan) script.workers) (sym started.plan_is) (all_ready script sound);
+    fresh = fresh passes started;
+  }
 
   -- and when they have worked the system may be closed
   pub worked_out : (passes : List (PassSeen AnyPart)) → system.plan ≡ plan_of script → length passes ≡ length script.workers → HaveWorked system 0 script.workers passes → MayClose system passes
@@ -55,7 +66,8 @@ module _ (script : Script) (system : SystemSeen) where
     each = λ number pass there.
         let worker = found_at script.workers number (omega (arith, crew, slice_get_within passes number pass there)) in
         let done = worked number worker.0 pass worker.1 there in
-        record { ours = done.here.ours.table; number = done.caller; rests = done.rests };
+        let plain : 0 + number ≡ number = omega arith in
+        record { ours = done.here.ours.table; number = done.caller ∙ plain; rests = done.rests };
   }
 
   -- the closed history is that of a run
@@ -103,6 +115,12 @@ module _ (script : Script) (none : list_any asks script.workers ≡ false) where
     };
     no_stranger = All-nil (λ (entry : Entry). entry.caller < length script.workers);
   })
+
+-- a vector is as a borrow of it was left
+pub whole : {X : Type 0} (new items : List X) (n : ℕ) → length new ≡ n → length items ≡ n → take n (new ++ drop (length new) items) ≡ new
+whole new items n many as_before =
+    let none : drop (length new) items ≡ [] = drop_of_length-le items {i = length new} (omega (arith, many, as_before)) in
+    rw (none, append-nil new) (take_all n new (omega (arith, many)))
 
 -- passes that have just started may be closed
 pub started_at_rest : (plan : plans.PlanSeen) (system : SystemSeen) (passes : List (PassSeen AnyPart)) → HasStarted plan system passes → MayClose system passes

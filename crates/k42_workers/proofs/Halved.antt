@@ -1,6 +1,7 @@
 -- What holds of each pair of two lists holds of each half, and back.
-use Rattle.std.proofs.Common.{◌≡◌, ℕ, zero, suc, ◌+◌, ◌-◌, ◌<◌, ◌≤◌, Bool, true, false, ltb, List, [], ◌∷◌, ◌++◌, length, take, drop, refl, sym, ap, ◌∙◌, subst, arith}
-use Rattle.std.specs.Prelude.{Some, slice_get}
+use Rattle.std.proofs.Common.{◌≡◌, ℕ, zero, suc, ◌+◌, ◌-◌, ◌<◌, ◌≤◌, Bool, true, false, ltb, eqb, List, [], ◌∷◌, ◌++◌, length, take, drop, refl, sym, ap, ◌∙◌, subst, arith}
+use Rattle.std.specs.Prelude.{Some, Result, Ok, Err, OnOk, IfOk, slice_get, slice_set}
+use Rattle.std.proofs.lemmas.Option.{same_Some, slice_get_within}
 use Rattle.std.proofs.lemmas.Bool.Decides.{nat_tests}
 use Rattle.k42_places.specs.Places.{EachPair}
 
@@ -60,3 +61,44 @@ module _ {A B : Type 0} (P : ℕ → A → B → Type 0) (first n : ℕ) where
           let place : i ≡ n + (i - n) = omega (arith, past) in
           let same : first + n + (i - n) ≡ first + i = omega (arith, past) in
           subst (λ k. P k x y) same (other (i - n) x y (to_drop xs n (i - n) i x place at) (in_back front back (i - n) i y (omega (arith, past, many)) there))
+
+-- what is done with the only one is done with all
+pub where_done : {E : Type 0} (done : Result Unit E) (P Q : Type 0) → (P → Q) → OnOk done P → OnOk done Q
+where_done (Ok x) P Q each holds = each holds
+where_done (Err e) P Q each holds = tt
+
+written : {B : Type 0} (ys : List B) (y other : B) → slice_get (slice_set ys 0 y) 0 ≡ Some other → y ≡ other
+written [] y other e = cc
+written (b ∷ ys) y other e = same_Some y other e
+
+pub pair_alone : {A B : Type 0} (P : ℕ → A → B → Type 0) (first : ℕ) (xs : List A) (ys : List B) (x : A) (y : B) → length xs ≤ 1 → slice_get xs 0 ≡ Some x → P first x y → EachPair (λ i. P (first + i)) xs (slice_set ys 0 y)
+pair_alone P first xs ys x y few at holds i one other there theirs =
+    let zeroth : i ≡ 0 = omega (arith, few, slice_get_within xs i one there) in
+    let same : x ≡ one = same_Some x one (sym at ∙ sym (ap (slice_get xs) zeroth) ∙ there) in
+    let set_is : y ≡ other = written ys y other (sym (ap (slice_get (slice_set ys 0 y)) zeroth) ∙ theirs) in
+    let number : first ≡ first + i = omega (arith, zeroth) in
+    subst (λ (k : ℕ). P k one other) number (subst (λ (b : _). P first one b) set_is (subst (λ (a : _). P first a y) same holds))
+
+-- what follows of each value follows of a value that there may be
+pub where_ok : {X E : Type 0} (P Q : X → Type 0) → ((x : X) → P x → Q x) → (result : Result X E) → IfOk result P → IfOk result Q
+where_ok P Q each (Ok x) holds = each x holds
+where_ok P Q each (Err e) holds = tt
+
+-- a list that is not empty
+pub some_there : {X : Type 0} (xs : List X) (empty : Bool) → empty ≡ eqb (length xs) 0 → empty ≡ false → 0 < length xs
+some_there [] empty is some = let no : true ≡ false = sym is ∙ some in cc
+some_there (x ∷ xs) empty is some = omega arith
+
+-- two things are done
+pub where_both : {E : Type 0} (done : Result Unit E) (P Q S : Type 0) → (P → Q → S) → OnOk done P → OnOk done Q → OnOk done S
+where_both (Ok x) P Q S each one other = each one other
+where_both (Err e) P Q S each one other = tt
+
+-- what holds stays so, whatever else was done
+holds_anyway : {E : Type 0} (P : Type 0) (other : Result Unit E) → P → OnOk other P
+holds_anyway P (Ok y) done = done
+holds_anyway P (Err e) done = tt
+
+-- what was done first stays so
+pub stays_done : {E : Type 0} (P : Type 0) (one other : Result Unit E) (x : Unit) → one ≡ Ok x → OnOk one P → OnOk other P
+stays_done P one other x is holds = holds_anyway P other (subst (λ r. OnOk r P) is holds)

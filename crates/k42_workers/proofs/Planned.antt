@@ -53,22 +53,28 @@ has_none (End ∷ items) asked = has_none items asked
 has_none (Line line ∷ items) asked = cc
 
 -- the first worker that asks something
-asking : (workers : List WorkerLines) → list_any asks workers ≡ true → (number : ℕ) × (worker : WorkerLines) × (slice_get workers number ≡ Some worker) × (asks worker ≡ true)
+record IsAsking (workers : List WorkerLines) : Type 0 where
+  number : ℕ
+  worker : WorkerLines
+  found : slice_get workers number ≡ Some worker
+  asked : asks worker ≡ true
+
+asking : (workers : List WorkerLines) → list_any asks workers ≡ true → IsAsking workers
 asking [] asked = cc
-asking (worker ∷ workers) asked = by (asks worker) refl
+asking (worker ∷ workers) asked = by (asks worker) refl (λ later. asking workers later)
   where
-    by : (b : Bool) → asks worker ≡ b → (number : ℕ) × (other : WorkerLines) × (slice_get (worker ∷ workers) number ≡ Some other) × (asks other ≡ true)
-    by true is = (0, worker, refl, is)
-    by false is = let later = asking workers (rw is at asked) in (suc later.0, later.1, later.2, later.3)
+    by : (b : Bool) → asks worker ≡ b → (list_any asks workers ≡ true → IsAsking workers) → IsAsking (worker ∷ workers)
+    by true is others = record { number = 0; worker = worker; found = refl; asked = is }
+    by false is others = let later = others (rw is at asked) in record { number = suc later.number; worker = later.worker; found = later.found; asked = later.asked }
 
 pub none_asking : (workers : List WorkerLines) → list_any asks workers ≡ false → (number : ℕ) (worker : WorkerLines) → slice_get workers number ≡ Some worker → asks worker ≡ false
 none_asking [] asked number worker found = cc
-none_asking (first ∷ workers) asked number worker found = by (asks first) refl number found
+none_asking (first ∷ workers) asked number worker found = by (asks first) refl (λ later n there. none_asking workers later n worker there) number found
   where
-    by : (b : Bool) → asks first ≡ b → (n : ℕ) → slice_get (first ∷ workers) n ≡ Some worker → asks worker ≡ false
-    by true is n there = let no : true ≡ false = (rw is at asked) in cc
-    by false is zero there = ap asks (sym (same_Some first worker there)) ∙ is
-    by false is (suc n) there = none_asking workers (rw is at asked) n worker there
+    by : (b : Bool) → asks first ≡ b → (list_any asks workers ≡ false → (n : ℕ) → slice_get workers n ≡ Some worker → asks worker ≡ false) → (n : ℕ) → slice_get (first ∷ workers) n ≡ Some worker → asks worker ≡ false
+    by true is others n there = let no : true ≡ false = (rw is at asked) in cc
+    by false is others zero there = ap asks (sym (same_Some first worker there)) ∙ is
+    by false is others (suc n) there = others (rw is at asked) n there
 
 nowhere_astray : (procs first : ℕ) (workers : List WorkerLines) → ((number : ℕ) (worker : WorkerLines) → slice_get workers number ≡ Some worker → worker.proc < procs) → stray_from procs first (map (λ worker. worker.proc) workers) ≡ None
 nowhere_astray procs first [] placed = refl
@@ -92,8 +98,8 @@ module _ (script : Script) (sound : IsSound script) where
   pub no_fault : list_any asks script.workers ≡ true → plan_fault (plan_of script) ≡ None
   no_fault asked =
       let first = asking script.workers asked in
-      let objects : 0 < length script.objects = some_object first.1.items (sound_worker first.0 first.1 first.2).lines (has_line first.1.items first.3) in
-      let workers : 0 < length script.workers = omega (arith, slice_get_within script.workers first.0 first.1 first.2) in
+      let objects : 0 < length script.objects = some_object first.worker.items (sound_worker first.number first.worker first.found).lines (has_line first.worker.items first.asked) in
+      let workers : 0 < length script.workers = omega (arith, slice_get_within script.workers first.number first.worker first.found) in
       let a : is_within PROCESSORS script.procs ≡ true = within PROCESSORS script.procs (omega (arith, sound.some_processor)) sound.processors in
       let b : is_within OBJECTS (length (map object_plan script.objects)) ≡ true = within OBJECTS (length (map object_plan script.objects)) (omega (arith, objects, length-map script.objects object_plan)) (omega (arith, sound.objects, length-map script.objects object_plan)) in
       let homes = map (λ (worker : WorkerLines). worker.proc) script.workers in

@@ -1,7 +1,7 @@
 -- The pass of a worker, between two items.
 use Rattle.std.specs.Prelude.{◌≡◌, ℕ, ◌+◌, ◌<◌, ◌≤◌, true, false, ⊤, List, [], All, length}
 use Rattle.gen_core.specs.Events as graces
-use Rattle.k42_limits.specs.declared.TheConstants.{CALL_LINES}
+use Rattle.k42_limits.specs.declared.TheConstants.{CALLERS, CALL_LINES}
 use Rattle.k42_places.specs.Places.{EachPair}
 use Rattle.k42_kinds.specs.declared.entry.Act.{Act}
 use Rattle.k42_kinds.specs.declared.entry.Act.TheVariants.{Call, Swap, Destroy}
@@ -111,3 +111,10 @@ AreFresh system first workers passes = EachPair (λ i worker pass. IsFresh syste
 
 abbrev pub HaveWorked : SystemSeen → ℕ → List WorkerLines → List (PassSeen AnyPart) → Type 0
 HaveWorked system first workers passes = EachPair (λ i worker pass. HasWorked system (first + i) worker pass) workers passes
+
+-- there is a pass for each worker, which has not begun, and each worker's lines may be asked
+pub record MayWork (system : SystemSeen) (first : ℕ) (workers : List WorkerLines) (passes : List (PassSeen AnyPart)) : Type 0 where
+  pub many : length passes ≡ length workers
+  pub few : first + length workers ≤ CALLERS
+  pub ready : All (IsReady system.plan) workers
+  pub fresh : AreFresh system first workers passes

@@ -1,10 +1,8 @@
 //! Workers, each on its pass and a thread of its own.
-ghost use Rattle.std.specs.Prelude.{◌≡◌, ◌≤◌, ◌+◌, All, OnOk, length};
+ghost use Rattle.std.specs.Prelude.{◌≡◌, ◌<◌, ◌≤◌, ◌+◌, OnOk, length, take, drop};
 ghost use Rattle.std.specs.Thread.{IsSync};
-ghost use Rattle.k42_limits.specs.declared.TheConstants.{CALLERS};
-ghost use Rattle.k42_places.specs.Places.{EachPair};
 ghost use Rattle.k42_runtime.specs.Systems.{IsPassHere, IsAtRest};
-ghost use Rattle.k42_workers.specs.Passes.{IsReady, AreFresh, HaveWorked, IsFresh, HasWorked};
+ghost use Rattle.k42_workers.specs.Passes.{IsReady, IsFresh, HasWorked, HaveWorked, MayWork};
 
 use crate::gate::Gate;
 use crate::lines::{follow, leave_open};
@@ -55,19 +53,32 @@ fn work_alone<R: Wait, G: Gate>(
     passes: &mut [Pass],
 ) -> Result<(), Memory>
     requires few { length workers.now ≤ 1 }
-    requires many { length passes.old ≡ length workers.now }
-    requires ready { All (IsReady system.now.plan) workers.now }
-    requires fresh { AreFresh system.now number workers.now passes.old }
+    requires may { MayWork system.now number workers.now passes.old }
     ensures many { length passes.new ≡ length passes.old }
     ensures worked { OnOk result (HaveWorked system.now number workers.now passes.new) }
 {
-    match workers.first() {
-        Some(worker) => work(rt, alloc, system, number, worker, gate, &mut passes[0]),
-        None => Ok(()),
+    if workers.is_empty() {
+        return Ok(());
     }
+    work(rt, alloc, system, number, &workers[0], gate, &mut passes[0])
 }
 
-/// Runs workers whose numbers count on from a first one, by halves, each on a thread of its own.
+/// Both halves of workers that may work may work.
+fn halves_may_work(
+    system: &System,
+    first: u32,
+    workers: &[WorkerLines],
+    passes: &[Pass],
+    count: usize,
+)
+    requires may { MayWork system.now first workers.now passes.now }
+    requires within { count ≤ length workers.now }
+    ensures front { MayWork system.now first (take count workers.now) (take count passes.now) }
+    ensures back { MayWork system.now (first + count) (drop count workers.now) (drop count passes.now) }
+{}
+
+/// Runs workers whose numbers count on from a first one, by halves of halves, each on a thread of its own.
+#[cycle(crew)]
 pub fn work_all<R: Threads + Wait + Sync, G: Gate + Sync>(
     rt: &R,
     alloc: Global,
@@ -77,10 +88,7 @@ pub fn work_all<R: Threads + Wait + Sync, G: Gate + Sync>(
     gate: &G,
     passes: &mut [Pass],
 ) -> Result<(), Memory>
-    requires many { length passes.old ≡ length workers.now }
-    requires few { first + length workers.now ≤ CALLERS }
-    requires ready { All (IsReady system.now.plan) workers.now }
-    requires fresh { AreFresh system.now first workers.now passes.old }
+    requires { MayWork system.now first workers.now passes.old }
     ensures many { length passes.new ≡ length passes.old }
     ensures worked { OnOk result (HaveWorked system.now first workers.now passes.new) }
 {
@@ -88,22 +96,45 @@ pub fn work_all<R: Threads + Wait + Sync, G: Gate + Sync>(
     if count == 0 {
         return work_alone(rt, alloc, system, first, workers, gate, passes);
     }
+    halves_may_work(system, first, workers, passes, count);
     let second = first + count as u32;
     let (left, right) = workers.split_at(count);
     let (front, back) = passes.split_at_mut(count);
-    let (one, other) = join_mut(
-        rt,
-        &mut || -> Result<(), Memory>
-            requires { IsSync R.row × IsSync G.row × (length front.now ≡ length left.now) × (first + length left.now ≤ CALLERS)
-                × All (IsReady system.now.plan) left.now × AreFresh system.now first left.now front.now }
-            ensures { (length front.exit.now ≡ length front.entry.now) × OnOk result (HaveWorked system.entry.now first left.entry.now front.exit.now) }
-        { work_all(rt, alloc, system, first, left, gate, front) },
-        &mut || -> Result<(), Memory>
-            requires { IsSync R.row × IsSync G.row × (length back.now ≡ length right.now) × (second + length right.now ≤ CALLERS)
-                × All (IsReady system.now.plan) right.now × AreFresh system.now second right.now back.now }
-            ensures { (length back.exit.now ≡ length back.entry.now) × OnOk result (HaveWorked system.entry.now second right.entry.now back.exit.now) }
-        { work_all(rt, alloc, system, second, right, gate, back) },
-    );
-    one?;
-    other
+    work_halves(rt, alloc, system, gate, first, left, front, second, right, back)
+}
+
+/// Runs both halves side by side.
+#[cycle(crew)]
+fn work_halves<R: Threads + Wait + Sync, G: Gate + Sync>(
+    rt: &R,
+    alloc: Global,
+    system: &System,
+    gate: &G,
+    first: u32,
+    left: &[WorkerLines],
+    front: &mut [Pass],
+    second: u32,
+    right: &[WorkerLines],
+    back: &mut [Pass],
+) -> Result<(), Memory>
+    requires front { MayWork system.now first left.now front.old }
+    requires back { MayWork system.now second right.now back.old }
+    requires some_left { 0 < length left.now }
+    requires some_right { 0 < length right.now }
+    ensures front_many { length front.new ≡ length front.old }
+    ensures back_many { length back.new ≡ length back.old }
+    ensures front { OnOk result (HaveWorked system.now first left.now front.new) }
+    ensures back { OnOk result (HaveWorked system.now second right.now back.new) }
+{
+    let mut one = || -> Result<(), Memory>
+        requires { IsSync R.row × IsSync G.row × MayWork system.now first left.now front.now }
+        ensures { (length front.exit.now ≡ length front.entry.now) × OnOk result (HaveWorked system.entry.now first left.entry.now front.exit.now) }
+    { work_all(rt, alloc, system, first, left, gate, front) };
+    let mut other = || -> Result<(), Memory>
+        requires { IsSync R.row × IsSync G.row × MayWork system.now second right.now back.now }
+        ensures { (length back.exit.now ≡ length back.entry.now) × OnOk result (HaveWorked system.entry.now second right.entry.now back.exit.now) }
+    { work_all(rt, alloc, system, second, right, gate, back) };
+    let (first_done, second_done) = join_mut(rt, &mut one, &mut other);
+    first_done?;
+    second_done
 }
