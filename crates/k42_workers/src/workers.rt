@@ -100,7 +100,9 @@ pub fn work_all<R: Threads + Wait + Sync, G: Gate + Sync>(
     let second = first + count as u32;
     let (left, right) = workers.split_at(count);
     let (front, back) = passes.split_at_mut(count);
-    work_halves(rt, alloc, system, gate, first, left, front, second, right, back)
+    let (one, other) = work_halves(rt, alloc, system, gate, first, left, front, second, right, back);
+    one?;
+    other
 }
 
 /// Runs both halves side by side.
@@ -116,15 +118,15 @@ fn work_halves<R: Threads + Wait + Sync, G: Gate + Sync>(
     second: u32,
     right: &[WorkerLines],
     back: &mut [Pass],
-) -> Result<(), Memory>
+) -> (Result<(), Memory>, Result<(), Memory>)
     requires front { MayWork system.now first left.now front.old }
     requires back { MayWork system.now second right.now back.old }
     requires some_left { 0 < length left.now }
     requires some_right { 0 < length right.now }
     ensures front_many { length front.new ≡ length front.old }
     ensures back_many { length back.new ≡ length back.old }
-    ensures front { OnOk result (HaveWorked system.now first left.now front.new) }
-    ensures back { OnOk result (HaveWorked system.now second right.now back.new) }
+    ensures front { OnOk result.0 (HaveWorked system.now first left.now front.new) }
+    ensures back { OnOk result.1 (HaveWorked system.now second right.now back.new) }
 {
     let mut one = || -> Result<(), Memory>
         requires { IsSync R.row × IsSync G.row × MayWork system.now first left.now front.now }
@@ -134,7 +136,5 @@ fn work_halves<R: Threads + Wait + Sync, G: Gate + Sync>(
         requires { IsSync R.row × IsSync G.row × MayWork system.now second right.now back.now }
         ensures { (length back.exit.now ≡ length back.entry.now) × OnOk result (HaveWorked system.entry.now second right.entry.now back.exit.now) }
     { work_all(rt, alloc, system, second, right, gate, back) };
-    let (first_done, second_done) = join_mut(rt, &mut one, &mut other);
-    first_done?;
-    second_done
+    join_mut(rt, &mut one, &mut other)
 }
