@@ -16,6 +16,7 @@ use std::thread::Threads;
 const LIMIT: u32 = 1_048_576;
 
 /// How many calls and swaps were done, and whether the history has just the entries of the passes.
+#[derive(Clone, Copy, Debug, PartialEq, Eq)]
 pub struct Done {
     pub calls: usize,
     pub swaps: usize,
@@ -73,7 +74,10 @@ fn swap_often<R: Wait>(
     ensures { IfOk result (λ out. IsFree system.now out) }
 {
     for number in 0..load.swaps {
-        if pass.entries().len() >= LIMIT as usize || pass.graces() >= LIMIT || system.objects() == 0 {
+        if pass.entries().len() >= LIMIT as usize
+            || pass.graces() >= LIMIT
+            || system.objects() == 0
+        {
             return Ok(pass);
         }
         let to = match (load.layout, number % 2) {
@@ -154,7 +158,12 @@ fn done(history: &History, entries: usize) -> Done {
 
 /// A system of one object, with a processor for each thread and a pass more that swaps.
 fn plan_of(alloc: Global, load: &Load) -> Result<Option<Plan>, Memory> {
-    let objects = vec![in alloc; ObjectPlan { kind: load.kind, layout: load.layout }]?;
+    let objects = vec![in alloc;
+        ObjectPlan {
+            kind: load.kind,
+            layout: load.layout
+        },
+    ]?;
     let mut callers = Vec::new(alloc);
     for caller in 0..load.threads {
         callers.push(caller)?;

@@ -25,11 +25,7 @@ pub struct Load {
 
 /// A name of the caller's own, one of ten.
 fn name_of(caller: u32, number: u32) -> Option<Name> {
-    Name::of(&[
-        b'n',
-        b'0' + (caller % 10) as u8,
-        b'0' + (number % 10) as u8,
-    ])
+    Name::of(&[b'n', b'0' + (caller % 10) as u8, b'0' + (number % 10) as u8])
 }
 
 /// A page of the caller's own, one of a hundred.

@@ -7,13 +7,18 @@ mod load;
 mod words;
 
 use crate::bench::{Done, run};
+use crate::load::Load;
 use crate::words::load_of;
 use k42_memory::Memory;
+use std::alloc::Global;
 use std::env;
 use std::io::ErrorKind;
 use std::process::ExitCode;
+use std::sync::Wait;
+use std::thread::Threads;
 
-const USAGE: &str = "usage: k42_bench counter|directory|pages shared|spread near|mix THREADS CALLS SWAPS";
+const USAGE: &str =
+    "usage: k42_bench counter|directory|pages shared|spread near|mix THREADS CALLS SWAPS";
 
 /// The words behind the program's name. Words that are not UTF-8 are none.
 fn words_of(rt: &HostRuntime) -> Result<Vec<String>, Memory> {
@@ -30,17 +35,26 @@ fn words_of(rt: &HostRuntime) -> Result<Vec<String>, Memory> {
     Ok(words)
 }
 
-/// What was done, unless the words are no load.
-fn bench(rt: &HostRuntime) -> Result<Option<Done>, Memory> {
+/// The load that the words ask for, if they ask for one.
+fn asked(rt: &HostRuntime) -> Result<Option<Load>, Memory> {
     let words = words_of(rt)?;
-    match load_of(&words) {
-        Some(load) => run(rt, rt.alloc(), &load),
+    Ok(load_of(&words))
+}
+
+/// Runs the load, if there is one.
+fn work<R: Threads + Wait + Sync>(
+    rt: &R,
+    alloc: Global,
+    load: Result<Option<Load>, Memory>,
+) -> Result<Option<Done>, Memory> {
+    match load? {
+        Some(load) => run(rt, alloc, &load),
         None => Ok(None),
     }
 }
 
 fn main(rt: HostRuntime) -> ExitCode {
-    let (printed, status) = match bench(&rt) {
+    let (printed, status) = match work(&rt, rt.alloc(), asked(&rt)) {
         Ok(Some(done)) => (
             println!(rt; "calls {} swaps {}", done.calls, done.swaps),
             u8::from(!done.whole),

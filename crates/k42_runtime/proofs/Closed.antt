@@ -5,12 +5,14 @@ use Rattle.std.proofs.lemmas.List.Elements.{All-from_recursion}
 use Rattle.std.proofs.lemmas.List.{length-map}
 use Rattle.std.proofs.lemmas.Option.{same_Some, slice_get_within}
 use Rattle.k42_kinds.specs.declared.entry.Entry.{Entry}
+use Rattle.k42_places.specs.Places.{EachPlace}
 use Rattle.k42_stamp.specs.Lists.{IsListOf, AreLists, InSome, IsMerged, numbered_from}
 use Rattle.k42_stamp.specs.Orders.{In}
 use Rattle.k42_stamp.proofs.Elements.{all_at}
 use Rattle.k42_board.specs.Seen.{SysSeen, PassSeen}
-use Rattle.k42_rule.specs.Finishing.{AreAtRest, AreLastLists, IsResting}
+use Rattle.k42_rule.specs.Finishing.{AreAtRest, AreLastLists, IsPassAtRest, IsResting}
 use Rattle.co_any.specs.declared.layout.AnyLayout.{AnyLayout}
+use Rattle.co_any.specs.declared.part.AnyPart.{AnyPart}
 use Rattle.k42_kinds.specs.Histories.{IsInOrder}
 use Rattle.k42_kinds.specs.Legal.{IsLegalHistoryOf}
 use Rattle.k42_kinds.specs.Objects.{plain_object}
@@ -25,7 +27,7 @@ use Rattle.phase_core.specs.declared.caller.SwapAt.TheVariants.{Idle, Refused, B
 use Rattle.turn_core.specs.Plain.{Caller}
 use Rattle.turn_core.specs.State.{fresh_caller}
 use Rattle.k42_runtime.specs.Closing.{AreNumbered, AreListsFrom}
-use Rattle.k42_runtime.specs.Histories.{IsClosed}
+use Rattle.k42_runtime.specs.Histories.{IsClosed, MayClose}
 use Rattle.k42_runtime.specs.Systems.{SystemSeen, IsPlanned, any_with, layouts_in}
 use Rattle.k42_runtime.proofs.Traces.{legal, all_placed}
 
@@ -38,8 +40,8 @@ numbered_at sys first (pass ∷ passes) is = (
   numbered_at sys (first + 1) passes (λ i other at. let there = is (suc i) other at in omega (arith, there)),
 )
 
-pub numbered : {L P : Type 0} (sys : SysSeen L) (passes : List (PassSeen P)) → AreAtRest sys passes → AreNumbered 0 passes
-numbered sys passes is = numbered_at sys 0 passes (λ i pass at. let here = (is.each i pass at).number in omega (arith, here))
+pub numbered : {L P : Type 0} (sys : SysSeen L) (passes : List (PassSeen P)) → EachPlace (IsPassAtRest sys) passes → AreNumbered 0 passes
+numbered sys passes is = numbered_at sys 0 passes (λ i pass at. let here = (is i pass at).number in omega (arith, here))
 
 lists_at : (first : ℕ) (lists : List (List Entry)) → AreListsFrom first lists → (i : ℕ) (list : List Entry) → slice_get lists i ≡ Some list → IsListOf (first + i) list
 lists_at first [] are i list at = absurd (cc)
@@ -60,11 +62,11 @@ pub no_stranger : (lists : List (List Entry)) (merged : List Entry) → AreLists
 no_stranger lists merged are is =
     subst (All (λ (entry : Entry). entry.caller < length lists)) (sym is.numbered)
     (All-from_recursion (λ (entry : Entry). entry.caller < length lists) (numbered_from 1 is.trace) (below (length lists) 1 is.trace each)) where
-  each : (entry : Entry) → In entry is.trace → entry.caller < length lists
-  each entry has =
-      let some = is.just.only entry has in
-      let own = all_at (λ (e : Entry). e.caller ≡ some.place) some.list entry (are some.place some.list some.there).own some.has in
-      let lt = slice_get_within lists some.place some.list some.there in omega (arith, own, lt)
+      each : (entry : Entry) → In entry is.trace → entry.caller < length lists
+      each entry has =
+          let some = is.just.only entry has in
+          let own = all_at (λ (e : Entry). e.caller ≡ some.place) some.list entry (are some.place some.list some.there).own some.has in
+          let lt = slice_get_within lists some.place some.list some.there in omega (arith, own, lt)
 
 -- a state in which everybody rests is at rest
 unnamed : (swap : SwapAt) (o : ℕ) → is_idle swap ≡ true → named_by swap ≡ Some o → ⊥
@@ -98,11 +100,16 @@ TraceLaw procs =
     → (declared : List AnyLayout) (s : Joined AnyLayout) (merged : List Entry)
     → IsSound (any_with procs proc_of) declared s → IsAtRest s → IsMerged (lists_of s) merged → IsHistoryOf (any_with procs proc_of) declared s merged
 
+-- the table asks it of its own callers, which are the plan's
+pub at_rest : (system : SystemSeen) (passes : List (PassSeen AnyPart)) → IsPlanned system → MayClose system passes → AreAtRest system.sys passes
+at_rest system passes planned may = record { many = may.many ∙ ap length (sym planned.callers); each = may.each }
+
 pub closed : (system : SystemSeen) → IsPlanned system → TraceLaw system.sys.procs → (lists : List (List Entry)) (merged : List Entry)
     → AreListsFrom 0 lists → AreLastLists (layouts_in system) system.sys.layouts (length system.sys.callers) lists → IsMerged lists merged
     → IsClosed system.plan lists (record { entries = merged; plan = system.plan })
 closed system planned law lists merged from last is = record {
   plan_is = refl;
+  merged = is;
   legal = legal system.plan merged (subst (λ declared. IsLegalHistoryOf (λ (layout : AnyLayout). plain_object layout.kind) declared merged) planned.layouts history.legal);
   in_order = λ c list at. in_order c list at;
   no_stranger =

@@ -7,3 +7,10 @@ pub mod Planned
 pub mod Traces
 pub mod Closed
 pub mod Started
+pub mod SwapWaits
+pub mod SwapRows
+pub mod CallStepped
+pub mod CallTaken
+pub mod CallInside
+pub mod CallMade
+pub mod CallWaited

@@ -36,12 +36,18 @@ is_start plan sound = record {
   live = live plan.objects;
 }
 
+-- the table is the plan's
+pub planned : (plan : PlanSeen) (sys : SysSeen AnyLayout) (passes : List (PassSeen AnyPart)) → IsSoundPlan plan → IsStarted (layouts_of plan) plan.procs plan.callers sys passes
+    → IsPlanned (record { sys = sys; plan = plan })
+planned plan sys passes sound is = record { sound = sound; procs = is.procs_are; layouts = is.layouts_are; callers = is.callers_are }
+
 -- a system that was started so
-pub started : (plan : PlanSeen) (sys : SysSeen AnyLayout) (passes : List (PassSeen AnyPart)) → IsStarted (layouts_of plan) plan.procs plan.callers sys passes
+pub started : (plan : PlanSeen) (sys : SysSeen AnyLayout) (passes : List (PassSeen AnyPart)) → IsSoundPlan plan → IsStarted (layouts_of plan) plan.procs plan.callers sys passes
     → IsOpened (any_layouts plan.procs plan.callers) (layouts_of plan) plan.callers
     → HasStarted plan (record { sys = sys; plan = plan }) passes
-started plan sys passes is opened = record {
+started plan sys passes sound is opened = record {
   plan_is = refl;
+  planned = planned plan sys passes sound is;
   opened = opened;
   many = is.dealt.many;
   each = each;
@@ -58,9 +64,3 @@ started plan sys passes is opened = record {
         new = dealt.new ∙ ap (λ n. new_pass plan.procs n c (slice_index plan.callers c)) (length-map plan.objects layout_of);
         rows = dealt.rows;
       }
-
--- and its table is the plan's
-pub planned : (plan : PlanSeen) (sys : SysSeen AnyLayout) (passes : List (PassSeen AnyPart)) → IsSoundPlan plan → IsStarted (layouts_of plan) plan.procs plan.callers sys passes
-    → IsPlanned (record { sys = sys; plan = plan })
-planned plan sys passes sound is = record { sound = sound; procs = is.procs_are; layouts = is.layouts_are; callers = is.callers_are }
-

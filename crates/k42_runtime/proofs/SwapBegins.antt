@@ -18,6 +18,14 @@ use Rattle.k42_runtime.specs.declared.swaps.To.{To}
 use Rattle.k42_runtime.proofs.SwapEnds.{refused}
 use Rattle.k42_runtime.proofs.SwapSteps.{swapped_before}
 
+-- a pass whose swap was refused
+pub record IsRefused {P : Type 0} (o number : ℕ) (to : To) (old new : PassSeen P) : Type 0 where
+  pub swapped : HasSwapped o to (ends.Busy number) old.view new.view
+  pub caller : IsSameCaller old.view new.view
+  pub graces : new.view.graces ≡ old.view.graces
+  pub seat : new.seat ≡ old.seat
+  pub told : IsEndBy (word_begun new.view.last) (ends.Busy number)
+
 module _ {P : Type 0} (o : ℕ) (old roomy new : PassSeen P) (room : IsRoomier old roomy) (same : IsSamePass roomy new)
     (knows : new.view ≡ hears new.view.heard (begun_now o (word_begun new.view.last) roomy.view)) where
   since : new.view ≡ hears new.view.heard (begun_now o (word_begun new.view.last) old.view)
@@ -54,6 +62,7 @@ module _ {P : Type 0} (o : ℕ) (old roomy new : PassSeen P) (room : IsRoomier o
         let n = begun_graces in
         subst (λ (x : ℕ × ℕ). new.view.graces + x.0 ≤ old.view.graces + x.1)
         (λ j. (graces_due (sym next j) m.holder, graces_due (sym first j) s.holder)) (omega (arith, n));
+    waits = λ e. absurd (let never = sym next ∙ e in cc);
   }
 
   -- it has begun, and leads all entries to the mediator
@@ -73,29 +82,24 @@ module _ {P : Type 0} (o : ℕ) (old roomy new : PassSeen P) (room : IsRoomier o
         let n = ap (λ (u : PassView P). u.graces) leads ∙ begun_graces in
         subst (λ (x : ℕ × ℕ). led.view.graces + x.0 ≤ old.view.graces + x.1)
         (λ j. (graces_due (sym next j) (sym none j), graces_due (sym first j) s.holder)) (omega (arith, n));
+    waits = λ e. absurd (let never = sym next ∙ e in cc);
   }
 
   -- another swap is under way
   module _ (drawn : PassSeen P) (to : To) (number : ℕ) (draws : IsDrawer new drawn)
       (is : drawn.view ≡ alone_view (entry_alone new.view (act_asked to) (answers.Busy number)) new.view) where
-    pub refused_now : HasSwapped o to (ends.Busy number) old.view drawn.view
-    refused_now = swapped_before old.view new.view drawn.view begun_caller begun_drawn o to (ends.Busy number) (refused o number to new.view drawn.view begun_object is)
-
-    pub refused_caller : IsSameCaller old.view drawn.view
-    refused_caller = record {
-      number = ap (λ (u : PassView P). u.number) is ∙ begun_caller.number;
-      proc = ap (λ (u : PassView P). u.turn.proc) is ∙ begun_caller.proc;
-      activities = ap (λ (u : PassView P). u.activities) is ∙ begun_caller.activities;
+    pub refused_by : (answer : Begun) (phase : Phase) → answer ≡ begun_in (word_begun new.view.last) → answer ≡ begins.Busy number phase
+        → IsRefused o number to old drawn
+    refused_by answer phase found busy = record {
+      swapped = swapped_before old.view new.view drawn.view begun_caller begun_drawn o to (ends.Busy number) (refused o number to new.view drawn.view begun_object is);
+      caller = record {
+        number = ap (λ (u : PassView P). u.number) is ∙ begun_caller.number;
+        proc = ap (λ (u : PassView P). u.turn.proc) is ∙ begun_caller.proc;
+        activities = ap (λ (u : PassView P). u.activities) is ∙ begun_caller.activities;
+      };
+      graces = ap (λ (u : PassView P). u.graces) is ∙ begun_graces;
+      seat = draws.seat ∙ begun_seat;
+      told =
+          subst (λ (word : ℕ). IsEndBy word (ends.Busy number)) (sym (ap (λ (u : PassView P). word_begun u.last) is))
+          (subst (λ (b : Begun). IsEndTo b (word_begun new.view.last) (ends.Busy number)) (sym busy ∙ found) refl);
     }
-
-    pub refused_graces : drawn.view.graces ≡ old.view.graces
-    refused_graces = ap (λ (u : PassView P). u.graces) is ∙ begun_graces
-
-    pub refused_seat : drawn.seat ≡ old.seat
-    refused_seat = draws.seat ∙ begun_seat
-
-    pub refused_told : (answer : Begun) (phase : Phase) → answer ≡ begun_in (word_begun new.view.last) → answer ≡ begins.Busy number phase
-        → IsEndBy (word_begun drawn.view.last) (ends.Busy number)
-    refused_told answer phase found busy =
-        subst (λ (word : ℕ). IsEndBy word (ends.Busy number)) (sym (ap (λ (u : PassView P). word_begun u.last) is))
-        (subst (λ (b : Begun). IsEndTo b (word_begun new.view.last) (ends.Busy number)) (sym busy ∙ found) refl)

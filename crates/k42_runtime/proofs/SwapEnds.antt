@@ -1,33 +1,28 @@
 -- What a pass has drawn that ends its swap.
-use Rattle.std.proofs.Common.{◌≡◌, ℕ, ◌+◌, ◌-◌, ◌≤◌, Bool, true, false, ◌&&◌, ◌||◌, cond, eqb, List, [], ◌∷◌, ◌++◌, Some, None, Result, Ok, Err, length, refl, sym, ap, ◌∙◌, subst, arith}
+use Rattle.std.proofs.Common.{◌≡◌, ℕ, ◌+◌, ◌-◌, ◌≤◌, Bool, true, false, ◌||◌, cond, eqb, List, [], Some, None, Result, Ok, Err, length, refl, sym, ap, ◌∙◌, subst, arith}
 use Rattle.std.specs.Result.{OnErr, is_err}
-use Rattle.std.specs.Prelude.{◌==◌, if◌then◌else◌}
 use Rattle.std.proofs.lemmas.Option.{same_Some}
-use Rattle.gen_core.specs.Events.{is_idle}
 use Rattle.k42_limits.specs.declared.TheConstants.{LAST_INCARNATION}
 use Rattle.k42_kinds.specs.Histories.{is_call}
 use Rattle.k42_kinds.specs.declared.entry.Act.{Act}
 use Rattle.k42_kinds.specs.declared.entry.Answer.{Answer}
 use Rattle.k42_kinds.specs.declared.entry.Answer.TheVariants.{Abandoned, Busy, Spent, Gone}
-use Rattle.k42_kinds.specs.declared.entry.Entry.{Entry}
-use Rattle.phase_core.specs.declared.caller.SwapAt.TheVariants.{Idle, Opened}
-use Rattle.turn_core.specs.Events.{caller_drawn}
 use Rattle.k42_stamp.specs.Layouts.{Layouts}
+use Rattle.k42_joined.specs.Numbers.{cell_of}
 use Rattle.k42_board.specs.Drawing.{entry_alone, alone_view, number_told}
-use Rattle.k42_board.specs.Seen.{PassSeen, is_at_rest}
-use Rattle.k42_board.specs.Swapping.{object_swapped}
+use Rattle.k42_board.specs.Seen.{PassSeen}
 use Rattle.k42_board.specs.Tabling.{is_over_in}
 use Rattle.k42_board.specs.Values.{answer_in, layout_in, incarnation_in}
 use Rattle.k42_board.specs.Views.{hears, object_begun, word_begun}
 use Rattle.k42_board.specs.declared.view.PassView.{PassView}
 use Rattle.k42_mediator.specs.Answers.{begun_in}
 use Rattle.k42_mediator.specs.Entries.{IsNext}
-use Rattle.k42_mediator.specs.Marks.{HasMarked, cell_marked}
-use Rattle.k42_mediator.specs.Swaps.{abandoned_view, staged, LeavesOpen}
+use Rattle.k42_mediator.specs.Marks.{HasMarked}
+use Rattle.k42_mediator.specs.Swaps.{abandoned_view}
 use Rattle.k42_mediator.proofs.AfterMark.{later_stamp}
+use Rattle.k42_mediator.proofs.LeftOpen.{leaves_open}
 use Rattle.k42_runtime.specs.Phases.{end_in}
-use Rattle.k42_runtime.specs.Swaps.{IsSameCaller, HasSwapped, HasAbandoned, IsEndBy, act_asked, answer_told, incarnation_told}
-use Rattle.k42_runtime.specs.declared.swaps.Swapped.{Swapped}
+use Rattle.k42_runtime.specs.Swaps.{HasFoundFree, IsSameCaller, HasSwapped, HasAbandoned, IsEndBy, act_asked, answer_told, incarnation_told, cell_told}
 use Rattle.k42_runtime.specs.declared.swaps.Swapped.TheVariants as ends
 use Rattle.k42_runtime.specs.declared.swaps.To.{To}
 use Rattle.k42_runtime.specs.declared.swaps.To.TheVariants as tos
@@ -62,20 +57,22 @@ alone_next v act answer object incarnation act_is o i = record {
 
 -- the swap was given up
 pub gave_up : {S L P : Type 0} (F : Layouts S L P) (declared : List L) (id object : ℕ) (to : To) (v w x : PassView P) → w ≡ hears w.heard v
-    → x ≡ hears x.heard (abandoned_view (act_asked to) w) → object_swapped v ≡ object → object_begun v.last ≡ object
-    → LeavesOpen F declared id (staged (Opened (object_swapped w)) x) → HasAbandoned F declared id object to v x
-gave_up F declared id object to v w x kept knows swaps begun opened =
+    → x ≡ hears x.heard (abandoned_view (act_asked to) w) → object_begun v.last ≡ object → HasFoundFree v → v.turned ≡ false
+    → HasAbandoned F declared id object to v x
+gave_up F declared id object to v w x kept knows begun free unturned =
     let is : x ≡ hears x.heard (abandoned_view (act_asked to) v) = knows ∙ ap (λ (u : PassView _). hears x.heard (abandoned_view (act_asked to) u)) kept in
+    let last : x.last ≡ v.last = ap (λ (u : PassView _). u.last) is in
     let k : ℕ = incarnation_in (word_begun v.last) in
+    let entry = entry_alone v (act_asked to) (Abandoned (k + 1)) in
     record {
-      entry = entry_alone v (act_asked to) (Abandoned (k + 1));
+      begun = ap object_begun last ∙ begun;
+      free = ap (λ l. begun_in (word_begun l)) last ∙ free;
+      entry = entry;
       next =
-          subst (λ (i : ℕ). IsNext v object i 0 (act_asked to) (Abandoned (i + 1)) (entry_alone v (act_asked to) (Abandoned (k + 1))))
-          (sym (ap (λ (u : PassView _). incarnation_in (word_begun u.last)) is))
+          subst (λ l. IsNext v object (incarnation_in (word_begun l)) 0 (act_asked to) (Abandoned (incarnation_in (word_begun l) + 1)) entry) (sym last)
           (alone_next v (act_asked to) (Abandoned (k + 1)) object k (no_call to) begun (less k));
       drawn = ap (λ (u : PassView _). u.taker.mine) is;
-      opened =
-          subst (λ o. LeavesOpen F declared id (staged (Opened o) x)) (ap (λ (u : PassView _). object_swapped u) kept ∙ swaps) opened;
+      opened = λ rows granted heard. leaves_open F declared id object (record x { rows = rows; granted = granted; heard = heard }) (ap (λ (u : PassView _). u.turned) is ∙ unturned);
     }
   where
     less : (n : ℕ) → n + 1 - 1 ≡ n
@@ -86,7 +83,6 @@ pub refused : {P : Type 0} (object number : ℕ) (to : To) (w x : PassView P) �
     → x ≡ alone_view (entry_alone w (act_asked to) (Busy number)) w → HasSwapped object to (ends.Busy number) w x
 refused object number to w x begun knows = record {
   begun = ap (λ (u : PassView _). object_begun u.last) knows ∙ begun;
-  cell = 0;
   entry = entry_alone w (act_asked to) (Busy number);
   next = alone_next w (act_asked to) (Busy number) object (number - 1) (no_call to) begun refl;
   drawn = ap (λ (u : PassView _). u.taker.mine) knows;
@@ -96,6 +92,7 @@ refused object number to w x begun knows = record {
 pub record IsOverTo (word : ℕ) (answer : Answer) : Type 0 where
   pub told : answer ≡ answer_told (end_in word)
   pub incarnation : (other : ℕ) → incarnation_told (end_in word) other ≡ incarnation_in other
+  pub cell : (object other : ℕ) → cell_told object (end_in word) other ≡ cell_of object (incarnation_in other) 0
   pub ends : IsEndBy word (end_in word)
 
 pub over_ends : (word : ℕ) (answer : Answer) → is_over_in word ≡ true → answer_in word ≡ Some answer → IsOverTo word answer
@@ -104,11 +101,13 @@ over_ends word answer over told = go (eqb (layout_in word) 2) (eqb (incarnation_
   go true last e f = record {
     told = let same : Some Gone ≡ Some answer = rw e at told in rw e (sym (same_Some Gone answer same));
     incarnation = λ other. rw e refl;
+    cell = λ object other. rw e refl;
     ends = rw e tt;
   }
   go false true e f = record {
     told = let same : Some Spent ≡ Some answer = rw (e, f) at told in rw e (sym (same_Some Spent answer same));
     incarnation = λ other. rw e refl;
+    cell = λ object other. rw e refl;
     ends = rw (e, f) tt;
   }
   go false false e f = absurd (let no : true ≡ false = sym over ∙ (λ j. e j || f j) in cc)
@@ -120,14 +119,16 @@ pub marked : {P : Type 0} (object : ℕ) (to : To) (old new : PassSeen P) → ob
 marked object to old new begun over has =
     let word : ℕ = word_begun old.view.last in
     let is = over_ends word has.answer over has.told in
+    let last : new.view.last ≡ old.view.last = ap (λ (u : PassView _). u.last) has.knows in
     record {
-      begun = ap (λ (u : PassView _). object_begun u.last) has.knows ∙ begun;
-      cell = cell_marked old.view;
+      begun = ap object_begun last ∙ begun;
       entry = has.entry;
       next =
-          subst (λ (x : ℕ × ℕ × Answer). IsNext old.view x.0 x.1 (cell_marked old.view) (act_asked to) x.2 has.entry)
-          (λ j. (begun j, (sym (is.incarnation (word_begun new.view.last) ∙ ap (λ (u : PassView _). incarnation_in (word_begun u.last)) has.knows)) j, is.told j))
-          has.next;
+          subst (λ l. IsNext old.view object (incarnation_told (end_in word) (word_begun l)) (cell_told object (end_in word) (word_begun l)) (act_asked to) (answer_told (end_in word)) has.entry)
+          (sym last)
+          (subst (λ (x : ℕ × ℕ × ℕ × Answer). IsNext old.view x.0 x.1 x.2 (act_asked to) x.3 has.entry)
+          (λ j. (begun j, sym (is.incarnation word) j, ((λ k. cell_of (begun k) (incarnation_in word) 0) ∙ sym (is.cell object word)) j, is.told j))
+          has.next);
       drawn = ap (λ (u : PassView _). u.taker.mine) has.knows;
     }
 

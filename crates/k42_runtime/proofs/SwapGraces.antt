@@ -1,29 +1,26 @@
 -- A step of the grace that a swap waits for.
-use Rattle.std.proofs.Common.{◌≡◌, ℕ, ◌+◌, ◌<◌, ◌≤◌, Bool, true, false, ◌&&◌, Option, Some, None, refl, sym, ap, ◌∙◌, subst, arith}
-use Rattle.std.specs.Prelude.{◌≢◌, is_none, length}
+use Rattle.std.proofs.Common.{◌≡◌, ℕ, ◌+◌, ◌<◌, ◌≤◌, Bool, true, false, ◌&&◌, List, Option, Some, None, refl, sym, ap, ◌∙◌, subst, arith}
+use Rattle.std.specs.Prelude.{is_none, length}
 use Rattle.gen_core.specs.Events.{is_idle, is_looking}
 use Rattle.gen_core.specs.Plain.{Caller}
-use Rattle.gen_core.specs.declared.state.GraceAt.TheVariants.{Looking}
 use Rattle.phase_core.specs.Effects.{drained_at, draining_from}
 use Rattle.phase_core.specs.Plain.{Visitor}
 use Rattle.phase_core.specs.declared.caller.SwapAt.{SwapAt}
 use Rattle.phase_core.specs.declared.caller.SwapAt.TheVariants.{Draining}
 use Rattle.turn_core.specs.Plain as turns
-use Rattle.k42_board.specs.Gracing.{MayTakeRole}
+use Rattle.k42_stamp.specs.Layouts.{Layouts}
 use Rattle.k42_board.specs.Generations.{MOST}
 use Rattle.k42_board.specs.Seen.{PassSeen, IsSamePass}
 use Rattle.k42_board.specs.Views.{hears, word_begun}
-use Rattle.k42_board.specs.declared.view.Note.{Note}
 use Rattle.k42_board.specs.declared.view.PassView.{PassView}
-use Rattle.k42_quiesce.specs.Gracing as gracing
-use Rattle.k42_quiesce.specs.Gracing.{MayStep, IsLeft, IsRoleHeld, has_role, with_role}
+use Rattle.k42_quiesce.specs.Gracing.{MayStep, IsLeft, IsRoleHeld, GoesOn, HasLooked, TriesRole, has_role, with_role}
 use Rattle.k42_quiesce.specs.declared.steps.GraceStep.{GraceStep}
 use Rattle.k42_quiesce.specs.declared.steps.GraceStep.TheVariants.{Again}
 use Rattle.k42_quiesce.specs.declared.steps.Held.{Held}
 use Rattle.k42_quiesce.specs.declared.steps.Held.TheVariants.{Left, RoleHeld}
 use Rattle.k42_mediator.specs.Answers.{begun_in}
 use Rattle.k42_runtime.specs.Phases.{cause_in}
-use Rattle.k42_runtime.specs.Swaps.{SwapSeen, IsUnderWay, IsWaiting, HasFoundFree, IsAtStage, IsSameCaller, IsFound, MayHoldUp, IsStepBy, graces_due}
+use Rattle.k42_runtime.specs.Swaps.{SwapSeen, IsUnderWay, IsWaiting, HasFoundFree, IsAtStage, IsSameCaller, IsHeldUpBy, MayHoldUp, IsStepBy, graces_due}
 use Rattle.k42_runtime.specs.declared.swaps.Cause.{Cause}
 use Rattle.k42_runtime.specs.declared.swaps.Cause.TheVariants as causes
 use Rattle.k42_runtime.specs.declared.swaps.Stage.TheVariants.{Waiting}
@@ -51,7 +48,7 @@ module _ {P : Type 0} (object : ℕ) where
     pub place : w.visitor.place ≡ v.visitor.place
     pub notes : w.notes ≡ v.notes
 
-  pub has_role_now : (holder : Option ℕ) (v w : PassView P) → IsWaiting object holder v → gracing.GoesOn (with_role holder v) w → HasRole holder v w
+  pub has_role_now : (holder : Option ℕ) (v w : PassView P) → IsWaiting object holder v → GoesOn (with_role holder v) w → HasRole holder v w
   has_role_now None v w is goes = record {
     swap =
         ap (λ (x : Visitor). x.swap) goes.visitor
@@ -86,7 +83,9 @@ module _ {P : Type 0} (object : ℕ) where
     more n = omega arith
 
 -- the grace is held up, and with it the swap
-pub record IsHeldUp {P : Type 0} (objects : ℕ) (s t : SwapSeen) (held : Held) (old new : PassSeen P) : Type 0 where
+pub record IsHeldUp
+    {S L P : Type 0} (F : Layouts S L P) (declared : List L) (objects : ℕ) (s t : SwapSeen) (held : Held) (old new : PassSeen P)
+    : Type 0 where
   pub stage : IsAtStage t.stage objects t new
   pub caller : IsSameCaller old.view new.view
   pub graces : new.view.graces + graces_due t.stage t.holder ≤ old.view.graces + graces_due s.stage s.holder
@@ -94,7 +93,7 @@ pub record IsHeldUp {P : Type 0} (objects : ℕ) (s t : SwapSeen) (held : Held) 
   pub place : new.view.visitor.place ≡ old.view.visitor.place
   pub notes : new.view.notes ≡ old.view.notes
   pub told : IsStepBy (word_begun new.view.last) (steps.Again (cause_in held))
-  pub found : IsFound (cause_in held) new.view
+  pub found : IsHeldUpBy F declared old.seat (cause_in held) new.view
 
 module _ {P : Type 0} (objects : ℕ) (s t : SwapSeen) (old new : PassSeen P) (same : IsSamePass old new)
     (first : s.stage ≡ Waiting) (stays : t.stage ≡ s.stage) (object : t.object ≡ s.object)
@@ -122,12 +121,14 @@ module _ {P : Type 0} (objects : ℕ) (s t : SwapSeen) (old new : PassSeen P) (s
   told_free : (word : ℕ) (cause : Cause) → begun_in word ≡ Begun → MayHoldUp Begun cause → IsStepBy word (steps.Again cause)
   told_free word cause e may = subst (λ b. MayHoldUp b cause) (sym e) may
 
-  pub held_up : (answer : GraceStep) (held : Held) → answer ≡ Again held
+  pub held_up : {S L : Type 0} (F : Layouts S L P) (declared : List L) (answer : GraceStep) (held : Held) → answer ≡ Again held
       → ((proc left : ℕ) → answer ≡ Again (Left proc left) → IsLeft proc left new.view)
+      → ((proc left : ℕ) → answer ≡ Again (Left proc left) → HasLooked F declared new.seat proc new.view)
       → ((holder : ℕ) → answer ≡ Again (RoleHeld holder) → IsRoleHeld holder old.view new.view × (s.holder ≡ None) × (t.holder ≡ None))
-      → (has_role answer ≡ true → gracing.GoesOn (with_role s.holder old.view) new.view × (t.holder ≡ Some new.view.number))
-      → IsHeldUp objects s t held old new
-  held_up answer (Left proc left) e looks holds goes =
+      → ((holder : ℕ) → answer ≡ Again (RoleHeld holder) → TriesRole F declared old.seat old.view (holder + 1))
+      → (has_role answer ≡ true → GoesOn (with_role s.holder old.view) new.view × (t.holder ≡ Some new.view.number))
+      → IsHeldUp F declared objects s t held old new
+  held_up F declared answer (Left proc left) e looks looked holds tries goes =
       let is = looks proc left e in
       let went = goes (ap has_role e) in
       let has = has_role_now s.object s.holder old.view new.view waits went.0 in
@@ -143,9 +144,9 @@ module _ {P : Type 0} (objects : ℕ) (s t : SwapSeen) (old new : PassSeen P) (s
         place = has.place;
         notes = has.notes;
         told = told_free (word_begun new.view.last) (causes.Left proc left) (ap (λ last. begun_in (word_begun last)) has.last ∙ free) tt;
-        found = is;
+        found = (is, subst (λ (id : ℕ). HasLooked F declared id proc new.view) same.seat (looked proc left e));
       }
-  held_up answer (RoleHeld holder) e looks holds goes =
+  held_up F declared answer (RoleHeld holder) e looks looked holds tries goes =
       let is = holds holder e in
       let knows : new.view ≡ hears (holder + 1) old.view = is.0.knows in
       let was : IsWaiting s.object None old.view = subst (λ h. IsWaiting s.object h old.view) is.1 waits in
@@ -168,8 +169,10 @@ module _ {P : Type 0} (objects : ℕ) (s t : SwapSeen) (old new : PassSeen P) (s
         told =
             told_free (word_begun new.view.last) (causes.RoleHeld holder)
             (ap (λ (v : PassView P). begun_in (word_begun v.last)) knows ∙ free) tt;
-        found =
-            (ap (λ (v : PassView P). v.heard) knows,
-            λ same. is.0.another (same ∙ ap (λ (v : PassView P). v.number) knows),
-            is.0.caller);
+        found = record {
+          before = old.view;
+          may = record { free = was.1.free; swap = was.1.swap; few = was.1.few };
+          held = is.0;
+          step = tries holder e;
+        };
       }

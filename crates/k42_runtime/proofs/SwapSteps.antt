@@ -1,5 +1,5 @@
 -- A swap that is stepped on: what its steps bring, seen from a step before.
-use Rattle.std.proofs.Common.{◌≡◌, ⊎_elim, inl, inr, ℕ, ◌+◌, ◌<◌, ◌≤◌, List, [], ◌∷◌, ◌++◌, None, length, sym, ap, ◌∙◌, subst, arith}
+use Rattle.std.proofs.Common.{◌≡◌, ⊎_elim, inl, inr, ℕ, ◌+◌, ◌<◌, ◌≤◌, List, [], ◌∷◌, ◌++◌, None, length, ap, ◌∙◌, subst, arith}
 use Rattle.k42_kinds.specs.declared.entry.Act.{Act}
 use Rattle.k42_kinds.specs.declared.entry.Answer.{Answer}
 use Rattle.k42_kinds.specs.declared.entry.Entry.{Entry}
@@ -9,9 +9,10 @@ use Rattle.co_any.specs.declared.part.AnyPart.{AnyPart}
 use Rattle.k42_board.specs.Seen.{PassSeen}
 use Rattle.k42_board.specs.declared.view.PassView.{PassView}
 use Rattle.k42_mediator.specs.Entries.{IsNext}
-use Rattle.k42_runtime.specs.Phases.{HasGoneOn, HasBrought, HasStepped}
-use Rattle.k42_runtime.specs.Swaps.{SwapSeen, IsSameCaller, HasSwapped, HasNotBegun, HasAbandoned, HasGivenUp, graces_due}
+use Rattle.k42_runtime.specs.Phases.{HasGoneOn}
+use Rattle.k42_runtime.specs.Swaps.{SwapSeen, IsSameCaller, IsHeldUpBy, HasSwapped, HasAbandoned, HasBrought, HasStepped, graces_due}
 use Rattle.k42_runtime.specs.Systems.{SystemSeen, layouts_in}
+use Rattle.k42_runtime.specs.declared.swaps.Stage.TheVariants.{New}
 use Rattle.k42_runtime.specs.declared.swaps.Step.{Step}
 use Rattle.k42_runtime.specs.declared.swaps.Step.TheVariants.{Again, Ended, Memory}
 use Rattle.k42_runtime.specs.declared.swaps.Swapped.{Swapped}
@@ -47,38 +48,44 @@ module _ {P : Type 0} (u v w : PassView P) (same : IsSameCaller u v) (drawn : v.
   pub swapped_before : (object : ℕ) (to : To) (end : Swapped) → HasSwapped object to end v w → HasSwapped object to end u w
   swapped_before object to end is = record {
     begun = is.begun;
-    cell = is.cell;
     entry = is.entry;
-    next = next_before object _ is.cell _ _ is.entry is.next;
+    next = next_before object _ _ _ _ is.entry is.next;
     drawn = is.drawn ∙ ap (λ mine. mine ++ is.entry ∷ []) drawn;
   }
 
-  pub given_up_before : {S L : Type 0} (F : Layouts S L P) (declared : List L) (id object : ℕ) (to : To) → HasGivenUp F declared id object to v w
-      → HasGivenUp F declared id object to u w
-  given_up_before F declared id object to =
-      ⊎_elim (λ (is : HasNotBegun v w). inl (is ∙ drawn))
-      (λ (is : HasAbandoned F declared id object to v w). inr (record {
-        entry = is.entry;
-        next = next_before object _ 0 _ _ is.entry is.next;
-        drawn = is.drawn ∙ ap (λ mine. mine ++ is.entry ∷ []) drawn;
-        opened = is.opened;
-      }))
+  pub abandoned_before : {S L : Type 0} (F : Layouts S L P) (declared : List L) (id object : ℕ) (to : To) → HasAbandoned F declared id object to v w
+      → HasAbandoned F declared id object to u w
+  abandoned_before F declared id object to is = record {
+    begun = is.begun;
+    free = is.free;
+    entry = is.entry;
+    next = next_before object _ 0 _ _ is.entry is.next;
+    drawn = is.drawn ∙ ap (λ mine. mine ++ is.entry ∷ []) drawn;
+    opened = is.opened;
+  }
 
 module _ (system : SystemSeen) (s m t : SwapSeen) (old mid new : PassSeen AnyPart) (goes : HasGoneOn s m old mid) where
   brought_before : (result : Step) → HasBrought system result m mid new → HasBrought system result s old new
   brought_before (Ended end) is =
       subst (λ (x : ℕ × To). HasSwapped x.0 x.1 end old.view new.view) (λ j. (goes.object j, goes.to j))
       (swapped_before old.view mid.view new.view goes.caller goes.drawn m.object m.to end is)
-  brought_before (Again cause) is = (is.0 ∙ goes.drawn, is.1)
+  brought_before (Again cause) is = (
+    is.0 ∙ goes.drawn,
+    subst (λ (id : ℕ). IsHeldUpBy (layouts_in system) system.sys.layouts id cause new.view) goes.seat is.1,
+  )
   brought_before Memory is =
-      subst (λ (x : ℕ × ℕ × To). HasGivenUp (layouts_in system) system.sys.layouts x.0 x.1 x.2 old.view new.view)
+      ⊎_elim (λ (is : (m.stage ≡ New) × (new.view ≡ mid.view)). let was = goes.waits is.0 in inl (was.0, is.1 ∙ was.1))
+      (λ (is : HasAbandoned (layouts_in system) system.sys.layouts mid.seat m.object m.to mid.view new.view). inr (
+      subst (λ (x : ℕ × ℕ × To). HasAbandoned (layouts_in system) system.sys.layouts x.0 x.1 x.2 old.view new.view)
       (λ j. (goes.seat j, goes.object j, goes.to j))
-      (given_up_before old.view mid.view new.view goes.caller goes.drawn (layouts_in system) system.sys.layouts mid.seat m.object m.to is)
+      (abandoned_before old.view mid.view new.view goes.caller goes.drawn (layouts_in system) system.sys.layouts mid.seat m.object m.to is)))
+      is
 
   pub stepped_before : (result : Step) → HasStepped system result m t mid new → HasStepped system result s t old new
   stepped_before result is = record {
     here = is.here;
     stage = is.stage;
+    begun = is.begun;
     object = is.object ∙ goes.object;
     to = is.to ∙ goes.to;
     over = is.over;

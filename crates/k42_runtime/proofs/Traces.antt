@@ -83,8 +83,8 @@ homes procs (p ∷ callers) some placed (suc c) = homes procs callers some (λ i
 pub all_placed : (system : SystemSeen) → IsPlanned system → (c : ℕ) → slice_index_or system.sys.callers c 0 < system.sys.procs
 all_placed system planned =
     homes system.sys.procs system.sys.callers turns_are.limits.some_procs turns_are.placed where
-  turns_are : gens.IsPlan system.sys.procs system.sys.callers
-  turns_are = subst (λ (z : ℕ × List ℕ). gens.IsPlan z.0 z.1) (λ k. (sym planned.procs k, sym planned.callers k)) planned.sound.turns
+      turns_are : gens.IsPlan system.sys.procs system.sys.callers
+      turns_are = subst (λ (z : ℕ × List ℕ). gens.IsPlan z.0 z.1) (λ k. (sym planned.procs k, sym planned.callers k)) planned.sound.turns
 
 pub shown : (system : SystemSeen) → IsPlanned system → LegalLaw system.sys.procs
     → (table : State (Slot AnyPart) (View AnyPart)) (rule : Rule (layouts_in system) system.sys.layouts table)

@@ -3,16 +3,29 @@ use Rattle.std.specs.Prelude.{◌≡◌, ℕ, ◌<◌, List, length, All, Some, 
 use Rattle.k42_kinds.specs.Histories.{IsInOrder}
 use Rattle.k42_kinds.specs.Legal.{IsLegalHistory}
 use Rattle.k42_kinds.specs.declared.entry.Entry.{Entry}
+use Rattle.k42_places.specs.Places.{EachPlace}
+use Rattle.k42_stamp.specs.Lists.{IsMerged}
+use Rattle.co_any.specs.declared.part.AnyPart.{AnyPart}
+use Rattle.k42_board.specs.Seen.{PassSeen}
+use Rattle.k42_rule.specs.Finishing.{IsPassAtRest}
 use Rattle.k42_runtime.specs.Plans.{PlanSeen, kinds_of}
+use Rattle.k42_runtime.specs.Systems.{SystemSeen}
 
 -- its entries, in order, and the plan of its system
 pub record HistorySeen : Type 0 where
   pub entries : List Entry
   pub plan : PlanSeen
 
--- One legal history of the plan's objects, in which the entries of each caller stand once and in order, and no others.
+-- One legal history of the plan's objects, in which the entries of each caller stand once and in order, and no others:
+-- those of the lists in the order of stamp, object, cell and caller, numbered from 1.
 pub record IsClosed (plan : PlanSeen) (lists : List (List Entry)) (history : HistorySeen) : Type 0 where
   pub plan_is : history.plan ≡ plan
+  pub merged : IsMerged lists history.entries
   pub legal : IsLegalHistory (kinds_of plan) history.entries
   pub in_order : (c : ℕ) (list : List Entry) → slice_get lists c ≡ Some list → IsInOrder history.entries c list
   pub no_stranger : All (λ entry. entry.caller < length plan.callers) history.entries
+
+-- all passes of the system, in order, each with nothing under way
+pub record MayClose (system : SystemSeen) (passes : List (PassSeen AnyPart)) : Type 0 where
+  pub many : length passes ≡ length system.plan.callers
+  pub each : EachPlace (IsPassAtRest system.sys) passes

@@ -1,7 +1,11 @@
 pub mod Plans
 pub mod Systems
 pub mod Calls
+pub mod Stepping
+pub mod Reaching
+pub mod Serving
 pub mod Swaps
 pub mod Phases
+pub mod Reclaims
 pub mod Histories
 pub mod Closing

@@ -30,10 +30,10 @@ abbrev pub plan_fault : PlanSeen → Option PlanFault
 plan_fault plan =
     if is_within PROCESSORS plan.procs
     then if is_within OBJECTS (length plan.objects)
-      then if is_within CALLERS (length plan.callers)
-        then stray_from plan.procs 0 plan.callers
-        else Some faults.Callers
-      else Some faults.Objects
+    then if is_within CALLERS (length plan.callers)
+    then stray_from plan.procs 0 plan.callers
+    else Some faults.Callers
+    else Some faults.Objects
     else Some faults.Procs
 
 -- a plan without a fault

@@ -1,29 +1,37 @@
 -- Swaps and destroys, which are swaps to the dead layout: their stages, their answers, and what holds one up.
-use Rattle.std.specs.Prelude.{◌≡◌, ◌≢◌, ◌⊎◌, ℕ, ◌+◌, ◌-◌, ◌<◌, ◌≤◌, Bool, true, false, ⊤, List, [], ◌∷◌, ◌++◌, length, Option, Some, None}
-use Rattle.k42_limits.specs.declared.TheConstants.{CALLERS}
+use Rattle.std.specs.Prelude.{◌≡◌, ◌≢◌, ◌⊎◌, ℕ, ◌+◌, ◌-◌, ◌<◌, ◌≤◌, ◌==◌, if◌then◌else◌, Bool, true, false, ⊤, List, [], ◌∷◌, ◌++◌, length, Option, Some, None, Result, IfOk, OnErr}
 use Rattle.gen_core.specs.Events as graces
 use Rattle.k42_kinds.specs.declared.entry.Act.{Act}
 use Rattle.k42_kinds.specs.declared.entry.Act.TheVariants as acts
 use Rattle.k42_kinds.specs.declared.entry.Answer.{Answer}
 use Rattle.k42_kinds.specs.declared.entry.Answer.TheVariants as answers
 use Rattle.k42_kinds.specs.declared.entry.Entry.{Entry}
-use Rattle.phase_core.specs.Stages as swaps
+use Rattle.phase_core.specs.Event.{Move}
 use Rattle.phase_core.specs.declared.caller.SwapAt.TheVariants.{Interposed, Draining, Blocking, Opened}
+use Rattle.turn_core.specs.declared.event.TurnEvent.TheVariants.{Lock}
 use Rattle.k42_stamp.specs.Layouts.{Layouts}
+use Rattle.k42_joined.specs.Event.{AtCells, AtPhases}
+use Rattle.k42_joined.specs.Numbers.{cell_of}
+use Rattle.co_any.specs.declared.part.AnyPart.{AnyPart}
 use Rattle.k42_board.specs.Generations.{MOST}
+use Rattle.k42_board.specs.Gracing.{MayTakeRole}
 use Rattle.k42_board.specs.Seen.{PassSeen}
-use Rattle.k42_board.specs.Swapping.{object_swapped}
+use Rattle.k42_board.specs.Steps.{StepIs}
+use Rattle.k42_board.specs.Swapping.{MayMove, moves, moved_view, object_swapped}
+use Rattle.k42_board.specs.Tabling.{is_over_in}
 use Rattle.k42_board.specs.Values.{count_in, incarnation_in}
-use Rattle.k42_board.specs.Views.{object_begun, word_begun}
+use Rattle.k42_board.specs.Views.{hears, object_begun, word_begun}
+use Rattle.k42_board.specs.Words.{lock_word, object_word}
 use Rattle.k42_board.specs.declared.view.PassView.{PassView}
+use Rattle.k42_board.specs.declared.view.Row.{Row}
 use Rattle.k42_mediator.specs.Answers.{begun_in}
 use Rattle.k42_mediator.specs.Entries.{IsNext}
-use Rattle.k42_mediator.specs.Marks.{MayMark}
+use Rattle.k42_mediator.specs.Marks.{MayMark, cell_marked}
 use Rattle.k42_mediator.specs.Swaps.{staged, LeavesOpen}
 use Rattle.k42_mediator.specs.declared.answers.Begun.{Begun}
 use Rattle.k42_mediator.specs.declared.answers.Begun.TheVariants as begins
-use Rattle.k42_quiesce.specs.Gracing.{MayStep, IsLeft}
-use Rattle.k42_runtime.specs.Systems.{SystemSeen, IsAtRest}
+use Rattle.k42_quiesce.specs.Gracing.{MayStep, IsLeft, IsRoleHeld, HasLooked, TriesRole}
+use Rattle.k42_runtime.specs.Systems.{SystemSeen, IsPassHere, IsAtRest, layouts_in}
 use Rattle.k42_runtime.specs.declared.swaps.Cause.{Cause}
 use Rattle.k42_runtime.specs.declared.swaps.Cause.TheVariants as causes
 use Rattle.k42_runtime.specs.declared.swaps.Stage.{Stage}
@@ -142,14 +150,6 @@ IsStepBy word (steps.Ended end) = IsEndBy word end
 IsStepBy word (steps.Again cause) = MayHoldUp (begun_in word) cause
 IsStepBy word steps.Memory = ⊤
 
--- the last step of the pass found this
-abbrev pub IsFound : {P : Type 0} → Cause → PassView P → Type 0
-IsFound (causes.Left proc left) v = IsLeft proc left v
-IsFound (causes.RoleHeld holder) v = (v.heard ≡ holder + 1) × (holder ≢ v.number) × (holder < CALLERS)
-IsFound (causes.InFlight count) v =
-    (count ≡ count_in v.heard) × (0 < count) × (swaps.is_blocking v.visitor.swap ≡ true)
-IsFound (causes.CellHeld holder) v = (v.heard ≡ holder + 1) × (holder ≢ v.number)
-
 -- it is the same caller, on its processor, and has begun no activity
 pub record IsSameCaller {P : Type 0} (old new : PassView P) : Type 0 where
   pub number : new.number ≡ old.number
@@ -161,28 +161,117 @@ abbrev pub incarnation_told : Swapped → ℕ → ℕ
 incarnation_told (ends.Busy number) word = number - 1
 incarnation_told end word = incarnation_in word
 
+-- and the cell: the first one of the new row, none, or the first one of the row that is over
+abbrev pub cell_told : ℕ → Swapped → ℕ → ℕ
+cell_told object (ends.Done number) word = cell_of object number 0
+cell_told object (ends.Busy number) word = 0
+cell_told object end word = cell_of object (incarnation_in word) 0
+
 -- The pass has one entry more, that of the swap.
 pub record HasSwapped {P : Type 0} (object : ℕ) (to : To) (end : Swapped) (old new : PassView P) : Type 0 where
   pub begun : object_begun new.last ≡ object
-  pub cell : ℕ
   pub entry : Entry
   pub next :
-      IsNext old object (incarnation_told end (word_begun new.last)) cell (act_asked to) (answer_told end) entry
+      IsNext old object (incarnation_told end (word_begun new.last)) (cell_told object end (word_begun new.last))
+      (act_asked to) (answer_told end) entry
   pub drawn : new.taker.mine ≡ old.taker.mine ++ entry ∷ []
 
--- for want of memory nothing was begun
+-- nothing was begun: at most it has collected rows, and has handed rows over
 abbrev pub HasNotBegun : {P : Type 0} → PassView P → PassView P → Type 0
-HasNotBegun old new = new.taker.mine ≡ old.taker.mine
+HasNotBegun old new = new ≡ record old { rows = new.rows; granted = new.granted }
 
 module _ {S L P : Type 0} (F : Layouts S L P) (declared : List L) (id : ℕ) where
-  -- or the swap was given up, which its entry tells: the old implementation is open
+  -- its last step has found the role with another caller
+  pub record HasFoundRole (holder : ℕ) (v : PassView P) : Type 0 where
+    pub before : PassView P
+    pub may : MayTakeRole before
+    pub held : IsRoleHeld holder before v
+    pub step : TriesRole F declared id before (holder + 1)
+
+  -- it has found so many callers counted by its mediator
+  pub record HasFoundCounted (count : ℕ) (v : PassView P) : Type 0 where
+    pub before : PassView P
+    pub may : MayMove before
+    pub knows : v ≡ moved_view v.heard before
+    pub count_is : count ≡ count_in v.heard
+    pub some : 0 < count
+    pub step :
+        StepIs F declared (AtPhases (Move before.number)) (object_word (object_swapped before)) (moves before) id before
+        v.heard v
+
+  -- it has found the first cell of the row that is over with another caller
+  pub record HasFoundCell (holder : ℕ) (v : PassView P) : Type 0 where
+    pub before : PassView P
+    pub over : is_over_in (word_begun before.last) ≡ true
+    pub knows : v ≡ hears (holder + 1) (record before { refused = holder + 1 })
+    pub another : holder ≢ before.number
+    pub step :
+        StepIs F declared (AtCells (Lock before.number (cell_marked before))) (lock_word (cell_marked before))
+        (λ word. if word == 0 then before.number + 1 else word) id before (holder + 1) v
+
+  -- what the last step of the pass has found holds its swap up
+  abbrev pub IsHeldUpBy : Cause → PassView P → Type 0
+  IsHeldUpBy (causes.Left proc left) v = IsLeft proc left v × HasLooked F declared id proc v
+  IsHeldUpBy (causes.RoleHeld holder) v = HasFoundRole holder v
+  IsHeldUpBy (causes.InFlight count) v = HasFoundCounted count v
+  IsHeldUpBy (causes.CellHeld holder) v = HasFoundCell holder v
+
+  -- A swap that had begun was given up, which its entry tells.
   pub record HasAbandoned (object : ℕ) (to : To) (old new : PassView P) : Type 0 where
+    pub begun : object_begun new.last ≡ object
+    pub free : HasFoundFree new
     pub entry : Entry
     pub next :
         IsNext old object (incarnation_in (word_begun new.last)) 0 (act_asked to)
         (answers.Abandoned (incarnation_in (word_begun new.last) + 1)) entry
     pub drawn : new.taker.mine ≡ old.taker.mine ++ entry ∷ []
-    pub opened : LeavesOpen F declared id (staged (Opened object) new)
+    -- The old implementation is open, whatever rows the pass held as it ended, and whatever word it had found last.
+    pub opened :
+        (rows : List Row) (granted heard : ℕ) → LeavesOpen F declared id
+        (staged (Opened object) (record new { rows = rows; granted = granted; heard = heard }))
 
-  abbrev pub HasGivenUp : ℕ → To → PassView P → PassView P → Type 0
-  HasGivenUp object to old new = HasNotBegun old new ⊎ HasAbandoned object to old new
+  -- A step that finds no memory is the first, and has done nothing, or it gives the swap up.
+  abbrev pub StepsWithoutMemory : Stage → ℕ → To → PassView P → PassView P → Type 0
+  StepsWithoutMemory stage object to old new =
+      ((stage ≡ stages.New) × (new ≡ old)) ⊎ HasAbandoned object to old new
+
+  -- and so ends a swap that was waited for
+  abbrev pub EndsWithoutMemory : ℕ → To → PassView P → PassView P → Type 0
+  EndsWithoutMemory object to old new = HasNotBegun old new ⊎ HasAbandoned object to old new
+
+-- what a step of a swap brings, by its answer
+abbrev pub HasBrought : SystemSeen → Step → SwapSeen → PassSeen AnyPart → PassSeen AnyPart → Type 0
+HasBrought system (steps.Ended end) swap old new = HasSwapped swap.object swap.to end old.view new.view
+HasBrought system (steps.Again cause) swap old new =
+    (new.view.taker.mine ≡ old.view.taker.mine)
+    × IsHeldUpBy (layouts_in system) system.sys.layouts old.seat cause new.view
+HasBrought system steps.Memory swap old new =
+    StepsWithoutMemory (layouts_in system) system.sys.layouts old.seat swap.stage swap.object swap.to old.view new.view
+
+-- The swap and its pass, once a step has answered so, are where the next one goes on, unless it was the last.
+pub record HasStepped (system : SystemSeen) (result : Step) (s t : SwapSeen) (old new : PassSeen AnyPart) : Type 0 where
+  pub here : IsPassHere system new
+  pub stage : IsAtStage t.stage (length system.plan.objects) t new
+  pub begun : t.stage ≢ stages.New
+  pub over : is_over t.stage ≡ is_last result
+  pub object : t.object ≡ s.object
+  pub to : t.to ≡ s.to
+  pub seat : new.seat ≡ old.seat
+  pub caller : IsSameCaller old.view new.view
+  pub graces :
+      new.view.graces + graces_due t.stage t.holder ≤ old.view.graces + graces_due s.stage s.holder
+  pub told : IsStepBy (word_begun new.view.last) result
+  pub brought : HasBrought system result s old new
+
+-- the pass once a swap has ended that was waited for
+pub record HasEnded {E : Type 0} (system : SystemSeen) (object : ℕ) (to : To) (result : Result Swapped E) (old new : PassSeen AnyPart)
+    : Type 0 where
+  pub here : IsPassHere system new
+  pub rests : IsAtRest new.view
+  pub seat : new.seat ≡ old.seat
+  pub caller : IsSameCaller old.view new.view
+  pub graces : new.view.graces ≤ old.view.graces + 1
+  pub told : IfOk result (IsEndBy (word_begun new.view.last))
+  pub ended : IfOk result (λ end. HasSwapped object to end old.view new.view)
+  pub memory :
+      OnErr result (EndsWithoutMemory (layouts_in system) system.sys.layouts old.seat object to old.view new.view)

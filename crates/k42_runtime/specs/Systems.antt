@@ -59,7 +59,7 @@ pub record IsAtWork {P : Type 0} (v : PassView P) : Type 0 where
 abbrev pub IsAtRest : {P : Type 0} → PassView P → Type 0
 IsAtRest v = is_at_rest v ≡ true
 
--- of what a pass keeps by itself, only its entries may be others
+-- of what a pass keeps by itself, only its entries, its place and the layout that it last learned may be others
 abbrev pub KeepsElse : {P : Type 0} → PassView P → PassView P → Type 0
 KeepsElse old new =
     own_in new ≡ record (own_in old) { place = new.visitor.place; layout = new.layout; mine = new.taker.mine }
@@ -70,9 +70,11 @@ pub record IsFirst (system : SystemSeen) (c home : ℕ) (pass : PassSeen AnyPart
   pub new : pass.view ≡ new_pass system.plan.procs (length system.plan.objects) c home
   pub rows : pass.row_room ≡ 64
 
--- a system of the plan whose objects are empty and at their first incarnation, and its passes in the order of callers
+-- a system of the plan, and its passes in the order of callers; the table was opened with all objects empty and at their
+-- first incarnation, and nobody has done anything
 pub record HasStarted (plan : PlanSeen) (system : SystemSeen) (passes : List (PassSeen AnyPart)) : Type 0 where
   pub plan_is : system.plan ≡ plan
+  pub planned : IsPlanned system
   pub opened : IsOpened (any_layouts plan.procs plan.callers) (layouts_of plan) plan.callers
   pub many : length passes ≡ length plan.callers
   pub each : EachPlace (λ c pass. IsFirst system c (slice_index plan.callers c) pass) passes

@@ -1,15 +1,23 @@
 //! Calls, which may be stepped where nobody may wait.
-ghost use Rattle.std.specs.Prelude.{◌≡◌, ◌<◌, false, length, IfOk, OnErr};
+ghost use Rattle.std.specs.Prelude.{◌≡◌, ◌<◌, false, [], length, IfOk, OnErr};
 ghost use Rattle.k42_kinds.specs.declared.operation.Reply.{Reply};
 ghost use Rattle.k42_board.specs.Generations.{MOST};
+ghost use Rattle.k42_board.specs.Seen.{IsPassOf};
+ghost use Rattle.k42_board.specs.Tabling.{MayLookUp};
 ghost use Rattle.k42_runtime.specs.Calls.{IsAsked, HasCalled, HasNotCalled, HoldsUp, is_last};
-ghost use Rattle.k42_runtime.specs.Systems.{IsPassHere, IsAtWork, layouts_in};
+ghost use Rattle.k42_runtime.specs.Serving.{IsAskedOf, IsSameSeat, HasTried};
+ghost use Rattle.k42_runtime.specs.Systems.{IsPassHere, IsAtWork, any_layouts, layouts_in};
 ghost use Rattle.k42_runtime.specs.declared.calls.CallCause.{CallCause};
 ghost use Rattle.k42_runtime.specs.declared.calls.CallStep.TheVariants as CallStep;
 
+use crate::serving::{go_inside, serve};
 use crate::system::{Pass, System};
+use co_any::AnyLayout;
+use crossbeam_utils::Backoff;
 use k42_kinds::{Op, Reply};
 use k42_memory::Memory;
+use k42_rule::Sys;
+use k42_tables::finish_call;
 use std::alloc::Global;
 use std::marker::Model;
 use std::sync::Wait;
@@ -43,11 +51,38 @@ pub struct Call {
 }
 
 impl Model for Call {
+    ghost use Rattle.k42_board.specs.Seen.{IsPassOf};
+    ghost use Rattle.k42_board.specs.Tabling.{MayLookUp};
     ghost use Rattle.k42_runtime.specs.Calls.{CallSeen};
 
     ghost Value = { CallSeen };
 
     ghost view = { λ c. record { object = c.object; op = c.op; ended = c.ended } };
+}
+
+/// One try of a call.
+fn try_once(alloc: Global, sys: &Sys<AnyLayout>, pass: &mut Pass, object: u32, op: &Op) -> CallStep
+    requires ours { IsPassOf sys.now pass.old }
+    requires may { MayLookUp (length sys.now.layouts) object pass.old.view }
+    requires asked { IsAskedOf sys.now.layouts object op.now }
+    requires held { pass.old.view.taker.held ≡ [] }
+    requires notes { pass.old.view.notes ≡ [] }
+    requires few { length pass.old.view.taker.mine < MOST }
+    ensures same { IsSameSeat pass.old pass.new }
+    ensures tried { HasTried (any_layouts sys.now.procs sys.now.callers) sys.now.layouts pass.old.seat result object op.now pass.old.view pass.new.view }
+{
+    let Ok(()) = pass.reserve() else {
+        return CallStep::Memory;
+    };
+    match go_inside(alloc, sys, pass, object) {
+        Ok(None) => {
+            let step = serve(alloc, sys, pass, op);
+            finish_call(sys, pass);
+            step
+        }
+        Ok(Some(cause)) => CallStep::Again(cause),
+        Err(Memory) => CallStep::Memory,
+    }
 }
 
 impl Call {
@@ -85,7 +120,9 @@ impl Call {
             → HoldsUp (layouts_in system.now) system.now.sys.layouts pass.old.seat cause self.old.object pass.old.view pass.new.view }
         ensures memory { result ≡ CallStep.Memory → HasNotCalled pass.old.view pass.new.view }
     {
-        unreachable!()
+        let step = try_once(alloc, &system.sys, pass, self.object, &self.op);
+        self.ended = !matches!(step, CallStep::Again(_));
+        step
     }
 }
 
@@ -109,6 +146,15 @@ impl System {
         ensures called { IfOk result (λ reply. HasCalled object op reply pass.old.view pass.new.view) }
         ensures memory { OnErr result (HasNotCalled pass.old.view pass.new.view) }
     {
+        let mut call = Call::new(object, op);
+        let backoff = Backoff::new();
+        for _ in rt.forever() {
+            match call.step(alloc, self, pass) {
+                CallStep::Ended(reply) => return Ok(reply),
+                CallStep::Memory => return Err(Memory),
+                CallStep::Again(_) => backoff.snooze(),
+            }
+        }
         unreachable!()
     }
 }

@@ -1,1 +1,165 @@
-//! TODO
+//! Cells of the row that a call is inside are taken, and given back.
+ghost use Rattle.std.specs.Prelude.{◌≡◌, ℕ, ◌<◌, ◌≤◌, ◌+◌, false, None, [], ◌∷◌, vec_len, vec_capacity, is_some, IsSome};
+ghost use Rattle.phase_core.specs.Stages.{IsInside};
+ghost use Rattle.turn_core.specs.Names.{names};
+ghost use Rattle.k42_joined.specs.Numbers.{cell_of, row_cells};
+ghost use Rattle.k42_joined.specs.Rows.{cells_reached};
+ghost use Rattle.k42_board.specs.Drawing.{numbers_of};
+ghost use Rattle.k42_board.specs.Seen.{IsOf, IsSamePass};
+ghost use Rattle.k42_board.specs.Taking.{TouchesInside};
+ghost use Rattle.k42_mediator.specs.Taken.{released, AreTaken, IsReady};
+ghost use Rattle.k42_runtime.specs.Reaching.{IsThere, TakesNext, Takes, MayGiveBack};
+ghost use Rattle.k42_runtime.specs.Stepping.{many_reached};
+ghost use Rattle.k42_runtime.specs.Systems.{any_layouts};
+
+use co_any::AnyLayout;
+use k42_kinds::Reach;
+use k42_rule::{Cell, Inside, Pass, Sys, layouts_are_lawful, lock, put, take, unlock};
+
+fn cell_number(object: u32, row: u32, place: u32) -> u32
+    requires { (object < 16) × (place < 8) }
+    ensures is { result ≡ cell_of object row place }
+    ensures few { result < 256 }
+{
+    (object * 2 + row % 2) * 8 + place
+}
+
+/// Takes a cell, or answers which caller has it.
+fn take_next(
+    sys: &Sys<AnyLayout>,
+    pass: &mut Pass<AnyLayout>,
+    number: u32,
+    cells: &mut Vec<Cell<AnyLayout>>,
+) -> Option<u32>
+    requires ours { IsOf sys.now pass.old }
+    requires few { number < 256 }
+    requires inside { TouchesInside sys.now.procs number pass.old.view }
+    requires room { vec_len cells.old < vec_capacity cells.old }
+    requires held { pass.old.view.taker.held ≡ numbers_of cells.old.items }
+    requires another { names (numbers_of cells.old.items) number ≡ false }
+    requires taken { AreTaken pass.old.view.notes cells.old.items }
+    ensures same { IsSamePass pass.old pass.new }
+    ensures capacity { vec_capacity cells.new ≡ vec_capacity cells.old }
+    ensures len { is_some result ≡ false → vec_len cells.new ≡ vec_len cells.old + 1 }
+    ensures takes { TakesNext (any_layouts sys.now.procs sys.now.callers) sys.now.layouts pass.old.seat result number pass.old.view pass.new.view cells.old.items cells.new.items }
+{
+    let found = lock(sys, pass, number);
+    if found != 0 {
+        return Some((found - 1) as u32);
+    }
+    let cell = take(sys, pass, number);
+    cells.push_reserved(cell);
+    None
+}
+
+/// Takes all cells of a row, in rising order. Where another caller has one of them, it answers which caller, and those
+/// before it are taken.
+fn take_row(
+    sys: &Sys<AnyLayout>,
+    pass: &mut Pass<AnyLayout>,
+    object: u32,
+    row: u32,
+    cells: &mut Vec<Cell<AnyLayout>>,
+) -> Option<u32>
+    requires ours { IsOf sys.now pass.old }
+    requires some { 0 < sys.now.procs }
+    requires few { object < 16 }
+    requires inside { IsInside pass.old.view.visitor.place object row }
+    requires room { sys.now.procs ≤ vec_capacity cells.old }
+    requires none { cells.old.items ≡ [] }
+    requires held { pass.old.view.taker.held ≡ [] }
+    ensures same { IsSamePass pass.old pass.new }
+    ensures takes { Takes (any_layouts sys.now.procs sys.now.callers) sys.now.layouts pass.old.seat result (row_cells sys.now.procs object row) pass.old.view pass.new.view cells.new.items }
+    ensures may { MayGiveBack (any_layouts sys.now.procs sys.now.callers) sys.now.layouts pass.new.seat pass.new.view cells.new.items }
+{
+    layouts_are_lawful(sys);
+    let _home = pass.processor();
+    let procs = sys.procs();
+    for place in 0..procs {
+        if let Some(holder) = take_next(sys, pass, cell_number(object, row, place), cells) {
+            return Some(holder);
+        }
+    }
+    None
+}
+
+/// Takes the one cell.
+fn take_one(
+    sys: &Sys<AnyLayout>,
+    pass: &mut Pass<AnyLayout>,
+    object: u32,
+    row: u32,
+    place: u32,
+    cells: &mut Vec<Cell<AnyLayout>>,
+) -> Option<u32>
+    requires ours { IsOf sys.now pass.old }
+    requires there { place < sys.now.procs }
+    requires few { object < 16 }
+    requires inside { IsInside pass.old.view.visitor.place object row }
+    requires room { 1 ≤ vec_capacity cells.old }
+    requires none { cells.old.items ≡ [] }
+    requires held { pass.old.view.taker.held ≡ [] }
+    ensures same { IsSamePass pass.old pass.new }
+    ensures takes { Takes (any_layouts sys.now.procs sys.now.callers) sys.now.layouts pass.old.seat result (cell_of object row place ∷ []) pass.old.view pass.new.view cells.new.items }
+    ensures may { MayGiveBack (any_layouts sys.now.procs sys.now.callers) sys.now.layouts pass.new.seat pass.new.view cells.new.items }
+{
+    layouts_are_lawful(sys);
+    let _home = pass.processor();
+    let _procs = sys.procs();
+    take_next(sys, pass, cell_number(object, row, place), cells)
+}
+
+/// Takes the cells that a call needs. Where another caller has one of them, it answers which caller, and those before
+/// it are taken.
+pub(crate) fn take_cells(
+    sys: &Sys<AnyLayout>,
+    pass: &mut Pass<AnyLayout>,
+    inside: &Inside,
+    reach: &Reach,
+    cells: &mut Vec<Cell<AnyLayout>>,
+) -> Option<u32>
+    requires ours { IsOf sys.now pass.old }
+    requires there { IsThere sys.now.procs reach.now }
+    requires few { inside.now.object < 16 }
+    requires inside { IsInside pass.old.view.visitor.place inside.now.object inside.now.incarnation }
+    requires room { many_reached sys.now.procs reach.now ≤ vec_capacity cells.old }
+    requires none { cells.old.items ≡ [] }
+    requires held { pass.old.view.taker.held ≡ [] }
+    ensures same { IsSamePass pass.old pass.new }
+    ensures takes { Takes (any_layouts sys.now.procs sys.now.callers) sys.now.layouts pass.old.seat result (cells_reached sys.now.procs inside.now.object inside.now.incarnation reach.now) pass.old.view pass.new.view cells.new.items }
+    ensures may { MayGiveBack (any_layouts sys.now.procs sys.now.callers) sys.now.layouts pass.new.seat pass.new.view cells.new.items }
+{
+    let (object, row) = (inside.object, inside.incarnation);
+    match *reach {
+        Reach::One(place) => take_one(sys, pass, object, row, place, cells),
+        Reach::All => take_row(sys, pass, object, row, cells),
+    }
+}
+
+/// Puts one cell back, and leaves its lock.
+fn give_next(sys: &Sys<AnyLayout>, pass: &mut Pass<AnyLayout>, cell: Cell<AnyLayout>)
+    requires ours { IsOf sys.now pass.old }
+    requires ready { IsReady (any_layouts sys.now.procs sys.now.callers) sys.now.layouts pass.old.seat pass.old.view cell }
+    ensures same { IsSamePass pass.old pass.new }
+    ensures released { pass.new.view ≡ released (cell.number ∷ []) pass.old.view }
+{
+    let number = cell.number();
+    put(sys, pass, number, cell);
+    unlock(sys, pass, number);
+}
+
+/// Gives all cells back.
+pub(crate) fn give_back(
+    sys: &Sys<AnyLayout>,
+    pass: &mut Pass<AnyLayout>,
+    mut cells: Vec<Cell<AnyLayout>>,
+)
+    requires ours { IsOf sys.now pass.old }
+    requires may { MayGiveBack (any_layouts sys.now.procs sys.now.callers) sys.now.layouts pass.old.seat pass.old.view cells.items }
+    ensures same { IsSamePass pass.old pass.new }
+    ensures released { pass.new.view ≡ released (numbers_of cells.items) pass.old.view }
+{
+    while let Some(cell) = cells.pop() {
+        give_next(sys, pass, cell);
+    }
+}

@@ -1,10 +1,10 @@
 //! A system is closed.
 ghost use Rattle.std.specs.Prelude.{◌≡◌, ◌≤◌, ◌+◌, ◌++◌, length, map, vec_items, IfOk, IfErr, OnOk};
 ghost use Rattle.k42_limits.specs.declared.TheConstants.{CALLERS};
-ghost use Rattle.k42_rule.specs.Finishing.{AreAtRest, lists_in};
+ghost use Rattle.k42_rule.specs.Finishing.{lists_in};
 ghost use Rattle.k42_stamp.specs.Lists.{IsMerged};
 ghost use Rattle.k42_runtime.specs.Closing.{AreNumbered, AreListsFrom};
-ghost use Rattle.k42_runtime.specs.Histories.{IsClosed};
+ghost use Rattle.k42_runtime.specs.Histories.{IsClosed, MayClose};
 
 use crate::history::{History, Unclosed};
 use crate::system::{Pass, System};
@@ -52,7 +52,7 @@ fn merged(alloc: Global, passes: &[Pass]) -> Result<Vec<Entry>, Memory>
 impl System {
     /// The one history of all its passes' entries.
     pub fn close(self, alloc: Global, passes: Vec<Pass>) -> Result<History, Unclosed>
-        requires { AreAtRest self.sys passes.items }
+        requires { MayClose self passes.items }
         ensures ok { IfOk result (IsClosed self.plan (lists_in passes.items)) }
         ensures err { IfErr result (λ back. (back.system ≡ self) × (back.passes.items ≡ passes.items)) }
     {

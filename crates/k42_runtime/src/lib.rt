@@ -10,6 +10,7 @@ mod laws;
 mod phases;
 mod plan;
 mod serving;
+mod stepping;
 mod swaps;
 mod system;
 mod waiting;

@@ -3,12 +3,11 @@ ghost use Rattle.std.specs.Prelude.{◌≡◌, ◌<◌, ◌≤◌, ◌+◌, true
 ghost use Rattle.k42_limits.specs.declared.TheConstants.{LAST_INCARNATION};
 ghost use Rattle.k42_kinds.specs.Objects.{plain_object};
 ghost use Rattle.co_any.specs.Layouts.{act_of};
-ghost use Rattle.k42_board.specs.Tabling.{is_over_in};
 ghost use Rattle.k42_board.specs.Values.{incarnation_in};
 ghost use Rattle.k42_board.specs.Views.{word_begun};
 ghost use Rattle.k42_mediator.specs.Transfers.{IsOfKind};
-ghost use Rattle.k42_runtime.specs.Phases.{IsMoving, cause_in, end_in, HasStepped};
-ghost use Rattle.k42_runtime.specs.Swaps.{IsAtStage, IsUnderWay, HasFoundFree, act_asked};
+ghost use Rattle.k42_runtime.specs.Phases.{IsMoving, cause_in, end_in};
+ghost use Rattle.k42_runtime.specs.Swaps.{IsAtStage, IsUnderWay, HasFoundFree, HasStepped, act_asked};
 ghost use Rattle.k42_runtime.specs.Systems.{IsPassHere};
 ghost use Rattle.k42_runtime.specs.declared.swaps.Stage.TheVariants as Stage;
 ghost use Rattle.k42_runtime.specs.declared.swaps.Step.TheVariants as Step;

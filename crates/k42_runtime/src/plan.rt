@@ -15,15 +15,15 @@ pub struct ObjectPlan {
 }
 
 /// Why there is no such system.
-#[derive(Clone, Copy, Debug, PartialEq, Eq)]
+#[derive(Clone, Copy, Debug, PartialEq, Eq, thiserror::Error)]
 pub enum PlanFault {
-    /// There are 1 to 8 processors.
+    #[error("there are 1 to 8 processors")]
     Procs,
-    /// There are 1 to 16 objects.
+    #[error("there are 1 to 16 objects")]
     Objects,
-    /// There are 1 to 16 callers.
+    #[error("there are 1 to 16 callers")]
     Callers,
-    /// The caller's processor is not there.
+    #[error("the processor of caller {caller} is not there")]
     Processor { caller: u32 },
 }
 

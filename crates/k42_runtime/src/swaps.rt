@@ -1,12 +1,8 @@
 //! Swaps and destroys, which may be stepped where nobody may wait.
-ghost use Rattle.std.specs.Prelude.{◌≡◌, ◌≤◌, ◌+◌, false, length, None};
-ghost use Rattle.k42_board.specs.Views.{word_begun};
-ghost use Rattle.k42_runtime.specs.Swaps.{IsAtStage, IsSameCaller, HasSwapped, HasGivenUp, IsFound, IsStepBy, is_over, is_last, graces_due};
-ghost use Rattle.k42_runtime.specs.Systems.{IsPassHere, layouts_in};
-ghost use Rattle.k42_runtime.specs.declared.swaps.Cause.{Cause};
+ghost use Rattle.std.specs.Prelude.{◌≡◌, false, length, None};
+ghost use Rattle.k42_runtime.specs.Swaps.{IsAtStage, HasStepped, is_over};
+ghost use Rattle.k42_runtime.specs.Systems.{IsPassHere};
 ghost use Rattle.k42_runtime.specs.declared.swaps.Stage.TheVariants as Stage;
-ghost use Rattle.k42_runtime.specs.declared.swaps.Step.TheVariants as Step;
-ghost use Rattle.k42_runtime.specs.declared.swaps.Swapped.{Swapped};
 
 use crate::system::{Pass, System};
 use k42_kinds::LayoutName;
@@ -109,17 +105,7 @@ impl Swap {
         requires ours { IsPassHere system.now pass.old }
         requires stage { IsAtStage self.old.stage (length system.now.plan.objects) self.old pass.old }
         requires going { is_over self.old.stage ≡ false }
-        ensures here { IsPassHere system.now pass.new }
-        ensures stage { IsAtStage self.new.stage (length system.now.plan.objects) self.new pass.new }
-        ensures same { (self.new.object ≡ self.old.object) × (self.new.to ≡ self.old.to) }
-        ensures over { is_over self.new.stage ≡ is_last result }
-        ensures seat { pass.new.seat ≡ pass.old.seat }
-        ensures caller { IsSameCaller pass.old.view pass.new.view }
-        ensures graces { pass.new.view.graces + graces_due self.new.stage self.new.holder ≤ pass.old.view.graces + graces_due self.old.stage self.old.holder }
-        ensures told { IsStepBy (word_begun pass.new.view.last) result }
-        ensures ended { (end : Swapped) → result ≡ Step.Ended end → HasSwapped self.old.object self.old.to end pass.old.view pass.new.view }
-        ensures again { (cause : Cause) → result ≡ Step.Again cause → (pass.new.view.taker.mine ≡ pass.old.view.taker.mine) × IsFound cause pass.new.view }
-        ensures memory { result ≡ Step.Memory → HasGivenUp (layouts_in system.now) system.now.sys.layouts pass.old.seat self.old.object self.old.to pass.old.view pass.new.view }
+        ensures { HasStepped system.now result self.old self.new pass.old pass.new }
     {
         match self.stage {
             Stage::New => self.begin(alloc, system, pass),

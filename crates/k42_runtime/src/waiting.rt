@@ -1,11 +1,9 @@
 //! Swaps and destroys that wait, and rows that are freed.
-ghost use Rattle.std.specs.Prelude.{◌≡◌, ◌≤◌, ◌+◌, ◌++◌, ◌<◌, ℕ, List, [], Option, length, IfOk, OnErr};
+ghost use Rattle.std.specs.Prelude.{◌≡◌, ◌+◌, ◌<◌, false, [], length};
 ghost use Rattle.k42_board.specs.Generations.{MOST};
-ghost use Rattle.k42_board.specs.Steps.{Always};
-ghost use Rattle.k42_board.specs.Views.{word_begun};
-ghost use Rattle.k42_board.specs.declared.view.Row.{Row};
-ghost use Rattle.k42_quiesce.specs.Reclaiming.{Reclaims, AreRowsFreed};
-ghost use Rattle.k42_runtime.specs.Swaps.{MayStart, IsSameCaller, HasSwapped, HasGivenUp, IsEndBy};
+ghost use Rattle.k42_runtime.specs.Phases.{last_step};
+ghost use Rattle.k42_runtime.specs.Reclaims.{HasReclaimed};
+ghost use Rattle.k42_runtime.specs.Swaps.{MayStart, IsAtStage, IsSameCaller, HasStepped, HasEnded, is_over};
 ghost use Rattle.k42_runtime.specs.Systems.{IsPassHere, IsAtRest, layouts_in};
 ghost use Rattle.k42_runtime.specs.declared.swaps.To.TheVariants as To;
 
@@ -14,11 +12,57 @@ use crate::system::{Pass, System};
 use crossbeam_utils::Backoff;
 use k42_kinds::LayoutName;
 use k42_memory::Memory;
-use k42_quiesce::{collect, grace, hand_over};
+use k42_quiesce::{collect, grace, hand_over, reclaim};
 use std::alloc::Global;
 use std::sync::Wait;
 
+/// Steps the swap until it is over.
+fn carry_out<R: Wait>(
+    rt: &R,
+    alloc: Global,
+    system: &System,
+    pass: &mut Pass,
+    swap: &mut Swap,
+) -> Result<Swapped, Memory>
+    requires ours { IsPassHere system.now pass.old }
+    requires stage { IsAtStage swap.old.stage (length system.now.plan.objects) swap.old pass.old }
+    requires going { is_over swap.old.stage ≡ false }
+    ensures { HasStepped system.now (last_step result) swap.old swap.new pass.old pass.new }
+{
+    let backoff = Backoff::new();
+    for _ in rt.forever() {
+        match swap.step(alloc, system, pass) {
+            Step::Again(_) => backoff.snooze(),
+            Step::Ended(end) => return Ok(end),
+            Step::Memory => return Err(Memory),
+        }
+    }
+    unreachable!()
+}
+
 impl System {
+    /// Swaps the object to that, or destroys it. Its grace serves the rows that others have handed over, and those that
+    /// are not freed yet are handed over to the next.
+    fn swap_to<R: Wait>(
+        &self,
+        rt: &R,
+        alloc: Global,
+        pass: &mut Pass,
+        object: u32,
+        to: To,
+    ) -> Result<Swapped, Memory>
+        requires ours { IsPassHere self.now pass.old }
+        requires may { MayStart (length self.now.plan.objects) object pass.old }
+        ensures { HasEnded self.now object to result pass.old pass.new }
+    {
+        collect(rt, &self.sys, pass);
+        let mut swap = Swap::new(object, to);
+        let end = carry_out(rt, alloc, self, pass, &mut swap);
+        // Rows for which there is no memory stay with the pass.
+        let _ = hand_over(rt, &self.sys, pass);
+        end
+    }
+
     /// Replaces the implementation of the object while it is called. Waits for the activities that are open, for the calls
     /// that are inside, and for the graces of others.
     pub fn swap<R: Wait>(
@@ -31,15 +75,9 @@ impl System {
     ) -> Result<Swapped, Memory>
         requires ours { IsPassHere self.now pass.old }
         requires may { MayStart (length self.now.plan.objects) object pass.old }
-        ensures here { IsPassHere self.now pass.new }
-        ensures rests { IsAtRest pass.new.view }
-        ensures caller { IsSameCaller pass.old.view pass.new.view }
-        ensures graces { pass.new.view.graces ≤ pass.old.view.graces + 1 }
-        ensures told { IfOk result (IsEndBy (word_begun pass.new.view.last)) }
-        ensures ended { IfOk result (λ end. HasSwapped object (To.Layout to) end pass.old.view pass.new.view) }
-        ensures memory { OnErr result (HasGivenUp (layouts_in self.now) self.now.sys.layouts pass.old.seat object (To.Layout to) pass.old.view pass.new.view) }
+        ensures { HasEnded self.now object (To.Layout to) result pass.old pass.new }
     {
-        unreachable!()
+        self.swap_to(rt, alloc, pass, object, To::Layout(to))
     }
 
     /// The same with the dead implementation, which answers every call with `Gone`.
@@ -52,15 +90,9 @@ impl System {
     ) -> Result<Swapped, Memory>
         requires ours { IsPassHere self.now pass.old }
         requires may { MayStart (length self.now.plan.objects) object pass.old }
-        ensures here { IsPassHere self.now pass.new }
-        ensures rests { IsAtRest pass.new.view }
-        ensures caller { IsSameCaller pass.old.view pass.new.view }
-        ensures graces { pass.new.view.graces ≤ pass.old.view.graces + 1 }
-        ensures told { IfOk result (IsEndBy (word_begun pass.new.view.last)) }
-        ensures ended { IfOk result (λ end. HasSwapped object To.Dead end pass.old.view pass.new.view) }
-        ensures memory { OnErr result (HasGivenUp (layouts_in self.now) self.now.sys.layouts pass.old.seat object To.Dead pass.old.view pass.new.view) }
+        ensures { HasEnded self.now object To.Dead result pass.old pass.new }
     {
-        unreachable!()
+        self.swap_to(rt, alloc, pass, object, To::Dead)
     }
 
     /// Frees the old rows that the pass holds and those that were handed over to it, once nobody can reach them, and
@@ -71,14 +103,15 @@ impl System {
         requires few { pass.old.view.graces < MOST }
         ensures here { IsPassHere self.now pass.new }
         ensures rests { IsAtRest pass.new.view }
+        ensures seat { pass.new.seat ≡ pass.old.seat }
         ensures caller { IsSameCaller pass.old.view pass.new.view }
         ensures graces { pass.new.view.graces ≡ pass.old.view.graces + 1 }
         ensures entries { pass.new.view.taker.mine ≡ pass.old.view.taker.mine }
         ensures none { pass.new.view.rows ≡ [] }
-        ensures freed { (noted : List (Option ℕ)) × Reclaims (layouts_in self.now) self.now.sys.layouts pass.old.seat noted result }
-        ensures rows { (collected : List Row) × Always (layouts_in self.now) self.now.sys.layouts pass.old.seat pass.new.view
-            (AreRowsFreed (pass.old.view.rows ++ collected)) }
+        ensures reclaimed { HasReclaimed (layouts_in self.now) self.now.sys.layouts result pass.old pass.new }
     {
-        unreachable!()
+        collect(rt, &self.sys, pass);
+        grace(rt, &self.sys, pass);
+        reclaim(&self.sys, pass)
     }
 }

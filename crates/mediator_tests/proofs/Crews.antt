@@ -1,17 +1,13 @@
 -- Lists of passes.
-use Rattle.std.proofs.Common.{◌≡◌, ℕ, zero, suc, leb, List, [], ◌∷◌, ◌++◌, Option, Some, None, length, sym, ap, ◌∙◌, subst}
+use Rattle.std.proofs.Common.{◌≡◌, ℕ, zero, suc, List, [], ◌∷◌, ◌++◌, Option, Some, None, length, sym, ap, ◌∙◌, subst}
 use Rattle.std.specs.List.{slice_get}
 use Rattle.std.specs.Option.{IfSome, option_to_list}
-use Rattle.std.proofs.lemmas.Bool.{le-leb}
 use Rattle.std.proofs.lemmas.Option.{same_Some}
-use Rattle.co_any.specs.declared.layout.AnyLayout.{AnyLayout}
 use Rattle.k42_places.proofs.Appended.{slice_get-append_left, slice_get-append_seam}
-use Rattle.k42_joined.specs.Swapping.{holds_none}
 use Rattle.k42_board.specs.Seen.{SysSeen, PassSeen}
 use Rattle.k42_board.specs.Starting.{IsStarted}
 use Rattle.k42_board.specs.declared.view.PassView.{PassView}
 use Rattle.k42_rule.specs.Finishing.{AreAtRest, IsPassAtRest}
-use Rattle.k42_rule.specs.Tags.{HaveTags}
 use Rattle.mediator_tests.specs.Ready.{IsFree, AreFree, RestsAt}
 
 module _ {L P : Type 0} (sys : SysSeen L) where
@@ -27,10 +23,6 @@ module _ {L P : Type 0} (sys : SysSeen L) where
   last_free passes front None free e = tt
   last_free passes front (Some pass) free e = (subst (AreFree sys) e free) (length front) pass (slice_get-append_seam front pass [])
 
--- all layouts of this type have all tags
-pub any_tags : (layouts : List AnyLayout) → HaveTags (λ (layout : AnyLayout) tag. leb tag 2) layouts
-any_tags layouts o layout e tag few = le-leb tag 2 few
-
 -- the passes of a system that has started hold no cell
 pub new_two : {L P : Type 0} (layouts : List L) (procs : ℕ) (callers : List ℕ) (sys : SysSeen L) (passes : List (PassSeen P))
     → IsStarted layouts procs callers sys passes → length callers ≡ 2 → AreFree sys passes × (length sys.callers ≡ 2)
@@ -38,7 +30,8 @@ new_two {L} {P} layouts procs callers sys passes is two = (free, ap length is.ca
   free : AreFree sys passes
   free c pass e = record {
     ours = is.passes_are c pass e;
-    held = ap (λ (v : PassView P). holds_none v.taker.held) (is.dealt.each c pass e).new;
+    held = ap (λ (v : PassView P). v.taker.held) (is.dealt.each c pass e).new;
+    notes = ap (λ (v : PassView P). v.notes) (is.dealt.each c pass e).new;
   }
 
 module _ {L P : Type 0} (sys : SysSeen L) where

@@ -1,2 +1,4 @@
 pub mod Crews
+pub mod FirstCell
 pub mod Handed
+pub mod OneCell

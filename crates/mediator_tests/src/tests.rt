@@ -1,47 +1,56 @@
 ghost use Rattle.std.specs.Prelude.{OnOk};
 ghost use Rattle.mediator_tests.specs.Ready.{IsFree};
 
-use crate::tests::calls::{
-    end_activity, end_call, find_busy, keep_out, let_in, look, start_activity,
-};
-use crate::tests::crews::{Walk, finish, last, start};
-use crate::tests::phases::{give_up, move_now, send_to_mediator, shut, wait_quiet};
+use crate::tests::calls::{end, end_activity, find_busy, keep_out, let_in, look, start_activity};
+use crate::tests::crews::{finish, last, start};
+use crate::tests::phases::{close, give_up, move_now, send_to_mediator, try_early, wait_quiet};
 use co_any::AnyLayout;
-use k42_kinds::{Act, Answer, Entry, LayoutName};
+use k42_kinds::{Act, Answer, Entry, KindName, LayoutName};
+use k42_mediator::Phase;
 use k42_memory::Memory;
-use k42_rule::Sys;
+use k42_rule::{Pass, Sys};
 use std::process::Abort;
 use std::test::Fail;
 
+mod balky;
 mod calls;
 mod crews;
+mod over;
 mod phases;
+mod refused;
+mod steps;
 
 /// One pass swaps an object and gives up. Another one meets it three times.
 fn meet(
     rt: &impl Abort,
     sys: &Sys<AnyLayout>,
-    caller: &mut Walk,
-    swapper: &mut Walk,
+    caller: &mut Pass<AnyLayout>,
+    swapper: &mut Pass<AnyLayout>,
 ) -> Result<(), Memory>
     requires caller { IsFree sys.now caller.old }
     requires swapper { IsFree sys.now swapper.old }
     ensures caller { OnOk result (IsFree sys.now caller.new) }
     ensures swapper { OnOk result (IsFree sys.now swapper.new) }
 {
-    send_to_mediator(rt, sys, swapper, 0);
-    find_busy(rt, sys, caller, 0);
+    send_to_mediator(rt, sys, swapper);
+    find_busy(rt, sys, caller, Phase::Forward);
     wait_quiet(rt, sys, swapper);
     start_activity(rt, sys, caller);
-    look(rt, sys, caller, 0);
-    let_in(rt, sys, caller, 0);
-    shut(rt, sys, swapper);
-    end_call(sys, caller);
-    look(rt, sys, caller, 0);
-    keep_out(rt, sys, caller, 0);
+    look(rt, sys, caller);
+    let_in(rt, sys, caller);
+    close(rt, sys, swapper);
+    try_early(rt, sys, swapper);
+    end(sys, caller);
+    look(rt, sys, caller);
+    keep_out(rt, sys, caller);
     end_activity(sys, caller);
     move_now(rt, sys, swapper);
-    give_up(rt, sys, swapper, 0)
+    give_up(
+        rt,
+        sys,
+        swapper,
+        &AnyLayout::of(KindName::Counter, LayoutName::Spread),
+    )
 }
 
 /// Whether the entry tells that the first swap of the first object was given up.
@@ -54,7 +63,8 @@ fn is_given_up(entry: &Entry) -> bool {
 
 #[test]
 fn callers_meet_a_mediator(rt: HostRuntime) -> Result<(), Fail> {
-    let (sys, mut passes) = start(rt.alloc())?;
+    let counter = AnyLayout::of(KindName::Counter, LayoutName::Shared);
+    let (sys, mut passes) = start(rt.alloc(), counter)?;
     let (Some(mut one), Some(mut zero)) = (last(&sys, &mut passes), last(&sys, &mut passes)) else {
         return Err("no passes")?;
     };

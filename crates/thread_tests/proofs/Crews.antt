@@ -6,7 +6,6 @@ use Rattle.std.proofs.lemmas.Bool.{le-leb}
 use Rattle.std.proofs.lemmas.Option.{same_Some}
 use Rattle.co_any.specs.declared.layout.AnyLayout.{AnyLayout}
 use Rattle.k42_places.proofs.Appended.{slice_get-append_left, slice_get-append_seam}
-use Rattle.k42_joined.specs.Swapping.{holds_none}
 use Rattle.k42_board.specs.Seen.{SysSeen, PassSeen}
 use Rattle.k42_board.specs.Starting.{IsStarted}
 use Rattle.k42_board.specs.declared.view.PassView.{PassView}
@@ -38,7 +37,8 @@ new_four {L} {P} layouts procs callers sys passes is four = (free, ap length is.
   free : AreFree sys passes
   free c pass e = record {
     ours = is.passes_are c pass e;
-    held = ap (λ (v : PassView P). holds_none v.taker.held) (is.dealt.each c pass e).new;
+    held = ap (λ (v : PassView P). v.taker.held) (is.dealt.each c pass e).new;
+    notes = ap (λ (v : PassView P). v.notes) (is.dealt.each c pass e).new;
   }
 
 module _ {L P : Type 0} (sys : SysSeen L) where

@@ -1,14 +1,13 @@
 //! Three passes call on two processors while a fourth swaps, each on a thread of its own.
-ghost use Rattle.std.specs.Prelude.{IfOk};
 ghost use Rattle.std.specs.Thread.{IsSync};
 ghost use Rattle.thread_tests.specs.Ready.{IsFree};
 
 use crate::tests::crews::{Walk, finish, last, start};
-use crate::tests::phases::swap;
-use crate::tests::visits::visit_often;
+use crate::tests::lists::{are_adds, calls_in, is_sum, is_swap, stand_once};
+use crate::tests::rounds::{Called, Progress, add_all, swap_all};
+use crate::tests::visits::visit_once;
 use co_any::AnyLayout;
-use k42_kinds::{Answer, Entry};
-use k42_memory::Memory;
+use k42_kinds::Op;
 use k42_rule::Sys;
 use std::alloc::Global;
 use std::process::Abort;
@@ -18,77 +17,60 @@ use std::thread;
 use std::thread::Threads;
 
 mod crews;
+mod lists;
 mod phases;
+mod rounds;
+mod steps;
 mod visits;
 
-/// How often each of the three calls.
-const TIMES: u32 = 1000;
-
-/// Swaps to the shared layout, to the spread one, and to the shared one again. Each but the first frees the row of the
-/// one before.
-fn swap_thrice<R: Abort + Wait>(
-    rt: &R,
-    alloc: Global,
-    sys: &Sys<AnyLayout>,
-    mut pass: Walk,
-) -> Result<Walk, Memory>
-    requires { IsFree sys.now pass }
-    ensures { IfOk result (λ out. IsFree sys.now out) }
-{
-    swap(rt, alloc, sys, &mut pass, 0, 0, 0)?;
-    swap(rt, alloc, sys, &mut pass, 0, 1, 1)?;
-    swap(rt, alloc, sys, &mut pass, 0, 0, 1)?;
-    Ok(pass)
-}
-
-/// Two passes call.
-fn call_twice<R: Threads + Abort + Wait + Sync>(
+/// Two passes add.
+fn add_twice<R: Threads + Abort + Wait + Sync>(
     rt: &R,
     alloc: Global,
     sys: &Sys<AnyLayout>,
     one: Walk,
     other: Walk,
-) -> Result<(Walk, Walk), Memory>
+    progress: &Progress,
+) -> (Called, Called)
     requires { IsFree sys.now one × IsFree sys.now other }
-    ensures { IfOk result (λ out. IsFree sys.now out.0 × IsFree sys.now out.1) }
+    ensures { IsFree sys.now result.0.0 × IsFree sys.now result.1.0 }
 {
-    let (one, other) = thread::join(
+    thread::join(
         rt,
-        move || -> Result<Walk, Memory>
+        move || -> Called
             requires { IsFree sys.now one }
-            ensures { IfOk result (λ out. IsFree sys.entry.now out) }
-        { visit_often(rt, alloc, sys, one, TIMES) },
-        move || -> Result<Walk, Memory>
+            ensures { IsFree sys.entry.now result.0 }
+        { add_all(rt, alloc, sys, one, progress) },
+        move || -> Called
             requires { IsFree sys.now other }
-            ensures { IfOk result (λ out. IsFree sys.entry.now out) }
-        { visit_often(rt, alloc, sys, other, TIMES) },
-    );
-    Ok((one?, other?))
+            ensures { IsFree sys.entry.now result.0 }
+        { add_all(rt, alloc, sys, other, progress) },
+    )
 }
 
-/// One pass calls, and another swaps.
-fn call_and_swap<R: Threads + Abort + Wait + Sync>(
+/// One pass adds, and another swaps.
+fn add_and_swap<R: Threads + Abort + Wait + Sync>(
     rt: &R,
     alloc: Global,
     sys: &Sys<AnyLayout>,
     one: Walk,
     other: Walk,
-) -> Result<(Walk, Walk), Memory>
+    progress: &Progress,
+) -> (Called, Walk)
     requires { IsFree sys.now one × IsFree sys.now other }
-    ensures { IfOk result (λ out. IsFree sys.now out.0 × IsFree sys.now out.1) }
+    ensures { IsFree sys.now result.0.0 × IsFree sys.now result.1 }
 {
-    let (one, other) = thread::join(
+    thread::join(
         rt,
-        move || -> Result<Walk, Memory>
+        move || -> Called
             requires { IsFree sys.now one }
-            ensures { IfOk result (λ out. IsFree sys.entry.now out) }
-        { visit_often(rt, alloc, sys, one, TIMES) },
-        move || -> Result<Walk, Memory>
+            ensures { IsFree sys.entry.now result.0 }
+        { add_all(rt, alloc, sys, one, progress) },
+        move || -> Walk
             requires { IsFree sys.now other }
-            ensures { IfOk result (λ out. IsFree sys.entry.now out) }
-        { swap_thrice(rt, alloc, sys, other) },
-    );
-    Ok((one?, other?))
+            ensures { IsFree sys.entry.now result }
+        { swap_all(rt, alloc, sys, other, progress) },
+    )
 }
 
 /// All four at once.
@@ -98,33 +80,28 @@ fn run<R: Threads + Abort + Wait + Sync>(
     sys: &Sys<AnyLayout>,
     front: (Walk, Walk),
     back: (Walk, Walk),
-) -> Result<((Walk, Walk), (Walk, Walk)), Memory>
+    progress: &Progress,
+) -> ((Called, Called), (Called, Walk))
     requires front { IsFree sys.now front.0 × IsFree sys.now front.1 }
     requires back { IsFree sys.now back.0 × IsFree sys.now back.1 }
-    ensures front { IfOk result (λ out. IsFree sys.now out.0.0 × IsFree sys.now out.0.1) }
-    ensures back { IfOk result (λ out. IsFree sys.now out.1.0 × IsFree sys.now out.1.1) }
+    ensures front { IsFree sys.now result.0.0.0 × IsFree sys.now result.0.1.0 }
+    ensures back { IsFree sys.now result.1.0.0 × IsFree sys.now result.1.1 }
 {
-    let (front, back) = thread::join(
+    thread::join(
         rt,
-        move || -> Result<(Walk, Walk), Memory>
+        move || -> (Called, Called)
             requires { IsSync R.row × IsFree sys.now front.0 × IsFree sys.now front.1 }
-            ensures { IfOk result (λ out. IsFree sys.entry.now out.0 × IsFree sys.entry.now out.1) }
-        { call_twice(rt, alloc, sys, front.0, front.1) },
-        move || -> Result<(Walk, Walk), Memory>
+            ensures { IsFree sys.entry.now result.0.0 × IsFree sys.entry.now result.1.0 }
+        { add_twice(rt, alloc, sys, front.0, front.1, progress) },
+        move || -> (Called, Walk)
             requires { IsSync R.row × IsFree sys.now back.0 × IsFree sys.now back.1 }
-            ensures { IfOk result (λ out. IsFree sys.entry.now out.0 × IsFree sys.entry.now out.1) }
-        { call_and_swap(rt, alloc, sys, back.0, back.1) },
-    );
-    Ok((front?, back?))
-}
-
-/// Whether the entry tells of the swap of the object to its incarnation of that number.
-fn is_swap(entry: &Entry, number: u32) -> bool {
-    entry.object == 0 && entry.stamp == u64::from(number) && entry.answer == Answer::Swapped(number)
+            ensures { IsFree sys.entry.now result.0.0 × IsFree sys.entry.now result.1 }
+        { add_and_swap(rt, alloc, sys, back.0, back.1, progress) },
+    )
 }
 
 #[test]
-fn calls_on_two_processors_go_on_under_swaps(rt: HostRuntime) -> Result<(), Fail> {
+fn calls_and_swaps_on_two_processors_leave_every_entry_once(rt: HostRuntime) -> Result<(), Fail> {
     let (sys, mut passes) = start(rt.alloc())?;
     let (Some(three), Some(two), Some(one), Some(zero)) = (
         last(&sys, &mut passes),
@@ -134,17 +111,28 @@ fn calls_on_two_processors_go_on_under_swaps(rt: HostRuntime) -> Result<(), Fail
     ) else {
         return Err("no passes")?;
     };
-    let (front, back) = run(&rt, rt.alloc(), &sys, (zero, one), (two, three))?;
-    assert_eq!(rt; front.0.activities(), TIMES);
-    assert_eq!(rt; front.1.activities(), TIMES);
-    assert_eq!(rt; back.0.activities(), TIMES);
-    assert_eq!(rt; back.1.graces(), 3);
-    let Some(lists) = finish(rt.alloc(), sys, front.0, front.1, back.0, back.1)? else {
+    let progress = Progress::new();
+    let (front, back) = run(&rt, rt.alloc(), &sys, (zero, one), (two, three), &progress);
+    let ((mut zero, firsts), (one, seconds)) = front;
+    let ((two, thirds), three) = back;
+    assert_eq!(rt; three.graces(), 3);
+    let stamp = visit_once(&rt, rt.alloc(), &sys, &mut zero, 0, &Op::Get)?;
+    let Some(mut lists) = finish(rt.alloc(), sys, zero, one, two, three)? else {
         return Err("a pass does not rest")?;
     };
     assert_eq!(rt; lists.len(), 4);
-    assert!(rt; lists[0].is_empty() && lists[1].is_empty() && lists[2].is_empty());
+    assert!(rt; stand_once(rt.alloc(), lists.as_slice())?);
+    let Some(sum) = lists[0].pop() else {
+        return Err("no entry of the sum")?;
+    };
+    assert!(rt; is_sum(&sum, 0, 1000, 100_010_001_000) && sum.stamp == stamp);
+    assert!(rt; firsts.len() == 1000 && are_adds(lists[0].as_slice(), 0, firsts.as_slice()));
+    assert!(rt; seconds.len() == 1000 && are_adds(lists[1].as_slice(), 1, seconds.as_slice()));
+    assert!(rt; thirds.len() == 1000 && are_adds(lists[2].as_slice(), 2, thirds.as_slice()));
     assert_eq!(rt; lists[3].len(), 3);
     assert!(rt; is_swap(&lists[3][0], 1) && is_swap(&lists[3][1], 2) && is_swap(&lists[3][2], 3));
+    for row in 0..4 {
+        assert!(rt; calls_in(lists.as_slice(), row) >= 100);
+    }
     Ok(())
 }

@@ -1,27 +1,27 @@
-//! Systems of one counter on one processor, and the passes of their two callers.
+//! Systems of one object on one processor, and the passes of their two callers.
 ghost use Rattle.std.specs.Prelude.{◌≡◌, true, length, IfOk, IfSome};
+ghost use Rattle.k42_rule.specs.Tags.{HasTags};
 ghost use Rattle.mediator_tests.specs.Ready.{IsFree, AreFree, RestsAt};
 
-use co_any::AnyLayout;
-use k42_kinds::{Entry, KindName, LayoutName};
+use k42_kinds::{Entry, Layout};
 use k42_memory::Memory;
 use k42_rule::{Pass, Sys};
 use std::alloc::Global;
 
-pub(super) type Walk = Pass<AnyLayout>;
-
-#[tactic(auto, using(crate::proofs::Crews::any_tags))]
-pub(super) fn start(alloc: Global) -> Result<(Sys<AnyLayout>, Vec<Walk>), Memory>
+pub(super) fn start<L: Layout>(alloc: Global, layout: L) -> Result<(Sys<L>, Vec<Pass<L>>), Memory>
+    requires live { L.tag_of layout ≡ 0 }
+    requires tags { HasTags L.has_tag layout }
     ensures { IfOk result (λ made. AreFree made.0 made.1.items × (length made.0.callers ≡ 2)) }
 {
-    let layouts = vec![in alloc; AnyLayout::of(KindName::Counter, LayoutName::Shared)]?;
+    let mut layouts = Vec::new(alloc);
+    layouts.push(layout)?;
     let callers = vec![in alloc; 0, 0]?;
     let (sys, passes) = Sys::start(alloc, layouts, 1, callers)?;
     Ok((sys, passes))
 }
 
 /// Takes the last pass out of the list.
-pub(super) fn last(sys: &Sys<AnyLayout>, passes: &mut Vec<Walk>) -> Option<Walk>
+pub(super) fn last<L: Layout>(sys: &Sys<L>, passes: &mut Vec<Pass<L>>) -> Option<Pass<L>>
     requires free { AreFree sys.now passes.old.items }
     ensures free { AreFree sys.now passes.new.items }
     ensures out { IfSome result (λ pass. IsFree sys.now pass) }
@@ -29,23 +29,23 @@ pub(super) fn last(sys: &Sys<AnyLayout>, passes: &mut Vec<Walk>) -> Option<Walk>
     passes.pop()
 }
 
-fn rests(pass: &Walk, caller: u32) -> bool
+fn rests<L: Layout>(pass: &Pass<L>, caller: u32) -> bool
     ensures { result ≡ true → RestsAt caller pass.now }
 {
     pass.caller() == caller && pass.is_idle()
 }
 
 /// The lists of the two callers, where they rest.
-pub(super) fn finish(
+pub(super) fn finish<L: Layout>(
     alloc: Global,
-    sys: Sys<AnyLayout>,
-    one: Walk,
-    two: Walk,
+    sys: Sys<L>,
+    one: Pass<L>,
+    two: Pass<L>,
 ) -> Result<Option<Vec<Vec<Entry>>>, Memory>
     requires callers { length sys.callers ≡ 2 }
     requires free { IsFree sys one × IsFree sys two }
 {
-    if !rests(&one, 0) || !rests(&two, 1) {
+    if !rests::<L>(&one, 0) || !rests::<L>(&two, 1) {
         return Ok(None);
     }
     let mut passes = Vec::new(alloc);

@@ -1,42 +1,43 @@
-//! The phases of a swap that is given up.
-ghost use Rattle.std.specs.Prelude.{◌≡◌, true, None, OnOk};
+//! The phases of a swap.
+ghost use Rattle.std.specs.Prelude.{◌≡◌, ◌≤◌, true, None, OnOk};
 ghost use Rattle.phase_core.specs.declared.caller.SwapAt.TheVariants.{Moved};
 ghost use Rattle.k42_board.specs.Gracing.{MayTakeRole};
 ghost use Rattle.k42_board.specs.Swapping.{object_swapped, MayBlock, MayMove};
-ghost use Rattle.k42_mediator.specs.Swaps.{HasBegun, HasMoved};
+ghost use Rattle.k42_mediator.specs.Swaps.{HasBegun, HasMoved, HasTransferred, HasOpened};
+ghost use Rattle.k42_mediator.specs.Transfers.{IsOfKind};
 ghost use Rattle.mediator_tests.specs.Ready.{IsFree};
 
-use crate::tests::crews::Walk;
-use co_any::AnyLayout;
 use gen_core::GraceAt;
 use k42_kinds::Layout;
-use k42_mediator::{Begun, Moving, abandon, begin, block, interpose, try_move};
+use k42_mediator::{
+    Begun, Moving, abandon, begin, block, end, interpose, open_entries, transfer, try_move,
+};
 use k42_memory::Memory;
 use k42_quiesce::{Grace, GraceStep, reclaim};
-use k42_rule::Sys;
+use k42_rule::{Pass, Sys};
 use phase_core::SwapAt;
 use std::alloc::Global;
 use std::process::Abort;
 
-fn has_begun(pass: &Walk) -> bool
+fn has_begun<L: Layout>(pass: &Pass<L>) -> bool
     ensures { result ≡ true → HasBegun pass.now.view }
 {
     matches!(pass.swap(), SwapAt::Begun(_))
 }
 
-/// Begins a swap, which is to be the only one of the object, and leads callers to the mediator.
-pub(super) fn send_to_mediator(rt: &impl Abort, sys: &Sys<AnyLayout>, pass: &mut Walk, object: u32)
+/// Begins a swap of the first object, which is to be its only one, and leads callers to the mediator.
+pub(super) fn send_to_mediator<L: Layout>(rt: &impl Abort, sys: &Sys<L>, pass: &mut Pass<L>)
     requires { IsFree sys.now pass.old }
     ensures { IsFree sys.now pass.new }
 {
-    assert!(rt; pass.is_idle() && object < sys.objects());
-    assert_eq!(rt; begin(sys, pass, object), Begun::Begun);
-    assert!(rt; has_begun(pass));
+    assert!(rt; pass.is_idle() && 0 < sys.objects());
+    assert_eq!(rt; begin(sys, pass, 0), Begun::Begun);
+    assert!(rt; has_begun::<L>(pass));
     interpose(sys, pass);
 }
 
 /// Whether the pass may begin a grace.
-fn may_wait(pass: &Walk) -> bool
+fn may_wait<L: Layout>(pass: &Pass<L>) -> bool
     ensures { result ≡ true → MayTakeRole pass.now.view }
 {
     !pass.is_active()
@@ -46,50 +47,57 @@ fn may_wait(pass: &Walk) -> bool
 }
 
 /// Has a grace, which is to be quiet at once and to free no row.
-pub(super) fn wait_quiet(rt: &impl Abort, sys: &Sys<AnyLayout>, pass: &mut Walk)
+pub(super) fn wait_quiet<L: Layout>(rt: &impl Abort, sys: &Sys<L>, pass: &mut Pass<L>)
     requires { IsFree sys.now pass.old }
     ensures { IsFree sys.now pass.new }
 {
     let mut grace = Grace::new();
-    assert!(rt; may_wait(pass));
+    assert!(rt; may_wait::<L>(pass));
     assert_eq!(rt; grace.step(sys, pass), GraceStep::Quiet);
     assert_eq!(rt; reclaim(sys, pass), 0);
 }
 
-fn may_block(pass: &Walk) -> bool
+fn may_block<L: Layout>(pass: &Pass<L>) -> bool
     ensures { result ≡ true → MayBlock pass.now.view }
 {
     matches!(pass.swap(), SwapAt::Drained(_)) && pass.grace() == GraceAt::Idle
 }
 
+/// Keeps out whoever knocks from now on.
+pub(super) fn close<L: Layout>(rt: &impl Abort, sys: &Sys<L>, pass: &mut Pass<L>)
+    requires { IsFree sys.now pass.old }
+    ensures { IsFree sys.now pass.new }
+{
+    assert!(rt; may_block::<L>(pass));
+    block(sys, pass);
+}
+
 #[tactic(auto, using(crate::proofs::Handed::unhanded))]
-fn may_move(pass: &Walk) -> bool
+fn may_move<L: Layout>(pass: &Pass<L>) -> bool
     ensures may { result ≡ true → MayMove pass.now.view }
     ensures unhanded { result ≡ true → pass.now.view.handed ≡ None }
 {
     matches!(pass.swap(), SwapAt::Blocking(_))
 }
 
-/// Keeps the object shut, in which one caller is counted still.
-pub(super) fn shut(rt: &impl Abort, sys: &Sys<AnyLayout>, pass: &mut Walk)
+/// Tries to move the state of a closed object, in which one caller is counted still.
+pub(super) fn try_early<L: Layout>(rt: &impl Abort, sys: &Sys<L>, pass: &mut Pass<L>)
     requires { IsFree sys.now pass.old }
     ensures { IsFree sys.now pass.new }
 {
-    assert!(rt; may_block(pass));
-    block(sys, pass);
-    assert!(rt; may_move(pass));
+    assert!(rt; may_move::<L>(pass));
     assert_eq!(rt; try_move(sys, pass), Moving::InFlight { count: 1 });
 }
 
-fn has_moved(pass: &Walk) -> bool
+fn has_moved<L: Layout>(pass: &Pass<L>) -> bool
     ensures { result ≡ true → pass.now.view.visitor.swap ≡ Moved (object_swapped pass.now.view) }
 {
     matches!(pass.swap(), SwapAt::Moved(_))
 }
 
-/// Tries to move the state of a shut object, in which nobody is counted any more.
+/// Moves the state of a closed object, in which nobody is counted.
 #[tactic(auto, using(crate::proofs::Handed::still_unhanded))]
-fn try_again(rt: &impl Abort, sys: &Sys<AnyLayout>, pass: &mut Walk)
+fn try_again<L: Layout>(rt: &impl Abort, sys: &Sys<L>, pass: &mut Pass<L>)
     requires free { IsFree sys.now pass.old }
     requires may { MayMove pass.old.view }
     requires unhanded { pass.old.view.handed ≡ None }
@@ -100,31 +108,121 @@ fn try_again(rt: &impl Abort, sys: &Sys<AnyLayout>, pass: &mut Walk)
 }
 
 /// Begins to move the state.
-pub(super) fn move_now(rt: &impl Abort, sys: &Sys<AnyLayout>, pass: &mut Walk)
+pub(super) fn move_now<L: Layout>(rt: &impl Abort, sys: &Sys<L>, pass: &mut Pass<L>)
     requires { IsFree sys.now pass.old }
     ensures free { IsFree sys.now pass.new }
     ensures moved { HasMoved pass.new.view }
 {
-    assert!(rt; may_move(pass));
+    assert!(rt; may_move::<L>(pass));
     try_again(rt, sys, pass);
-    assert!(rt; has_moved(pass));
+    assert!(rt; has_moved::<L>(pass));
 }
 
-/// Gives up the swap to the layout with a cell for each processor.
-pub(super) fn give_up(
+/// Gives up the swap to that layout.
+pub(super) fn give_up<L: Layout>(
     rt: &impl Abort,
-    sys: &Sys<AnyLayout>,
-    pass: &mut Walk,
-    object: u32,
+    sys: &Sys<L>,
+    pass: &mut Pass<L>,
+    to: &L,
 ) -> Result<(), Memory>
     requires free { IsFree sys.now pass.old }
     requires moved { HasMoved pass.old.view }
+    requires known { L.tag_of to.now ≤ 2 }
     ensures { OnOk result (IsFree sys.now pass.new) }
 {
-    assert!(rt; object < sys.objects());
     pass.reserve()?;
     assert!(rt; pass.entries().len() < 1_048_576);
-    let to = sys.declared(object).with_tag(1);
-    abandon(sys, pass, &to);
+    abandon(sys, pass, to);
+    Ok(())
+}
+
+/// Tries to hand the state of the first object on to that layout, for which there is to be no memory.
+pub(super) fn hand_nothing_on<L: Layout>(
+    rt: &impl Abort,
+    alloc: Global,
+    sys: &Sys<L>,
+    pass: &mut Pass<L>,
+    to: &L,
+) -> Result<(), Memory>
+    requires free { IsFree sys.now pass.old }
+    requires moved { HasMoved pass.old.view }
+    requires kind { IsOfKind L.object sys.now.layouts 0 to.now }
+    requires known { L.tag_of to.now ≤ 2 }
+    ensures free { OnOk result (IsFree sys.now pass.new) }
+    ensures moved { OnOk result (HasMoved pass.new.view) }
+{
+    assert!(rt; pass.swap() == SwapAt::Moved(0));
+    pass.reserve()?;
+    assert!(rt; pass.entries().len() < 1_048_576);
+    assert!(rt; transfer(alloc, sys, pass, to).is_err());
+    Ok(())
+}
+
+/// Hands the state of the first object on to that layout.
+pub(super) fn hand_on<L: Layout>(
+    rt: &impl Abort,
+    alloc: Global,
+    sys: &Sys<L>,
+    pass: &mut Pass<L>,
+    to: &L,
+) -> Result<(), Memory>
+    requires free { IsFree sys.now pass.old }
+    requires moved { HasMoved pass.old.view }
+    requires kind { IsOfKind L.object sys.now.layouts 0 to.now }
+    requires known { L.tag_of to.now ≤ 2 }
+    ensures free { OnOk result (IsFree sys.now pass.new) }
+    ensures transferred { OnOk result (HasTransferred pass.new.view) }
+{
+    assert!(rt; pass.swap() == SwapAt::Moved(0));
+    pass.reserve()?;
+    assert!(rt; pass.entries().len() < 1_048_576);
+    transfer(alloc, sys, pass, to)
+}
+
+fn has_opened<L: Layout>(pass: &Pass<L>) -> bool
+    ensures { result ≡ true → HasOpened pass.now.view }
+{
+    matches!(pass.swap(), SwapAt::Opened(_)) && pass.has_turned()
+}
+
+/// Opens the new row, and ends the swap.
+pub(super) fn open<L: Layout>(rt: &impl Abort, sys: &Sys<L>, pass: &mut Pass<L>)
+    requires free { IsFree sys.now pass.old }
+    requires transferred { HasTransferred pass.old.view }
+    ensures free { IsFree sys.now pass.new }
+{
+    open_entries(sys, pass);
+    assert!(rt; has_opened::<L>(pass) && pass.row_room() > 0);
+    end(sys, pass);
+}
+
+/// Begins a swap of the first object, as far as its state is to be handed on.
+pub(super) fn take_over<L: Layout>(rt: &impl Abort, sys: &Sys<L>, pass: &mut Pass<L>)
+    requires { IsFree sys.now pass.old }
+    ensures free { IsFree sys.now pass.new }
+    ensures moved { HasMoved pass.new.view }
+{
+    send_to_mediator(rt, sys, pass);
+    wait_quiet(rt, sys, pass);
+    close(rt, sys, pass);
+    move_now(rt, sys, pass);
+}
+
+/// Swaps the first object to that layout.
+pub(super) fn swap<L: Layout>(
+    rt: &impl Abort,
+    alloc: Global,
+    sys: &Sys<L>,
+    pass: &mut Pass<L>,
+    to: &L,
+) -> Result<(), Memory>
+    requires free { IsFree sys.now pass.old }
+    requires kind { IsOfKind L.object sys.now.layouts 0 to.now }
+    requires known { L.tag_of to.now ≤ 2 }
+    ensures { OnOk result (IsFree sys.now pass.new) }
+{
+    take_over(rt, sys, pass);
+    hand_on(rt, alloc, sys, pass, to)?;
+    open(rt, sys, pass);
     Ok(())
 }

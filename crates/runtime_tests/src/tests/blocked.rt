@@ -110,7 +110,13 @@ fn open(rt: &impl Abort, system: &System, pass: &mut Pass)
 }
 
 /// One step of the call, which is not over.
-fn step(rt: &impl Abort, alloc: Global, system: &System, pass: &mut Pass, call: &mut Call) -> CallStep
+fn step(
+    rt: &impl Abort,
+    alloc: Global,
+    system: &System,
+    pass: &mut Pass,
+    call: &mut Call,
+) -> CallStep
     requires inside { IsIn system.now pass.old }
     requires asked { IsAsked system.now.plan call.old.object call.old.op }
     ensures inside { IsIn system.now pass.new }
@@ -138,10 +144,16 @@ fn a_call_finds_its_object_shut_and_goes_on_in_the_next_row(rt: HostRuntime) -> 
     enter(&rt, &system, &mut zero);
     let mut call = Call::new(0, Op::Get);
     assert!(rt; takes(&system, 0, &Op::Get));
-    assert_eq!(rt; step(&rt, alloc, &system, &mut zero, &mut call), CallStep::Again(CallCause::Blocked));
+    assert_eq!(rt;
+        step(&rt, alloc, &system, &mut zero, &mut call),
+        CallStep::Again(CallCause::Blocked)
+    );
     hand_on(&rt, alloc, &system, &mut one)?;
     open(&rt, &system, &mut one);
-    assert_eq!(rt; step(&rt, alloc, &system, &mut zero, &mut call), CallStep::Ended(Reply::Number(0)));
+    assert_eq!(rt;
+        step(&rt, alloc, &system, &mut zero, &mut call),
+        CallStep::Ended(Reply::Number(0))
+    );
     assert_eq!(rt; zero.entries()[0].incarnation, 1);
     leave(&system, &mut zero);
     Ok(())

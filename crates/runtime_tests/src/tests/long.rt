@@ -105,7 +105,10 @@ fn a_long_activity_holds_back_a_swap_and_no_call(rt: HostRuntime) -> Result<(), 
     let Some(history) = close_three(alloc, system, zero, one, two)? else {
         return Err("a pass does not rest")?;
     };
-    let calls = history.entries().iter().filter(|entry| is_call_before(entry));
+    let calls = history
+        .entries()
+        .iter()
+        .filter(|entry| is_call_before(entry));
     assert_eq!(rt; calls.count(), 100);
     assert_eq!(rt; history.entries().len(), 101);
     Ok(())

@@ -33,7 +33,10 @@ fn a_plan_outside_the_limits_is_refused_by_its_first_fault(rt: HostRuntime) -> R
     assert_eq!(rt; fault(alloc, 1, 17, &[0])?, Some(PlanFault::Objects));
     assert_eq!(rt; fault(alloc, 1, 1, &[])?, Some(PlanFault::Callers));
     assert_eq!(rt; fault(alloc, 1, 1, &[0; 17])?, Some(PlanFault::Callers));
-    assert_eq!(rt; fault(alloc, 2, 1, &[0, 2])?, Some(PlanFault::Processor { caller: 1 }));
+    assert_eq!(rt;
+        fault(alloc, 2, 1, &[0, 2])?,
+        Some(PlanFault::Processor { caller: 1 })
+    );
     assert_eq!(rt; fault(alloc, 0, 17, &[])?, Some(PlanFault::Procs));
     assert_eq!(rt; fault(alloc, 2, 17, &[])?, Some(PlanFault::Objects));
     assert_eq!(rt; fault(alloc, 8, 16, &[7; 16])?, None);

@@ -61,22 +61,40 @@ fn a_swap_waits_for_an_activity_that_calls_go_on_in(rt: HostRuntime) -> Result<(
         return Err("no passes")?;
     };
     enter(&rt, &system, &mut zero);
-    assert_eq!(rt; call(&rt, alloc, &system, &mut zero, 0, Op::Add(5))?, Reply::Done);
+    assert_eq!(rt;
+        call(&rt, alloc, &system, &mut zero, 0, Op::Add(5))?,
+        Reply::Done
+    );
     let (begun, step) = begin(&rt, alloc, &system, &mut one, LayoutName::Spread);
     assert_eq!(rt; step, Step::Again(Cause::Left { proc: 0, left: 1 }));
-    assert_eq!(rt; swap(&rt, alloc, &system, &mut two, 0, LayoutName::Spread)?, Swapped::Busy(1));
-    assert_eq!(rt; call(&rt, alloc, &system, &mut zero, 0, Op::Get)?, Reply::Number(5));
+    assert_eq!(rt;
+        swap(&rt, alloc, &system, &mut two, 0, LayoutName::Spread)?,
+        Swapped::Busy(1)
+    );
+    assert_eq!(rt;
+        call(&rt, alloc, &system, &mut zero, 0, Op::Get)?,
+        Reply::Number(5)
+    );
     leave(&system, &mut zero);
-    assert_eq!(rt; end(&rt, alloc, &system, &mut one, begun), Step::Ended(Swapped::Done(1)));
+    assert_eq!(rt;
+        end(&rt, alloc, &system, &mut one, begun),
+        Step::Ended(Swapped::Done(1))
+    );
     assert_eq!(rt; reclaim(&rt, &system, &mut two), 0);
     assert_eq!(rt; reclaim(&rt, &system, &mut one), 1);
     assert_eq!(rt; reclaim(&rt, &system, &mut one), 0);
-    assert_eq!(rt; call_once(&rt, alloc, &system, &mut zero, 0, Op::Get)?, Reply::Number(5));
+    assert_eq!(rt;
+        call_once(&rt, alloc, &system, &mut zero, 0, Op::Get)?,
+        Reply::Number(5)
+    );
     assert_eq!(rt; zero.entries()[2].incarnation, 1);
     let Some(history) = close_three(alloc, system, zero, one, two)? else {
         return Err("a pass does not rest")?;
     };
-    let told = history.entries().iter().map(|entry| (entry.act, entry.answer));
+    let told = history
+        .entries()
+        .iter()
+        .map(|entry| (entry.act, entry.answer));
     let to = Act::Swap(LayoutName::Spread);
     let due = [
         (Act::Call(Op::Add(5)), Answer::Replied(Reply::Done)),

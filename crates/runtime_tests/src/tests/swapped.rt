@@ -27,7 +27,10 @@ fn a_swap_hands_its_row_over_to_whoever_reclaims(rt: HostRuntime) -> Result<(), 
     ) else {
         return Err("no passes")?;
     };
-    assert_eq!(rt; swap(&rt, alloc, &system, &mut zero, 0, LayoutName::Spread)?, Swapped::Done(1));
+    assert_eq!(rt;
+        swap(&rt, alloc, &system, &mut zero, 0, LayoutName::Spread)?,
+        Swapped::Done(1)
+    );
     assert!(rt; zero.rows().is_empty());
     assert_eq!(rt; reclaim(&rt, &system, &mut one), 1);
     assert_eq!(rt; reclaim(&rt, &system, &mut zero), 0);
@@ -51,8 +54,14 @@ fn a_second_swap_frees_the_row_of_the_first(rt: HostRuntime) -> Result<(), Fail>
     ) else {
         return Err("no passes")?;
     };
-    assert_eq!(rt; swap(&rt, alloc, &system, &mut zero, 0, LayoutName::Spread)?, Swapped::Done(1));
-    assert_eq!(rt; swap(&rt, alloc, &system, &mut zero, 0, LayoutName::Shared)?, Swapped::Done(2));
+    assert_eq!(rt;
+        swap(&rt, alloc, &system, &mut zero, 0, LayoutName::Spread)?,
+        Swapped::Done(1)
+    );
+    assert_eq!(rt;
+        swap(&rt, alloc, &system, &mut zero, 0, LayoutName::Shared)?,
+        Swapped::Done(2)
+    );
     assert_eq!(rt; reclaim(&rt, &system, &mut zero), 1);
     let Some(history) = close_three(alloc, system, zero, one, two)? else {
         return Err("a pass does not rest")?;
@@ -74,9 +83,18 @@ fn a_destroyed_object_answers_that_it_is_gone(rt: HostRuntime) -> Result<(), Fai
     ) else {
         return Err("no passes")?;
     };
-    assert_eq!(rt; destroy(&rt, alloc, &system, &mut zero, 0)?, Swapped::Done(1));
-    assert_eq!(rt; call_once(&rt, alloc, &system, &mut one, 0, Op::Get)?, Reply::Gone);
-    assert_eq!(rt; swap(&rt, alloc, &system, &mut one, 0, LayoutName::Shared)?, Swapped::Gone);
+    assert_eq!(rt;
+        destroy(&rt, alloc, &system, &mut zero, 0)?,
+        Swapped::Done(1)
+    );
+    assert_eq!(rt;
+        call_once(&rt, alloc, &system, &mut one, 0, Op::Get)?,
+        Reply::Gone
+    );
+    assert_eq!(rt;
+        swap(&rt, alloc, &system, &mut one, 0, LayoutName::Shared)?,
+        Swapped::Gone
+    );
     assert_eq!(rt; destroy(&rt, alloc, &system, &mut zero, 0)?, Swapped::Gone);
     let Some(history) = close_three(alloc, system, zero, one, two)? else {
         return Err("a pass does not rest")?;

@@ -201,7 +201,12 @@ fn close_five(
     requires back { IsFree system back.0 × IsFree system back.1 }
     requires fifth { IsFree system fifth }
 {
-    if !rests(&front.0, 0) || !rests(&front.1, 1) || !rests(&back.0, 2) || !rests(&back.1, 3) || !rests(&fifth, 4) {
+    if !rests(&front.0, 0)
+        || !rests(&front.1, 1)
+        || !rests(&back.0, 2)
+        || !rests(&back.1, 3)
+        || !rests(&fifth, 4)
+    {
         return Ok(None);
     }
     let mut passes = Vec::new(alloc);

@@ -10,6 +10,15 @@ use std::alloc::Global;
 
 pub(super) type Walk = Pass<AnyLayout>;
 
+/// How much the caller adds with each call. A thousand adds of one fill no digit of those of another.
+pub(super) fn amount_of(caller: u32) -> u32 {
+    match caller {
+        0 => 1,
+        1 => 10_000,
+        _ => 100_000_000,
+    }
+}
+
 #[tactic(auto, using(crate::proofs::Crews::any_tags))]
 pub(super) fn start(alloc: Global) -> Result<(Sys<AnyLayout>, Vec<Walk>), Memory>
     ensures { IfOk result (λ made. AreFree made.0 made.1.items × (length made.0.callers ≡ 4)) }

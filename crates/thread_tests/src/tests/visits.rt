@@ -1,11 +1,13 @@
-//! Activities in which an object is looked up.
+//! Activities in which an object is called.
 ghost use Rattle.std.specs.Prelude.{◌≡◌, ◌<◌, true, false, length, is_some, OnOk, IfOk};
 ghost use Rattle.phase_core.specs.Stages.{is_missed, is_at_mediator};
-ghost use Rattle.thread_tests.specs.Ready.{IsFree, IsIn, IsServed};
+ghost use Rattle.thread_tests.specs.Ready.{IsFree, IsIn, IsServing};
 
 use crate::tests::crews::Walk;
+use crate::tests::steps::step;
 use co_any::AnyLayout;
 use crossbeam_utils::Backoff;
+use k42_kinds::Op;
 use k42_mediator::{Knocked, knock};
 use k42_memory::Memory;
 use k42_quiesce::{enter, leave};
@@ -37,7 +39,7 @@ fn fill_in<R: Wait>(
     requires active { is_some pass.old.view.turn.active ≡ true }
     requires missed { (is_missed pass.old.view.visitor.place object ≡ true) × (object < length sys.now.layouts) }
     ensures free { OnOk result (IsFree sys.now pass.new) }
-    ensures served { IfOk result (λ served. served ≡ true → IsServed pass.new.view) }
+    ensures served { IfOk result (λ served. served ≡ true → IsServing pass.new.view) }
     ensures out { IfOk result (λ served. served ≡ false → IsIn pass.new.view) }
 {
     let filled = miss(rt, alloc, sys, pass, object)?;
@@ -50,7 +52,7 @@ fn knock_at(sys: &Sys<AnyLayout>, pass: &mut Walk, object: u32) -> bool
     requires active { is_some pass.old.view.turn.active ≡ true }
     requires sent { (is_at_mediator pass.old.view.visitor.place object ≡ true) × (object < length sys.now.layouts) }
     ensures free { IsFree sys.now pass.new }
-    ensures served { result ≡ true → IsServed pass.new.view }
+    ensures served { result ≡ true → IsServing pass.new.view }
     ensures out { result ≡ false → IsIn pass.new.view }
 {
     matches!(knock(sys, pass, object), Knocked::Admitted { .. })
@@ -68,7 +70,7 @@ fn call<R: Wait>(
     requires entered { IsIn pass.old.view }
     requires there { object < length sys.now.layouts }
     ensures free { OnOk result (IsFree sys.now pass.new) }
-    ensures served { IfOk result (λ served. served ≡ true → IsServed pass.new.view) }
+    ensures served { IfOk result (λ served. served ≡ true → IsServing pass.new.view) }
     ensures out { IfOk result (λ served. served ≡ false → IsIn pass.new.view) }
 {
     match look_up(sys, pass, object) {
@@ -81,7 +83,7 @@ fn call<R: Wait>(
 /// Ends a call that is in a row.
 fn go_out(sys: &Sys<AnyLayout>, pass: &mut Walk)
     requires free { IsFree sys.now pass.old }
-    requires served { IsServed pass.old.view }
+    requires served { IsServing pass.old.view }
     ensures free { IsFree sys.now pass.new }
     ensures out { IsIn pass.new.view }
 {
@@ -97,59 +99,65 @@ fn go_home(sys: &Sys<AnyLayout>, pass: &mut Walk)
     leave(sys, pass);
 }
 
-/// A call in an activity, and the end of both. Answers whether it was served.
-fn stay<R: Wait>(
+/// Makes the operation in an activity that is under way, and ends both. Answers the stamp of the entry, where the call
+/// was let in.
+fn stay<R: Abort + Wait>(
     rt: &R,
     alloc: Global,
     sys: &Sys<AnyLayout>,
     pass: &mut Walk,
     object: u32,
-) -> Result<bool, Memory>
+    op: &Op,
+) -> Result<Option<u64>, Memory>
     requires free { IsFree sys.now pass.old }
     requires entered { IsIn pass.old.view }
     requires there { object < length sys.now.layouts }
     ensures free { OnOk result (IsFree sys.now pass.new) }
 {
-    let served = call(rt, alloc, sys, pass, object)?;
-    if served {
+    let mut stamp = None;
+    if call(rt, alloc, sys, pass, object)? {
+        stamp = Some(step(rt, alloc, sys, pass, op)?);
         go_out(sys, pass);
     }
     go_home(sys, pass);
-    Ok(served)
+    Ok(stamp)
 }
 
-/// A call in an activity of its own. Answers whether it was served.
+/// The same in an activity of its own.
 fn visit<R: Abort + Wait>(
     rt: &R,
     alloc: Global,
     sys: &Sys<AnyLayout>,
     pass: &mut Walk,
     object: u32,
-) -> Result<bool, Memory>
+    op: &Op,
+) -> Result<Option<u64>, Memory>
     requires free { IsFree sys.now pass.old }
     ensures free { OnOk result (IsFree sys.now pass.new) }
 {
     assert!(rt; object < sys.objects());
     come_in(rt, sys, pass);
-    stay(rt, alloc, sys, pass, object)
+    stay(rt, alloc, sys, pass, object, op)
 }
 
-/// Visits the object so many times, and pauses where the object was blocked.
-pub(super) fn visit_often<R: Abort + Wait>(
+/// Visits the object until the operation is made, and answers the stamp of its entry.
+pub(super) fn visit_once<R: Abort + Wait>(
     rt: &R,
     alloc: Global,
     sys: &Sys<AnyLayout>,
-    mut pass: Walk,
-    times: u32,
-) -> Result<Walk, Memory>
-    requires { IsFree sys.now pass }
-    ensures { IfOk result (λ out. IsFree sys.now out) }
+    pass: &mut Walk,
+    object: u32,
+    op: &Op,
+) -> Result<u64, Memory>
+    requires free { IsFree sys.now pass.old }
+    ensures free { OnOk result (IsFree sys.now pass.new) }
 {
     let backoff = Backoff::new();
-    for _ in 0..times {
-        if !visit(rt, alloc, sys, &mut pass, 0)? {
-            backoff.snooze();
+    for _ in rt.forever() {
+        if let Some(stamp) = visit(rt, alloc, sys, pass, object, op)? {
+            return Ok(stamp);
         }
+        backoff.snooze();
     }
-    Ok(pass)
+    unreachable!()
 }

@@ -1,13 +1,10 @@
 use Rattle.std.proofs.Common.{rules, ◌≡◌, ℕ, refl, sym, ap, ◌∙◌, subst}
 use Rattle.k42_board.specs.Drawing.{entry_alone, alone_view}
 use Rattle.k42_kinds.specs.declared.entry.Answer.TheVariants as answers
-use Rattle.k42_runtime.specs.Phases.{HasStepped}
-use Rattle.k42_runtime.specs.Swaps.{SwapSeen, act_asked, graces_due}
+use Rattle.k42_runtime.specs.Swaps.{SwapSeen, HasStepped, act_asked, graces_due}
 use Rattle.k42_runtime.specs.Systems.{IsPassHere, IsAtRest}
 use Rattle.k42_runtime.specs.declared.swaps.Stage.TheVariants.{New, Waiting, Marking, Over}
-use Rattle.k42_runtime.specs.declared.swaps.Step.TheVariants.{Ended}
-use Rattle.k42_runtime.specs.declared.swaps.Swapped.TheVariants.{Busy}
-use Rattle.k42_runtime.proofs.SwapBegins.{marks_on, waits_on, refused_now, refused_caller, refused_graces, refused_seat, refused_told}
+use Rattle.k42_runtime.proofs.SwapBegins.{marks_on, waits_on, refused_by}
 use Rattle.k42_runtime.proofs.SwapEnds.{few}
 use Rattle.k42_runtime.proofs.SwapSteps.{stepped_before}
 use Rattle.k42_runtime.proofs.swaps.Swap.begin.Goals as goal
@@ -33,22 +30,24 @@ returns-in-Busy c =
     let drawn : new.view ≡ alone_view (entry_alone c.begin.new.pass.view (act_asked s.to) (answers.Busy number)) c.begin.new.pass.view = search rules in
     let here : IsPassHere c.args.system.now new = search rules in
     let rests : IsAtRest new.view = search rules in
+    let told =
+    refused_by s.object old c.reserve.new.self c.begin.new.pass c.reserve.ensures.same c.begin.ensures.same c.begin.ensures.knows new s.to number
+    c.draw_alone.ensures.same drawn c.begin.result c.in-Busy.phase c.begin.ensures.answer c.in-Busy.is in
     subst (λ s. HasStepped c.args.system.now c.over.result s c.over.new.self old new) is
     (subst (λ t. HasStepped c.args.system.now c.over.result s t old new) (sym (c.over.ensures.over ∙ ap (λ (x : SwapSeen). record x { stage = Over }) (sym is)))
     (subst (λ answer. HasStepped c.args.system.now answer s (record s { stage = Over }) old new) (sym c.over.ensures.ended)
     (record {
       here = here;
       stage = rests;
+      begun = λ e. cc;
       object = refl;
       to = refl;
       over = refl;
-      seat = refused_seat s.object old c.reserve.new.self c.begin.new.pass c.reserve.ensures.same c.begin.ensures.same c.begin.ensures.knows new s.to number c.draw_alone.ensures.same drawn;
-      caller = refused_caller s.object old c.reserve.new.self c.begin.new.pass c.reserve.ensures.same c.begin.ensures.same c.begin.ensures.knows new s.to number c.draw_alone.ensures.same drawn;
-      graces =
-          few new.view.graces old.view.graces (graces_due s.stage s.holder)
-          (refused_graces s.object old c.reserve.new.self c.begin.new.pass c.reserve.ensures.same c.begin.ensures.same c.begin.ensures.knows new s.to number c.draw_alone.ensures.same drawn);
-      told = refused_told s.object old c.reserve.new.self c.begin.new.pass c.reserve.ensures.same c.begin.ensures.same c.begin.ensures.knows new s.to number c.draw_alone.ensures.same drawn c.begin.result c.in-Busy.phase c.begin.ensures.answer c.in-Busy.is;
-      brought = refused_now s.object old c.reserve.new.self c.begin.new.pass c.reserve.ensures.same c.begin.ensures.same c.begin.ensures.knows new s.to number c.draw_alone.ensures.same drawn;
+      seat = told.seat;
+      caller = told.caller;
+      graces = few new.view.graces old.view.graces (graces_due s.stage s.holder) told.graces;
+      told = told.told;
+      brought = told.swapped;
     })))
 
 pub returns-in-Spent : goal.returns-in-Spent

@@ -1,15 +1,11 @@
-use Rattle.std.proofs.Common.{rules, ◌≡◌, ℕ, ◌+◌, ◌≤◌, true, length, refl, sym, ap, ◌∙◌, subst, arith}
-use Rattle.k42_board.specs.Plan.{layouts_on}
-use Rattle.k42_board.specs.Values.{incarnation_in}
+use Rattle.std.proofs.Common.{rules, ◌≡◌, ℕ, refl, sym, ap, ◌∙◌, subst}
 use Rattle.k42_board.specs.Views.{word_begun}
-use Rattle.k42_board.specs.declared.view.PassView.{PassView}
-use Rattle.k42_mediator.specs.Marks.{IsMark, HasMarked}
-use Rattle.k42_runtime.specs.Swaps.{SwapSeen, act_asked, graces_due, IsEndBy, HasSwapped}
-use Rattle.k42_runtime.specs.Systems.{SystemSeen, IsPassHere, IsAtRest, any_layouts}
-use Rattle.k42_runtime.specs.Phases.{HasStepped, end_in}
-use Rattle.k42_runtime.specs.declared.swaps.Stage.TheVariants.{Over}
+use Rattle.k42_mediator.specs.Marks.{IsMark, IsHeldBy, HasMarked}
+use Rattle.k42_runtime.specs.Swaps.{act_asked, HasFoundCell, HasStepped, graces_due, IsEndBy}
+use Rattle.k42_runtime.specs.Systems.{SystemSeen, IsPassHere, IsAtRest, layouts_in}
+use Rattle.k42_runtime.specs.Phases.{end_in}
+use Rattle.k42_runtime.specs.declared.swaps.Stage.TheVariants.{New, Marking, Over}
 use Rattle.k42_runtime.specs.declared.swaps.Step.TheVariants.{Ended}
-use Rattle.k42_runtime.specs.declared.swaps.Swapped.{Swapped}
 use Rattle.k42_runtime.proofs.SwapEnds.{marked, over_ends, marked_last, marked_caller, marked_graces, few}
 use Rattle.k42_runtime.proofs.swaps.Swap.mark.Goals as goal
 
@@ -29,6 +25,7 @@ returns-in-Marked c =
     (record {
       here = here;
       stage = rests;
+      begun = λ e. cc;
       object = refl;
       to = refl;
       over = refl;
@@ -38,3 +35,36 @@ returns-in-Marked c =
       told = subst (λ (l : ℕ). IsEndBy l (end_in word)) (sym (ap word_begun last)) is.ends;
       brought = marked s.object s.to old new stage.1.begun stage.1.may.over has;
     }))
+
+never : Marking ≡ New → ⊥
+never e = cc
+
+pub returns-in-Held : goal.returns-in-Held
+returns-in-Held c =
+    let old = c.args.pass.now in let new = c.mark.new.pass in
+    let F = layouts_in (record { sys = c.system.inside.sys; plan = c.system.inside.plan }) in
+    let held : IsHeldBy F c.system.inside.sys.layouts c.in-Held.holder old new =
+    subst (λ answer. IsMark F c.system.inside.sys.layouts answer c.act-act.result old new) c.in-Held.is c.mark.ensures in
+    record {
+      here = search rules;
+      stage = search rules;
+      begun = λ e. never (sym c.requires.stage ∙ e);
+      over = search rules;
+      object = refl;
+      to = refl;
+      seat = held.same.seat;
+      caller = search rules;
+      graces = search rules;
+      told = search rules;
+      brought = (
+        search rules,
+        subst (λ (z : SystemSeen). HasFoundCell (layouts_in z) z.sys.layouts old.seat c.in-Held.holder new.view) c.system.view_is
+            (record {
+              before = old.view;
+              over = c.requires.marking.1.may.over;
+              knows = held.knows;
+              another = held.another;
+              step = held.event;
+            }),
+      );
+    }

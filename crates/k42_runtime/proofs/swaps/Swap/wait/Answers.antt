@@ -1,17 +1,20 @@
-use Rattle.std.proofs.Common.{◌≡◌, ℕ, ◌+◌, ◌≤◌, true, length, refl, sym, ap, ◌∙◌, subst, arith}
+use Rattle.std.proofs.Common.{◌≡◌, ℕ, ◌+◌, ◌≤◌, length, refl, sym, ap, ◌∙◌, subst, arith}
 use Rattle.phase_core.specs.Stages.{is_out}
 use Rattle.turn_core.specs.Plain as turns
 use Rattle.k42_board.specs.Seen.{IsPassOf}
 use Rattle.k42_board.specs.declared.view.PassView.{PassView}
 use Rattle.k42_quiesce.specs.Gracing.{has_role}
-use Rattle.k42_runtime.specs.Swaps.{SwapSeen, IsAtStage, is_over, graces_due}
-use Rattle.k42_runtime.specs.Systems.{SystemSeen}
-use Rattle.k42_runtime.specs.Phases.{HasGoneOn, HasStepped}
-use Rattle.k42_runtime.specs.declared.swaps.Stage.TheVariants.{Waiting, Shut}
+use Rattle.k42_runtime.specs.Swaps.{SwapSeen, IsAtStage, IsHeldUpBy, HasStepped, is_over, graces_due}
+use Rattle.k42_runtime.specs.Systems.{SystemSeen, layouts_in}
+use Rattle.k42_runtime.specs.Phases.{cause_in}
+use Rattle.k42_runtime.specs.declared.swaps.Stage.TheVariants.{New, Waiting, Shut}
 use Rattle.k42_runtime.specs.declared.swaps.Step.TheVariants.{Again}
 use Rattle.k42_runtime.proofs.SwapGraces.{held_up, has_role_now}
 use Rattle.k42_runtime.proofs.SwapSteps.{same_caller, stepped_before}
 use Rattle.k42_runtime.proofs.swaps.Swap.wait.Goals as goal
+
+later : Waiting ≡ New → ⊥
+later e = cc
 
 pub returns-in-Again : goal.returns-in-Again
 returns-in-Again c =
@@ -21,10 +24,10 @@ returns-in-Again c =
     let is : s ≡ c.args.self.now = c.self.view_is in
     let first : s.stage ≡ Waiting = ap (λ (x : SwapSeen). x.stage) is ∙ c.requires.stage in
     let waits = subst (λ s. IsAtStage Waiting objects s old) (sym is) c.requires.waiting in
-    let same = c.step.ensures.same in
+    let same = c.step.ensures.same in let F = layouts_in (record { sys = c.system.inside.sys; plan = c.system.inside.plan }) in
     let up =
-    held_up objects s t old new same first refl refl waits.0 waits.1 waits.2 c.step.result c.in-Again.held c.in-Again.is c.step.ensures.left
-    c.step.ensures.role_held c.step.ensures.goes in
+    held_up objects s t old new same first refl refl waits.0 waits.1 waits.2 F c.system.inside.sys.layouts c.step.result c.in-Again.held c.in-Again.is
+    c.step.ensures.left c.step.ensures.looked c.step.ensures.role_held c.step.ensures.tries c.step.ensures.goes in
     subst (λ s. HasStepped c.args.system.now (Again c.cause_of.result) s t old new) is
     (subst (λ cause. HasStepped c.args.system.now (Again cause) s t old new) (sym c.cause_of.ensures)
     (record {
@@ -35,6 +38,7 @@ returns-in-Again c =
         notes = up.notes ∙ c.requires.ours.notes;
       };
       stage = up.stage;
+      begun = λ e. later (sym first ∙ e);
       object = refl;
       to = refl;
       over = ap is_over first;
@@ -42,7 +46,10 @@ returns-in-Again c =
       caller = up.caller;
       graces = up.graces;
       told = up.told;
-      brought = (ap (λ (x : turns.Caller). x.mine) up.taker, up.found);
+      brought = (
+        ap (λ (x : turns.Caller). x.mine) up.taker,
+        subst (λ (z : SystemSeen). IsHeldUpBy (layouts_in z) z.sys.layouts old.seat (cause_in c.in-Again.held) new.view) c.system.view_is up.found,
+      );
     }))
 
 pub returns-in-Quiet : goal.returns-in-Quiet
@@ -73,5 +80,6 @@ returns-in-Quiet c =
       graces =
           let n = ap (λ (v : PassView _). v.graces) blocked ∙ ap (λ (v : PassView _). v.graces) reclaimed ∙ has.graces in
           subst (λ stage. mid.view.graces + 0 ≤ old.view.graces + graces_due stage s.holder) (sym first) (omega (arith, n));
+      waits = λ e. absurd (cc);
     })
     c.shut.result c.shut.ensures)

@@ -2,7 +2,7 @@ use Rattle.std.proofs.Common.{rules, ◌≡◌, ℕ, List, sym, subst}
 use Rattle.co_any.specs.declared.layout.AnyLayout.{AnyLayout}
 use Rattle.k42_board.specs.Starting.{IsStart, IsStarted}
 use Rattle.k42_rule.specs.Opened.{IsOpened}
-use Rattle.k42_runtime.specs.Plans.{PlanSeen, layouts_of}
+use Rattle.k42_runtime.specs.Plans.{PlanSeen, IsSoundPlan, layouts_of}
 use Rattle.k42_runtime.specs.Systems.{any_layouts}
 use Rattle.k42_runtime.proofs.Started.{is_start, started}
 use Rattle.k42_runtime.proofs.system.System.start.Goals as goal
@@ -21,5 +21,6 @@ returns c =
     let procs : c.plan.inside.procs ≡ c.args.plan.procs = search rules in
     let layouts : c.in_ok-layouts.layouts.items ≡ layouts_of c.args.plan = search rules in
     let callers : c.in_ok-callers.callers.items ≡ c.args.plan.callers = search rules in
-    started c.args.plan c.in_ok-sys.sys c.in_ok-sys.passes.items is
+    let sound : IsSoundPlan c.args.plan = search rules in
+    started c.args.plan c.in_ok-sys.sys c.in_ok-sys.passes.items sound is
     (subst (λ (z : ℕ × List AnyLayout × List ℕ). IsOpened (any_layouts z.0 z.2) z.1 z.2) (λ k. (procs k, layouts k, callers k)) c.in_ok-sys.ensures.opened)

@@ -4,7 +4,7 @@ use Rattle.mediator_tests.proofs.Crews.{at_rest}
 use Rattle.mediator_tests.proofs.tests.crews.finish.Goals as goal
 
 pub finish-requires-after_bounds : goal.finish-requires-after_bounds
-finish-requires-after_bounds c κs =
+finish-requires-after_bounds g c κs within =
     let one : c.rests.result ≡ true = search rules in
     let two : c.rests-else-not-rests.result ≡ true = search rules in
     let items = c.in_ok-push-2.ensures.items ∙ ap (λ passes. passes ++ c.args.two ∷ []) (c.in_ok-push.ensures.items ∙ ap (λ passes. passes ++ c.args.one ∷ []) c.new-passes.ensures.items) in

@@ -3,4 +3,4 @@ use Rattle.mediator_tests.proofs.Crews.{new_two}
 use Rattle.mediator_tests.proofs.tests.crews.start.Goals as goal
 
 pub returns : goal.returns
-returns c = new_two _ _ _ _ _ c.in_ok-sys.ensures.started (search rules)
+returns g c = new_two _ _ _ _ _ c.in_ok-sys.ensures.started (search rules)

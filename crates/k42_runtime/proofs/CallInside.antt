@@ -1,0 +1,44 @@
+-- A call that seeks its row: what has held it up.
+use Rattle.std.proofs.Common.{◌≡◌, ℕ, ◌+◌, Bool, true, false, cond, List, refl, sym, ap, ◌∙◌, subst}
+use Rattle.phase_core.specs.Stages.{is_out}
+use Rattle.k42_stamp.specs.Layouts.{Layouts}
+use Rattle.k42_board.specs.Tabling.{knocked_view}
+use Rattle.k42_board.specs.Values.{has_bit, incarnation_in}
+use Rattle.k42_board.specs.Views.{hears}
+use Rattle.k42_board.specs.declared.view.PassView.{PassView}
+use Rattle.k42_mediator.specs.Knocks.{out_view, IsKnock}
+use Rattle.k42_mediator.specs.declared.answers.Knocked.TheVariants.{Admitted, Blocked}
+use Rattle.k42_tables.specs.Entries.{EndsAt, IfFilled, IfHeld}
+use Rattle.k42_tables.specs.Missing.{cell_named, HasFilled, HasFoundHeld}
+use Rattle.k42_tables.specs.declared.answers.Filled as filleds
+use Rattle.k42_tables.specs.declared.answers.Filled.TheVariants.{Elsewhere}
+use Rattle.k42_tables.specs.declared.answers.Tried as tries
+use Rattle.k42_tables.specs.declared.answers.Tried.TheVariants as tried
+use Rattle.k42_runtime.specs.Calls.{WasHeld}
+
+-- a word that answers so says that the swap blocks
+blocked_bit : (i : ℕ) (b : Bool) → Blocked ≡ cond b Blocked (Admitted i) → b ≡ true
+blocked_bit i true e = refl
+blocked_bit i false e = absurd (cc)
+
+module _ {S L P : Type 0} (F : Layouts S L P) (declared : List L) (id o : ℕ) (old new : PassView P) where
+  -- who was blocked is inside no call
+  pub kept_out : IsKnock F declared id o old new Blocked → is_out new.visitor.place ≡ true
+  kept_out is =
+      let shut = blocked_bit (incarnation_in is.found) (has_bit is.found 25) is.answer_is in
+      ap (λ (v : PassView P). is_out v.visitor.place) (is.knows ∙ ap (λ b. hears new.heard (cond b (out_view is.found old) (knocked_view o is.found old))) shut)
+
+  pub led_elsewhere : (answer : tries.Tried) (filled : filleds.Filled) (word : ℕ) → answer ≡ tried.Filled filled → filled ≡ Elsewhere word
+      → IfFilled answer (HasFilled F declared id o old new) → IfFilled answer (λ given. EndsAt given o new.visitor.place)
+      → (is_out new.visitor.place ≡ true) × ((before : PassView P) × HasFilled F declared id o before new (Elsewhere word))
+  led_elsewhere answer filled word is is' has ends =
+      let whole : answer ≡ tried.Filled (Elsewhere word) = is ∙ ap tried.Filled is' in
+      (subst (λ a. IfFilled a (λ given. EndsAt given o new.visitor.place)) whole ends, (old, subst (λ a. IfFilled a (HasFilled F declared id o old new)) whole has))
+
+  pub found_held : (answer : tries.Tried) (holder : ℕ) → answer ≡ tried.Held holder → IfHeld answer (HasFoundHeld F declared id o old new)
+      → (is_out new.visitor.place ≡ true) × ((new.refused ≡ holder + 1) × WasHeld F declared id holder)
+  found_held answer holder is has' =
+      let has : HasFoundHeld F declared id o old new holder = subst (λ a. IfHeld a (HasFoundHeld F declared id o old new)) is has' in (
+        ap (λ (v : PassView P). is_out v.visitor.place) has.out,
+        (has.refused, record { before = has.before; cell = cell_named o has.before; lock = has.held.lock; another = has.held.another }),
+      )

@@ -1,0 +1,85 @@
+-- Parts of a row, of which each goes back into its cell.
+use Rattle.std.proofs.Common.{◌≡◌, ℕ, zero, suc, ◌+◌, ◌<◌, Bool, true, false, cond, List, [], ◌∷◌, ◌++◌, Option, Some, None, Result, Ok, Err, length, take, drop, refl, sym, ap, ◌∙◌, arith}
+use Rattle.std.specs.Prelude.{is_some, IsSome, OnOk, OnErr}
+use Rattle.std.specs.Option.{unwrap_or, option_to_list}
+use Rattle.std.proofs.lemmas.List.{length-append}
+use Rattle.k42_board.specs.declared.cell.Content.{Content}
+use Rattle.k42_mediator.specs.Parts.{filled}
+
+abbrev first_of : {A : Type 0} → A → List A → A
+first_of none [] = none
+first_of none (x ∷ xs) = x
+
+abbrev rest_of : {A : Type 0} → List A → List A
+rest_of [] = []
+rest_of (x ∷ xs) = xs
+
+-- what was popped is the last
+pub last_popped : {A : Type 0} (all xs : List A) (x : Option A) → IsSome x → all ≡ xs ++ option_to_list x → (y : A) × (x ≡ Some y) × (all ≡ xs ++ y ∷ [])
+last_popped all xs (Some y) some e = (y, refl, e)
+last_popped all xs None some e = absurd (cc)
+
+some_taken : {A : Type 0} (k : ℕ) (xs : List A) → k < length xs → 0 < length (take (suc k) xs)
+some_taken k [] lt = absurd (omega (arith, lt))
+some_taken k (x ∷ xs) lt = omega arith
+
+-- the last of so many parts is that of the next cell
+pub last_filled : {P : Type 0} (k : ℕ) (row xs : List P) (x : P) (cell : Content P) (cells : List (Content P)) → k < length row
+    → take (suc k) row ≡ xs ++ x ∷ [] → record cell { part = Some x } ∷ filled (drop (suc k) row) cells ≡ filled (drop k row) (cell ∷ cells)
+last_filled k [] xs x cell cells lt e = absurd (omega (arith, lt))
+last_filled zero (y ∷ row) [] x cell cells lt e = ap (λ z. record cell { part = Some z } ∷ filled row cells) (sym (ap (first_of x) e))
+last_filled zero (y ∷ row) (z ∷ xs) x cell cells lt e =
+    let long = ap length e in let more = length-append xs (x ∷ []) in absurd (omega (arith, long, more))
+last_filled (suc k) (y ∷ row) [] x cell cells lt e = absurd (some row k (omega (arith, lt)) (ap rest_of e)) where
+  some : {A : Type 0} (ys : List A) (j : ℕ) → j < length ys → take (suc j) ys ≡ [] → ⊥
+  some [] j lt' e' = omega (arith, lt')
+  some (w ∷ ys) j lt' e' = cc
+last_filled (suc k) (y ∷ row) (z ∷ xs) x cell cells lt e = last_filled k row xs x cell cells (omega (arith, lt)) (ap rest_of e)
+
+-- the cells of a row, of which the last of so many parts was popped
+pub set_behind : {P : Type 0} (k many len : ℕ) (row back xs : List P) (x : Option P) (cell new : Content P) (cells news : List (Content P))
+    → k < length row → many ≡ k + 1 → back ≡ take many row → len ≡ length back → (0 < len → IsSome x) → back ≡ xs ++ option_to_list x
+    → new ≡ record cell { part = x } → news ≡ filled (drop many row) cells → new ∷ news ≡ filled (drop k row) (cell ∷ cells)
+set_behind k many len row back xs x cell new cells news lt long taken measured some items set rest =
+    let count : many ≡ suc k = omega (arith, long) in
+    let first : back ≡ take (suc k) row = taken ∙ ap (λ n. take n row) count in
+    let there = some_taken k row lt in let size = ap length first in
+    let last = last_popped back xs x (some (omega (arith, there, size, measured))) items in
+    (λ j. (set ∙ ap (λ z. record cell { part = z }) last.1) j ∷ (rest ∙ ap (λ n. filled (drop n row) cells) count) j)
+    ∙ last_filled k row xs last.0 cell cells lt (sym first ∙ last.2)
+
+-- the last of a list and one more is that one
+pub last_same : {A : Type 0} (xs ys : List A) (x y : A) → xs ++ x ∷ [] ≡ ys ++ y ∷ [] → x ≡ y
+last_same [] [] x y e = ap (first_of x) e
+last_same [] (z ∷ ys) x y e = let long = ap length e in let more = length-append ys (y ∷ []) in absurd (omega (arith, long, more))
+last_same (z ∷ xs) [] x y e = let long = ap length e in let more = length-append xs (x ∷ []) in absurd (omega (arith, long, more))
+last_same (z ∷ xs) (w ∷ ys) x y e = last_same xs ys x y (ap rest_of e)
+
+-- a part that was the cell's own is so again, and one that was made is none
+pub own_again : {P : Type 0} (own : Option P) (empty : P) (is_own : Bool) → is_own ≡ is_some own → cond is_own (Some (unwrap_or own empty)) None ≡ own
+own_again (Some part) empty is_own e = ap (λ b. cond b (Some part) None) e
+own_again None empty is_own e = ap (λ b. cond b (Some empty) None) e
+
+-- and where it was its own or none, it is as it was
+pub own_behind : {P : Type 0} (parts all back xs : List P) (own : Option P) (empty : P) (is_own : Bool) (x : Option P) (cell lifted new : Content P) (cells news : List (Content P)) (len : ℕ)
+    → all ≡ parts ++ unwrap_or own empty ∷ [] → back ≡ all → len ≡ length back → (0 < len → IsSome x) → back ≡ xs ++ option_to_list x
+    → is_own ≡ is_some own → own ≡ cell.part → lifted ≡ record cell { part = None } → new ≡ record lifted { part = cond is_own x None } → news ≡ cells
+    → new ∷ news ≡ cell ∷ cells
+own_behind parts all back xs own empty is_own x cell lifted new cells news len pushed same measured some items owns was lifts set rest =
+    let long = ap length (same ∙ pushed) in let more = length-append parts (unwrap_or own empty ∷ []) in
+    let last = last_popped back xs x (some (omega (arith, long, more, measured))) items in
+    let is : last.0 ≡ unwrap_or own empty = last_same xs parts last.0 (unwrap_or own empty) (sym last.2 ∙ same ∙ pushed) in
+    λ j. (
+    set ∙ (λ i. record (lifts i) { part = cond is_own (last.1 i) None })
+    ∙ ap (λ z. record cell { part = cond is_own (Some z) None }) is ∙ ap (λ z. record cell { part = z }) (own_again own empty is_own owns ∙ was)
+    ) j ∷ rest j
+
+-- what is so of three answers
+
+pub on_ok_3 : {X E A B C D : Type 0} (r : Result X E) → (A → B → C → D) → OnOk r A → OnOk r B → OnOk r C → OnOk r D
+on_ok_3 (Ok x) f a b c = f a b c
+on_ok_3 (Err e) f a b c = tt
+
+pub on_err_3 : {X E A B C D : Type 0} (r : Result X E) → (A → B → C → D) → OnErr r A → OnErr r B → OnErr r C → OnErr r D
+on_err_3 (Ok x) f a b c = tt
+on_err_3 (Err e) f a b c = f a b c

@@ -1,0 +1,66 @@
+-- A call that is tried again and again.
+use Rattle.std.proofs.Common.{◌≡◌, ℕ, ◌<◌, false, List, [], ◌∷◌, ◌++◌, length, refl, sym, ap, ◌∙◌, subst}
+use Rattle.std.specs.List.{slice_get}
+use Rattle.std.specs.Option.{option_map}
+use Rattle.std.proofs.lemmas.Option.{slice_get-map}
+use Rattle.k42_kinds.specs.declared.entry.Act.TheVariants.{Call}
+use Rattle.k42_kinds.specs.declared.entry.Answer.TheVariants.{Replied}
+use Rattle.k42_kinds.specs.declared.entry.Entry.{Entry}
+use Rattle.k42_kinds.specs.declared.operation.Op.{Op}
+use Rattle.k42_kinds.specs.declared.operation.Reply.{Reply}
+use Rattle.turn_core.specs.Stamps.{last_stamp}
+use Rattle.co_any.specs.declared.part.AnyPart.{AnyPart}
+use Rattle.k42_board.specs.Seen.{PassSeen, Own}
+use Rattle.k42_board.specs.declared.view.PassView.{PassView}
+use Rattle.k42_runtime.specs.Calls.{CallSeen, IsAsked, HasCalled, HasNotCalled}
+use Rattle.k42_runtime.specs.Plans.{layout_of}
+use Rattle.k42_runtime.specs.Serving.{IsAskedOf}
+use Rattle.k42_runtime.specs.Systems.{SystemSeen, IsPlanned, IsPassHere, IsAtWork, KeepsElse}
+
+-- what the plan declares the table does
+pub asked_of : (system : SystemSeen) → IsPlanned system → (object : ℕ) (op : Op) → IsAsked system.plan object op → IsAskedOf system.sys.layouts object op
+asked_of system planned object op asked = record {
+  declaration = layout_of asked.declaration;
+  declares =
+      ap (λ layouts. slice_get layouts object) planned.layouts ∙ slice_get-map layout_of system.plan.objects object ∙ ap (option_map layout_of) asked.declares;
+  takes = asked.takes;
+}
+
+-- it is the same call, of a pass that has drawn nothing yet
+pub record IsCalling (system : SystemSeen) (object : ℕ) (op : Op) (first now : PassSeen AnyPart) (call : CallSeen) : Type 0 where
+  pub same : call ≡ record { object = object; op = op; ended = false }
+  pub here : IsPassHere system now
+  pub works : IsAtWork now.view
+  pub since : HasNotCalled first.view now.view
+
+module _ {P : Type 0} where
+  pub keeps_on : (u v w : PassView P) → KeepsElse u v → KeepsElse v w → KeepsElse u w
+  keeps_on u v w first second = second ∙ ap (λ (own : Own). record own { place = w.visitor.place; layout = w.layout; mine = w.taker.mine }) first
+
+  pub not_called : (v : PassView P) → HasNotCalled v v
+  not_called v = record { same = refl; keeps = refl }
+
+  pub not_called_on : (u v w : PassView P) → HasNotCalled u v → HasNotCalled v w → HasNotCalled u w
+  not_called_on u v w first second = record { same = second.same ∙ first.same; keeps = keeps_on u v w first.keeps second.keeps }
+
+  pub called_on : (u v w : PassView P) (object : ℕ) (op : Op) (reply : Reply) → HasNotCalled u v → HasCalled object op reply v w → HasCalled object op reply u w
+  called_on u v w object op reply first then = record {
+    entry = then.entry;
+    drawn = then.drawn ∙ ap (λ mine. mine ++ then.entry ∷ []) first.same;
+    later = subst (λ mine. last_stamp mine < then.entry.stamp) first.same then.later;
+    whole =
+        then.whole
+        ∙ (λ j. record {
+          stamp = then.entry.stamp;
+          caller = (first.keeps j).number;
+          index = length (first.same j);
+          object = object;
+          incarnation = then.entry.incarnation;
+          cell = then.entry.cell;
+          act = Call op;
+          answer = Replied reply;
+          proc = (first.keeps j).turn.proc;
+          generation = (first.keeps j).turn.active;
+        });
+    keeps = keeps_on u v w first.keeps then.keeps;
+  }

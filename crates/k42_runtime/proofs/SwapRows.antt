@@ -1,0 +1,179 @@
+-- A swap that has ended, between the collecting of rows and their handing over.
+use Rattle.std.proofs.Common.{◌≡◌, ⊎_elim, inl, inr, ℕ, ◌+◌, ◌≤◌, ◌<◌, List, ◌++◌, Result, Ok, Err, length, take, sym, ap, ◌∙◌, subst, arith}
+use Rattle.std.specs.Prelude.{◌⊎◌}
+use Rattle.std.specs.Result.{OnOk, OnErr}
+use Rattle.std.proofs.Math.Seq.{take-length}
+use Rattle.phase_core.specs.Plain.{Visitor}
+use Rattle.phase_core.specs.Stages.{is_out}
+use Rattle.k42_stamp.specs.Layouts.{Layouts}
+use Rattle.co_any.specs.declared.part.AnyPart.{AnyPart}
+use Rattle.k42_board.specs.Gracing.{role_view}
+use Rattle.k42_board.specs.Noting.{notes_due}
+use Rattle.k42_board.specs.Queueing.{WasEmpty}
+use Rattle.k42_board.specs.Seen.{PassSeen}
+use Rattle.k42_board.specs.Views.{word_begun}
+use Rattle.k42_board.specs.declared.view.PassView.{PassView}
+use Rattle.k42_board.specs.declared.view.Row.{Row}
+use Rattle.k42_quiesce.specs.Collecting.{HasCollected, HasHandedOver, CollectsAll}
+use Rattle.k42_quiesce.specs.Gracing.{GoesOn}
+use Rattle.k42_runtime.specs.Phases.{last_step}
+use Rattle.k42_runtime.specs.Reclaims.{with_rows}
+use Rattle.k42_runtime.specs.Swaps.{SwapSeen, IsSameCaller, IsEndBy, HasSwapped, HasNotBegun, HasAbandoned, HasStepped, HasEnded, StepsWithoutMemory, EndsWithoutMemory, graces_due}
+use Rattle.k42_runtime.specs.Systems.{SystemSeen, IsPassHere, IsAtRest, layouts_in}
+use Rattle.k42_runtime.specs.declared.swaps.Stage.TheVariants.{New}
+use Rattle.k42_runtime.specs.declared.swaps.Swapped.{Swapped}
+use Rattle.k42_runtime.specs.declared.swaps.To.{To}
+use Rattle.k42_runtime.proofs.SwapSteps.{same_caller, swapped_before, abandoned_before}
+use Rattle.k42_runtime.proofs.SwapWaits.{new_swap, rests_over}
+
+-- it has other rows, and nothing else is changed
+pub record HasRows {P : Type 0} (old new : PassSeen P) : Type 0 where
+  pub seat : new.seat ≡ old.seat
+  pub rows : List Row
+  pub granted : ℕ
+  pub knows : new.view ≡ record old.view { rows = rows; granted = granted }
+
+pub has_collected : {P : Type 0} (rows : List Row) (old new : PassSeen P) → HasCollected rows old new → HasRows old new
+has_collected rows old new is = record { seat = is.seat; rows = old.view.rows ++ rows; granted = old.view.granted; knows = is.knows }
+
+pub handed_some : {P A E : Type 0} (result : Result A E) (old new : PassSeen P) → OnOk result (HasHandedOver (length old.view.rows) old new)
+    → OnErr result ((count : ℕ) × (count < length old.view.rows) × HasHandedOver count old new) → (count : ℕ) × HasHandedOver count old new
+handed_some (Ok value) old new ok err = (length old.view.rows, ok)
+handed_some (Err error) old new ok err = (err.0, err.2)
+
+pub has_handed : {P : Type 0} (count : ℕ) (old new : PassSeen P) → HasHandedOver count old new → HasRows old new
+has_handed count old new is = record { seat = is.seat; rows = _; granted = _; knows = is.knows }
+
+pub handed_here : (system : SystemSeen) (count : ℕ) (mid new : PassSeen AnyPart) → HasHandedOver count mid new → IsPassHere system mid → IsPassHere system new
+handed_here system count mid new handed here = record {
+  ours = record {
+    table = handed.table ∙ here.ours.table;
+    proc = subst (λ (v : PassView AnyPart). v.turn.proc < system.sys.procs) (sym handed.knows) here.ours.proc;
+    waits = ap (λ (v : PassView AnyPart). length v.turn.waits) handed.knows ∙ here.ours.waits;
+    objects = ap (λ (v : PassView AnyPart). length v.visitor.noted) handed.knows ∙ here.ours.objects;
+    spans = ap (λ (v : PassView AnyPart). length v.visitor.freeing) handed.knows ∙ here.ours.spans;
+    queue = handed.queue ∙ here.ours.queue;
+  };
+  out = ap (λ (v : PassView AnyPart). is_out v.visitor.place) handed.knows ∙ here.out;
+  held = ap (λ (v : PassView AnyPart). v.taker.held) handed.knows ∙ here.held;
+  notes = ap (λ (v : PassView AnyPart). v.notes) handed.knows ∙ here.notes;
+}
+
+not_begun : {P : Type 0} (v w : PassView P) (rows : List Row) (granted : ℕ) → w ≡ record v { rows = rows; granted = granted } → HasNotBegun v w
+not_begun v w rows granted e =
+    e ∙ (λ j. record v { rows = sym (ap (λ (u : PassView _). u.rows) e) j; granted = sym (ap (λ (u : PassView _). u.granted) e) j })
+
+-- the last step of a swap
+module _ (system : SystemSeen) (object : ℕ) (to : To) (t : SwapSeen) (old new : PassSeen AnyPart) where
+  one_grace : (new due old : ℕ) → new + due ≤ old + 1 → new ≤ old + 1
+  one_grace new due old le = omega (arith, le)
+
+  out_of_memory : {S L P : Type 0} (F : Layouts S L P) (declared : List L) (id : ℕ) (v w : PassView P) → StepsWithoutMemory F declared id New object to v w
+      → EndsWithoutMemory F declared id object to v w
+  out_of_memory F declared id v w = ⊎_elim (λ (is : (New ≡ New) × (w ≡ v)). inl (not_begun v w v.rows v.granted is.1)) (λ (is : HasAbandoned F declared id object to v w). inr is)
+
+  pub ended_now : {E : Type 0} (result : Result Swapped E) → HasStepped system (last_step result) (new_swap object to) t old new
+      → HasEnded system object to result old new
+  ended_now (Ok end) is = record {
+    here = is.here;
+    rests = rests_over t.stage (length system.plan.objects) t new is.over is.stage;
+    seat = is.seat;
+    caller = is.caller;
+    graces = let le = is.graces in one_grace new.view.graces (graces_due t.stage t.holder) old.view.graces le;
+    told = is.told;
+    ended = is.brought;
+    memory = tt;
+  }
+  ended_now (Err error) is = record {
+    here = is.here;
+    rests = rests_over t.stage (length system.plan.objects) t new is.over is.stage;
+    seat = is.seat;
+    caller = is.caller;
+    graces = let le = is.graces in one_grace new.view.graces (graces_due t.stage t.holder) old.view.graces le;
+    told = tt;
+    ended = tt;
+    memory = out_of_memory (layouts_in system) system.sys.layouts old.seat old.view new.view is.brought;
+  }
+
+-- the pass before it collects, after it, before it hands over, and after that
+module _ {P : Type 0} (p0 p1 p2 p3 : PassSeen P) (first : HasRows p0 p1) (last : HasRows p2 p3) where
+  collected_caller : IsSameCaller p0.view p1.view
+  collected_caller = record {
+    number = ap (λ (v : PassView P). v.number) first.knows;
+    proc = ap (λ (v : PassView P). v.turn.proc) first.knows;
+    activities = ap (λ (v : PassView P). v.activities) first.knows;
+  }
+
+  collected_drawn : p1.view.taker.mine ≡ p0.view.taker.mine
+  collected_drawn = ap (λ (v : PassView P). v.taker.mine) first.knows
+
+  pub still_caller : IsSameCaller p1.view p2.view → IsSameCaller p0.view p3.view
+  still_caller same = same_caller p0.view p1.view p3.view collected_caller (record {
+    number = ap (λ (v : PassView P). v.number) last.knows ∙ same.number;
+    proc = ap (λ (v : PassView P). v.turn.proc) last.knows ∙ same.proc;
+    activities = ap (λ (v : PassView P). v.activities) last.knows ∙ same.activities;
+  })
+
+  pub still_rests : IsAtRest p2.view → IsAtRest p3.view
+  still_rests is = subst IsAtRest (sym last.knows) is
+
+  pub still_few : p2.view.graces ≤ p1.view.graces + 1 → p3.view.graces ≤ p0.view.graces + 1
+  still_few le = subst (λ (x : PassView P × PassView P). x.0.graces ≤ x.1.graces + 1) (λ j. (sym last.knows j, first.knows j)) le
+
+  pub still_told : (end : Swapped) → IsEndBy (word_begun p2.view.last) end → IsEndBy (word_begun p3.view.last) end
+  still_told end is = subst (λ (v : PassView P). IsEndBy (word_begun v.last) end) (sym last.knows) is
+
+  pub still_swapped : (object : ℕ) (to : To) (end : Swapped) → HasSwapped object to end p1.view p2.view → HasSwapped object to end p0.view p3.view
+  still_swapped object to end swapped =
+      let is = swapped_before p0.view p1.view p2.view collected_caller collected_drawn object to end swapped in
+      subst (HasSwapped object to end p0.view) (sym last.knows) (record { begun = is.begun; entry = is.entry; next = is.next; drawn = is.drawn })
+
+  pub still_without : {S L : Type 0} (F : Layouts S L P) (declared : List L) (object : ℕ) (to : To) → EndsWithoutMemory F declared p1.seat object to p1.view p2.view
+      → EndsWithoutMemory F declared p0.seat object to p0.view p3.view
+  still_without F declared object to =
+      ⊎_elim
+      (λ (is : HasNotBegun p1.view p2.view). inl (not_begun p0.view p3.view last.rows last.granted
+      (last.knows ∙ ap (λ (v : PassView P). record v { rows = last.rows; granted = last.granted }) is
+      ∙ ap (λ (v : PassView P). record v { rows = last.rows; granted = last.granted }) first.knows)))
+      (λ (gave : HasAbandoned F declared p1.seat object to p1.view p2.view). inr
+      (let is = abandoned_before p0.view p1.view p2.view collected_caller collected_drawn F declared p1.seat object to gave in
+      subst (λ (id : ℕ). HasAbandoned F declared id object to p0.view p3.view) first.seat
+      (subst (HasAbandoned F declared p1.seat object to p0.view) (sym last.knows)
+      (record { begun = is.begun; free = is.free; entry = is.entry; next = is.next; drawn = is.drawn; opened = is.opened }))))
+
+pub ended_still : {E : Type 0} (system : SystemSeen) (object : ℕ) (to : To) (result : Result Swapped E) (p0 p1 p2 p3 : PassSeen AnyPart) → HasRows p0 p1
+    → HasRows p2 p3 → IsPassHere system p3 → HasEnded system object to result p1 p2 → HasEnded system object to result p0 p3
+ended_still system object to (Ok end) p0 p1 p2 p3 first last here is = record {
+  here = here;
+  rests = still_rests p0 p1 p2 p3 first last is.rests;
+  seat = last.seat ∙ is.seat ∙ first.seat;
+  caller = still_caller p0 p1 p2 p3 first last is.caller;
+  graces = still_few p0 p1 p2 p3 first last is.graces;
+  told = still_told p0 p1 p2 p3 first last end is.told;
+  ended = still_swapped p0 p1 p2 p3 first last object to end is.ended;
+  memory = tt;
+}
+ended_still system object to (Err error) p0 p1 p2 p3 first last here is = record {
+  here = here;
+  rests = still_rests p0 p1 p2 p3 first last is.rests;
+  seat = last.seat ∙ is.seat ∙ first.seat;
+  caller = still_caller p0 p1 p2 p3 first last is.caller;
+  graces = still_few p0 p1 p2 p3 first last is.graces;
+  told = tt;
+  ended = tt;
+  memory = still_without p0 p1 p2 p3 first last (layouts_in system) system.sys.layouts object to is.memory;
+}
+
+-- a grace that begins once rows were collected
+module _ {P : Type 0} (old mid : PassSeen P) (more : List Row) (w : PassView P) (is : HasCollected more old mid) (goes : GoesOn (role_view 0 mid.view) w) where
+  -- it serves all rows that the pass has
+  pub serves_all : take w.granted w.rows ≡ old.view.rows ++ more
+  serves_all =
+      (λ j. take (ap (λ (v : PassView P). v.granted) goes.rest j) (ap (λ (v : PassView P). v.rows) goes.rest j)) ∙ take-length mid.view.rows
+      ∙ ap (λ (v : PassView P). v.rows) is.knows
+
+  pub notes_all : w.visitor.noted ≡ notes_due (with_rows more old.view)
+  notes_all = ap (λ (x : Visitor). x.noted) goes.visitor ∙ ap notes_due is.knows
+
+  pub collects_all : CollectsAll P mid.row_room → WasEmpty P ⊎ (old.row_room ≤ length more + 1)
+  collects_all = ⊎_elim (λ (empty : WasEmpty P). inl empty) (λ (few : mid.row_room ≤ 1). let room = is.row_room in inr (omega (arith, few, room)))

@@ -1,0 +1,67 @@
+-- A swap that is stepped until it is over.
+use Rattle.std.proofs.Common.{◌≡◌, ℕ, true, false, None, length, refl, arith}
+use Rattle.co_any.specs.declared.part.AnyPart.{AnyPart}
+use Rattle.k42_board.specs.Seen.{PassSeen}
+use Rattle.k42_runtime.specs.Phases.{HasGoneOn}
+use Rattle.k42_runtime.specs.Swaps.{SwapSeen, IsAtStage, HasStepped, is_over}
+use Rattle.k42_runtime.specs.Systems.{SystemSeen, IsPassHere, IsAtRest}
+use Rattle.k42_runtime.specs.declared.swaps.Cause.{Cause}
+use Rattle.k42_runtime.specs.declared.swaps.Stage.{Stage}
+use Rattle.k42_runtime.specs.declared.swaps.Stage.TheVariants as stages
+use Rattle.k42_runtime.specs.declared.swaps.Step.TheVariants.{Again}
+use Rattle.k42_runtime.specs.declared.swaps.To.{To}
+use Rattle.k42_runtime.proofs.SwapSteps.{stepped_before}
+
+-- it has been stepped some times, and is not over
+pub record IsStepped (system : SystemSeen) (s t : SwapSeen) (old new : PassSeen AnyPart) : Type 0 where
+  pub here : IsPassHere system new
+  pub stage : IsAtStage t.stage (length system.plan.objects) t new
+  pub going : is_over t.stage ≡ false
+  pub goes : HasGoneOn s t old new
+
+pub not_stepped : (system : SystemSeen) (s : SwapSeen) (new : PassSeen AnyPart) → IsPassHere system new
+    → IsAtStage s.stage (length system.plan.objects) s new → is_over s.stage ≡ false → IsStepped system s s new new
+not_stepped system s new here stage going = record {
+  here = here;
+  stage = stage;
+  going = going;
+  goes = record {
+    object = refl;
+    to = refl;
+    seat = refl;
+    caller = record { number = refl; proc = refl; activities = refl };
+    drawn = refl;
+    graces = omega arith;
+    waits = λ e. (e, refl);
+  };
+}
+
+pub stepped_again : (system : SystemSeen) (s m t : SwapSeen) (old mid new : PassSeen AnyPart) (cause : Cause) → IsStepped system s m old mid
+    → HasStepped system (Again cause) m t mid new → IsStepped system s t old new
+stepped_again system s m t old mid new cause is step =
+    let all = stepped_before system s m t old mid new is.goes (Again cause) step in
+    record {
+      here = all.here;
+      stage = all.stage;
+      going = all.over;
+      goes = record {
+        object = all.object;
+        to = all.to;
+        seat = all.seat;
+        caller = all.caller;
+        drawn = all.brought.0;
+        graces = all.graces;
+        waits = λ e. absurd (all.begun e);
+      };
+    }
+
+pub rests_over : {P : Type 0} (stage : Stage) (objects : ℕ) (t : SwapSeen) (new : PassSeen P) → is_over stage ≡ true → IsAtStage stage objects t new
+    → IsAtRest new.view
+rests_over stages.Over objects t new e is = is
+rests_over stages.New objects t new e is = absurd (cc)
+rests_over stages.Waiting objects t new e is = absurd (cc)
+rests_over stages.Shut objects t new e is = absurd (cc)
+rests_over stages.Marking objects t new e is = absurd (cc)
+
+abbrev pub new_swap : ℕ → To → SwapSeen
+new_swap object to = record { object = object; to = to; stage = stages.New; holder = None }

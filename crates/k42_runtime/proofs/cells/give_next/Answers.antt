@@ -1,0 +1,28 @@
+use Rattle.std.proofs.Common.{◌<◌, ℕ, refl, sym, ap, ◌∙◌, subst}
+use Rattle.turn_core.specs.Names.{names}
+use Rattle.k42_board.specs.Cells.{cells_noted}
+use Rattle.k42_board.specs.Taking.{CELLS, MayPut}
+use Rattle.k42_board.specs.declared.view.PassView.{PassView}
+use Rattle.k42_rule.proofs.PutBack.{may_put}
+use Rattle.k42_mediator.proofs.GivenBack.{cell_in}
+use Rattle.k42_mediator.proofs.Remaining.{none_remains}
+use Rattle.k42_runtime.specs.Systems.{any_layouts}
+use Rattle.k42_runtime.proofs.cells.give_next.Goals as goal
+
+pub put-requires-clause-may : goal.put-requires-clause-may
+put-requires-clause-may c κs =
+    let F = any_layouts c.args.sys.now.procs c.args.sys.now.callers in
+    let v = c.args.pass.now.view in let cell = c.args.cell in let ready = c.requires.ready in
+    subst (λ n. MayPut F c.args.sys.now.layouts c.args.pass.now.seat n cell v) (sym c.number-number.ensures)
+    (may_put F c.args.sys.now.layouts c.args.pass.now.seat cell.number v cell refl ready.cell
+    (record { noted = ready.held.noted; history = ready.held.history; closed = ready.held.closed })
+    (ready.due v (record { visitor = refl; last = refl; handed = refl }) ready.held.noted refl))
+
+pub unlock-requires-clause-may : goal.unlock-requires-clause-may
+unlock-requires-clause-may c κs =
+    let v = c.args.pass.now.view in let n : ℕ = c.number-number.result in let ready = c.requires.ready in let knows = c.put.ensures.knows in
+    record {
+      cell = subst (λ m. m < CELLS) (sym c.number-number.ensures) ready.cell;
+      held = ap (λ (w : PassView _). names w.taker.held n) knows ∙ ap (names v.taker.held) c.number-number.ensures ∙ ready.holds;
+      home = ap (λ (w : PassView _). names (cells_noted w.notes) n) knows ∙ none_remains cell_in n v.notes;
+    }

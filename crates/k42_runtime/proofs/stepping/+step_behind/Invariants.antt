@@ -1,0 +1,5 @@
+use Rattle.std.proofs.Common.{length}
+use Rattle.k42_runtime.proofs.stepping.+step_behind.Given as goal
+
+abbrev pub decreases-step_behind : goal.decreases-step_behind
+decreases-step_behind l = length l.cells.now

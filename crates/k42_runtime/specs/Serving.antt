@@ -1,0 +1,154 @@
+-- A call inside the row that serves it: what the pass has there, and what becomes of it.
+use Rattle.std.specs.Prelude.{◌≡◌, ℕ, ◌+◌, ◌<◌, ◌≤◌, true, IsTrue, List, [], ◌∷◌, length, Option, Some, None, slice_get, is_some}
+use Rattle.k42_kinds.specs.Operations.{takes_operation}
+use Rattle.k42_kinds.specs.declared.entry.Act.TheVariants.{Call}
+use Rattle.k42_kinds.specs.declared.entry.Answer.TheVariants.{Replied}
+use Rattle.k42_kinds.specs.declared.entry.Entry.{Entry}
+use Rattle.k42_kinds.specs.declared.entry.Reach.{Reach}
+use Rattle.k42_kinds.specs.declared.entry.Reach.TheVariants.{All}
+use Rattle.k42_kinds.specs.declared.operation.Op.{Op}
+use Rattle.k42_kinds.specs.declared.operation.Reply.{Reply}
+use Rattle.phase_core.specs.Stages.{is_out, object_of, row_of}
+use Rattle.turn_core.specs.Events.{caller_drawn}
+use Rattle.turn_core.specs.Stamps.{last_stamp}
+use Rattle.k42_stamp.specs.Layouts.{Layouts}
+use Rattle.k42_joined.specs.Rows.{cells_reached}
+use Rattle.co_any.specs.declared.layout.AnyLayout.{AnyLayout}
+use Rattle.k42_board.specs.Drawing.{numbers_of}
+use Rattle.k42_board.specs.Phases.{is_served}
+use Rattle.k42_board.specs.Seen.{PassSeen}
+use Rattle.k42_board.specs.Taking.{AreRowsNoted}
+use Rattle.k42_board.specs.Views.{hears}
+use Rattle.k42_board.specs.declared.cell.Content.{Content}
+use Rattle.k42_board.specs.declared.view.PassView.{PassView}
+use Rattle.k42_mediator.specs.Taken.{released, AreTaken}
+use Rattle.k42_runtime.specs.Calls.{WasHeld, HasCalled, HoldsUp}
+use Rattle.k42_runtime.specs.Reaching.{refused_view}
+use Rattle.k42_runtime.specs.Systems.{KeepsElse}
+use Rattle.k42_runtime.specs.declared.calls.CallCause.{CallCause}
+use Rattle.k42_runtime.specs.declared.calls.CallCause.TheVariants as causes
+use Rattle.k42_runtime.specs.declared.calls.CallStep.{CallStep}
+use Rattle.k42_runtime.specs.declared.calls.CallStep.TheVariants as steps
+
+-- the row that its call is inside
+abbrev pub object_inside : {P : Type 0} → PassView P → ℕ
+object_inside v = object_of v.visitor.place
+
+abbrev pub row_inside : {P : Type 0} → PassView P → ℕ
+row_inside v = row_of v.visitor.place
+
+-- it is inside a row of the object, whose layout it knows
+pub record IsServing {P : Type 0} (object : ℕ) (v : PassView P) : Type 0 where
+  pub served : is_served v.visitor.place ≡ true
+  pub of : object_inside v ≡ object
+  pub known : is_some v.layout ≡ true
+
+-- only where it is may be other
+pub record GoesBy {P : Type 0} (old new : PassView P) : Type 0 where
+  pub keeps : KeepsElse old new
+  pub taker : new.taker ≡ old.taker
+  pub notes : new.notes ≡ old.notes
+
+-- the object takes the operation
+pub record IsAskedOf (layouts : List AnyLayout) (object : ℕ) (op : Op) : Type 0 where
+  pub declaration : AnyLayout
+  pub declares : slice_get layouts object ≡ Some declaration
+  pub takes : IsTrue (takes_operation declaration.kind op)
+
+-- it has the seat that it had
+pub record IsSameSeat {P : Type 0} (old new : PassSeen P) : Type 0 where
+  pub table : new.table ≡ old.table
+  pub seat : new.seat ≡ old.seat
+  pub queue : new.queue ≡ old.queue
+
+-- the entry of a call, the next one of the pass
+pub record IsCallNext {P : Type 0} (op : Op) (reply : Reply) (v : PassView P) (entry : Entry) : Type 0 where
+  pub later : last_stamp v.taker.mine < entry.stamp
+  pub whole :
+      entry
+      ≡ record {
+        stamp = entry.stamp;
+        caller = v.number;
+        index = length v.taker.mine;
+        object = object_inside v;
+        incarnation = entry.incarnation;
+        cell = entry.cell;
+        act = Call op;
+        answer = Replied reply;
+        proc = v.turn.proc;
+        generation = v.turn.active;
+      }
+
+-- it has drawn the call, and holds these cells still
+pub record HasMade {P : Type 0} (cells : List ℕ) (op : Op) (reply : Reply) (old new : PassView P) : Type 0 where
+  pub entry : Entry
+  pub next : IsCallNext op reply old entry
+  pub knows :
+      released cells new
+      ≡ hears new.heard (record (released cells old) {
+        taker = caller_drawn entry (released cells old).taker;
+        found = None;
+        untold = [];
+      })
+
+abbrev pub Makes : {P : Type 0} → CallStep → List ℕ → Op → PassView P → PassView P → Type 0
+Makes (steps.Ended reply) cells op old new = HasMade cells op reply old new
+Makes (steps.Again cause) cells op old new = ⊥
+Makes steps.Memory cells op old new = new ≡ old
+
+-- it has drawn the call
+pub record HasDrawn {P : Type 0} (op : Op) (reply : Reply) (old new : PassView P) : Type 0 where
+  pub entry : Entry
+  pub next : IsCallNext op reply old entry
+  pub knows : new ≡ hears new.heard (record old { taker = caller_drawn entry old.taker; found = None })
+
+module _ {S L P : Type 0} (F : Layouts S L P) (declared : List L) where
+  -- how it has come out that sought its row
+  abbrev pub GoesIn : ℕ → Option CallCause → ℕ → PassView P → PassView P → Type 0
+  GoesIn id None object old new = IsServing object new
+  GoesIn id (Some cause) object old new =
+      (is_out new.visitor.place ≡ true) × HoldsUp F declared id cause object old new
+
+  -- it has taken the cells that the operation needs, of a row with this layout
+  pub record HasCells
+      (v : PassView P) (layout : L) (reach : Reach) (op : Op) (contents : List (Content P))
+      : Type 0 where
+    pub served : is_served v.visitor.place ≡ true
+    pub few : object_inside v < 16
+    pub declaration : L
+    pub declares : slice_get declared (object_inside v) ≡ Some declaration
+    pub same : F.object_of layout ≡ F.object_of declaration
+    pub tagged : v.layout ≡ Some (F.tag_of layout)
+    pub known : F.tag_of layout ≤ 2
+    pub on : v.turn.proc < F.procs
+    pub takes : IsTrue ((F.object_of layout).takes op)
+    pub reaches : reach ≡ (F.ways_of layout).reach F.procs op v.turn.proc
+    pub spread : reach ≡ All → F.tag_of layout ≡ 1
+    pub numbers : numbers_of contents ≡ cells_reached F.procs (object_inside v) (row_inside v) reach
+    pub held : v.taker.held ≡ numbers_of contents
+    pub taken : AreTaken v.notes contents
+    pub rows : AreRowsNoted F declared v
+    pub back : v.out ≡ None
+
+  -- how it has come out that was in its row, where it holds no cell again
+  abbrev pub IsServedBy : ℕ → CallStep → Op → PassView P → PassView P → Type 0
+  IsServedBy id (steps.Ended reply) op old new = HasDrawn op reply old new
+  IsServedBy id (steps.Again (causes.CellHeld holder)) op old new =
+      (new ≡ refused_view holder old) × WasHeld F declared id holder
+  IsServedBy id (steps.Again cause) op old new = ⊥
+  IsServedBy id steps.Memory op old new = new ≡ hears new.heard old
+
+  -- what it has drawn, or what has held it up
+  abbrev pub TellsTry : ℕ → CallStep → ℕ → Op → PassView P → PassView P → Type 0
+  TellsTry id (steps.Ended reply) object op old new = HasCalled object op reply old new
+  TellsTry id (steps.Again cause) object op old new =
+      (new.taker.mine ≡ old.taker.mine) × HoldsUp F declared id cause object old new
+  TellsTry id steps.Memory object op old new = new.taker.mine ≡ old.taker.mine
+
+  -- how one try of a call has come out: the pass is inside no call, and holds what it held
+  pub record HasTried (id : ℕ) (step : CallStep) (object : ℕ) (op : Op) (old new : PassView P) : Type 0 where
+    pub out : is_out new.visitor.place ≡ true
+    pub keeps : KeepsElse old new
+    pub held : new.taker.held ≡ old.taker.held
+    pub notes : new.notes ≡ old.notes
+    pub told : TellsTry id step object op old new

@@ -1,0 +1,50 @@
+-- An operation, made on the parts of the cells that it needs.
+use Rattle.std.specs.Prelude.{◌≡◌, ℕ, ◌<◌, List, [], ◌∷◌, ◌++◌, length, Some, unwrap_or}
+use Rattle.k42_kinds.specs.LayoutLaws.{IsReached}
+use Rattle.k42_kinds.specs.Rows.{Ways}
+use Rattle.k42_kinds.specs.declared.entry.Reach.{Reach}
+use Rattle.k42_kinds.specs.declared.entry.Reach.TheVariants.{One, All}
+use Rattle.k42_kinds.specs.declared.operation.Op.{Op}
+use Rattle.k42_kinds.specs.declared.operation.Reply.{Reply}
+use Rattle.k42_board.specs.declared.cell.Content.{Content}
+use Rattle.k42_mediator.specs.Parts.{parts_from, filled}
+
+-- how many cells are needed
+abbrev pub many_reached : ℕ → Reach → ℕ
+many_reached procs (One p) = 1
+many_reached procs All = procs
+
+module _ {S P : Type 0} (ways : Ways S P) (procs : ℕ) where
+  -- the part that is due at a place: a missing one stands for the empty one
+  abbrev pub due_in : ℕ → Content P → P
+  due_in p content = unwrap_or content.part (ways.empty procs p)
+
+  -- the cell of a place after the operation
+  abbrev pub stepped_at : ℕ → Op → Content P → Content P
+  stepped_at p op content = record content { part = Some (ways.part_after (due_in p content) op) }
+
+  -- the parts of a row, of which the first were taken out before
+  abbrev pub row_behind : List P → List (Content P) → List P
+  row_behind parts contents = parts ++ parts_from ways procs (length parts) contents
+
+  -- the parts of the row, and what they become, which are as many
+  pub record MayStepRow (Whole : ℕ → List P → Type 0) (parts : List P) (op : Op) : Type 0 where
+    pub some : 0 < procs
+    pub whole : Whole procs parts
+    pub same : length (ways.row_after parts op) ≡ length parts
+
+  -- the cells have what the operation needs
+  abbrev pub MayStepCells : (ℕ → List P → Type 0) → Op → Reach → List (Content P) → Type 0
+  MayStepCells Whole op (One p) (content ∷ []) = (p < procs) × IsReached ways Whole (due_in p content) op
+  MayStepCells Whole op (One p) contents = ⊥
+  MayStepCells Whole op All contents =
+      (length contents ≡ procs) × MayStepRow Whole (parts_from ways procs 0 contents) op
+
+  -- the operation was made on them, with this reply
+  abbrev pub HasSteppedCells : Op → Reach → Reply → List (Content P) → List (Content P) → Type 0
+  HasSteppedCells op (One p) reply (old ∷ []) news =
+      (reply ≡ ways.part_reply (due_in p old) op) × (news ≡ stepped_at p op old ∷ [])
+  HasSteppedCells op (One p) reply olds news = ⊥
+  HasSteppedCells op All reply olds news =
+      let parts = parts_from ways procs 0 olds in
+      (reply ≡ ways.row_reply parts op) × (news ≡ filled (ways.row_after parts op) olds)

@@ -1,0 +1,194 @@
+//! An operation is made on the parts of the cells that it needs.
+ghost use Rattle.std.specs.Prelude.{◌≡◌, ◌<◌, ◌≤◌, ◌+◌, ◌++◌, IsTrue, None, if◌then◌else◌, length, take, drop, is_some, vec_capacity, IfOk, OnOk, OnErr};
+ghost use Rattle.k42_limits.specs.declared.TheConstants.{PROCESSORS};
+ghost use Rattle.k42_kinds.specs.LayoutLaws.{IsReached};
+ghost use Rattle.k42_kinds.specs.declared.entry.Reach.TheVariants.{One};
+ghost use Rattle.k42_kinds.specs.Operations.{takes_operation};
+ghost use Rattle.co_any.specs.Layouts.{ways_of, whole_of};
+ghost use Rattle.k42_mediator.specs.Parts.{parts_from, filled};
+ghost use Rattle.k42_runtime.specs.Stepping.{due_in, stepped_at, row_behind, MayStepRow, MayStepCells, HasSteppedCells};
+
+use co_any::{AnyLayout, AnyPart};
+use k42_kinds::{Layout, Op, Reach, Reply};
+use k42_memory::Memory;
+use k42_rule::Cell;
+use std::alloc::Global;
+
+/// Makes the operation on the part of the one cell that it needs.
+fn step_part(
+    alloc: Global,
+    layout: &AnyLayout,
+    procs: u32,
+    place: u32,
+    op: &Op,
+    cell: &mut Cell<AnyLayout>,
+) -> Result<Reply, Memory>
+    requires known { (layout.now.tag ≤ 2) × (place < procs) × (procs ≤ PROCESSORS) }
+    requires takes { IsTrue (takes_operation layout.now.kind op.now) }
+    requires reached { IsReached (ways_of layout.now.kind layout.now.tag) (whole_of layout.now.kind layout.now.tag)
+        (due_in (ways_of layout.now.kind layout.now.tag) procs place cell.old) op.now }
+    ensures replied { IfOk result (λ reply. reply ≡ (ways_of layout.now.kind layout.now.tag).part_reply
+        (due_in (ways_of layout.now.kind layout.now.tag) procs place cell.old) op.now) }
+    ensures moved { OnOk result (cell.new ≡ stepped_at (ways_of layout.now.kind layout.now.tag) procs place op.now cell.old) }
+    ensures memory { OnErr result (cell.new ≡ cell.old) }
+{
+    if let Some(mut part) = cell.take_part() {
+        let reply = layout.step_one(alloc, &mut part, op);
+        cell.set_part(part);
+        return reply;
+    }
+    let mut part = layout.empty_part(alloc, place, procs)?;
+    let reply = layout.step_one(alloc, &mut part, op)?;
+    cell.set_part(part);
+    Ok(reply)
+}
+
+/// The same where the cell stands alone.
+fn step_first(
+    alloc: Global,
+    layout: &AnyLayout,
+    procs: u32,
+    place: u32,
+    op: &Op,
+    cells: &mut [Cell<AnyLayout>],
+) -> Result<Reply, Memory>
+    requires known { (layout.now.tag ≤ 2) × (procs ≤ PROCESSORS) }
+    requires takes { IsTrue (takes_operation layout.now.kind op.now) }
+    requires may { MayStepCells (ways_of layout.now.kind layout.now.tag) procs (whole_of layout.now.kind layout.now.tag) op.now (One place) cells.old }
+    ensures stepped { IfOk result (λ reply.
+        HasSteppedCells (ways_of layout.now.kind layout.now.tag) procs op.now (One place) reply cells.old cells.new) }
+    ensures memory { OnErr result (cells.new ≡ cells.old) }
+{
+    let Some((cell, _others)) = cells.split_first_mut() else {
+        unreachable!()
+    };
+    step_part(alloc, layout, procs, place, op, cell)
+}
+
+/// The part of a cell, or the empty one that is due there, and whether it is the cell's own.
+struct Lifted {
+    part: AnyPart,
+    own: bool,
+}
+
+/// Takes the part out of a cell. Where there is none, an empty one is made.
+fn lift_part(
+    alloc: Global,
+    layout: &AnyLayout,
+    procs: u32,
+    place: u32,
+    cell: &mut Cell<AnyLayout>,
+) -> Result<Lifted, Memory>
+    requires known { (layout.now.tag ≤ 2) × (place < procs) × (procs ≤ PROCESSORS) }
+    ensures part { IfOk result (λ lifted. lifted.part ≡ due_in (ways_of layout.now.kind layout.now.tag) procs place cell.old) }
+    ensures own { IfOk result (λ lifted. lifted.own ≡ is_some cell.old.part) }
+    ensures lifted { OnOk result (cell.new ≡ record cell.old { part = None }) }
+    ensures memory { OnErr result (cell.new ≡ cell.old) }
+{
+    match cell.take_part() {
+        Some(part) => Ok(Lifted { part, own: true }),
+        None => Ok(Lifted {
+            part: layout.empty_part(alloc, place, procs)?,
+            own: false,
+        }),
+    }
+}
+
+/// Puts a part into a cell again. Where the operation was not made, only its own.
+fn settle(
+    cell: &mut Cell<AnyLayout>,
+    part: Option<AnyPart>,
+    own: bool,
+    reply: &Result<Reply, Memory>,
+)
+    requires { cell.old.part ≡ None }
+    ensures made { OnOk reply.now (cell.new ≡ record cell.old { part = part }) }
+    ensures memory { OnErr reply.now (cell.new ≡ record cell.old { part = if own then part else None }) }
+{
+    if let Some(part) = part {
+        if own || reply.is_ok() {
+            cell.set_part(part);
+        }
+    }
+}
+
+/// Makes the operation on the parts of a row, those taken before and those of the cells. Each cell has its part again
+/// afterwards; without memory it is as it was.
+fn step_behind(
+    alloc: Global,
+    layout: &AnyLayout,
+    procs: u32,
+    op: &Op,
+    cells: &mut [Cell<AnyLayout>],
+    parts: &mut Vec<AnyPart>,
+) -> Result<Reply, Memory>
+    requires known { (layout.now.tag ≤ 2) × (procs ≤ PROCESSORS) }
+    requires takes { IsTrue (takes_operation layout.now.kind op.now) }
+    requires few { length parts.old.items + length cells.old ≤ procs }
+    requires room { length parts.old.items + length cells.old ≤ vec_capacity parts.old }
+    requires row { MayStepRow (ways_of layout.now.kind layout.now.tag) procs (whole_of layout.now.kind layout.now.tag)
+        (row_behind (ways_of layout.now.kind layout.now.tag) procs parts.old.items cells.old) op.now }
+    ensures replied { IfOk result (λ reply. reply ≡ (ways_of layout.now.kind layout.now.tag).row_reply
+        (row_behind (ways_of layout.now.kind layout.now.tag) procs parts.old.items cells.old) op.now) }
+    ensures parts { OnOk result (parts.new.items ≡ take (length parts.old.items) ((ways_of layout.now.kind layout.now.tag).row_after
+        (row_behind (ways_of layout.now.kind layout.now.tag) procs parts.old.items cells.old) op.now)) }
+    ensures cells { OnOk result (cells.new ≡ filled (drop (length parts.old.items) ((ways_of layout.now.kind layout.now.tag).row_after
+        (row_behind (ways_of layout.now.kind layout.now.tag) procs parts.old.items cells.old) op.now)) cells.old) }
+    ensures parts_kept { OnErr result (parts.new.items ≡ parts.old.items) }
+    ensures cells_kept { OnErr result (cells.new ≡ cells.old) }
+{
+    let place = parts.len() as u32;
+    let Some((cell, others)) = cells.split_first_mut() else {
+        return layout.step_all(alloc, parts, op);
+    };
+    let Lifted { part, own } = lift_part(alloc, layout, procs, place, cell)?;
+    parts.push_reserved(part);
+    let reply = step_behind(alloc, layout, procs, op, others, parts);
+    settle(cell, parts.pop(), own, &reply);
+    reply
+}
+
+/// Makes the operation on the parts of a whole row.
+fn step_row(
+    alloc: Global,
+    layout: &AnyLayout,
+    procs: u32,
+    op: &Op,
+    cells: &mut [Cell<AnyLayout>],
+) -> Result<Reply, Memory>
+    requires known { (layout.now.tag ≤ 2) × (procs ≤ PROCESSORS) }
+    requires takes { IsTrue (takes_operation layout.now.kind op.now) }
+    requires few { length cells.old ≤ procs }
+    requires row { MayStepRow (ways_of layout.now.kind layout.now.tag) procs (whole_of layout.now.kind layout.now.tag)
+        (parts_from (ways_of layout.now.kind layout.now.tag) procs 0 cells.old) op.now }
+    ensures replied { IfOk result (λ reply. reply ≡ (ways_of layout.now.kind layout.now.tag).row_reply
+        (parts_from (ways_of layout.now.kind layout.now.tag) procs 0 cells.old) op.now) }
+    ensures moved { OnOk result (cells.new ≡ filled ((ways_of layout.now.kind layout.now.tag).row_after
+        (parts_from (ways_of layout.now.kind layout.now.tag) procs 0 cells.old) op.now) cells.old) }
+    ensures memory { OnErr result (cells.new ≡ cells.old) }
+{
+    let mut parts = Vec::with_capacity(alloc, cells.len())?;
+    step_behind(alloc, layout, procs, op, cells, &mut parts)
+}
+
+/// Makes the operation on the parts of the cells that it needs. Without memory they are as they were.
+pub(crate) fn step_cells(
+    alloc: Global,
+    layout: &AnyLayout,
+    procs: u32,
+    reach: &Reach,
+    op: &Op,
+    cells: &mut [Cell<AnyLayout>],
+) -> Result<Reply, Memory>
+    requires known { (layout.now.tag ≤ 2) × (procs ≤ PROCESSORS) }
+    requires takes { IsTrue (takes_operation layout.now.kind op.now) }
+    requires may { MayStepCells (ways_of layout.now.kind layout.now.tag) procs (whole_of layout.now.kind layout.now.tag) op.now reach.now cells.old }
+    ensures stepped { IfOk result (λ reply.
+        HasSteppedCells (ways_of layout.now.kind layout.now.tag) procs op.now reach.now reply cells.old cells.new) }
+    ensures memory { OnErr result (cells.new ≡ cells.old) }
+{
+    match *reach {
+        Reach::One(place) => step_first(alloc, layout, procs, place, op, cells),
+        Reach::All => step_row(alloc, layout, procs, op, cells),
+    }
+}

@@ -1,0 +1,90 @@
+//! An operation at one cell, step by step.
+ghost use Rattle.std.specs.Prelude.{◌≡◌, ◌<◌, ◌≤◌, IsTrue, IfOk, OnOk, Some, unwrap_or};
+ghost use Rattle.k42_limits.specs.declared.TheConstants.{PROCESSORS};
+ghost use Rattle.k42_kinds.specs.LayoutLaws.{IsReached};
+ghost use Rattle.k42_board.specs.Seen.{inside_in};
+ghost use Rattle.k42_mediator.specs.Transfers.{IsOfKind};
+ghost use Rattle.mediator_tests.specs.Ready.{IsBusy, IsServing};
+
+use k42_kinds::{Act, Answer, Layout, Op, Reach, Reply};
+use k42_memory::Memory;
+use k42_rule::{
+    Content, Inside, Pass, Sys, draw_call, layouts_are_lawful, lock, put, take, unlock,
+};
+use std::alloc::Global;
+
+/// Steps an operation on the part of a cell, which is made where it is missing.
+fn step_part<L: Layout>(
+    alloc: Global,
+    layout: &L,
+    cell: &mut Content<L::Part>,
+    place: u32,
+    procs: u32,
+    op: &Op,
+) -> Result<Reply, Memory>
+    requires known { (L.tag_of layout.now ≤ 2) × (place < procs) × (procs ≤ PROCESSORS) }
+    requires takes { IsTrue ((L.object layout.now).takes op.now) }
+    requires reached { IsReached (L.ways layout.now) (L.whole layout.now)
+        (unwrap_or cell.old.part ((L.ways layout.now).empty procs place)) op.now }
+    ensures replied { IfOk result (λ reply.
+        reply ≡ (L.ways layout.now).part_reply (unwrap_or cell.old.part ((L.ways layout.now).empty procs place)) op.now) }
+    ensures moved { OnOk result (cell.new ≡ record cell.old {
+      part = Some ((L.ways layout.now).part_after (unwrap_or cell.old.part ((L.ways layout.now).empty procs place)) op.now);
+    }) }
+{
+    let mut part = match cell.take_part() {
+        Some(part) => part,
+        None => layout.empty_part(alloc, place, procs)?,
+    };
+    let reply = layout.step_one(alloc, &mut part, op)?;
+    cell.set_part(part);
+    Ok(reply)
+}
+
+/// Makes the operation at the one cell that it needs, where nobody else holds that, and answers the stamp of the entry.
+pub(super) fn step_at<L: Layout>(
+    alloc: Global,
+    sys: &Sys<L>,
+    pass: &mut Pass<L>,
+    layout: &L,
+    inside: &Inside,
+    op: &Op,
+) -> Result<Option<u64>, Memory>
+    requires busy { IsBusy sys.now pass.old }
+    requires serving { IsServing pass.old.view }
+    requires inside { (inside.now ≡ inside_in pass.old.view) × (inside.now.object < 16) }
+    requires layout { IsOfKind L.object sys.now.layouts inside.now.object layout.now × (L.tag_of layout.now ≡ inside.now.layout) × (inside.now.layout ≤ 2) }
+    requires takes { IsTrue ((L.object layout.now).takes op.now) }
+    ensures busy { OnOk result (IsBusy sys.now pass.new) }
+    ensures serving { OnOk result (IsServing pass.new.view) }
+{
+    layouts_are_lawful(sys);
+    let Reach::One(place) = layout.reach(op, pass.processor(), sys.procs()) else {
+        return Ok(None);
+    };
+    if place >= sys.procs() || pass.entries().len() >= 1_048_576 {
+        return Ok(None);
+    }
+    let number = (inside.object * 2 + inside.incarnation % 2) * 8 + place;
+    if lock(sys, pass, number) != 0 {
+        return Ok(None);
+    }
+    let mut cell = take(sys, pass, number);
+    let reply = step_part(alloc, layout, &mut cell, place, sys.procs(), op)?;
+    let mut cells = Vec::new(alloc);
+    cells.push(cell)?;
+    pass.reserve()?;
+    let stamp = draw_call(
+        sys,
+        pass,
+        &mut cells,
+        Act::Call(*op),
+        Answer::Replied(reply),
+    );
+    let Some(cell) = cells.pop() else {
+        unreachable!()
+    };
+    put(sys, pass, number, cell);
+    unlock(sys, pass, number);
+    Ok(Some(stamp))
+}

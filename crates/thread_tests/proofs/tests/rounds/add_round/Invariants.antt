@@ -1,0 +1,5 @@
+use Rattle.thread_tests.specs.Ready.{IsFree}
+use Rattle.thread_tests.proofs.tests.rounds.add_round.Given as goal
+
+abbrev pub invariant-loop : goal.invariant-loop
+invariant-loop g l = IsFree l.sys l.pass

@@ -1,0 +1,144 @@
+//! Three passes add in rounds, and a fourth swaps in each round but the last.
+ghost use Rattle.std.specs.Prelude.{IfOk, OnOk};
+ghost use Rattle.thread_tests.specs.Ready.{IsFree};
+
+use crate::tests::crews::{Walk, amount_of};
+use crate::tests::phases::swap;
+use crate::tests::visits::visit_once;
+use co_any::AnyLayout;
+use crossbeam_utils::Backoff;
+use k42_kinds::Op;
+use k42_memory::Memory;
+use k42_rule::Sys;
+use std::alloc::Global;
+use std::process::Abort;
+use std::sync::Wait;
+use std::sync::atomic::{AtomicU64, Ordering};
+
+/// How many calls were answered, and how many swaps are done.
+#[derive(Drop)]
+pub(super) struct Progress {
+    calls: AtomicU64,
+    swaps: AtomicU64,
+}
+
+impl Progress {
+    pub(super) fn new() -> Progress {
+        Progress {
+            calls: AtomicU64::new(0),
+            swaps: AtomicU64::new(0),
+        }
+    }
+}
+
+/// A pass whose calls are over, and the stamps that they were answered with.
+pub(super) type Called = (Walk, Vec<u64>);
+
+/// Waits until there are so many.
+fn wait_for(rt: &impl Wait, count: &AtomicU64, least: u64) {
+    let backoff = Backoff::new();
+    for _ in rt.forever() {
+        if count.load(Ordering::SeqCst) >= least {
+            return;
+        }
+        backoff.snooze();
+    }
+    unreachable!()
+}
+
+/// Adds the caller's amount to the first object, 250 times.
+fn add_round<R: Abort + Wait>(
+    rt: &R,
+    alloc: Global,
+    sys: &Sys<AnyLayout>,
+    pass: &mut Walk,
+    stamps: &mut Vec<u64>,
+    progress: &Progress,
+) -> Result<(), Memory>
+    requires free { IsFree sys.now pass.old }
+    ensures free { OnOk result (IsFree sys.now pass.new) }
+{
+    let op = Op::Add(amount_of(pass.caller()));
+    for _ in 0..250 {
+        let stamp = visit_once(rt, alloc, sys, pass, 0, &op)?;
+        stamps.push(stamp)?;
+        progress.calls.fetch_add(1, Ordering::SeqCst);
+    }
+    Ok(())
+}
+
+/// Adds in four rounds, each of which begins when the swap of the one before is done.
+fn add_in_rounds<R: Abort + Wait>(
+    rt: &R,
+    alloc: Global,
+    sys: &Sys<AnyLayout>,
+    mut pass: Walk,
+    progress: &Progress,
+) -> Result<Called, Memory>
+    requires free { IsFree sys.now pass }
+    ensures free { IfOk result (λ called. IsFree sys.now called.0) }
+{
+    let mut stamps = Vec::new(alloc);
+    for round in 0..4 {
+        wait_for(rt, &progress.swaps, round);
+        add_round(rt, alloc, sys, &mut pass, &mut stamps, progress)?;
+    }
+    Ok((pass, stamps))
+}
+
+/// The same. The other threads would wait for ever for one that has given up.
+pub(super) fn add_all<R: Abort + Wait>(
+    rt: &R,
+    alloc: Global,
+    sys: &Sys<AnyLayout>,
+    pass: Walk,
+    progress: &Progress,
+) -> Called
+    requires free { IsFree sys.now pass }
+    ensures free { IsFree sys.now result.0 }
+{
+    let Ok(called) = add_in_rounds(rt, alloc, sys, pass, progress) else {
+        panic!(rt; "no memory")
+    };
+    called
+}
+
+/// Swaps the first object to the layout of that tag, once so many calls were answered. The grace of the swap is to free
+/// so many rows.
+fn swap_after<R: Abort + Wait>(
+    rt: &R,
+    alloc: Global,
+    sys: &Sys<AnyLayout>,
+    pass: &mut Walk,
+    progress: &Progress,
+    calls: u64,
+    tag: u32,
+    freed: u32,
+)
+    requires free { IsFree sys.now pass.old }
+    ensures free { IsFree sys.now pass.new }
+{
+    wait_for(rt, &progress.calls, calls);
+    let Ok(()) = swap(rt, alloc, sys, pass, 0, tag, freed) else {
+        panic!(rt; "no memory")
+    };
+    progress.swaps.fetch_add(1, Ordering::SeqCst);
+}
+
+/// Swaps to the shared layout, to the spread one, and to the shared one again, each time after a hundred calls of a
+/// round, which has 750. Each swap but the first frees the row of the one before.
+pub(super) fn swap_all<R: Abort + Wait>(
+    rt: &R,
+    alloc: Global,
+    sys: &Sys<AnyLayout>,
+    mut pass: Walk,
+    progress: &Progress,
+) -> Walk
+    requires free { IsFree sys.now pass }
+    ensures free { IsFree sys.now result }
+{
+    swap_after(rt, alloc, sys, &mut pass, progress, 100, 0, 0);
+    swap_after(rt, alloc, sys, &mut pass, progress, 850, 1, 1);
+    swap_after(rt, alloc, sys, &mut pass, progress, 1600, 0, 1);
+    pass
+}
