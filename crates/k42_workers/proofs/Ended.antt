@@ -31,7 +31,6 @@ use Rattle.k42_workers.specs.Workers.{IsMadeBy, IsRunOf}
 use Rattle.k42_workers.proofs.Filtered.{found_at}
 use Rattle.k42_workers.proofs.Planned.{kinds_planned, all_ready, has_none, none_asking}
 
-
 module _ (script : Script) (system : SystemSeen) where
   -- the passes of a started system are fresh
   pub fresh : (passes : List (PassSeen AnyPart)) → HasStarted (plan_of script) system passes → AreFresh system 0 script.workers passes

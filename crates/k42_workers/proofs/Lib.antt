@@ -5,3 +5,4 @@ pub mod Halved
 pub mod Planned
 pub mod Answered
 pub mod Ended
+pub mod Sums

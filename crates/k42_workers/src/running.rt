@@ -114,7 +114,15 @@ fn run<R: Threads + Wait + Sync, G: Gate + Sync>(
     ensures closed { IfOk result (λ history. IsRunOf script.now history.entries) }
 {
     let (system, mut passes) = System::start(alloc, plan_of(alloc, script)?)?;
-    work_all(rt, alloc, &system, 0, script.workers.as_slice(), gate, passes.as_mut_slice())?;
+    work_all(
+        rt,
+        alloc,
+        &system,
+        0,
+        script.workers.as_slice(),
+        gate,
+        passes.as_mut_slice(),
+    )?;
     match system.close(alloc, passes) {
         Ok(history) => Ok(history),
         Err(_) => Err(Memory),

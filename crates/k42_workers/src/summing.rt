@@ -6,7 +6,10 @@ ghost use Rattle.script_text.specs.Lawful.{IsLawful};
 ghost use Rattle.k42_workers.specs.Loads as loads;
 
 use crate::totals::Summary;
-use k42_kinds::{Act, Answer, DirectoryState, Entry, KindName, Op, PagesState, kind_of, step_counter, step_directory, step_pages};
+use k42_kinds::{
+    Act, Answer, DirectoryState, Entry, KindName, Op, PagesState, kind_of, step_counter,
+    step_directory, step_pages,
+};
 use k42_memory::Memory;
 use script_text::Script;
 use std::alloc::Global;
@@ -94,11 +97,11 @@ fn tallied(alloc: Global, entries: &[Entry]) -> Result<Tally, Memory>
     Ok(tally)
 }
 
-/// What the lawful history of a generated script comes to: a function of its number of steps.
+/// What the lawful history of a generated script comes to.
 pub fn summary(alloc: Global, script: &Script, entries: &Vec<Entry>) -> Result<Summary, Memory>
     requires generated { (n : ℕ) × (n ≤ 10000) × (script.now ≡ generated n) }
     requires lawful { IsLawful script.now entries.now.items }
-    ensures { IfOk result (λ summary. (n : ℕ) → n ≤ 10000 → script.now ≡ generated n → summary ≡ loads.summary_due n) }
+    ensures { IfOk result (λ summary. summary ≡ loads.summary_of (loads.tallied entries.now.items)) }
 {
     let tally = tallied(alloc, entries.as_slice())?;
     Ok(tally.sums())

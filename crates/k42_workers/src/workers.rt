@@ -100,7 +100,9 @@ pub fn work_all<R: Threads + Wait + Sync, G: Gate + Sync>(
     let second = first + count as u32;
     let (left, right) = workers.split_at(count);
     let (front, back) = passes.split_at_mut(count);
-    let (one, other) = work_halves(rt, alloc, system, gate, first, left, front, second, right, back);
+    let (one, other) = work_halves(
+        rt, alloc, system, gate, first, left, front, second, right, back,
+    );
     one?;
     other
 }
