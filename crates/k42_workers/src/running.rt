@@ -149,3 +149,6 @@ pub fn run_script<R: Threads + Wait + Sync, G: Gate + Sync>(
         rest(alloc, script)
     }
 }
+
+#[cfg(test)]
+mod tests;
