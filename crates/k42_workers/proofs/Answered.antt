@@ -1,6 +1,6 @@
 -- The pass of a worker, item by item.
-use Rattle.std.proofs.Common.{◌≡◌, ℕ, zero, suc, ◌+◌, ◌-◌, ◌<◌, ◌≤◌, ◌^◌, Bool, true, false, ◌&&◌, List, [], ◌∷◌, ◌++◌, Option, Some, None, length, map, take, drop, is_none, refl, sym, ap, ◌∙◌, subst, arith}
-use Rattle.std.specs.Prelude.{All, slice_get}
+use Rattle.std.proofs.Common.{◌≡◌, ℕ, zero, suc, ◌+◌, ◌≤◌, Bool, true, false, ◌&&◌, List, [], ◌∷◌, Option, Some, None, length, map, take, drop, is_none, refl, sym, ap, ◌∙◌, subst, arith}
+use Rattle.std.specs.Prelude.{slice_get}
 use Rattle.std.specs.List.{AllByRecursion}
 use Rattle.std.proofs.lemmas.List.{length-append, length-map, length-drop, length-take-le}
 use Rattle.std.proofs.lemmas.List.Elements.{recursion_from_All, All-take, All-drop}
@@ -9,21 +9,19 @@ use Rattle.k42_places.proofs.Rests.{drop_at}
 use Rattle.gen_core.specs.Events as graces
 use Rattle.phase_core.specs.Stages as swaps
 use Rattle.co_any.specs.declared.part.AnyPart.{AnyPart}
-use Rattle.k42_limits.specs.declared.TheConstants.{CALL_LINES}
 use Rattle.k42_kinds.specs.declared.entry.Act.{Act}
 use Rattle.k42_kinds.specs.declared.entry.Act.TheVariants.{Call, Swap, Destroy}
 use Rattle.script_text.specs.Lawful.{call_lines, deed_of, deeds_from}
-use Rattle.script_text.specs.Sound.{IsCall, BlocksMatch}
+use Rattle.script_text.specs.Sound.{IsCall}
 use Rattle.script_text.specs.declared.script.CallLine.{CallLine}
 use Rattle.script_text.specs.declared.script.Item.{Item}
 use Rattle.script_text.specs.declared.script.Item.TheVariants.{Begin, End, Line}
 use Rattle.script_text.specs.declared.script.WorkerLines.{WorkerLines}
-use Rattle.k42_board.specs.Generations.{MOST}
-use Rattle.k42_board.specs.Seen.{PassSeen, is_at_rest}
+use Rattle.k42_board.specs.Seen.{PassSeen}
 use Rattle.k42_board.specs.declared.view.PassView.{PassView}
 use Rattle.k42_runtime.specs.Systems.{SystemSeen, IsPassHere, IsAtRest}
-use Rattle.k42_workers.specs.Lines.{Standing, Follows}
-use Rattle.k42_workers.specs.Passes.{MayAskLine, IsReady, standing_of, IsBetween, HasFew, RestsFor, MayFollow, GoesOnBy, IsFresh, HasWorked, MayWork}
+use Rattle.k42_workers.specs.Lines.{Follows}
+use Rattle.k42_workers.specs.Passes.{MayAskLine, IsReady, standing_of, IsBetween, RestsFor, MayFollow, GoesOnBy, IsFresh, HasWorked, MayWork}
 use Rattle.k42_workers.proofs.Halved.{pair_front, pair_back}
 use Rattle.k42_workers.proofs.Working.{IsUnderWay, under_way_at_start, under_way_on, done_at_end, idle_at_end}
 

@@ -1,19 +1,16 @@
 -- A legal history in which each worker's entries are in order for those with which it has done its lines is lawful, and its
 -- records are.
-use Rattle.std.proofs.Common.{◌≡◌, ◌≢◌, ℕ, zero, suc, ◌<◌, Bool, true, false, cond, List, [], ◌∷◌, ◌++◌, length, get_or, take, drop, map, refl, sym, ap, ◌∙◌, subst, arith}
+use Rattle.std.proofs.Common.{◌≡◌, ℕ, zero, suc, ◌<◌, Bool, true, false, cond, List, [], ◌∷◌, ◌++◌, length, get_or, take, drop, map, refl, sym, ap, ◌∙◌, subst}
 use Rattle.std.specs.Prelude.{◌==◌, All, Option, Some, None, IfSome, slice_get}
 use Rattle.std.specs.Option.{option_map}
 use Rattle.std.proofs.lemmas.Simd.{map-map}
 use Rattle.std.proofs.lemmas.List.{length-map, take-map}
 use Rattle.std.proofs.lemmas.Option.{same_Some, slice_get-map, slice_get_within}
 use Rattle.k42_places.proofs.Appended.{slice_get-append_left, slice_get-append_seam}
-use Rattle.k42_kinds.specs.Histories.{entries_of, unstamped, IsInOrder}
-use Rattle.k42_kinds.specs.Legal.{IsLegalHistory}
-use Rattle.k42_kinds.specs.declared.entry.Act.{Act}
-use Rattle.k42_kinds.specs.declared.entry.Answer.{Answer}
+use Rattle.k42_kinds.specs.Histories.{entries_of, unstamped}
 use Rattle.k42_kinds.specs.declared.entry.Entry.{Entry}
 use Rattle.k42_kinds.proofs.Splits.{heads, All-at_split}
-use Rattle.script_text.specs.Lawful.{Deed, kinds_of, call_lines, deed_of, deeds_from, IsNotGivenUp, IsLawful}
+use Rattle.script_text.specs.Lawful.{Deed, deed_of, IsNotGivenUp, IsLawful}
 use Rattle.script_text.specs.declared.script.Script.{Script}
 use Rattle.script_text.specs.declared.script.WorkerLines.{WorkerLines}
 use Rattle.record_text.specs.Histories.{extra_of, line_of, record_of}

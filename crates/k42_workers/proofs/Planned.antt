@@ -1,21 +1,19 @@
 -- A sound script in which a worker asks something has a plan without a fault, and its workers are ready for it.
-use Rattle.std.proofs.Common.{◌≡◌, ℕ, zero, suc, ◌+◌, ◌<◌, ◌≤◌, Bool, true, false, cond, ltb, leb, List, [], ◌∷◌, Option, Some, None, length, map, get_or, refl, sym, ap, ◌∙◌, subst, arith}
-use Rattle.std.specs.Prelude.{All, sum_by, slice_get}
+use Rattle.std.proofs.Common.{◌≡◌, ℕ, zero, suc, ◌+◌, ◌<◌, ◌≤◌, Bool, true, false, ltb, List, [], ◌∷◌, Option, Some, None, length, map, get_or, refl, sym, ap, ◌∙◌, arith}
+use Rattle.std.specs.Prelude.{All, slice_get}
 use Rattle.std.specs.List.{list_any}
 use Rattle.std.specs.Option.{option_map}
-use Rattle.std.proofs.lemmas.Bool.{or_parts}
 use Rattle.std.proofs.lemmas.Bool.Decides.{nat_tests}
 use Rattle.std.proofs.lemmas.List.{length-map}
 use Rattle.std.proofs.lemmas.Option.{same_Some, slice_get-map, slice_get_within, slice_get-get_or, get_or_from_slice_get}
 use Rattle.std.proofs.lemmas.List.Sums.{get_or-le-sum_by}
 use Rattle.std.proofs.lemmas.Simd.{map-map}
-use Rattle.k42_limits.specs.declared.TheConstants.{PROCESSORS, OBJECTS, CALLERS, CALL_LINES}
-use Rattle.k42_kinds.specs.Operations.{kind_of_op, same_kind, takes_operation}
+use Rattle.k42_limits.specs.declared.TheConstants.{PROCESSORS, OBJECTS, CALLERS}
+use Rattle.k42_kinds.specs.Operations.{kind_of_op, same_kind}
 use Rattle.k42_kinds.specs.declared.entry.Act.{Act}
 use Rattle.k42_kinds.specs.declared.entry.Act.TheVariants.{Call, Swap, Destroy}
 use Rattle.k42_kinds.specs.declared.operation.KindName.{KindName}
 use Rattle.k42_kinds.specs.declared.operation.KindName.TheVariants as kinds
-use Rattle.k42_kinds.specs.declared.operation.Op.{Op}
 use Rattle.script_text.specs.Lawful as lawful
 use Rattle.script_text.specs.Lawful.{call_lines}
 use Rattle.script_text.specs.Sound.{IsSound, IsSoundLine, IsSoundWorker, IsActOn}
@@ -25,13 +23,10 @@ use Rattle.script_text.specs.declared.script.Item.TheVariants.{Begin, End, Line}
 use Rattle.script_text.specs.declared.script.ObjectLine.{ObjectLine}
 use Rattle.script_text.specs.declared.script.Script.{Script}
 use Rattle.script_text.specs.declared.script.WorkerLines.{WorkerLines}
-use Rattle.k42_runtime.specs.Calls.{IsAsked}
 use Rattle.k42_runtime.specs.Plans as plans
 use Rattle.k42_runtime.specs.Plans.{plan_fault, stray_from, is_within}
-use Rattle.k42_runtime.specs.declared.plan.PlanFault.{PlanFault}
-use Rattle.k42_runtime.specs.declared.plan.PlanFault.TheVariants as faults
 use Rattle.k42_runtime.specs.declared.plan.ObjectPlan.{ObjectPlan}
-use Rattle.k42_workers.specs.Passes.{MayAsk, MayAskLine, IsReady}
+use Rattle.k42_workers.specs.Passes.{MayAsk, IsReady}
 use Rattle.k42_workers.specs.Plans.{object_plan, plan_of, is_line, asks}
 use Rattle.k42_workers.proofs.Filtered.{All-found}
 

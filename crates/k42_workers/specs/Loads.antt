@@ -1,5 +1,5 @@
 -- What the numbers of a generated script are, and how a history is summed up.
-use Rattle.std.specs.Prelude.{ℕ, ◌+◌, ◌-◌, ◌%◌, ◌/◌, ◌^◌, ◌==◌, ◌||◌, ◌&&◌, not, Bool, true, false, if◌then◌else◌, List, sum_by, count_by, fold}
+use Rattle.std.specs.Prelude.{ℕ, ◌+◌, ◌-◌, ◌%◌, ◌/◌, ◌^◌, ◌==◌, ◌||◌, ◌&&◌, not, Bool, if◌then◌else◌, List, sum_by, count_by, fold}
 use Rattle.std.specs.List.{range_with_len, list_any}
 use Rattle.std.specs.FinMap as finite
 use Rattle.k42_limits.specs.declared.TheConstants.{PAGES}

@@ -1,5 +1,4 @@
-use Rattle.std.proofs.Common.{rules, ◌≡◌, ◌+◌, List, length, take, drop, ◌++◌, sym, ◌∙◌, ap, subst, arith}
-use Rattle.script_text.specs.declared.script.WorkerLines.{WorkerLines}
+use Rattle.std.proofs.Common.{rules, ◌≡◌, length, ◌∙◌, ap, subst, arith}
 use Rattle.k42_rule.specs.Finishing.{lists_in}
 use Rattle.k42_runtime.specs.Histories.{IsClosed, MayClose}
 use Rattle.k42_runtime.specs.Systems.{HasStarted}

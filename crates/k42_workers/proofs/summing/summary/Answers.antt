@@ -1,4 +1,3 @@
-use Rattle.std.proofs.Common.{refl}
 use Rattle.k42_workers.proofs.Sums.{countable}
 use Rattle.k42_workers.proofs.summing.summary.Goals as goal
 

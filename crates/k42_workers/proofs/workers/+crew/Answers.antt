@@ -1,4 +1,4 @@
-use Rattle.std.proofs.Common.{◌≡◌, ◌+◌, ◌/◌, length, take, drop, ◌++◌, ◌∙◌}
+use Rattle.std.proofs.Common.{◌+◌, ◌/◌, length, take, drop, ◌++◌, ◌∙◌}
 use Rattle.k42_workers.specs.Passes.{HasWorked, HaveWorked}
 use Rattle.k42_workers.proofs.Halved.{where_both, stays_done, pair_both}
 use Rattle.k42_workers.proofs.workers.+crew.Goals as goal

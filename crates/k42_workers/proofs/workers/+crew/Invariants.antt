@@ -1,4 +1,4 @@
-use Rattle.std.proofs.Common.{ℕ, ◌+◌, ◌-◌, ◌*◌, length}
+use Rattle.std.proofs.Common.{◌+◌, ◌-◌, ◌*◌, length}
 use Rattle.k42_workers.proofs.workers.+crew.Given as goal
 
 abbrev pub decreases-work_all : goal.decreases-work_all

@@ -1,4 +1,4 @@
-use Rattle.std.proofs.Common.{◌≡◌, length, refl, sym, add-one}
+use Rattle.std.proofs.Common.{◌≡◌, length, refl, add-one}
 use Rattle.std.specs.Prelude.{Some, slice_get}
 use Rattle.std.proofs.lemmas.Option.{slice_get_read}
 use Rattle.k42_workers.proofs.Answered.{at_start, may_follow, at_next}
