@@ -1,0 +1,8 @@
+pub mod Filtered
+pub mod Judged
+pub mod Working
+pub mod Halved
+pub mod Planned
+pub mod Answered
+pub mod Ended
+pub mod Sums

@@ -1,0 +1,5 @@
+pub mod Workers
+pub mod Lines
+pub mod Plans
+pub mod Passes
+pub mod Loads

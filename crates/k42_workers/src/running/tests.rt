@@ -1,0 +1,109 @@
+use super::run_script;
+use crate::gate::{FreeGate, Gate};
+use crate::summing::summary;
+use crate::totals::Summary;
+use k42_kinds::{Answer, Reply};
+use script_text::{ParseEnd, generate, parse};
+use std::sync::atomic::{AtomicU32, Ordering};
+use std::test::Fail;
+
+/// An add, a swap and a get, by one worker.
+const SWAPPED: &[u8] =
+    b"procs 1\nobject hits counter shared\nworker a 0\nhits add 5\nswap hits spread\nhits get\n";
+
+/// Two workers add and get on two processors.
+const TWO_WORKERS: &[u8] =
+    b"procs 2\nobject hits counter spread\nworker a 0\nhits add 5\nhits get\nworker b 1\nhits add 7\nhits get\n";
+
+#[test]
+fn a_get_after_a_swap_has_what_was_added_before(rt: HostRuntime) -> Result<(), Fail> {
+    let Ok(script) = parse(rt.alloc(), SWAPPED) else {
+        return Err("no script")?;
+    };
+    let history = run_script(&rt, rt.alloc(), &script, &FreeGate)?;
+    let entries = history.entries();
+    assert_eq!(rt; entries.len(), 3);
+    assert_eq!(rt; entries[0].answer, Answer::Replied(Reply::Done));
+    assert_eq!(rt; entries[1].answer, Answer::Swapped(1));
+    assert_eq!(rt; entries[2].answer, Answer::Replied(Reply::Number(5)));
+    assert_eq!(rt; entries[2].incarnation, 1);
+    Ok(())
+}
+
+#[test]
+fn a_script_without_lines_has_an_empty_history(rt: HostRuntime) -> Result<(), Fail> {
+    for bytes in [
+        b"procs 1\n".as_slice(),
+        b"procs 2\nworker a 1\nbegin\nend\n".as_slice(),
+    ] {
+        let Ok(script) = parse(rt.alloc(), bytes) else {
+            return Err("no script")?;
+        };
+        let history = run_script(&rt, rt.alloc(), &script, &FreeGate)?;
+        assert_eq!(rt; history.entries().len(), 0);
+    }
+    Ok(())
+}
+
+#[test]
+fn a_load_of_one_step_adds_its_value(rt: HostRuntime) -> Result<(), Fail> {
+    let script = generate(rt.alloc(), 1)?;
+    let history = run_script(&rt, rt.alloc(), &script, &FreeGate)?;
+    let told = summary(rt.alloc(), &script, history.entries())?;
+    let due = Summary {
+        calls: 1,
+        total: 1_817_669_548,
+        names: 0,
+        dirty: 0,
+        swaps: 0,
+    };
+    assert_eq!(rt; told, due);
+    Ok(())
+}
+
+#[test]
+fn a_load_of_a_thousand_steps_swaps_three_times(rt: HostRuntime) -> Result<(), Fail> {
+    let script = generate(rt.alloc(), 1000)?;
+    let history = run_script(&rt, rt.alloc(), &script, &FreeGate)?;
+    let told = summary(rt.alloc(), &script, history.entries())?;
+    assert_eq!(rt; told.calls, 997);
+    assert_eq!(rt; told.swaps, 3);
+    Ok(())
+}
+
+/// Holds the first line of each of two workers until both are there, for so many turns at most.
+#[derive(Drop)]
+struct Meeting {
+    there: AtomicU32,
+    late: AtomicU32,
+}
+
+impl Gate for Meeting {
+    fn at(&self, _worker: u32, line: u32, before: bool) {
+        if !before || (line != 4 && line != 7) {
+            return;
+        }
+        self.there.fetch_add(1, Ordering::SeqCst);
+        for _ in 0..10_000_000 {
+            if self.there.load(Ordering::SeqCst) == 2 {
+                return;
+            }
+        }
+        self.late.fetch_add(1, Ordering::SeqCst);
+    }
+}
+
+#[test]
+fn two_workers_reach_their_first_lines_side_by_side(rt: HostRuntime) -> Result<(), Fail> {
+    let Ok(script) = parse(rt.alloc(), TWO_WORKERS) else {
+        return Err("no script")?;
+    };
+    let gate = Meeting {
+        there: AtomicU32::new(0),
+        late: AtomicU32::new(0),
+    };
+    let history = run_script(&rt, rt.alloc(), &script, &gate)?;
+    assert_eq!(rt; gate.late.load(Ordering::SeqCst), 0);
+    assert_eq!(rt; history.entries().len(), 4);
+    Ok(())
+}
