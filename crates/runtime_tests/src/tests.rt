@@ -1,9 +1,0 @@
-mod blocked;
-mod closing;
-mod crews;
-mod long;
-mod plans;
-mod shut;
-mod steps;
-mod swapped;
-mod threads;
