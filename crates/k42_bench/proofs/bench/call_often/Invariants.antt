@@ -1,0 +1,5 @@
+use Rattle.k42_bench.specs.Ready.{IsFree}
+use Rattle.k42_bench.proofs.bench.call_often.Given as goal
+
+abbrev pub invariant-loop-number : goal.invariant-loop-number
+invariant-loop-number g l = IsFree l.system l.pass

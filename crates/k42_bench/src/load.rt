@@ -1,0 +1,69 @@
+//! What is asked, and how often.
+use k42_kinds::{KindName, LayoutName, Name, Op, Text};
+
+/// Which operations a thread asks.
+#[derive(Clone, Copy, Debug, PartialEq, Eq)]
+pub enum Ops {
+    /// Those at the cell of its own processor: adds, finds, reads and writes of own pages.
+    Near,
+    /// All of the kind in turn.
+    Mix,
+}
+
+#[derive(Clone, Copy, Debug, PartialEq, Eq)]
+pub struct Load {
+    pub kind: KindName,
+    /// The layout in which the object starts.
+    pub layout: LayoutName,
+    pub ops: Ops,
+    /// 1 to 8.
+    pub threads: u32,
+    /// At least so many on each thread.
+    pub calls: u32,
+    pub swaps: u32,
+}
+
+/// A name of the caller's own, one of ten.
+fn name_of(caller: u32, number: u32) -> Option<Name> {
+    Name::of(&[b'n', b'0' + (caller % 10) as u8, b'0' + (number % 10) as u8])
+}
+
+/// A page of the caller's own, one of a hundred.
+fn page_of(caller: u32, number: u32) -> u16 {
+    (caller % 10 * 100 + number % 100) as u16
+}
+
+fn near(kind: KindName, caller: u32, number: u32) -> Option<Op> {
+    let op = match (kind, number % 2) {
+        (KindName::Counter, _) => Op::Add(1),
+        (KindName::Directory, _) => Op::Find(name_of(caller, number)?),
+        (KindName::Pages, 0) => Op::Write(page_of(caller, number), Text::of(b"text")?),
+        (KindName::Pages, _) => Op::Read(page_of(caller, number - 1)),
+    };
+    Some(op)
+}
+
+fn mix(kind: KindName, caller: u32, number: u32) -> Option<Op> {
+    let op = match (kind, number % 4) {
+        (KindName::Counter, 0 | 1) => Op::Add(1),
+        (KindName::Counter, 2) => Op::Get,
+        (KindName::Counter, _) => Op::Drain,
+        (KindName::Directory, 0) => Op::Bind(name_of(caller, number)?, u64::from(number)),
+        (KindName::Directory, 1) => Op::Find(name_of(caller, number - 1)?),
+        (KindName::Directory, 2) => Op::Size,
+        (KindName::Directory, _) => Op::Unbind(name_of(caller, number - 3)?),
+        (KindName::Pages, 0) => Op::Write(page_of(caller, number), Text::of(b"text")?),
+        (KindName::Pages, 1) => Op::Read(page_of(caller, number - 1)),
+        (KindName::Pages, 2) => Op::Dirty,
+        (KindName::Pages, _) => Op::Clean,
+    };
+    Some(op)
+}
+
+/// What the caller asks in its call of this number.
+pub fn op_of(load: &Load, caller: u32, number: u32) -> Option<Op> {
+    match load.ops {
+        Ops::Near => near(load.kind, caller, number),
+        Ops::Mix => mix(load.kind, caller, number),
+    }
+}

@@ -1,0 +1,62 @@
+//! The words of the command line.
+use crate::load::{Load, Ops};
+use k42_kinds::{KindName, LayoutName};
+
+/// Calls and swaps are fewer.
+const LIMIT: u32 = 1_048_576;
+
+fn kind_of(word: &str) -> Option<KindName> {
+    if word == "counter" {
+        Some(KindName::Counter)
+    } else if word == "directory" {
+        Some(KindName::Directory)
+    } else if word == "pages" {
+        Some(KindName::Pages)
+    } else {
+        None
+    }
+}
+
+fn layout_of(word: &str) -> Option<LayoutName> {
+    if word == "shared" {
+        Some(LayoutName::Shared)
+    } else if word == "spread" {
+        Some(LayoutName::Spread)
+    } else {
+        None
+    }
+}
+
+fn ops_of(word: &str) -> Option<Ops> {
+    if word == "near" {
+        Some(Ops::Near)
+    } else if word == "mix" {
+        Some(Ops::Mix)
+    } else {
+        None
+    }
+}
+
+/// A number below the limit.
+fn number_of(word: &str) -> Option<u32> {
+    word.parse::<u32>().ok().filter(|number| *number < LIMIT)
+}
+
+/// The load that the words ask for.
+pub fn load_of(words: &[String]) -> Option<Load> {
+    let [kind, layout, ops, threads, calls, swaps] = words else {
+        return None;
+    };
+    let threads = number_of(threads.as_str())?;
+    if threads == 0 || threads > 8 {
+        return None;
+    }
+    Some(Load {
+        kind: kind_of(kind.as_str())?,
+        layout: layout_of(layout.as_str())?,
+        ops: ops_of(ops.as_str())?,
+        threads,
+        calls: number_of(calls.as_str())?,
+        swaps: number_of(swaps.as_str())?,
+    })
+}
