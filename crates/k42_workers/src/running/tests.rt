@@ -2,6 +2,7 @@ use super::run_script;
 use crate::gate::{FreeGate, Gate};
 use crate::summing::summary;
 use crate::totals::Summary;
+use crossbeam_utils::Backoff;
 use k42_kinds::{Answer, Reply};
 use script_text::{ParseEnd, generate, parse};
 use std::sync::atomic::{AtomicU32, Ordering};
@@ -84,10 +85,12 @@ impl Gate for Meeting {
             return;
         }
         self.there.fetch_add(1, Ordering::SeqCst);
+        let backoff = Backoff::new();
         for _ in 0..10_000_000 {
             if self.there.load(Ordering::SeqCst) == 2 {
                 return;
             }
+            backoff.snooze();
         }
         self.late.fetch_add(1, Ordering::SeqCst);
     }
