@@ -49,7 +49,7 @@ split_below before own after f rising is =
 module _ {S L P : Type 0} (F : Layouts S L P) (laws : AreLaws F) (declared : List L) (s : Joined L) (sound : IsSound F declared s) (c : ℕ)
     (there : c < many_callers s) where
   -- what stood before an own entry is below it
-  stood_below : (f : Entry) → (is : StoodBefore s c f) → f.stamp < is.own.stamp
+  pub stood_below : (f : Entry) → (is : StoodBefore s c f) → f.stamp < is.own.stamp
   stood_below f is =
       split_below is.before is.own is.after f
       (subst IsRising is.split (histories-rise s.turns is.number is.life is.history sound.cells.turns is.there)) is.stood
@@ -105,7 +105,7 @@ module _ {S L P : Type 0} (F : Layouts S L P) (laws : AreLaws F) (declared : Lis
         (in-append e turn.row.entries (turn.done ∷ []) here))
         (in-append e (past_entries past) (turn.row.entries ++ turn.done ∷ []) inside)
 
-  handed_below : (f : Entry) → (is : WasHanded s c f) → f.stamp < is.own.stamp
+  pub handed_below : (f : Entry) → (is : WasHanded s c f) → f.stamp < is.own.stamp
   handed_below f is =
       let own = (sound.answers c there).each is.own is.drawn in
       let at = rows_at F laws declared s sound.cells.turns sound.cells.locks sound.cells.rows sound.answers is.own.object own.there in

@@ -18,7 +18,11 @@ fn number(entries: &mut Vec<Entry>)
 fn joined(alloc: Global, lists: Vec<Vec<Entry>>) -> Result<Vec<Entry>, Memory>
     ensures { IfOk result (λ entries. entries.items ≡ flat_map vec_items lists.items) }
 {
-    let mut entries = Vec::new(alloc);
+    let mut lists = lists.into_iter();
+    // The first list is the room of the others: no entry of it is copied.
+    let Some(mut entries) = lists.next() else {
+        return Ok(Vec::new(alloc));
+    };
     for mut list in lists {
         entries.append(&mut list)?;
     }
