@@ -15,8 +15,8 @@ use Rattle.k42_kinds.specs.declared.operation.KindName.{KindName}
 use Rattle.k42_kinds.specs.declared.operation.KindName.TheVariants as kinds
 use Rattle.k42_kinds.specs.declared.operation.Op.{Op}
 use Rattle.script_text.specs.Generated.{value_at}
-use Rattle.k42_workers.specs.declared.totals.Summary.{Summary}
-use Rattle.k42_workers.specs.declared.summing.Tally.{Tally}
+use Rattle.load_totals.specs.declared.totals.Summary.{Summary}
+use Rattle.load_totals.specs.declared.summing.Tally.{Tally}
 
 -- the steps of a generated script
 abbrev pub steps : ℕ → List ℕ

@@ -3,7 +3,7 @@ ghost use Rattle.std.specs.Prelude.{◌≡◌, ◌<◌, ◌≤◌, ◌+◌, ◌-
 ghost use Rattle.k42_kinds.specs.Operations.{kind_of_op};
 ghost use Rattle.script_text.specs.Generated.{generated};
 ghost use Rattle.script_text.specs.Lawful.{IsLawful};
-ghost use Rattle.k42_workers.specs.Loads as loads;
+ghost use Rattle.load_totals.specs.Loads as loads;
 
 use crate::totals::Summary;
 use k42_kinds::{
