@@ -1,7 +1,7 @@
 -- Sums and counts over lists, and over the numbers from a first one on.
-use Rattle.std.proofs.Common.{◌≡◌, ℕ, zero, suc, ◌+◌, ◌<◌, ◌≤◌, Bool, true, false, cond, ◌||◌, if◌then◌else◌, List, [], ◌∷◌, length, sum_by, count_by, eqb, ltb, refl, sym, ap, ◌∙◌, subst, true≢false, arith}
+use Rattle.std.proofs.Common.{◌≡◌, ℕ, zero, suc, ◌+◌, ◌<◌, ◌≤◌, Bool, true, false, cond, ◌||◌, if◌then◌else◌, List, [], ◌∷◌, length, sum_by, count_by, eqb, ltb, refl, sym, ap, ◌∙◌, true≢false, arith}
 use Rattle.std.specs.List.{AllByRecursion, list_any, range_with_len}
-use Rattle.std.proofs.lemmas.Bool.{eqb-true, eqb-false, eq-eqb, ne_eqb, lt-ltb}
+use Rattle.std.proofs.lemmas.Bool.{eqb-true, eqb-false, ne_eqb, lt-ltb}
 use Rattle.std.proofs.lemmas.List.Sums.{sum_by-cons}
 
 -- what a test adds to a count
@@ -80,9 +80,12 @@ grown_by : (p q : ℕ → Bool) (i many : ℕ) (here : Bool) → p i ≡ here �
 grown_by p q i many true here less each =
     count_over_range q p 0 many (λ j low high. each j (omega arith) ∙ absorbed (p j) (eqb i j) (λ same. ap p (sym (eqb-true i j same)) ∙ here))
 grown_by p q i many false here less each =
-    omega (arith, once i 0 many (omega arith) (omega (arith, less)),
-           sum_over_range (λ j. cond (q j) 1 0) (λ j. cond (p j) 1 0) (λ j. cond (eqb i j) 1 0) 0 many
-               (λ j low high. ap mark (each j (omega arith)) ∙ marks (p j) (eqb i j) (λ yes same. true≢false (sym yes ∙ ap p (sym (eqb-true i j same)) ∙ here))))
+    omega (
+      arith,
+      once i 0 many (omega arith) (omega (arith, less)),
+      sum_over_range (λ j. cond (q j) 1 0) (λ j. cond (p j) 1 0) (λ j. cond (eqb i j) 1 0) 0 many
+          (λ j low high. ap mark (each j (omega arith)) ∙ marks (p j) (eqb i j) (λ yes same. true≢false (sym yes ∙ ap p (sym (eqb-true i j same)) ∙ here))),
+    )
 
 -- where one number more passes, the count is one more, if that number did not pass before
 pub grown : (p q : ℕ → Bool) (i many : ℕ) → i < many → ((j : ℕ) → j < many → q j ≡ (p j || eqb i j)) → count_by q (range_with_len 0 many) ≡ (if p i then count_by p (range_with_len 0 many) else count_by p (range_with_len 0 many) + 1)

@@ -1,7 +1,7 @@
 -- The five numbers of a lawful history of a generated script.
-use Rattle.std.proofs.Common.{◌≡◌, ℕ, zero, suc, ◌+◌, ◌-◌, ◌/◌, ◌%◌, ◌^◌, ◌<◌, ◌≤◌, Bool, true, false, cond, not, ◌&&◌, ◌||◌, List, [], ◌∷◌, length, fold, sum_by, count_by, eqb, ltb, Some, None, is_some, refl, sym, ap, ◌∙◌, subst, arith}
+use Rattle.std.proofs.Common.{◌≡◌, ℕ, zero, suc, ◌+◌, ◌-◌, ◌/◌, ◌%◌, ◌^◌, ◌<◌, ◌≤◌, Bool, true, false, cond, not, ◌&&◌, List, [], sum_by, count_by, ltb, refl, sym, ap, ◌∙◌, arith}
 use Rattle.std.specs.Prelude.{◌==◌}
-use Rattle.std.specs.List.{AllByRecursion, list_any, range_with_len}
+use Rattle.std.specs.List.{list_any, range_with_len}
 use Rattle.std.specs.FinMap as finite
 use Rattle.std.proofs.lemmas.Bool.{eqb-true, ne_eqb}
 use Rattle.std.proofs.lemmas.List.FromFn.{length-range_with_len}
@@ -10,14 +10,13 @@ use Rattle.k42_kinds.specs.Histories.{is_call}
 use Rattle.k42_kinds.specs.Pages.{dirty_count}
 use Rattle.k42_kinds.specs.declared.entry.Act.{Act}
 use Rattle.k42_kinds.specs.declared.entry.Entry.{Entry}
-use Rattle.k42_kinds.proofs.ObjectLaws.{is_dirty}
 use Rattle.script_text.specs.Generated.{value_at, generated}
 use Rattle.script_text.specs.Lawful.{IsLawful}
-use Rattle.load_totals.specs.Loads.{steps, is_swap, calls_object, swaps_due, amount_at, binds, writes, summary_due, no_tally, tally_with, tallied, summary_of}
+use Rattle.load_totals.specs.Loads.{steps, is_swap, swaps_due, amount_at, binds, writes, summary_due, no_tally, tallied, summary_of}
 use Rattle.load_totals.proofs.Counts.{mark, count_all, sum_by_same, list_any_same, count_by_alike, sum_by_plus, any_by_count, count_over_range}
 use Rattle.load_totals.proofs.StepActs.{asked, act_at, sum_over_steps}
 use Rattle.load_totals.proofs.SwapsDone.{is_done, asks, each_is_done}
-use Rattle.load_totals.proofs.Tallies.{amount_of, binds_name, writes_page, is_bound, is_marked, count_bound, count_marked, name_test, IsTallyOf, none, all_more}
+use Rattle.load_totals.proofs.Tallies.{amount_of, binds_name, writes_page, is_bound, is_marked, name_test, IsTallyOf, none, all_more}
 
 -- what an act does, by whether it swaps, adds or binds
 call_or_swap : (swaps adds binds : Bool) (k value : ℕ) → 1 ≡ mark (is_call (asked swaps adds binds k value)) + mark swaps
@@ -68,8 +67,12 @@ module _ (n : ℕ) where
 
   calls_of_steps : sum_by (λ k. mark (is_call (act_at n k))) (steps n) ≡ n - swaps_due n
   calls_of_steps =
-      omega (arith, count_all (steps n), length-range_with_len 1 n,
-             sum_by_plus (λ k. 1) (λ k. mark (is_call (act_at n k))) (λ k. mark (is_swap k)) (λ k. call_or_swap (is_swap k) (k / 4 % 3 == 0) (k / 4 % 3 == 1) k (value_at n k)) (steps n))
+      omega (
+        arith,
+        count_all (steps n),
+        length-range_with_len 1 n,
+        sum_by_plus (λ k. 1) (λ k. mark (is_call (act_at n k))) (λ k. mark (is_swap k)) (λ k. call_or_swap (is_swap k) (k / 4 % 3 == 0) (k / 4 % 3 == 1) k (value_at n k)) (steps n),
+      )
 
   swap_marks : (k : ℕ) → mark (not (is_call (act_at n k))) ≡ mark (is_swap k)
   swap_marks k = opposite (is_call (act_at n k)) (is_swap k) (call_or_swap (is_swap k) (k / 4 % 3 == 0) (k / 4 % 3 == 1) k (value_at n k))
@@ -110,15 +113,15 @@ module _ (n : ℕ) (small : n ≤ 10000) (history : List Entry) (lawful : IsLawf
     names_are =
         counted.names
         ∙ count_over_range (is_bound (tallied history).names) (λ name. list_any (binds n name) (steps n)) 0 100
-          (λ name low high.
-            let less : name < 100 = omega arith in
-            counted.bound name less ∙ any_step (binds_name name) ∙ list_any_same (λ k. binds_name name (act_at n k)) (binds n name) (name_of_step n name less) (steps n))
+        (λ name low high.
+        let less : name < 100 = omega arith in
+        counted.bound name less ∙ any_step (binds_name name) ∙ list_any_same (λ k. binds_name name (act_at n k)) (binds n name) (name_of_step n name less) (steps n))
 
     dirty_is : dirty_count (tallied history).cache ≡ count_by (λ page. list_any (writes n page) (steps n)) (range_with_len 0 all)
     dirty_is =
         counted.dirty
         ∙ count_over_range (is_marked (tallied history).cache) (λ page. list_any (writes n page) (steps n)) 0 all
-          (λ page low high. counted.marked page ∙ any_step (writes_page page) ∙ list_any_same (λ k. writes_page page (act_at n k)) (writes n page) (page_of_step n page) (steps n))
+        (λ page low high. counted.marked page ∙ any_step (writes_page page) ∙ list_any_same (λ k. writes_page page (act_at n k)) (writes n page) (page_of_step n page) (steps n))
 
   pub due : summary_of (tallied history) ≡ summary_due n
   due = λ i. record {

@@ -1,8 +1,9 @@
 -- What the steps of a generated script ask, and that a lawful history asks the same.
-use Rattle.std.proofs.Common.{◌≡◌, ℕ, zero, suc, ◌+◌, ◌/◌, ◌%◌, ◌<◌, Bool, true, false, cond, ◌||◌, if◌then◌else◌, ◌==◌, List, [], ◌∷◌, ◌++◌, length, map, sum_by, codes, decimal, eqb, refl, sym, ap, ap₂, subst, ◌∙◌, ⊎_elim, arith}
+use Rattle.std.proofs.Common.{◌≡◌, ℕ, zero, suc, ◌+◌, ◌/◌, ◌%◌, ◌<◌, Bool, true, false, ◌||◌, if◌then◌else◌, ◌==◌, List, [], ◌∷◌, ◌++◌, length, map, sum_by, codes, decimal, eqb, refl, sym, ap, ap₂, ◌∙◌, arith}
 use Rattle.std.specs.Prelude.{Some, slice_get}
 use Rattle.std.specs.List.{AllByRecursion}
-use Rattle.std.proofs.lemmas.Bool.{eqb-true, or_cases}
+use Rattle.std.proofs.lemmas.Bool.{eqb-true}
+use Rattle.std.proofs.lemmas.List.FromFn.{length-range_with_len}
 use Rattle.std.proofs.lemmas.List.Elements.{recursion_from_All, filter_passes}
 use Rattle.std.proofs.lemmas.Simd.{map-map}
 use Rattle.k42_limits.specs.declared.TheConstants.{PAGES}
@@ -10,13 +11,12 @@ use Rattle.k42_kinds.specs.Histories.{entries_of}
 use Rattle.k42_kinds.specs.declared.entry.Act.{Act}
 use Rattle.k42_kinds.specs.declared.entry.Act.TheVariants.{Call, Swap}
 use Rattle.k42_kinds.specs.declared.entry.Entry.{Entry}
-use Rattle.k42_kinds.specs.declared.operation.LayoutName.{LayoutName}
 use Rattle.k42_kinds.specs.declared.operation.Op.TheVariants.{Add, Bind, Write}
 use Rattle.k42_kinds.proofs.Splits.{heads}
 use Rattle.script_text.specs.Generated.{hits, names, cache, value_at, layout_at, swap_line, step_line, steps_of, step_items, worker_line, worker_lines, generated}
 use Rattle.script_text.specs.Lawful.{Deed, deed_of, deeds_from, call_lines, IsLawful}
-use Rattle.script_text.specs.declared.script.CallLine.{CallLine}
 use Rattle.load_totals.specs.Loads.{steps, is_swap}
+use Rattle.load_totals.proofs.Counts.{count_all}
 use Rattle.load_totals.proofs.Shares.{everywhere, sum_by-map, four_shares, from_shares}
 
 -- the name of this number
@@ -36,12 +36,12 @@ act_at n k = asked (is_swap k) (k / 4 % 3 == 0) (k / 4 % 3 == 1) k (value_at n k
 
 act_chosen : (number k value : ℕ) (one two three adds binds : Bool)
     → (if one then swap_line number k hits
-       else if two then swap_line number k cache
-       else if three then swap_line number k names
-       else if adds then record { line = number; object = hits; act = Call (Add value) }
-       else if binds then record { line = number; object = names; act = Call (Bind (name_of (value % 100)) k) }
-       else record { line = number; object = cache; act = Call (Write (value % PAGES) (codes "v" ++ decimal k)) }).act
-      ≡ asked (one || two || three) adds binds k value
+    else if two then swap_line number k cache
+    else if three then swap_line number k names
+    else if adds then record { line = number; object = hits; act = Call (Add value) }
+    else if binds then record { line = number; object = names; act = Call (Bind (name_of (value % 100)) k) }
+    else record { line = number; object = cache; act = Call (Write (value % PAGES) (codes "v" ++ decimal k)) }).act
+    ≡ asked (one || two || three) adds binds k value
 act_chosen number k value true two three adds binds = refl
 act_chosen number k value false true three adds binds = refl
 act_chosen number k value false false true adds binds = refl
@@ -86,9 +86,19 @@ module _ (n : ℕ) (history : List Entry) (lawful : IsLawful (generated n) histo
   -- a sum over the acts of the history is a sum over the steps
   pub sum_over_steps : (f : Act → ℕ) → sum_by (λ (entry : Entry). f entry.act) history ≡ sum_by (λ k. f (act_at n k)) (steps n)
   sum_over_steps f =
-      omega (arith, four_shares (λ (entry : Entry). entry.caller) (λ (entry : Entry). f entry.act) history within,
-             four_shares (λ k. k % 4) (λ k. f (act_at n k)) (steps n) (everywhere (λ k. k % 4 < 4) (λ k. omega arith) (steps n)),
-             worker_sum f 0 refl, worker_sum f 1 refl, worker_sum f 2 refl, worker_sum f 3 refl)
+      omega (
+        arith,
+        four_shares (λ (entry : Entry). entry.caller) (λ (entry : Entry). f entry.act) history within,
+        four_shares (λ k. k % 4) (λ k. f (act_at n k)) (steps n) (everywhere (λ k. k % 4 < 4) (λ k. omega arith) (steps n)),
+        worker_sum f 0 refl,
+        worker_sum f 1 refl,
+        worker_sum f 2 refl,
+        worker_sum f 3 refl,
+      )
+
+  -- there is an entry for each step
+  pub length_is : length history ≡ n
+  length_is = sym (count_all history) ∙ sum_over_steps (λ act. 1) ∙ count_all (steps n) ∙ length-range_with_len 1 n
 
   worker_steps : (w : ℕ) → slice_get (generated n).workers w ≡ Some (worker_lines n (worker_line n w) w) → AllByRecursion (λ (entry : Entry). IsStepOf n w entry.act) (entries_of w history)
   worker_steps w found = are_steps n w (entries_of w history) (steps_of w n) (worker_acts w found) (recursion_from_All (λ k. eqb (k % 4) w ≡ true) (steps_of w n) (filter_passes (λ k. eqb (k % 4) w) (steps n)))

@@ -1,18 +1,16 @@
 -- What the workers of a generated script ask, and that each swap is carried out.
-use Rattle.std.proofs.Common.{◌≡◌, ◌≢◌, ℕ, zero, suc, ◌+◌, ◌/◌, ◌%◌, ◌<◌, ◌≤◌, Bool, true, false, cond, not, ◌⊎◌, inl, inr, List, [], ◌∷◌, ◌++◌, length, fold, codes, decimal, eqb, ◌||◌, Any, refl, sym, ap, subst, subst₂, true≢false, ◌∙◌, ⊎_elim, arith}
+use Rattle.std.proofs.Common.{◌≡◌, ℕ, ◌/◌, ◌%◌, ◌<◌, ◌≤◌, Bool, true, false, cond, not, ◌⊎◌, inl, inr, List, [], ◌∷◌, ◌++◌, length, fold, codes, decimal, eqb, ◌||◌, Any, refl, sym, ap, subst, subst₂, ◌∙◌, ⊎_elim, arith}
 use Rattle.std.specs.Prelude.{◌==◌}
 use Rattle.std.specs.List.{AllByRecursion}
 use Rattle.std.proofs.lemmas.Bool.{eqb-true, or_cases, cond_both}
 use Rattle.std.proofs.lemmas.List.{length-append}
-use Rattle.std.proofs.lemmas.List.Elements.{recursion_from_All}
-use Rattle.std.proofs.lemmas.List.FromFn.{length-range_with_len}
 use Rattle.std.proofs.lemmas.List.Sums.{count_by-le-length}
 use Rattle.k42_limits.specs.declared.TheConstants.{PAGES, LAST_INCARNATION}
-use Rattle.k42_kinds.specs.Histories.{is_call, is_carried_out, is_carried_out_on, number_of, moved_by, state_after_act, state_of}
-use Rattle.k42_kinds.specs.Legal.{Settles, IsRival, IsAlive, IsLegalAct, IsLegalAnswer, IsLegalAmong}
+use Rattle.k42_kinds.specs.Histories.{is_call, is_carried_out, is_carried_out_on, number_of, moved_by, state_after_act}
+use Rattle.k42_kinds.specs.Legal.{Settles, IsRival, IsAlive, IsLegalAct, IsLegalAnswer}
 use Rattle.k42_kinds.specs.Objects.{state_after, is_dead, empty_state}
 use Rattle.k42_kinds.specs.declared.entry.Act.{Act}
-use Rattle.k42_kinds.specs.declared.entry.Act.TheVariants.{Call, Swap, Destroy}
+use Rattle.k42_kinds.specs.declared.entry.Act.TheVariants.{Call, Swap}
 use Rattle.k42_kinds.specs.declared.entry.Answer.{Answer}
 use Rattle.k42_kinds.specs.declared.entry.Answer.TheVariants.{Replied, Swapped, Busy, Spent, Gone, Abandoned}
 use Rattle.k42_kinds.specs.declared.entry.Entry.{Entry}
@@ -21,15 +19,13 @@ use Rattle.k42_kinds.specs.declared.operation.KindName.TheVariants.{Counter, Dir
 use Rattle.k42_kinds.specs.declared.operation.LayoutName.{LayoutName}
 use Rattle.k42_kinds.specs.declared.operation.Op.{Op}
 use Rattle.k42_kinds.specs.declared.operation.Op.TheVariants.{Add, Bind, Write}
-use Rattle.k42_kinds.specs.declared.operation.Reply.{Reply}
 use Rattle.k42_kinds.specs.declared.states.AnyState.{AnyState}
 use Rattle.k42_kinds.specs.declared.states.AnyState.TheVariants as states
 use Rattle.k42_kinds.proofs.Splits.{All-at_split, none-Any}
 use Rattle.script_text.specs.Generated.{layout_at, value_at, generated}
 use Rattle.script_text.specs.Lawful.{IsLawful, IsNotGivenUp}
-use Rattle.load_totals.specs.Loads.{is_swap, steps}
-use Rattle.load_totals.proofs.Counts.{count_all}
-use Rattle.load_totals.proofs.StepActs.{name_of, asked, act_at, IsStepOf, sum_over_steps, each_is_step}
+use Rattle.load_totals.specs.Loads.{is_swap}
+use Rattle.load_totals.proofs.StepActs.{name_of, asked, IsStepOf, length_is, each_is_step}
 
 -- a worker adds, binds one of a hundred names or writes a page; worker 0 swaps too
 pub data Asks (worker : ℕ) (act : Act) : Type 0 where
@@ -139,22 +135,19 @@ module _ (n : ℕ) (small : n ≤ 10000) (history : List Entry) (lawful : IsLawf
 
   no_rivals : AllByRecursion NoRival history
   no_rivals = from_splits NoRival history (λ before entry after split.
-    no_rival_by (lawful.legal.legal before entry after split).kind before entry after (lawful.legal.legal before entry after split).legal
-    (there (λ (other : Entry). Asks other.caller other.act) before entry after (asks_in before entry after split)))
-
-  length_is : length history ≡ n
-  length_is = sym (count_all history) ∙ sum_over_steps n history lawful (λ act. 1) ∙ count_all (steps n) ∙ length-range_with_len 1 n
+      no_rival_by (lawful.legal.legal before entry after split).kind before entry after (lawful.legal.legal before entry after split).legal
+      (there (λ (other : Entry). Asks other.caller other.act) before entry after (asks_in before entry after split)))
 
   few_before : (object : ℕ) (before : List Entry) (entry : Entry) (after : List Entry) → history ≡ before ++ entry ∷ after → number_of object before < LAST_INCARNATION
   few_before object before entry after split =
-      omega (arith, small, length_is, ap length split, length-append before (entry ∷ after), count_by-le-length (is_carried_out_on object) before)
+      omega (arith, small, length_is n history lawful, ap length split, length-append before (entry ∷ after), count_by-le-length (is_carried_out_on object) before)
 
   rivals : (number : ℕ) (before : List Entry) (entry : Entry) (after : List Entry) → entry.caller ≡ 0 → history ≡ before ++ entry ∷ after → Any (IsRival entry number) (before ++ after) → ⊥
   rivals number before entry after first split =
       none-Any (IsRival entry number) (before ++ after)
       (each_then NoRival (λ other. IsRival entry number other → ⊥)
-        (λ other no rival. ⊎_elim (λ also. rival.caller (also ∙ sym first)) (λ none. none number rival.settles) no)
-        (before ++ after) (others NoRival before entry after (subst (AllByRecursion NoRival) split no_rivals)))
+      (λ other no rival. ⊎_elim (λ also. rival.caller (also ∙ sym first)) (λ none. none number rival.settles) no)
+      (before ++ after) (others NoRival before entry after (subst (AllByRecursion NoRival) split no_rivals)))
 
   done_by : (before : List Entry) (entry : Entry) (after : List Entry) → history ≡ before ++ entry ∷ after → (kind : KindName) → IsLegalAct kind before entry after entry.act → Asks entry.caller entry.act → is_done entry ≡ not (is_call entry.act)
   done_by before entry after split kind legal (Adds amount is) = rw is refl
@@ -162,13 +155,13 @@ module _ (n : ℕ) (small : n ≤ 10000) (history : List Entry) (lawful : IsLawf
   done_by before entry after split kind legal (Writes page text less is) = rw is refl
   done_by before entry after split kind legal (Swaps layout first is) =
       rw is (carried_out kind before entry after entry.answer (subst (IsLegalAct kind before entry after) is legal)
-        (All-at_split (λ (other : Entry). IsNotGivenUp other.answer) history lawful.none_given_up before entry after split)
-        (alive_in entry.object (empty_state kind) before (front (λ (other : Entry). Asks other.caller other.act) before (entry ∷ after) (asks_in before entry after split)) (starts_alive kind))
-        (few_before entry.object before entry after split)
-        (λ number. rivals number before entry after first split))
+      (All-at_split (λ (other : Entry). IsNotGivenUp other.answer) history lawful.none_given_up before entry after split)
+      (alive_in entry.object (empty_state kind) before (front (λ (other : Entry). Asks other.caller other.act) before (entry ∷ after) (asks_in before entry after split)) (starts_alive kind))
+      (few_before entry.object before entry after split)
+      (λ number. rivals number before entry after first split))
 
   -- each entry that is no call is a swap that was carried out
   pub each_is_done : AllByRecursion (λ (entry : Entry). is_done entry ≡ not (is_call entry.act)) history
   each_is_done = from_splits (λ (entry : Entry). is_done entry ≡ not (is_call entry.act)) history (λ before entry after split.
-    done_by before entry after split (lawful.legal.legal before entry after split).kind (lawful.legal.legal before entry after split).legal
-    (there (λ (other : Entry). Asks other.caller other.act) before entry after (asks_in before entry after split)))
+      done_by before entry after split (lawful.legal.legal before entry after split).kind (lawful.legal.legal before entry after split).legal
+      (there (λ (other : Entry). Asks other.caller other.act) before entry after (asks_in before entry after split)))

@@ -1,11 +1,11 @@
 -- What each entry of a generated script's history does to the tally.
-use Rattle.std.proofs.Common.{◌≡◌, ◌≢◌, ℕ, ◌+◌, ◌%◌, ◌^◌, ◌<◌, Bool, true, false, cond, ◌||◌, if◌then◌else◌, List, [], ◌∷◌, ◌++◌, length, map, fold, sum_by, count_by, Option, Some, None, is_some, bytes_eq, codes, decimal, eqb, refl, sym, ap, ◌∙◌, subst, append_assoc, append-nil, arith}
+use Rattle.std.proofs.Common.{◌≡◌, ℕ, ◌+◌, ◌%◌, ◌^◌, ◌<◌, Bool, true, false, cond, ◌||◌, if◌then◌else◌, List, [], ◌∷◌, ◌++◌, fold, sum_by, count_by, Option, Some, None, is_some, bytes_eq, decimal, eqb, refl, sym, ap, ◌∙◌, subst, append_assoc, append-nil, arith}
 use Rattle.std.specs.List.{AllByRecursion, list_any, range_with_len}
 use Rattle.std.specs.FinMap as finite
 use Rattle.std.specs.Map.{values_of}
 use Rattle.std.specs.Ordering.{nat_cmp}
 use Rattle.std.specs.Cmp.Lexicographic.{bytes_decides}
-use Rattle.std.proofs.lemmas.Bool.{eqb-true, eqb-false, eq-eqb, false_from_ne_true}
+use Rattle.std.proofs.lemmas.Bool.{eqb-true, eqb-false, false_from_ne_true}
 use Rattle.std.proofs.lemmas.Fmt.{decimal_injective}
 use Rattle.std.proofs.lemmas.List.Folds.{list_any-append}
 use Rattle.std.proofs.lemmas.List.Sums.{sum_by_push}
@@ -13,7 +13,7 @@ use Rattle.k42_limits.specs.declared.TheConstants.{PAGES}
 use Rattle.k42_kinds.specs.Histories.{is_call, is_carried_out}
 use Rattle.k42_kinds.specs.Objects.{Directory, Pages, counter_after, directory_after, pages_after}
 use Rattle.k42_kinds.specs.Operations.{kind_of_op}
-use Rattle.k42_kinds.specs.Pages.{written, dirty_count}
+use Rattle.k42_kinds.specs.Pages.{dirty_count}
 use Rattle.k42_kinds.specs.declared.entry.Act.{Act}
 use Rattle.k42_kinds.specs.declared.entry.Act.TheVariants.{Call, Swap, Destroy}
 use Rattle.k42_kinds.specs.declared.entry.Answer.{Answer}
@@ -23,11 +23,10 @@ use Rattle.k42_kinds.specs.declared.operation.KindName.TheVariants as kinds
 use Rattle.k42_kinds.specs.declared.page.Page.{Page}
 use Rattle.k42_kinds.specs.declared.operation.Op.{Op}
 use Rattle.k42_kinds.specs.declared.operation.Op.TheVariants.{Add, Bind, Write}
-use Rattle.k42_kinds.proofs.FiniteMaps.{ChangesOnly}
-use Rattle.k42_kinds.proofs.ObjectLaws.{bind_unbound, bind_bound, size_bind, write, is_dirty, dirty_write, size_of_empty}
+use Rattle.k42_kinds.proofs.ObjectLaws.{bind_unbound, bind_bound, size_bind, write, is_dirty, dirty_write}
 use Rattle.k42_kinds.proofs.SeenMaps.{entries-empty}
 use Rattle.k42_kinds.proofs.Splits.{heads}
-use Rattle.load_totals.specs.Loads.{called_by, tally_after, tally_with, no_tally, tallied}
+use Rattle.load_totals.specs.Loads.{called_by, tally_after, tally_with, no_tally}
 use Rattle.load_totals.specs.declared.summing.Tally.{Tally}
 use Rattle.load_totals.proofs.Counts.{mark, count_over_range, grown}
 use Rattle.load_totals.proofs.StepActs.{name_of}
@@ -156,9 +155,9 @@ names_are : (worker : ℕ) (names : Directory) (act : Act) → Asks worker act �
 names_are worker names act (Adds amount is) so_far = rw is so_far
 names_are worker names act (Binds other number small is) so_far =
     rw is (size_by names (name_of other) number (finite.get names (name_of other)) refl
-           ∙ ap (λ many. if is_bound names other then many else many + 1) so_far
-           ∙ sym (grown (is_bound names) (is_bound (directory_after names (Bind (name_of other) number))) other 100 small
-                (λ name less. bound_at names other number name (finite.get names (name_of other)) (eqb other name) refl refl small less)))
+    ∙ ap (λ many. if is_bound names other then many else many + 1) so_far
+    ∙ sym (grown (is_bound names) (is_bound (directory_after names (Bind (name_of other) number))) other 100 small
+    (λ name less. bound_at names other number name (finite.get names (name_of other)) (eqb other name) refl refl small less)))
 names_are worker names act (Writes page text small is) so_far = rw is so_far
 names_are worker names act (Swaps layout first is) so_far = rw is so_far
 
@@ -188,8 +187,8 @@ cache_is worker all are pages act (Adds amount is) so_far = rw is so_far
 cache_is worker all are pages act (Binds name number small is) so_far = rw is so_far
 cache_is worker all are pages act (Writes other text small is) so_far =
     rw is (dirty_write pages other text
-           ∙ ap (λ many. if is_marked pages other then many else many + 1) so_far
-           ∙ sym (grown (is_marked pages) (is_marked (pages_after pages (Write other text))) other all (omega (arith, small, are)) (λ page less. marked_at pages other page text (eqb other page) refl)))
+    ∙ ap (λ many. if is_marked pages other then many else many + 1) so_far
+    ∙ sym (grown (is_marked pages) (is_marked (pages_after pages (Write other text))) other all (omega (arith, small, are)) (λ page less. marked_at pages other page text (eqb other page) refl)))
 cache_is worker all are pages act (Swaps layout first is) so_far = rw is so_far
 
 -- what is known of the tally of these entries

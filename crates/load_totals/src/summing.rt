@@ -101,7 +101,9 @@ fn tallied(alloc: Global, entries: &[Entry]) -> Result<Tally, Memory>
 pub fn summary(alloc: Global, script: &Script, entries: &Vec<Entry>) -> Result<Summary, Memory>
     requires generated { (n : ℕ) × (n ≤ 10000) × (script.now ≡ generated n) }
     requires lawful { IsLawful script.now entries.now.items }
-    ensures { IfOk result (λ summary. summary ≡ loads.summary_of (loads.tallied entries.now.items)) }
+    ensures exact { IfOk result (λ summary. summary ≡ loads.summary_of (loads.tallied entries.now.items)) }
+    ensures due { (n : ℕ) → n ≤ 10000 → script.now ≡ generated n →
+        IfOk result (λ summary. summary ≡ loads.summary_due n) }
 {
     let tally = tallied(alloc, entries.as_slice())?;
     Ok(tally.sums())
