@@ -5,4 +5,3 @@ pub mod Halved
 pub mod Planned
 pub mod Answered
 pub mod Ended
-pub mod Sums

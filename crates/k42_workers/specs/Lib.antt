@@ -2,4 +2,3 @@ pub mod Workers
 pub mod Lines
 pub mod Plans
 pub mod Passes
-pub mod Loads
