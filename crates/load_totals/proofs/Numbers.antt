@@ -3,16 +3,19 @@ use Rattle.std.proofs.Common.{◌≡◌, ℕ, zero, suc, ◌+◌, ◌-◌, ◌/�
 use Rattle.std.specs.Prelude.{◌==◌}
 use Rattle.std.specs.List.{list_any, range_with_len}
 use Rattle.std.specs.FinMap as finite
-use Rattle.std.proofs.lemmas.Bool.{eqb-true, ne_eqb}
+use Rattle.std.proofs.lemmas.List.Elements.{All-from_recursion}
+use Rattle.std.proofs.lemmas.List.Sums.{sum_by-le}
+use Rattle.load_totals.proofs.Shares.{everywhere}
+use Rattle.std.proofs.lemmas.Bool.{cond_both, eqb-true, ne_eqb}
 use Rattle.std.proofs.lemmas.List.FromFn.{length-range_with_len}
 use Rattle.k42_limits.specs.declared.TheConstants.{PAGES}
 use Rattle.k42_kinds.specs.Histories.{is_call}
 use Rattle.k42_kinds.specs.Pages.{dirty_count}
 use Rattle.k42_kinds.specs.declared.entry.Act.{Act}
 use Rattle.k42_kinds.specs.declared.entry.Entry.{Entry}
-use Rattle.script_text.specs.Generated.{value_at, generated}
+use Rattle.script_text.specs.Generated.{drawn, value_at, generated}
 use Rattle.script_text.specs.Lawful.{IsLawful}
-use Rattle.load_totals.specs.Loads.{steps, is_swap, swaps_due, amount_at, binds, writes, summary_due, no_tally, tallied, summary_of}
+use Rattle.load_totals.specs.Loads.{steps, is_swap, calls_object, swaps_due, amount_at, binds, writes, summary_due, no_tally, tallied, summary_of}
 use Rattle.load_totals.proofs.Counts.{mark, count_all, sum_by_same, list_any_same, count_by_alike, sum_by_plus, any_by_count, count_over_range}
 use Rattle.load_totals.proofs.StepActs.{asked, act_at, sum_over_steps}
 use Rattle.load_totals.proofs.SwapsDone.{is_done, asks, each_is_done}
@@ -56,6 +59,18 @@ last_turn (suc (suc (suc turn))) less = absurd (omega (arith, less))
 module _ (n : ℕ) where
   amount_of_step : (k : ℕ) → amount_of (act_at n k) ≡ amount_at n k
   amount_of_step k = amount_asked (is_swap k) (k / 4 % 3 == 0) (k / 4 % 3 == 1) k (value_at n k)
+
+  drawn_fits : n ≤ 10000 → (k : ℕ) → drawn n k < 2 ^ 64
+  drawn_fits small zero = omega (arith, small)
+  drawn_fits small (suc k) = omega arith
+
+  amount_fits : n ≤ 10000 → (k : ℕ) → amount_at n k ≤ 2 ^ 32
+  amount_fits small k = cond_both (calls_object 0 k) (value_at n k) 0 (λ amount. amount ≤ 2 ^ 32) (λ adds. omega (arith, drawn_fits small k)) (λ other. omega arith)
+
+  -- the sum of the amounts stays below the bound of the counter
+  total_fits : n ≤ 10000 → sum_by (amount_at n) (steps n) < 2 ^ 64
+  total_fits small =
+      omega (arith, small, length-range_with_len 1 n, sum_by-le (amount_at n) (2 ^ 32) (steps n) (All-from_recursion (λ k. amount_at n k ≤ 2 ^ 32) (steps n) (everywhere (λ k. amount_at n k ≤ 2 ^ 32) (amount_fits small) (steps n))))
 
   name_of_step : (name : ℕ) → name < 100 → (k : ℕ) → binds_name name (act_at n k) ≡ binds n name k
   name_of_step name less k = name_asked name less (is_swap k) (k / 4 % 3 == 0) (k / 4 % 3 == 1) k (value_at n k) (one_turn (k / 4 % 3))
@@ -104,10 +119,11 @@ module _ (n : ℕ) (small : n ≤ 10000) (history : List Entry) (lawful : IsLawf
         ∙ sum_over_steps n history lawful (λ act. mark (not (is_call act)))
         ∙ sum_by_same (λ k. mark (not (is_call (act_at n k)))) (λ k. mark (is_swap k)) (swap_marks n) (steps n)
 
-    hits_are : (tallied history).hits ≡ sum_by (amount_at n) (steps n) % 2 ^ 64
+    hits_are : (tallied history).hits ≡ sum_by (amount_at n) (steps n)
     hits_are =
         counted.hits
         ∙ ap (λ sum. sum % 2 ^ 64) (sum_over_steps n history lawful amount_of ∙ sum_by_same (λ k. amount_of (act_at n k)) (amount_at n) (amount_of_step n) (steps n))
+        ∙ omega (arith, total_fits n small)
 
     names_are : finite.len (tallied history).names ≡ count_by (λ name. list_any (binds n name) (steps n)) (range_with_len 0 100)
     names_are =

@@ -1,5 +1,5 @@
 -- What the numbers of a generated script are, and how a history is summed up.
-use Rattle.std.specs.Prelude.{ℕ, ◌+◌, ◌-◌, ◌%◌, ◌/◌, ◌^◌, ◌==◌, ◌||◌, ◌&&◌, not, Bool, if◌then◌else◌, List, sum_by, count_by, fold}
+use Rattle.std.specs.Prelude.{ℕ, ◌+◌, ◌-◌, ◌%◌, ◌/◌, ◌==◌, ◌||◌, ◌&&◌, not, Bool, if◌then◌else◌, List, sum_by, count_by, fold}
 use Rattle.std.specs.List.{range_with_len, list_any}
 use Rattle.std.specs.FinMap as finite
 use Rattle.k42_limits.specs.declared.TheConstants.{PAGES}
@@ -49,7 +49,7 @@ writes n page k = calls_object 2 k && (value_at n k % PAGES == page)
 abbrev pub summary_due : ℕ → Summary
 summary_due n = record {
   calls = n - swaps_due n;
-  total = sum_by (amount_at n) (steps n) % 2 ^ 64;
+  total = sum_by (amount_at n) (steps n);
   names = count_by (λ name. list_any (binds n name) (steps n)) (range_with_len 0 100);
   dirty = count_by (λ page. list_any (writes n page) (steps n)) (range_with_len 0 PAGES);
   swaps = swaps_due n;
