@@ -119,9 +119,6 @@ or_true false = refl
 abbrev pub is_bound : Directory → ℕ → Bool
 is_bound names name = is_some (finite.get names (name_of name))
 
-changed_at : (old new : Option ℕ) (number : ℕ) → new ≡ Some number → is_some new ≡ (is_some old || true)
-changed_at old new number is = ap is_some is ∙ sym (or_true (is_some old))
-
 bound_at : (names : Directory) (other number name : ℕ) (found : Option ℕ) (same : Bool) → finite.get names (name_of other) ≡ found → eqb other name ≡ same → other < 100 → name < 100
     → is_bound (directory_after names (Bind (name_of other) number)) name ≡ (is_bound names name || same)
 bound_at names other number name (Some held) true there is small less =
