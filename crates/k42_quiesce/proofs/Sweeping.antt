@@ -1,5 +1,5 @@
 -- What the step that frees leaves, for one object.
-use Rattle.std.proofs.Common.{◌≡◌, ℕ, ◌+◌, ◌<◌, ◌≤◌, true, false, cond, ltb, List, ◌∷◌, Option, Some, None, length, refl, sym, ap, ◌∙◌, subst, arith}
+use Rattle.std.proofs.Common.{◌≡◌, ℕ, suc, ◌+◌, ◌<◌, ◌≤◌, true, false, cond, ltb, List, ◌∷◌, Option, Some, None, length, refl, sym, ap, ◌∙◌, subst, arith}
 use Rattle.std.specs.Prelude.{unwrap_or}
 use Rattle.std.proofs.lemmas.Bool.{lt-ltb, le-ltb}
 use Rattle.phase_core.specs.State.{note_at}
@@ -29,15 +29,19 @@ module _ {P : Type 0} (o found number : ℕ) (v w : PassView P) (view : w ≡ fr
   pub lists : w.freed ≡ rows_freed v.freed o found number
   lists = ap (λ (u : PassView P). u.freed) view ∙ ap (rows_freed v.freed o found) noted
 
-  pub lists_none : number ≤ found → length w.freed ≡ length v.freed
+  pub lists_none : number ≤ found → length w.freed ≡ 0 + length v.freed
   lists_none past =
       let test : ltb found number ≡ false = le-ltb found number past in
-      ap (λ (rows : List Row). length rows) lists ∙ ap (λ b. length (cond b (record { object = o; incarnation = found } ∷ v.freed) v.freed)) test
+      let same : length w.freed ≡ length v.freed =
+      ap (λ (rows : List Row). length rows) lists ∙ ap (λ b. length (cond b (record { object = o; incarnation = found } ∷ v.freed) v.freed)) test in
+      omega (arith, same)
 
   pub lists_one : found < number → length w.freed ≡ 1 + length v.freed
   lists_one short =
       let test : ltb found number ≡ true = lt-ltb found number short in
-      ap (λ (rows : List Row). length rows) lists ∙ ap (λ b. length (cond b (record { object = o; incarnation = found } ∷ v.freed) v.freed)) test
+      let more : length w.freed ≡ suc (length v.freed) =
+      ap (λ (rows : List Row). length rows) lists ∙ ap (λ b. length (cond b (record { object = o; incarnation = found } ∷ v.freed) v.freed)) test in
+      omega (arith, more)
 
 module _ {S L P : Type 0} (F : Layouts S L P) (declared : List L) (id o : ℕ) (noted : List (Option ℕ)) where
   pub swept_none : note_at noted o ≡ None → IsSwept F declared id noted o (0, 0)

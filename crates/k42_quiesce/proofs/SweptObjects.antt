@@ -69,7 +69,7 @@ pub record AreSwept {S L P : Type 0} (F : Layouts S L P) (declared : List L) (id
   pub swept : EachPlace (IsSwept F declared id noted) spans
 
 pub none_swept : {S L P : Type 0} (F : Layouts S L P) (declared : List L) (id : ℕ) (noted : List (Option ℕ)) (former : List Row) → AreSwept F declared id noted former former 0 0
-none_swept F declared id noted former = record { spans = []; all = refl; freed = refl; counted = refl; swept = λ i x e. absurd (cc) }
+none_swept F declared id noted former = record { spans = []; all = refl; freed = refl; counted = omega arith; swept = λ i x e. absurd (cc) }
 
 pub swept_next : {S L P : Type 0} (F : Layouts S L P) (declared : List L) (id : ℕ) (noted : List (Option ℕ)) (former listed now : List Row) (many count more : ℕ)
     → AreSwept F declared id noted former listed many count → length now ≡ more + length listed
@@ -79,7 +79,8 @@ swept_next F declared id noted former listed now many count more are counted spa
   spans = are.spans ++ span ∷ [];
   all = length-append are.spans (span ∷ []) ∙ ap (λ n. n + 1) are.all;
   freed =
-      freed ∙ (λ k. rows_freed (are.freed k) (sym are.all k) span.0 span.1) ∙ sym (rows_more former 0 are.spans span);
+      let from : length are.spans ≡ 0 + length are.spans = omega arith in
+      freed ∙ (λ k. rows_freed (are.freed k) ((sym are.all ∙ from) k) span.0 span.1) ∙ sym (rows_more former 0 are.spans span);
   counted = let before = are.counted in omega (arith, before, counted);
   swept = each_more (IsSwept F declared id noted) are.spans span are.swept (subst (λ o. IsSwept F declared id noted o span) (sym are.all) is);
 }
