@@ -42,6 +42,7 @@ use Rattle.k42_board.proofs.Holding.{role}
 use Rattle.k42_board.proofs.Moves.{Moves, Finds, seat_allowed_with}
 use Rattle.k42_board.proofs.Notings.{note_there}
 use Rattle.k42_board.proofs.OnePass.{with_pass, known}
+use Rattle.k42_board.proofs.Recounted.{recounted}
 use Rattle.k42_board.proofs.Turning.{own_goes, same_swap, stayed}
 
 of_freed : (o : ℕ) → o < 16 → IsOfTables (freed_word o)
@@ -274,6 +275,15 @@ module _ {S L P : Type 0} (F : Layouts S L P) (laws : AreLaws F) (declared : Lis
         (freed_written table.words s.objects o k m r.shows.many_words r.shows.few_objects (few_entries F laws declared table r id v at) small at_o r.shows.objects))
         pass_after
 
+    -- the pass lists the row
+    rows_listed : Steps F declared r.state (AtPhases (phases.Free c o))
+        (with_pass table (set table.words (freed_word o) m) table.homes id (record w { freed = record { object = o; incarnation = found } ∷ v.freed }))
+    rows_listed =
+        let after = frees_rows in
+        let again = recounted F declared table (set table.words (freed_word o) m) table.homes id w at after.0 (record { object = o; incarnation = found } ∷ v.freed)
+        v.installed v.refused v.knocked in
+        (again.0, again.1 ∙ after.1, after.2)
+
   -- or not: nothing is freed
 
   abbrev w' : PassView P
@@ -308,12 +318,17 @@ module _ {S L P : Type 0} (F : Layouts S L P) (laws : AreLaws F) (declared : Lis
     by_test : (b : Bool) → ltb found n ≡ b
         → Steps F declared r.state (AtPhases (phases.Free c o))
         (with_pass table (set table.words (freed_word o) (max found n)) table.homes id
-        (hears found (record v { visitor = cond b (record v.visitor { freeing = set v.visitor.freeing o (found, n) }) v.visitor; swept = o ∷ v.swept })))
+        (hears found (record v {
+          visitor = cond b (record v.visitor { freeing = set v.visitor.freeing o (found, n) }) v.visitor;
+          swept = o ∷ v.swept;
+          freed = cond b (record { object = o; incarnation = found } ∷ v.freed) v.freed;
+        })))
     by_test true e =
         let less : found < n = ltb-true found n e in
         let is = found_is in let number = number_is in
-        subst (λ (z : ℕ). Steps F declared r.state (AtPhases (phases.Free c o)) (with_pass table (set table.words (freed_word o) z) table.homes id w))
-        (number ∙ sym (max-eq_right {n = found} {m = n} (omega (arith, less)))) (frees_rows (omega (arith, less, is, number)))
+        subst (λ (z : ℕ). Steps F declared r.state (AtPhases (phases.Free c o)) (with_pass table (set table.words (freed_word o) z) table.homes id
+        (record w { freed = record { object = o; incarnation = found } ∷ v.freed })))
+        (number ∙ sym (max-eq_right {n = found} {m = n} (omega (arith, less)))) (rows_listed (omega (arith, less, is, number)))
     by_test false e =
         let more : n ≤ found = ltb-false found n e in
         let is = found_is in let number = number_is in

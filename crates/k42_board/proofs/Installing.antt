@@ -189,7 +189,7 @@ module _ {S L P : Type 0} (F : Layouts S L P) (laws : AreLaws F) (declared : Lis
   counted : (b : Bool) → Goal b → Counted b
   counted false after = after
   counted true after =
-      let again = recounted F declared table (set table.words (local_word p o) (direct_after v)) table.homes id (went found v x v.layout) at after.0 (o ∷ v.installed) v.refused v.knocked in
+      let again = recounted F declared table (set table.words (local_word p o) (direct_after v)) table.homes id (went found v x v.layout) at after.0 v.freed (o ∷ v.installed) v.refused v.knocked in
       (again.0, again.1 ∙ after.1, after.2)
 
   pub installed : Counted (eqb found (empty_before v))

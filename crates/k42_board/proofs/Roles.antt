@@ -60,6 +60,7 @@ use Rattle.k42_board.proofs.Begun.{few_begun, one_more, processor_stays, begun_g
 use Rattle.k42_board.proofs.Moves.{Moves, Finds, seat_allowed_with}
 use Rattle.k42_board.proofs.Notings.{note_there, noted_of, numbers_noted, named_once, fitting, pairs_there, made_length, made_note, rows_fit, rows_below, all_from}
 use Rattle.k42_board.proofs.OnePass.{with_pass, known}
+use Rattle.k42_board.proofs.Recounted.{recounted}
 use Rattle.k42_board.proofs.Turning.{IsTurn, turned, visitors_after, state_after, with_counts, own_goes, draining_swap, known_heard, stayed}
 
 is_of_named : (named : Option ℕ) (o : ℕ) → is_of named o ≡ true → named ≡ Some o
@@ -337,9 +338,13 @@ module _ {S L P : Type 0} (F : Layouts S L P) (laws : AreLaws F) (declared : Lis
           };
         })
 
-    takes : (after : Rule F declared (with_pass table (set table.words role_word (c + 1)) table.homes id w))
+    -- the pass lists no freed rows
+    takes : (after : Rule F declared (with_pass table (set table.words role_word (c + 1)) table.homes id (record w { freed = [] })))
         × (after.state ≡ effect r.state (AtPhases (TakeRoleWith c notes))) × IsPossible F declared r.state (AtPhases (TakeRoleWith c notes))
-    takes = turned F laws declared table r id v at (TakeRoleWith c notes) g y counts turn_is role_word (c + 1) w of_role generations_after pass_after
+    takes =
+        let after = turned F laws declared table r id v at (TakeRoleWith c notes) g y counts turn_is role_word (c + 1) w of_role generations_after pass_after in
+        let again = recounted F declared table (set table.words role_word (c + 1)) table.homes id w at after.0 [] v.installed v.refused v.knocked in
+        (again.0, again.1 ∙ after.1, after.2)
 
   -- the rule after the step, and its state
   pub takes_or_not :
@@ -349,7 +354,7 @@ module _ {S L P : Type 0} (F : Layouts S L P) (laws : AreLaws F) (declared : Lis
   takes_or_not = by_role s.role refl where
     Goal : Bool → Type 0
     Goal b =
-        (after : Rule F declared (with_pass table (set table.words role_word (cond b (c + 1) found)) table.homes id (hears found (cond b taken v))))
+        (after : Rule F declared (with_pass table (set table.words role_word (cond b (c + 1) found)) table.homes id (hears found (cond b (record taken { freed = [] }) v))))
         × (after.state ≡ effect r.state (AtPhases (TakeRoleWith c notes))) × IsPossible F declared r.state (AtPhases (TakeRoleWith c notes))
 
     by_role : (role : Option ℕ) → s.role ≡ role → Goal (eqb found 0)

@@ -37,6 +37,7 @@ role_view found v = hears found (if found == 0 then record v {
   base = None;
   granted = length v.rows;
   swept = [];
+  freed = [];
 } else v)
 
 -- While a grace is under way, the processor that it comes to next is one of so many; it has asked for the generation

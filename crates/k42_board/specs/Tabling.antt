@@ -122,7 +122,7 @@ pub record MayKnock {P : Type 0} (objects o : ℕ) (v : PassView P) : Type 0 whe
 abbrev pub knocked_view : {P : Type 0} → ℕ → ℕ → PassView P → PassView P
 knocked_view o found v =
     record (went found v (knocked v.visitor o (incarnation_in found) (has_bit found 25))
-    (if has_bit found 25 then None else Some (layout_in found))) { knocked = found }
+    (if has_bit found 25 then None else Some (layout_in found))) { knocked = found ∷ v.knocked }
 
 -- the mediator counts it, and it holds no cell; its call is over then
 pub record MayStepOut {P : Type 0} (v : PassView P) : Type 0 where

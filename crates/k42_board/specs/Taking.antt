@@ -57,7 +57,7 @@ without n notes = filter (λ note. not (note.cell == n)) notes
 abbrev pub locked_view : {P : Type 0} → ℕ → ℕ → PassView P → PassView P
 locked_view n found v = hears found (record v {
   taker = if found == 0 then caller_locked n v.taker else v.taker;
-  refused = if found == 0 then v.refused else found;
+  refused = if found == 0 then v.refused else found ∷ v.refused;
 })
 
 abbrev pub unlocked_view : {P : Type 0} → ℕ → PassView P → PassView P

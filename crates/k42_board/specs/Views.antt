@@ -54,9 +54,10 @@ new_pass procs objects number home = record {
   out = None;
   untold = [];
   heard = 0;
+  freed = [];
   installed = [];
-  refused = 0;
-  knocked = 0;
+  refused = [];
+  knocked = [];
 }
 
 -- the pass that alone has the view of a seat

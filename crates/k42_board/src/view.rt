@@ -71,12 +71,14 @@ pub struct PassView<P> {
     pub untold: [u32; 0],
     /// The word that its last step found, or the stamp that it drew.
     pub heard: u64,
+    /// The rows that its last grace has freed, the last first.
+    pub freed: [Row; 0],
     /// The objects whose entry it has led to a cell, the last first.
     pub installed: [u32; 0],
-    /// The word of the last lock that it found held, 0 where it has found none so.
-    pub refused: u64,
-    /// The word that its last knock found.
-    pub knocked: u64,
+    /// The words of the locks that it found held, the last first.
+    pub refused: [u64; 0],
+    /// The words that its knocks found, the last first.
+    pub knocked: [u64; 0],
 }
 
 /// What the seat of a cell knows: a copy of its history.

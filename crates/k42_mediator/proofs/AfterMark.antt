@@ -33,11 +33,11 @@ later_stamp v cells = above (last_stamp v.taker.mine) (last_noted v.notes cells)
   above a b = grind (arith, nat_tests)
 
 -- the lock of another caller
-pub kept_waiting : {P : Type 0} (n found : ℕ) (v : PassView P) → (found ≡ 0 → ⊥) → locked_view n found v ≡ hears (found - 1 + 1) (record v { refused = found - 1 + 1 })
+pub kept_waiting : {P : Type 0} (n found : ℕ) (v : PassView P) → (found ≡ 0 → ⊥) → locked_view n found v ≡ hears (found - 1 + 1) (record v { refused = (found - 1 + 1) ∷ v.refused })
 kept_waiting n found v other =
     let taken : eqb found 0 ≡ false = grind (arith, nat_tests, other) in
-    ap (λ b. hears found (record v { taker = cond b (caller_locked n v.taker) v.taker; refused = cond b v.refused found })) taken
-    ∙ ap (λ h. hears h (record v { refused = h })) (omega (arith, other))
+    ap (λ b. hears found (record v { taker = cond b (caller_locked n v.taker) v.taker; refused = cond b v.refused (found ∷ v.refused) })) taken
+    ∙ ap (λ h. hears h (record v { refused = h ∷ v.refused })) (omega (arith, other))
 
 holds_last : (held : List ℕ) (n : ℕ) → names (held ++ n ∷ []) n ≡ true
 holds_last [] n = ap (λ b. b || false) (eq-eqb n n refl)

@@ -1,5 +1,5 @@
 -- The entry of a swap or destroy that found its object over.
-use Rattle.std.specs.Prelude.{◌≡◌, ◌≢◌, ℕ, ◌+◌, ◌<◌, ◌==◌, if◌then◌else◌, true, false, List, Some, None, length}
+use Rattle.std.specs.Prelude.{◌≡◌, ◌≢◌, ℕ, ◌+◌, ◌<◌, ◌==◌, if◌then◌else◌, true, false, List, ◌∷◌, Some, None, length}
 use Rattle.k42_kinds.specs.Histories.{is_call}
 use Rattle.k42_kinds.specs.declared.entry.Act.{Act}
 use Rattle.k42_kinds.specs.declared.entry.Answer.{Answer}
@@ -52,7 +52,7 @@ module _ {S L P : Type 0} (F : Layouts S L P) (declared : List L) where
   -- it has found the lock of that cell with another caller, and knows nothing else that is new
   pub record IsHeldBy (holder : ℕ) (old new : PassSeen P) : Type 0 where
     pub same : IsSamePass old new
-    pub knows : new.view ≡ hears (holder + 1) (record old.view { refused = holder + 1 })
+    pub knows : new.view ≡ hears (holder + 1) (record old.view { refused = (holder + 1) ∷ old.view.refused })
     pub another : holder ≢ old.view.number
     pub event :
         StepIs F declared (AtCells (Lock old.view.number (cell_marked old.view))) (lock_word (cell_marked old.view))

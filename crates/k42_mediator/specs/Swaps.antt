@@ -19,7 +19,7 @@ use Rattle.k42_board.specs.Drawing.{entry_alone}
 use Rattle.k42_board.specs.Rule.{Rule}
 use Rattle.k42_board.specs.Swapping.{object_swapped, rows_ended, clears}
 use Rattle.k42_board.specs.Values.{has_bit, answer_in, layout_in, incarnation_in}
-use Rattle.k42_board.specs.Views.{word_begun}
+use Rattle.k42_board.specs.Views.{hears, word_begun}
 use Rattle.k42_board.specs.Words.{object_word}
 use Rattle.k42_board.specs.declared.view.PassView.{PassView}
 use Rattle.k42_board.specs.declared.view.View.{View}
@@ -78,11 +78,19 @@ pub record HasOpened {P : Type 0} (v : PassView P) : Type 0 where
 abbrev pub ended_view : {P : Type 0} → PassView P → PassView P
 ended_view v = record (staged Idle v) { turned = false; rows = rows_ended v }
 
--- it has given its swap up, and has drawn that
-abbrev pub abandoned_view : {P : Type 0} → Act → PassView P → PassView P
-abandoned_view act v =
+-- it gives its swap up: it has opened all entries again, and has drawn that
+abbrev pub given_up_view : {P : Type 0} → Act → PassView P → PassView P
+given_up_view act v =
     let entry = entry_alone v act (Abandoned (incarnation_in (word_begun v.last) + 1)) in
-    record (staged Idle v) { taker = caller_drawn entry v.taker; found = None; abandoned = true }
+    hears entry.stamp (record (staged (Opened (object_swapped v)) v) {
+      taker = caller_drawn entry v.taker;
+      found = None;
+      abandoned = true;
+    })
+
+-- and swaps nothing any more
+abbrev pub abandoned_view : {P : Type 0} → Act → PassView P → PassView P
+abandoned_view act v = staged Idle (given_up_view act v)
 
 -- the word has the layout and the incarnation that a Begin found, and none of the bits of a swap
 pub record IsFree (begun word : ℕ) : Type 0 where

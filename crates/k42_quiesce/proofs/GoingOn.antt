@@ -122,4 +122,5 @@ module _ {S L P : Type 0} (F : Layouts S L P) (declared : List L) (id : ℕ) (v 
         (sym (ap (λ (x : PassView P). x.heard) e))
         (subst (λ b. StepIs F declared (AtPhases (Turn (Look v.number))) (exits_word proc b) (λ word. word) id v found w) same
         (subst (λ (grace : GraceAt). StepIs F declared (AtPhases (Turn (look_event v.number grace))) (exits_word proc parity) (λ word. word) id v found w) at step)));
+    view = e ∙ ap (λ n. looked_view n v) (sym (ap (λ (x : PassView P). x.heard) e));
   }

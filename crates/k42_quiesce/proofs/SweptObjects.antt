@@ -1,16 +1,17 @@
 -- The first objects are swept, one after the other.
-use Rattle.std.proofs.Common.{◌≡◌, ℕ, zero, suc, ◌+◌, ◌-◌, ◌<◌, Bool, true, false, ltb, List, [], ◌∷◌, ◌++◌, Option, length, sum_by, refl, sym, ap, ◌∙◌, subst, arith}
+use Rattle.std.proofs.Common.{◌≡◌, ℕ, zero, suc, ◌+◌, ◌<◌, Bool, true, false, ltb, List, [], ◌∷◌, ◌++◌, Option, length, refl, sym, ap, ◌∙◌, subst, arith}
 use Rattle.std.specs.Prelude.{is_some}
 use Rattle.std.proofs.lemmas.Bool.{ltb-true, ltb-false}
 use Rattle.std.proofs.lemmas.List.{length-append}
-use Rattle.std.proofs.lemmas.List.Sums.{sum_by-append}
 use Rattle.std.proofs.lemmas.Option.{same_Some}
 use Rattle.k42_places.specs.Places.{EachPlace}
 use Rattle.phase_core.specs.State.{note_at}
 use Rattle.turn_core.specs.Names.{names}
 use Rattle.k42_stamp.specs.Layouts.{Layouts}
+use Rattle.k42_board.specs.Freeing.{rows_freed}
 use Rattle.k42_board.specs.declared.view.PassView.{PassView}
-use Rattle.k42_quiesce.specs.Reclaiming.{Sweeps, IsSwept}
+use Rattle.k42_board.specs.declared.view.Row.{Row}
+use Rattle.k42_quiesce.specs.Reclaiming.{Sweeps, IsSwept, rows_swept}
 
 -- so many objects are swept, and else little is changed
 pub record HasSwept {P : Type 0} (many : ℕ) (v w : PassView P) : Type 0 where
@@ -21,6 +22,7 @@ pub record HasSwept {P : Type 0} (many : ℕ) (v w : PassView P) : Type 0 where
       ≡ record v {
         visitor = record v.visitor { freeing = w.visitor.freeing };
         swept = w.swept;
+        freed = w.freed;
         heard = w.heard;
         out = w.out;
       }
@@ -31,9 +33,9 @@ sweeps_next {P} many v w x is more = record { spans = more.spans ∙ is.spans; s
   noted : (o : ℕ) → note_at w.visitor.noted o ≡ note_at v.visitor.noted o
   noted o = ap (λ (u : PassView P). note_at u.visitor.noted o) is.rest
 
-  rest : x ≡ record v { visitor = record v.visitor { freeing = x.visitor.freeing }; swept = x.swept; heard = x.heard; out = x.out }
+  rest : x ≡ record v { visitor = record v.visitor { freeing = x.visitor.freeing }; swept = x.swept; freed = x.freed; heard = x.heard; out = x.out }
   rest = more.rest
-      ∙ ap (λ (u : PassView P). record u { visitor = record u.visitor { freeing = x.visitor.freeing }; swept = x.swept; heard = x.heard; out = x.out }) is.rest
+      ∙ ap (λ (u : PassView P). record u { visitor = record u.visitor { freeing = x.visitor.freeing }; swept = x.swept; freed = x.freed; heard = x.heard; out = x.out }) is.rest
 
   swept : (o : ℕ) → o < many + 1 → is_some (note_at v.visitor.noted o) ≡ true → names x.swept o ≡ true
   swept o lt known = by_test (ltb o many) refl where
@@ -50,30 +52,41 @@ each_more Q [] x each here (suc i) y e = absurd (cc)
 each_more Q (z ∷ zs) x each here zero y e = each 0 y e
 each_more Q (z ∷ zs) x each here (suc i) y e = each_more (λ j. Q (suc j)) zs x (λ j y' e'. each (suc j) y' e') here i y e
 
--- the rows of the first objects, and how many they are
-pub record AreSwept {S L P : Type 0} (F : Layouts S L P) (declared : List L) (id : ℕ) (noted : List (Option ℕ)) (many count : ℕ) : Type 0 where
-  pub rows : List (ℕ × ℕ)
-  pub all : length rows ≡ many
-  pub counted : count ≡ sum_by (λ r. r.1 - r.0) rows
-  pub swept : EachPlace (IsSwept F declared id noted) rows
+-- one more object is swept
+rows_more : (former : List Row) (o : ℕ) (spans : List (ℕ × ℕ)) (span : ℕ × ℕ)
+    → rows_swept former o (spans ++ span ∷ []) ≡ rows_freed (rows_swept former o spans) (o + length spans) span.0 span.1
+rows_more former o [] span = ap (λ q. rows_freed former q span.0 span.1) (omega arith)
+rows_more former o (x ∷ spans) span =
+    rows_more (rows_freed former o x.0 x.1) (o + 1) spans span
+    ∙ ap (λ q. rows_freed (rows_swept (rows_freed former o x.0 x.1) (o + 1) spans) q span.0 span.1) (omega arith)
 
-pub none_swept : {S L P : Type 0} (F : Layouts S L P) (declared : List L) (id : ℕ) (noted : List (Option ℕ)) → AreSwept F declared id noted 0 0
-none_swept F declared id noted = record { rows = []; all = refl; counted = refl; swept = λ i x e. absurd (cc) }
+-- the spans of the first objects, and the rows that are listed by them
+pub record AreSwept {S L P : Type 0} (F : Layouts S L P) (declared : List L) (id : ℕ) (noted : List (Option ℕ)) (former listed : List Row) (many count : ℕ) : Type 0 where
+  pub spans : List (ℕ × ℕ)
+  pub all : length spans ≡ many
+  pub freed : listed ≡ rows_swept former 0 spans
+  pub counted : length listed ≡ count + length former
+  pub swept : EachPlace (IsSwept F declared id noted) spans
 
-pub swept_next : {S L P : Type 0} (F : Layouts S L P) (declared : List L) (id : ℕ) (noted : List (Option ℕ)) (many count more : ℕ)
-    → AreSwept F declared id noted many count → (rows : ℕ × ℕ) → more ≡ rows.1 - rows.0 → IsSwept F declared id noted many rows
-    → AreSwept F declared id noted (many + 1) (count + more)
-swept_next F declared id noted many count more are rows counted is = record {
-  rows = are.rows ++ rows ∷ [];
-  all = length-append are.rows (rows ∷ []) ∙ ap (λ n. n + 1) are.all;
-  counted =
-      let sum = sum_by-append (λ (r : ℕ × ℕ). r.1 - r.0) are.rows (rows ∷ []) in
-      let before = are.counted in omega (arith, sum, before, counted);
-  swept = each_more (IsSwept F declared id noted) are.rows rows are.swept (subst (λ o. IsSwept F declared id noted o rows) (sym are.all) is);
+pub none_swept : {S L P : Type 0} (F : Layouts S L P) (declared : List L) (id : ℕ) (noted : List (Option ℕ)) (former : List Row) → AreSwept F declared id noted former former 0 0
+none_swept F declared id noted former = record { spans = []; all = refl; freed = refl; counted = omega arith; swept = λ i x e. absurd (cc) }
+
+pub swept_next : {S L P : Type 0} (F : Layouts S L P) (declared : List L) (id : ℕ) (noted : List (Option ℕ)) (former listed now : List Row) (many count more : ℕ)
+    → AreSwept F declared id noted former listed many count → length now ≡ more + length listed
+    → (span : ℕ × ℕ) → now ≡ rows_freed listed many span.0 span.1 → IsSwept F declared id noted many span
+    → AreSwept F declared id noted former now (many + 1) (count + more)
+swept_next F declared id noted former listed now many count more are counted span freed is = record {
+  spans = are.spans ++ span ∷ [];
+  all = length-append are.spans (span ∷ []) ∙ ap (λ n. n + 1) are.all;
+  freed =
+      let from : length are.spans ≡ 0 + length are.spans = omega arith in
+      freed ∙ (λ k. rows_freed (are.freed k) ((sym are.all ∙ from) k) span.0 span.1) ∙ sym (rows_more former 0 are.spans span);
+  counted = let before = are.counted in omega (arith, before, counted);
+  swept = each_more (IsSwept F declared id noted) are.spans span are.swept (subst (λ o. IsSwept F declared id noted o span) (sym are.all) is);
 }
 
 -- the pass has the seat and the notes that it had
-pub swept_here : {S L P : Type 0} (F : Layouts S L P) (declared : List L) (id here : ℕ) (noted notes : List (Option ℕ)) (o : ℕ) (rows : ℕ × ℕ)
-    → id ≡ here → noted ≡ notes → IsSwept F declared id noted o rows → IsSwept F declared here notes o rows
-swept_here F declared id here noted notes o rows seat same is =
-    subst (λ n. IsSwept F declared here n o rows) same (subst (λ i. IsSwept F declared i noted o rows) seat is)
+pub swept_here : {S L P : Type 0} (F : Layouts S L P) (declared : List L) (id here : ℕ) (noted notes : List (Option ℕ)) (o : ℕ) (span : ℕ × ℕ)
+    → id ≡ here → noted ≡ notes → IsSwept F declared id noted o span → IsSwept F declared here notes o span
+swept_here F declared id here noted notes o span seat same is =
+    subst (λ n. IsSwept F declared here n o span) same (subst (λ i. IsSwept F declared i noted o span) seat is)

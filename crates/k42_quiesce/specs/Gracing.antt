@@ -9,7 +9,7 @@ use Rattle.phase_core.specs.Effects.{drained_at}
 use Rattle.phase_core.specs.Event.{Turn, TakeRoleWith}
 use Rattle.k42_stamp.specs.Layouts.{Layouts}
 use Rattle.k42_joined.specs.Event.{AtPhases}
-use Rattle.k42_board.specs.Gracing.{MayTakeRole, role_view}
+use Rattle.k42_board.specs.Gracing.{MayTakeRole, role_view, looked_view}
 use Rattle.k42_board.specs.Noting.{notes_due, pairs_from}
 use Rattle.k42_board.specs.Phases.{IsGranted}
 use Rattle.k42_board.specs.Steps.{StepIs}
@@ -76,6 +76,7 @@ module _ {S L P : Type 0} (F : Layouts S L P) (declared : List L) where
     pub step :
         StepIs F declared (AtPhases (Turn (Look before.number))) (exits_word proc (unwrap_or before.base 0 % 2)) (λ word. word)
         id before v.heard v
+    pub view : v ≡ looked_view v.heard before
 
   abbrev pub HasLookedOf : ℕ → Held → PassView P → Type 0
   HasLookedOf id (Left proc left) v = HasLooked id proc v

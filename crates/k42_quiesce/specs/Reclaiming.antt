@@ -1,5 +1,5 @@
 -- What becomes of the rows that a quiet grace noted.
-use Rattle.std.specs.Prelude.{◌≡◌, ℕ, ◌-◌, ◌<◌, ◌≤◌, true, List, [], ◌∷◌, Option, Some, None, length, max, is_some, sum_by}
+use Rattle.std.specs.Prelude.{◌≡◌, ℕ, ◌+◌, ◌<◌, ◌≤◌, true, List, [], ◌∷◌, Option, Some, None, length, max, is_some}
 use Rattle.atomic_table.specs.Table.{gives}
 use Rattle.k42_places.specs.Places.{EachPlace}
 use Rattle.gen_core.specs.declared.state.GraceAt.TheVariants.{Quiet}
@@ -15,7 +15,7 @@ use Rattle.k42_joined.specs.Numbers.{cell_of}
 use Rattle.k42_joined.specs.Plain.{Joined}
 use Rattle.k42_joined.specs.State.{object, incarnation}
 use Rattle.k42_joined.specs.Swapping.{holds_none}
-use Rattle.k42_board.specs.Freeing.{number_noted}
+use Rattle.k42_board.specs.Freeing.{number_noted, rows_freed}
 use Rattle.k42_board.specs.Gracing.{given_view}
 use Rattle.k42_board.specs.Steps.{StepIs}
 use Rattle.k42_board.specs.Taking.{ActIs, reaching_view}
@@ -43,9 +43,16 @@ pub record Sweeps {P : Type 0} (o : ℕ) (v w : PassView P) : Type 0 where
       ≡ record v {
         visitor = record v.visitor { freeing = w.visitor.freeing };
         swept = w.swept;
+        freed = w.freed;
         heard = w.heard;
         out = w.out;
       }
+
+-- These are the rows of objects from this one on, each with the mark found and the noted number. Those that were freed
+-- stand in front of the former ones.
+abbrev pub rows_swept : List Row → ℕ → List (ℕ × ℕ) → List Row
+rows_swept former o [] = former
+rows_swept former o (span ∷ spans) = rows_swept (rows_freed former o span.0 span.1) (o + 1) spans
 
 module _ {S L P : Type 0} (F : Layouts S L P) (declared : List L) where
   -- a step of the pass put the cell back without a part
@@ -67,19 +74,21 @@ module _ {S L P : Type 0} (F : Layouts S L P) (declared : List L) where
         (λ word. max word (number_noted before o))
         id before found after
 
-  -- Of an object that the grace noted, the rows from the mark found up to the noted number: these its step freed, and
-  -- their cells it has emptied. Of another object there are none.
-  pub record IsSwept (id : ℕ) (noted : List (Option ℕ)) (o : ℕ) (rows : ℕ × ℕ) : Type 0 where
-    pub known : (number : ℕ) → note_at noted o ≡ Some number → HasFreed id o rows.0 number × (rows.1 ≡ number)
-    pub unknown : note_at noted o ≡ None → rows ≡ (0, 0)
-    pub emptied : (i p : ℕ) → rows.0 ≤ i → i < rows.1 → p < F.procs → WasEmptied id (cell_of o i p)
+  -- Of an object that the grace noted, the mark found and the noted number: the row between them, if there is one, its
+  -- step freed, and has emptied the cells of that row. Of another object there is none.
+  pub record IsSwept (id : ℕ) (noted : List (Option ℕ)) (o : ℕ) (span : ℕ × ℕ) : Type 0 where
+    pub known : (number : ℕ) → note_at noted o ≡ Some number → HasFreed id o span.0 number × (span.1 ≡ number)
+    pub unknown : note_at noted o ≡ None → span ≡ (0, 0)
+    pub one : span.0 < span.1 → span.0 + 1 ≡ span.1
+    pub emptied : span.0 < span.1 → (p : ℕ) → p < F.procs → WasEmptied id (cell_of o span.0 p)
 
-  -- so many rows were freed
-  pub record Reclaims (id : ℕ) (noted : List (Option ℕ)) (count : ℕ) : Type 0 where
-    pub rows : List (ℕ × ℕ)
-    pub all : length rows ≡ length noted
-    pub swept : EachPlace (IsSwept id noted) rows
-    pub counted : count ≡ sum_by (λ r. r.1 - r.0) rows
+  -- So many rows were freed. The pass lists them in front of those that it listed before.
+  pub record Reclaims (id : ℕ) (noted : List (Option ℕ)) (former listed : List Row) (count : ℕ) : Type 0 where
+    pub spans : List (ℕ × ℕ)
+    pub all : length spans ≡ length noted
+    pub swept : EachPlace (IsSwept id noted) spans
+    pub freed : listed ≡ rows_swept former 0 spans
+    pub counted : length listed ≡ count + length former
 
 -- the marks are at least the noted numbers
 abbrev pub AreFreed : {L : Type 0} → List (Option ℕ) → Joined L → Type 0
@@ -95,4 +104,4 @@ IsSwapFreed v s = (o : ℕ) → v.visitor.swap ≡ Drained o → incarnation s o
 
 -- the role is given back, and with it the rows that the pass held as it took the role
 abbrev pub reclaimed_view : {P : Type 0} → PassView P → PassView P → PassView P
-reclaimed_view v w = record (given_view v) { swept = w.swept; heard = w.heard; out = w.out }
+reclaimed_view v w = record (given_view v) { swept = w.swept; freed = w.freed; heard = w.heard; out = w.out }

@@ -1,6 +1,7 @@
 //! Rows are freed once a grace is quiet.
-ghost use Rattle.std.specs.Prelude.{◌≡◌, ◌<◌, ℕ, ◌-◌, ◌+◌, true, Some, length, take};
+ghost use Rattle.std.specs.Prelude.{◌≡◌, ◌<◌, ℕ, ◌+◌, true, Some, length, take};
 ghost use Rattle.k42_stamp.specs.Laws.{AreLaws};
+ghost use Rattle.k42_board.specs.Freeing.{rows_freed};
 ghost use Rattle.k42_board.specs.Gracing.{HasGiven};
 ghost use Rattle.k42_board.specs.Plan.{layouts_on};
 ghost use Rattle.k42_board.specs.Seen.{IsPassOf, IsSamePass};
@@ -20,9 +21,10 @@ fn sweep<L: Layout>(sys: &Sys<L>, pass: &mut Pass<L>, object: u32) -> u32
     ensures same { IsSamePass pass.old pass.new }
     ensures sweeps { Sweeps object pass.old.view pass.new.view }
     ensures one { result < 2 }
-    ensures swept { (rows : ℕ × ℕ) × (result ≡ rows.1 - rows.0) × IsSwept
+    ensures counted { length pass.new.view.freed ≡ result + length pass.old.view.freed }
+    ensures swept { (span : ℕ × ℕ) × (pass.new.view.freed ≡ rows_freed pass.old.view.freed object span.0 span.1) × IsSwept
         (layouts_on L.object L.tag_of L.ways L.whole L.serves L.admitted L.act_of sys.now.procs sys.now.callers)
-        sys.now.layouts pass.old.seat pass.old.view.visitor.noted object rows }
+        sys.now.layouts pass.old.seat pass.old.view.visitor.noted object span }
 {
     let Some(number) = pass.noted(object) else {
         return 0;
@@ -45,7 +47,7 @@ pub fn reclaim<L: Layout>(sys: &Sys<L>, pass: &mut Pass<L>) -> u32
     ensures knows { pass.new.view ≡ reclaimed_view pass.old.view pass.new.view }
     ensures freed { Reclaims
         (layouts_on L.object L.tag_of L.ways L.whole L.serves L.admitted L.act_of sys.now.procs sys.now.callers)
-        sys.now.layouts pass.old.seat pass.old.view.visitor.noted result }
+        sys.now.layouts pass.old.seat pass.old.view.visitor.noted pass.old.view.freed pass.new.view.freed result }
     ensures marks { Always
         (layouts_on L.object L.tag_of L.ways L.whole L.serves L.admitted L.act_of sys.now.procs sys.now.callers)
         sys.now.layouts pass.old.seat pass.new.view (AreFreed pass.old.view.visitor.noted) }

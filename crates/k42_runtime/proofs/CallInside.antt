@@ -1,6 +1,6 @@
 -- A call that seeks its row: what has held it up.
-use Rattle.std.proofs.Common.{◌≡◌, ℕ, ◌+◌, Bool, true, false, cond, List, refl, ap, ◌∙◌, subst}
-use Rattle.phase_core.specs.Stages.{is_out}
+use Rattle.std.proofs.Common.{◌≡◌, ℕ, ◌+◌, Bool, true, false, cond, List, ◌∷◌, refl, ap, ◌∙◌, subst}
+use Rattle.phase_core.specs.Stages.{is_out, row_of}
 use Rattle.k42_stamp.specs.Layouts.{Layouts}
 use Rattle.k42_board.specs.Tabling.{knocked_view}
 use Rattle.k42_board.specs.Values.{has_bit, incarnation_in}
@@ -9,7 +9,7 @@ use Rattle.k42_board.specs.declared.view.PassView.{PassView}
 use Rattle.k42_mediator.specs.Knocks.{out_view, IsKnock}
 use Rattle.k42_mediator.specs.declared.answers.Knocked.TheVariants.{Admitted, Blocked}
 use Rattle.k42_tables.specs.Entries.{EndsAt, IfFilled, IfHeld}
-use Rattle.k42_tables.specs.Missing.{cell_named, HasFilled, HasFoundHeld}
+use Rattle.k42_tables.specs.Missing.{place_named, HasFilled, HasFoundHeld}
 use Rattle.k42_tables.specs.declared.answers.Filled as filleds
 use Rattle.k42_tables.specs.declared.answers.Filled.TheVariants.{Elsewhere}
 use Rattle.k42_tables.specs.declared.answers.Tried as tries
@@ -36,9 +36,14 @@ module _ {S L P : Type 0} (F : Layouts S L P) (declared : List L) (id o : ℕ) (
       (subst (λ a. IfFilled a (λ given. EndsAt given o new.visitor.place)) whole ends, (old, subst (λ a. IfFilled a (HasFilled F declared id o old new)) whole has))
 
   pub found_held : (answer : tries.Tried) (holder : ℕ) → answer ≡ tried.Held holder → IfHeld answer (HasFoundHeld F declared id o old new)
-      → (is_out new.visitor.place ≡ true) × ((new.refused ≡ holder + 1) × WasHeld F declared id holder)
+      → (is_out new.visitor.place ≡ true) × ((new.refused ≡ (holder + 1) ∷ old.refused) × WasHeld F declared id o holder)
   found_held answer holder is has' =
       let has : HasFoundHeld F declared id o old new holder = subst (λ a. IfHeld a (HasFoundHeld F declared id o old new)) is has' in (
         ap (λ (v : PassView P). is_out v.visitor.place) has.out,
-        (has.refused, record { before = has.before; cell = cell_named o has.before; lock = has.held.lock; another = has.held.another }),
+        (has.refused,
+            record {
+              incarnation = row_of has.before.visitor.place;
+              place = place_named has.before;
+              held = record { before = has.before; lock = has.held.lock; another = has.held.another };
+            }),
       )

@@ -25,7 +25,7 @@ use Rattle.k42_mediator.proofs.AfterMark.{kept_waiting}
 use Rattle.k42_mediator.proofs.GivenBack.{held_due, released_taken}
 use Rattle.k42_mediator.proofs.NotesTold.{taken_more}
 use Rattle.k42_mediator.proofs.RowTaken.{IsTaking, takes_none, takes_next}
-use Rattle.k42_runtime.specs.Calls.{WasHeld}
+use Rattle.k42_runtime.specs.Calls.{WasHeldAt}
 use Rattle.k42_runtime.specs.Reaching.{refused_view, TakesNext, HasTakenNext, WasRefused, HasTaken, WasStopped, MayGiveBack}
 
 -- the cells of a row are numbers of cells
@@ -37,7 +37,7 @@ module _ {S L P : Type 0} (F : Layouts S L P) (declared : List L) where
   -- a lock that another caller has
   pub was_refused : (id n found : ℕ) (v w : PassView P) (cells : List (Content P)) → (found ≡ 0 → ⊥) → w ≡ locked_view n found v → LockFound n v found
       → StepIs F declared (AtCells (Lock v.number n)) (lock_word n) (λ word. cond (eqb word 0) (v.number + 1) word) id v found w
-      → WasRefused F declared id (found - 1) v w cells cells
+      → WasRefused F declared id (found - 1) n v w cells cells
   was_refused id n found v w cells other knows is event =
       let back : found ≡ found - 1 + 1 = omega (arith, other) in
       record {
@@ -45,7 +45,6 @@ module _ {S L P : Type 0} (F : Layouts S L P) (declared : List L) where
         knows = knows ∙ kept_waiting n found v other;
         was = record {
           before = v;
-          cell = n;
           lock =
               subst (λ (h : ℕ). StepIs F declared (AtCells (Lock v.number n)) (lock_word n) (λ word. cond (eqb word 0) (v.number + 1) word) id v h (locked_view n h v)) back
               (subst (λ x. StepIs F declared (AtCells (Lock v.number n)) (lock_word n) (λ word. cond (eqb word 0) (v.number + 1) word) id v found x) knows event);
@@ -114,12 +113,16 @@ module _ {S L P : Type 0} (F : Layouts S L P) (declared : List L) (o i : ℕ) (f
       (record { taking = takes_none F declared o i first [] 0 room_before held (λ k content at. absurd (cc)); back = back })
 
   module _ (place : ℕ) (now : PassSeen P) (cells : List (Content P)) (len room : ℕ) (is : IsTakingRow F declared o i place first now cells len room_before room) where
-    pub row_stopped : (holder : ℕ) (new : PassSeen P) (contents : List (Content P)) → contents ≡ cells → new.view ≡ refused_view holder now.view
-        → WasHeld F declared now.seat holder → WasStopped F declared first.seat holder first.view new.view contents
-    row_stopped holder new contents same e was = record {
+    pub row_stopped : (holder n : ℕ) (new : PassSeen P) (contents : List (Content P)) → n ≡ cell_of o i place → contents ≡ cells → new.view ≡ refused_view holder now.view
+        → WasHeldAt F declared now.seat n holder → WasStopped F declared first.seat holder o first.view new.view contents
+    row_stopped holder n new contents named same e was = record {
       released_is =
           (λ j. released (numbers_of (same j)) (e j)) ∙ ap (refused_view holder) is.taking.released_is;
-      was = subst (λ (id : ℕ). WasHeld F declared id holder) is.taking.same.seat was;
+      was = record {
+        incarnation = i;
+        place = place;
+        held = subst (λ (z : ℕ × ℕ). WasHeldAt F declared z.0 z.1 holder) (λ j. (is.taking.same.seat j, named j)) was;
+      };
     }
 
     pub row_may_give : AreLaws F → place ≤ 8 → o < 16 → (holder : ℕ) (id : ℕ) (w : PassView P) (contents : List (Content P)) → contents ≡ cells

@@ -5,6 +5,7 @@ pub mod SwapMoves
 pub mod SwapBegins
 pub mod Planned
 pub mod Traces
+pub mod SeenUpTo
 pub mod Closed
 pub mod Started
 pub mod SwapWaits

@@ -8,21 +8,28 @@ use Rattle.k42_kinds.specs.declared.entry.Act.{Act}
 use Rattle.k42_kinds.specs.declared.entry.Answer.{Answer}
 use Rattle.k42_kinds.specs.declared.entry.Answer.TheVariants.{Abandoned, Busy, Spent, Gone}
 use Rattle.k42_stamp.specs.Layouts.{Layouts}
+use Rattle.phase_core.specs.Effects.{at_stage}
+use Rattle.phase_core.specs.Event.{Clear}
+use Rattle.phase_core.specs.declared.caller.SwapAt.TheVariants.{Opened}
+use Rattle.k42_joined.specs.Event.{AtPhases}
 use Rattle.k42_joined.specs.Numbers.{cell_of}
 use Rattle.k42_board.specs.Drawing.{entry_alone, alone_view, number_told}
 use Rattle.k42_board.specs.Seen.{PassSeen}
+use Rattle.k42_board.specs.Steps.{StepIs}
+use Rattle.k42_board.specs.Swapping.{object_swapped, clears}
 use Rattle.k42_board.specs.Tabling.{is_over_in}
 use Rattle.k42_board.specs.Values.{answer_in, layout_in, incarnation_in}
 use Rattle.k42_board.specs.Views.{hears, object_begun, word_begun}
+use Rattle.k42_board.specs.Words.{object_word}
 use Rattle.k42_board.specs.declared.view.PassView.{PassView}
 use Rattle.k42_mediator.specs.Answers.{begun_in}
 use Rattle.k42_mediator.specs.Entries.{IsNext}
 use Rattle.k42_mediator.specs.Marks.{HasMarked}
-use Rattle.k42_mediator.specs.Swaps.{abandoned_view}
+use Rattle.k42_mediator.specs.Swaps.{staged, given_up_view, abandoned_view}
 use Rattle.k42_mediator.proofs.AfterMark.{later_stamp}
 use Rattle.k42_mediator.proofs.LeftOpen.{leaves_open}
 use Rattle.k42_runtime.specs.Phases.{end_in}
-use Rattle.k42_runtime.specs.Swaps.{HasFoundFree, IsSameCaller, HasSwapped, HasAbandoned, IsEndBy, act_asked, answer_told, incarnation_told, cell_told}
+use Rattle.k42_runtime.specs.Swaps.{HasFoundFree, IsSameCaller, HasSwapped, HasAbandoned, IsEndBy, act_asked, answer_told, incarnation_told, cell_told, with_last}
 use Rattle.k42_runtime.specs.declared.swaps.Swapped.TheVariants as ends
 use Rattle.k42_runtime.specs.declared.swaps.To.{To}
 use Rattle.k42_runtime.specs.declared.swaps.To.TheVariants as tos
@@ -58,12 +65,19 @@ alone_next v act answer object incarnation act_is o i = record {
 -- the swap was given up
 pub gave_up : {S L P : Type 0} (F : Layouts S L P) (declared : List L) (id object : ℕ) (to : To) (v w x : PassView P) → w ≡ hears w.heard v
     → x ≡ hears x.heard (abandoned_view (act_asked to) w) → object_begun v.last ≡ object → HasFoundFree v → v.turned ≡ false
+    → object_swapped w ≡ object
+    → StepIs F declared (AtPhases (Clear w.number)) (object_word (object_swapped w)) (clears (Opened (object_swapped w))) id (given_up_view (act_asked to) w) x.heard x
     → HasAbandoned F declared id object to v x
-gave_up F declared id object to v w x kept knows begun free unturned =
+gave_up F declared id object to v w x kept knows begun free unturned swapped step =
     let is : x ≡ hears x.heard (abandoned_view (act_asked to) v) = knows ∙ ap (λ (u : PassView _). hears x.heard (abandoned_view (act_asked to) u)) kept in
     let last : x.last ≡ v.last = ap (λ (u : PassView _). u.last) is in
     let k : ℕ = incarnation_in (word_begun v.last) in
     let entry = entry_alone v (act_asked to) (Abandoned (k + 1)) in
+    let number : w.number ≡ x.number = sym (ap (λ (u : PassView _). u.number) knows) in
+    let before : given_up_view (act_asked to) w ≡ staged (Opened object) (with_last entry.stamp x.rows x.granted x) =
+    (λ j. record (given_up_view (act_asked to) w) { visitor = at_stage w.visitor (Opened (swapped j)) })
+    ∙ ap (λ (u : PassView _). hears (entry_alone w (act_asked to) (Abandoned (incarnation_in (word_begun w.last) + 1))).stamp (staged (Opened object) u)) (sym knows)
+    ∙ ap (λ (u : PassView _). hears (entry_alone u (act_asked to) (Abandoned (incarnation_in (word_begun u.last) + 1))).stamp (staged (Opened object) x)) kept in
     record {
       begun = ap object_begun last ∙ begun;
       free = ap (λ l. begun_in (word_begun l)) last ∙ free;
@@ -72,7 +86,13 @@ gave_up F declared id object to v w x kept knows begun free unturned =
           subst (λ l. IsNext v object (incarnation_in (word_begun l)) 0 (act_asked to) (Abandoned (incarnation_in (word_begun l) + 1)) entry) (sym last)
           (alone_next v (act_asked to) (Abandoned (k + 1)) object k (no_call to) begun (less k));
       drawn = ap (λ (u : PassView _). u.taker.mine) is;
-      opened = λ rows granted heard. leaves_open F declared id object (record x { rows = rows; granted = granted; heard = heard }) (ap (λ (u : PassView _). u.turned) is ∙ unturned);
+      word = x.heard;
+      rows = x.rows;
+      granted = x.granted;
+      cleared =
+          subst (λ (z : ℕ × ℕ × PassView _). StepIs F declared (AtPhases (Clear z.0)) (object_word z.1) (clears (Opened z.1)) id z.2 x.heard x)
+          (λ j. (number j, swapped j, before j)) step;
+      opened = leaves_open F declared id object (with_last entry.stamp x.rows x.granted x) (ap (λ (u : PassView _). u.turned) is ∙ unturned);
     }
   where
     less : (n : ℕ) → n + 1 - 1 ≡ n

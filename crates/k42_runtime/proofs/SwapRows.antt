@@ -1,5 +1,5 @@
 -- A swap that has ended, between the collecting of rows and their handing over.
-use Rattle.std.proofs.Common.{◌≡◌, ⊎_elim, inl, inr, ℕ, ◌+◌, ◌≤◌, ◌<◌, List, ◌++◌, Result, Ok, Err, length, take, sym, ap, ◌∙◌, subst, arith}
+use Rattle.std.proofs.Common.{◌≡◌, ⊎_elim, inl, inr, ℕ, ◌+◌, ◌≤◌, ◌<◌, List, [], ◌++◌, Result, Ok, Err, length, take, sym, ap, ◌∙◌, subst, arith}
 use Rattle.std.specs.Prelude.{◌⊎◌}
 use Rattle.std.specs.Result.{OnOk, OnErr}
 use Rattle.std.proofs.Math.Seq.{take-length}
@@ -139,7 +139,7 @@ module _ {P : Type 0} (p0 p1 p2 p3 : PassSeen P) (first : HasRows p0 p1) (last :
       (let is = abandoned_before p0.view p1.view p2.view collected_caller collected_drawn F declared p1.seat object to gave in
       subst (λ (id : ℕ). HasAbandoned F declared id object to p0.view p3.view) first.seat
       (subst (HasAbandoned F declared p1.seat object to p0.view) (sym last.knows)
-      (record { begun = is.begun; free = is.free; entry = is.entry; next = is.next; drawn = is.drawn; opened = is.opened }))))
+      (record { begun = is.begun; free = is.free; entry = is.entry; next = is.next; drawn = is.drawn; word = is.word; rows = is.rows; granted = is.granted; cleared = is.cleared; opened = is.opened }))))
 
 pub ended_still : {E : Type 0} (system : SystemSeen) (object : ℕ) (to : To) (result : Result Swapped E) (p0 p1 p2 p3 : PassSeen AnyPart) → HasRows p0 p1
     → HasRows p2 p3 → IsPassHere system p3 → HasEnded system object to result p1 p2 → HasEnded system object to result p0 p3
@@ -174,6 +174,9 @@ module _ {P : Type 0} (old mid : PassSeen P) (more : List Row) (w : PassView P) 
 
   pub notes_all : w.visitor.noted ≡ notes_due (with_rows more old.view)
   notes_all = ap (λ (x : Visitor). x.noted) goes.visitor ∙ ap notes_due is.knows
+
+  pub none_listed : w.freed ≡ []
+  none_listed = ap (λ (v : PassView P). v.freed) goes.rest
 
   pub collects_all : CollectsAll P mid.row_room → WasEmpty P ⊎ (old.row_room ≤ length more + 1)
   collects_all = ⊎_elim (λ (empty : WasEmpty P). inl empty) (λ (few : mid.row_room ≤ 1). let room = is.row_room in inr (omega (arith, few, room)))

@@ -61,6 +61,10 @@ module _ {P : Type 0} (u v w : PassView P) (same : IsSameCaller u v) (drawn : v.
     entry = is.entry;
     next = next_before object _ 0 _ _ is.entry is.next;
     drawn = is.drawn ∙ ap (λ mine. mine ++ is.entry ∷ []) drawn;
+    word = is.word;
+    rows = is.rows;
+    granted = is.granted;
+    cleared = is.cleared;
     opened = is.opened;
   }
 

@@ -1,5 +1,5 @@
 -- Calls: what may be asked, what a call leaves, and what holds one up.
-use Rattle.std.specs.Prelude.{◌≡◌, ℕ, ◌+◌, ◌<◌, ◌==◌, if◌then◌else◌, Bool, true, false, IsTrue, List, [], ◌∷◌, ◌++◌, length, Some, slice_get}
+use Rattle.std.specs.Prelude.{◌≡◌, ℕ, ◌+◌, ◌<◌, ◌≤◌, ◌==◌, if◌then◌else◌, Bool, true, false, IsTrue, List, [], ◌∷◌, ◌++◌, length, Some, slice_get}
 use Rattle.k42_kinds.specs.Operations.{takes_operation}
 use Rattle.k42_kinds.specs.declared.entry.Act.TheVariants.{Call}
 use Rattle.k42_kinds.specs.declared.entry.Answer.TheVariants.{Replied}
@@ -10,6 +10,9 @@ use Rattle.turn_core.specs.Stamps.{last_stamp}
 use Rattle.turn_core.specs.declared.event.TurnEvent.TheVariants.{Lock}
 use Rattle.k42_stamp.specs.Layouts.{Layouts}
 use Rattle.k42_joined.specs.Event.{AtCells}
+use Rattle.k42_joined.specs.Numbers.{cell_of}
+use Rattle.k42_joined.specs.Plain.{Joined}
+use Rattle.k42_joined.specs.Seen.{HasSeen}
 use Rattle.k42_board.specs.Steps.{StepIs}
 use Rattle.k42_board.specs.Taking.{LockFound, locked_view}
 use Rattle.k42_board.specs.Words.{lock_word}
@@ -38,8 +41,12 @@ pub record IsAsked (plan : PlanSeen) (object : ℕ) (op : Op) : Type 0 where
   pub declares : slice_get plan.objects object ≡ Some declaration
   pub takes : IsTrue (takes_operation declaration.kind op)
 
--- The pass has one entry more, that of the call. It is later than all that the pass had drawn, and so than all that it
--- had seen when it drew these.
+-- the caller has seen nothing that is later than this stamp
+abbrev pub SeesUpTo : {L : Type 0} → ℕ → ℕ → Joined L → Type 0
+SeesUpTo c stamp s = (entry : Entry) → HasSeen s c entry → entry.stamp ≤ stamp
+
+-- The pass has one entry more, that of the call. It is later than the last that the pass had drawn, and so than all that
+-- it had seen: `nothing_seen_is_later_than_the_last_entry`.
 pub record HasCalled {P : Type 0} (object : ℕ) (op : Op) (reply : Reply) (old new : PassView P) : Type 0 where
   pub entry : Entry
   pub drawn : new.taker.mine ≡ old.taker.mine ++ entry ∷ []
@@ -67,21 +74,29 @@ pub record HasNotCalled {P : Type 0} (old new : PassView P) : Type 0 where
 
 module _ {S L P : Type 0} (F : Layouts S L P) (declared : List L) (id : ℕ) where
   -- a lock step of the pass found the cell with another caller, whose number the word has
-  pub record WasHeld (holder : ℕ) : Type 0 where
+  pub record WasHeldAt (cell holder : ℕ) : Type 0 where
     pub before : PassView P
-    pub cell : ℕ
     pub lock :
         StepIs F declared (AtCells (Lock before.number cell)) (lock_word cell)
         (λ word. if word == 0 then before.number + 1 else word) id before (holder + 1)
         (locked_view cell (holder + 1) before)
     pub another : LockFound cell before (holder + 1)
 
-  -- what this step of the call found that holds it up
+  -- and so a cell of the object
+  pub record WasHeld (object holder : ℕ) : Type 0 where
+    pub incarnation : ℕ
+    pub place : ℕ
+    pub held : WasHeldAt (cell_of object incarnation place) holder
+
+  -- What this step of the call found that holds it up. The word of a knock, and that of a lock, is the one that the pass
+  -- has heard of so since.
   abbrev pub HoldsUp : CallCause → ℕ → PassView P → PassView P → Type 0
-  HoldsUp causes.Blocked object old new = (before : PassView P) × IsKnock F declared id object before new Blocked
+  HoldsUp causes.Blocked object old new =
+      (before : PassView P) × (before.knocked ≡ old.knocked) × IsKnock F declared id object before new Blocked
   HoldsUp (causes.Elsewhere word) object old new =
       (before : PassView P) × HasFilled F declared id object before new (Elsewhere word)
-  HoldsUp (causes.CellHeld holder) object old new = (new.refused ≡ holder + 1) × WasHeld holder
+  HoldsUp (causes.CellHeld holder) object old new =
+      (new.refused ≡ (holder + 1) ∷ old.refused) × WasHeld object holder
 
 -- whether a step ends its call
 abbrev pub is_last : CallStep → Bool

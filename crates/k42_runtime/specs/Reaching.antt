@@ -10,7 +10,7 @@ use Rattle.k42_board.specs.Views.{hears}
 use Rattle.k42_board.specs.declared.cell.Content.{Content}
 use Rattle.k42_board.specs.declared.view.PassView.{PassView}
 use Rattle.k42_mediator.specs.Taken.{released, AreTaken, AreReady}
-use Rattle.k42_runtime.specs.Calls.{WasHeld}
+use Rattle.k42_runtime.specs.Calls.{WasHeldAt, WasHeld}
 
 -- the cells that are needed are there, of so many processors
 abbrev pub IsThere : ℕ → Reach → Type 0
@@ -19,7 +19,7 @@ IsThere procs All = 0 < procs
 
 -- a pass that has found a lock with this caller, and knows nothing else that is new
 abbrev pub refused_view : {P : Type 0} → ℕ → PassView P → PassView P
-refused_view holder v = hears (holder + 1) (record v { refused = holder + 1 })
+refused_view holder v = hears (holder + 1) (record v { refused = (holder + 1) ∷ v.refused })
 
 module _ {S L P : Type 0} (F : Layouts S L P) (declared : List L) where
   -- it has taken a cell, behind those that it had
@@ -32,14 +32,14 @@ module _ {S L P : Type 0} (F : Layouts S L P) (declared : List L) where
     pub rows : AreRowsNoted F declared new
 
   -- it has found its lock with another caller, and has what it had
-  pub record WasRefused (id holder : ℕ) (old new : PassView P) (olds news : List (Content P)) : Type 0 where
+  pub record WasRefused (id holder n : ℕ) (old new : PassView P) (olds news : List (Content P)) : Type 0 where
     pub same : news ≡ olds
     pub knows : new ≡ refused_view holder old
-    pub was : WasHeld F declared id holder
+    pub was : WasHeldAt F declared id n holder
 
   abbrev pub TakesNext : ℕ → Option ℕ → ℕ → PassView P → PassView P → List (Content P) → List (Content P) → Type 0
   TakesNext id None n old new olds news = HasTakenNext n old new olds news
-  TakesNext id (Some holder) n old new olds news = WasRefused id holder old new olds news
+  TakesNext id (Some holder) n old new olds news = WasRefused id holder n old new olds news
 
   -- it has taken these cells and no other
   pub record HasTaken (cells : List ℕ) (old new : PassView P) (contents : List (Content P)) : Type 0 where
@@ -49,14 +49,14 @@ module _ {S L P : Type 0} (F : Layouts S L P) (declared : List L) where
     pub released_is : released cells new ≡ hears new.heard (released [] old)
     pub rows : AreRowsNoted F declared new
 
-  -- it has found one of them with another caller, and has taken those before it
-  pub record WasStopped (id holder : ℕ) (old new : PassView P) (contents : List (Content P)) : Type 0 where
+  -- it has found one of them, which are of this object, with another caller, and has taken those before it
+  pub record WasStopped (id holder object : ℕ) (old new : PassView P) (contents : List (Content P)) : Type 0 where
     pub released_is : released (numbers_of contents) new ≡ refused_view holder (released [] old)
-    pub was : WasHeld F declared id holder
+    pub was : WasHeld F declared id object holder
 
-  abbrev pub Takes : ℕ → Option ℕ → List ℕ → PassView P → PassView P → List (Content P) → Type 0
-  Takes id None cells old new contents = HasTaken cells old new contents
-  Takes id (Some holder) cells old new contents = WasStopped id holder old new contents
+  abbrev pub Takes : ℕ → Option ℕ → ℕ → List ℕ → PassView P → PassView P → List (Content P) → Type 0
+  Takes id None object cells old new contents = HasTaken cells old new contents
+  Takes id (Some holder) object cells old new contents = WasStopped id holder object old new contents
 
   -- each of the cells may be put back
   pub record MayGiveBack (id : ℕ) (v : PassView P) (contents : List (Content P)) : Type 0 where

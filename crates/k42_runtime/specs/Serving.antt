@@ -103,9 +103,9 @@ pub record HasDrawn {P : Type 0} (op : Op) (reply : Reply) (old new : PassView P
   pub knows : new ≡ hears new.heard (record old { taker = caller_drawn entry old.taker; found = None })
 
 module _ {S L P : Type 0} (F : Layouts S L P) (declared : List L) where
-  -- how it has come out that sought its row
+  -- how it has come out that sought its row: it is there, and found no lock held, or knows what held it up
   abbrev pub GoesIn : ℕ → Option CallCause → ℕ → PassView P → PassView P → Type 0
-  GoesIn id None object old new = IsServing object new
+  GoesIn id None object old new = IsServing object new × (new.refused ≡ old.refused)
   GoesIn id (Some cause) object old new =
       (is_out new.visitor.place ≡ true) × HoldsUp F declared id cause object old new
 
@@ -134,7 +134,7 @@ module _ {S L P : Type 0} (F : Layouts S L P) (declared : List L) where
   abbrev pub IsServedBy : ℕ → CallStep → Op → PassView P → PassView P → Type 0
   IsServedBy id (steps.Ended reply) op old new = HasDrawn op reply old new
   IsServedBy id (steps.Again (causes.CellHeld holder)) op old new =
-      (new ≡ refused_view holder old) × WasHeld F declared id holder
+      (new ≡ refused_view holder old) × WasHeld F declared id (object_inside old) holder
   IsServedBy id (steps.Again cause) op old new = ⊥
   IsServedBy id steps.Memory op old new = new ≡ hears new.heard old
 

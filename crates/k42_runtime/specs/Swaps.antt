@@ -6,7 +6,7 @@ use Rattle.k42_kinds.specs.declared.entry.Act.TheVariants as acts
 use Rattle.k42_kinds.specs.declared.entry.Answer.{Answer}
 use Rattle.k42_kinds.specs.declared.entry.Answer.TheVariants as answers
 use Rattle.k42_kinds.specs.declared.entry.Entry.{Entry}
-use Rattle.phase_core.specs.Event.{Move}
+use Rattle.phase_core.specs.Event.{Move, Clear}
 use Rattle.phase_core.specs.declared.caller.SwapAt.TheVariants.{Interposed, Draining, Blocking, Opened}
 use Rattle.turn_core.specs.declared.event.TurnEvent.TheVariants.{Lock}
 use Rattle.k42_stamp.specs.Layouts.{Layouts}
@@ -17,7 +17,7 @@ use Rattle.k42_board.specs.Generations.{MOST}
 use Rattle.k42_board.specs.Gracing.{MayTakeRole}
 use Rattle.k42_board.specs.Seen.{PassSeen}
 use Rattle.k42_board.specs.Steps.{StepIs}
-use Rattle.k42_board.specs.Swapping.{MayMove, moves, moved_view, object_swapped}
+use Rattle.k42_board.specs.Swapping.{MayMove, moves, moved_view, object_swapped, clears}
 use Rattle.k42_board.specs.Tabling.{is_over_in}
 use Rattle.k42_board.specs.Values.{count_in, incarnation_in}
 use Rattle.k42_board.specs.Views.{hears, object_begun, word_begun}
@@ -176,6 +176,10 @@ pub record HasSwapped {P : Type 0} (object : ℕ) (to : To) (end : Swapped) (old
       (act_asked to) (answer_told end) entry
   pub drawn : new.taker.mine ≡ old.taker.mine ++ entry ∷ []
 
+-- the pass when it had found this word last, and held these rows
+abbrev pub with_last : {P : Type 0} → ℕ → List Row → ℕ → PassView P → PassView P
+with_last heard rows granted v = record v { heard = heard; rows = rows; granted = granted }
+
 -- nothing was begun: at most it has collected rows, and has handed rows over
 abbrev pub HasNotBegun : {P : Type 0} → PassView P → PassView P → Type 0
 HasNotBegun old new = new ≡ record old { rows = new.rows; granted = new.granted }
@@ -203,7 +207,7 @@ module _ {S L P : Type 0} (F : Layouts S L P) (declared : List L) (id : ℕ) whe
   pub record HasFoundCell (holder : ℕ) (v : PassView P) : Type 0 where
     pub before : PassView P
     pub over : is_over_in (word_begun before.last) ≡ true
-    pub knows : v ≡ hears (holder + 1) (record before { refused = holder + 1 })
+    pub knows : v ≡ hears (holder + 1) (record before { refused = (holder + 1) ∷ before.refused })
     pub another : holder ≢ before.number
     pub step :
         StepIs F declared (AtCells (Lock before.number (cell_marked before))) (lock_word (cell_marked before))
@@ -225,10 +229,15 @@ module _ {S L P : Type 0} (F : Layouts S L P) (declared : List L) (id : ℕ) whe
         IsNext old object (incarnation_in (word_begun new.last)) 0 (act_asked to)
         (answers.Abandoned (incarnation_in (word_begun new.last) + 1)) entry
     pub drawn : new.taker.mine ≡ old.taker.mine ++ entry ∷ []
-    -- The old implementation is open, whatever rows the pass held as it ended, and whatever word it had found last.
-    pub opened :
-        (rows : List Row) (granted heard : ℕ) → LeavesOpen F declared id
-        (staged (Opened object) (record new { rows = rows; granted = granted; heard = heard }))
+    -- The last step of the swap found this word of the object. The pass held these rows then, had opened all entries, and
+    -- had drawn the entry; the step leaves the old implementation open.
+    pub word : ℕ
+    pub rows : List Row
+    pub granted : ℕ
+    pub cleared :
+        StepIs F declared (AtPhases (Clear new.number)) (object_word object) (clears (Opened object)) id
+        (staged (Opened object) (with_last entry.stamp rows granted new)) word (with_last word rows granted new)
+    pub opened : LeavesOpen F declared id (staged (Opened object) (with_last entry.stamp rows granted new))
 
   -- A step that finds no memory is the first, and has done nothing, or it gives the swap up.
   abbrev pub StepsWithoutMemory : Stage → ℕ → To → PassView P → PassView P → Type 0

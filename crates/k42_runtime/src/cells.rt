@@ -69,7 +69,7 @@ fn take_row(
     requires none { cells.old.items ≡ [] }
     requires held { pass.old.view.taker.held ≡ [] }
     ensures same { IsSamePass pass.old pass.new }
-    ensures takes { Takes (any_layouts sys.now.procs sys.now.callers) sys.now.layouts pass.old.seat result (row_cells sys.now.procs object row) pass.old.view pass.new.view cells.new.items }
+    ensures takes { Takes (any_layouts sys.now.procs sys.now.callers) sys.now.layouts pass.old.seat result object (row_cells sys.now.procs object row) pass.old.view pass.new.view cells.new.items }
     ensures may { MayGiveBack (any_layouts sys.now.procs sys.now.callers) sys.now.layouts pass.new.seat pass.new.view cells.new.items }
 {
     layouts_are_lawful(sys);
@@ -100,7 +100,7 @@ fn take_one(
     requires none { cells.old.items ≡ [] }
     requires held { pass.old.view.taker.held ≡ [] }
     ensures same { IsSamePass pass.old pass.new }
-    ensures takes { Takes (any_layouts sys.now.procs sys.now.callers) sys.now.layouts pass.old.seat result (cell_of object row place ∷ []) pass.old.view pass.new.view cells.new.items }
+    ensures takes { Takes (any_layouts sys.now.procs sys.now.callers) sys.now.layouts pass.old.seat result object (cell_of object row place ∷ []) pass.old.view pass.new.view cells.new.items }
     ensures may { MayGiveBack (any_layouts sys.now.procs sys.now.callers) sys.now.layouts pass.new.seat pass.new.view cells.new.items }
 {
     layouts_are_lawful(sys);
@@ -126,7 +126,7 @@ pub(crate) fn take_cells(
     requires none { cells.old.items ≡ [] }
     requires held { pass.old.view.taker.held ≡ [] }
     ensures same { IsSamePass pass.old pass.new }
-    ensures takes { Takes (any_layouts sys.now.procs sys.now.callers) sys.now.layouts pass.old.seat result (cells_reached sys.now.procs inside.now.object inside.now.incarnation reach.now) pass.old.view pass.new.view cells.new.items }
+    ensures takes { Takes (any_layouts sys.now.procs sys.now.callers) sys.now.layouts pass.old.seat result inside.now.object (cells_reached sys.now.procs inside.now.object inside.now.incarnation reach.now) pass.old.view pass.new.view cells.new.items }
     ensures may { MayGiveBack (any_layouts sys.now.procs sys.now.callers) sys.now.layouts pass.new.seat pass.new.view cells.new.items }
 {
     let (object, row) = (inside.object, inside.incarnation);

@@ -1,8 +1,10 @@
-ghost use Rattle.std.specs.Prelude.{◌≡◌, true, List};
+ghost use Rattle.std.specs.Prelude.{◌≡◌, ℕ, true, List};
 ghost use Rattle.atomic_table.specs.Table.{State};
 ghost use Rattle.co_any.specs.declared.part.AnyPart.{AnyPart};
 ghost use Rattle.k42_board.specs.Cells.{Slot};
 ghost use Rattle.k42_board.specs.Rule.{Rule};
+ghost use Rattle.k42_board.specs.Steps.{Always};
+ghost use Rattle.k42_board.specs.declared.view.PassView.{PassView};
 ghost use Rattle.k42_board.specs.declared.view.View.{View};
 ghost use Rattle.k42_joined.specs.Fitting.{lists_of};
 ghost use Rattle.k42_kinds.specs.Histories.{AtEachPlace};
@@ -10,6 +12,8 @@ ghost use Rattle.k42_kinds.specs.Legal.{IsSoFarAmongObjects};
 ghost use Rattle.k42_kinds.specs.Objects.{plain_object};
 ghost use Rattle.k42_kinds.specs.declared.entry.Entry.{Entry};
 ghost use Rattle.k42_stamp.specs.Lists.{IsMerged, is_drawn};
+ghost use Rattle.turn_core.specs.Stamps.{last_stamp};
+ghost use Rattle.k42_runtime.specs.Calls.{SeesUpTo};
 ghost use Rattle.k42_runtime.specs.Plans.{kinds_of};
 ghost use Rattle.k42_runtime.specs.Systems.{layouts_in};
 
@@ -28,4 +32,12 @@ pub fn traces_are_legal(system: &System)
 {
     layouts_are_lawful(&system.sys);
     trace_is_legal::<AnyLayout>(system.sys.procs());
+}
+
+/// In whatever state the table shows, what a pass has seen is not later than its last entry: its own entries, what
+/// stood before them in the histories of their cells, and what stood in the rows that its swaps handed on.
+pub fn nothing_seen_is_later_than_the_last_entry(system: &System)
+    ensures { (id : ℕ) (v : PassView AnyPart) → Always (layouts_in system.now) system.now.sys.layouts id v (SeesUpTo v.number (last_stamp v.taker.mine)) }
+{
+    layouts_are_lawful(&system.sys);
 }

@@ -17,7 +17,7 @@ mod waiting;
 
 pub use calls::{Call, CallCause, CallStep};
 pub use history::{History, Unclosed};
-pub use laws::traces_are_legal;
+pub use laws::{nothing_seen_is_later_than_the_last_entry, traces_are_legal};
 pub use plan::{ObjectPlan, Plan, PlanFault};
 pub use swaps::{Cause, Step, Swap, Swapped, To};
 pub use system::{Pass, System};

@@ -106,18 +106,25 @@ module _ {P : Type 0} where
     go true e = rw e refl
     go false e = rw e refl
 
+  pub refused_installed : (o found : ℕ) (v w : PassView P) → w ≡ installed_view o found v → w.refused ≡ v.refused
+  refused_installed o found v w is = ap (λ (x : PassView P). x.refused) is ∙ go (eqb found (local_value (empty_entry (row_of v.visitor.place)))) refl where
+    go : (b : Bool) → eqb found (local_value (empty_entry (row_of v.visitor.place))) ≡ b → (installed_view o found v).refused ≡ v.refused
+    go true e = rw e refl
+    go false e = rw e refl
+
   pub heard_installed : (o found : ℕ) (v w : PassView P) → w ≡ installed_view o found v → w.heard ≡ found
   heard_installed o found v w is = ap (λ (x : PassView P). x.heard) is ∙ installed_heard o found v
 
 module _ {S L P : Type 0} (F : Layouts S L P) (declared : List L) (id o : ℕ) where
-  pub held_up : (v u w : PassView P) (n holder : ℕ) → IsRooted v u → WalksAside F declared id v u → n ≡ cell_named o u → 0 < holder → w ≡ locked_view n holder u → LockFound n u holder
+  pub held_up : (v u w : PassView P) (n holder : ℕ) → IsRooted v u → u.refused ≡ v.refused → WalksAside F declared id v u → n ≡ cell_named o u → 0 < holder → w ≡ locked_view n holder u → LockFound n u holder
       → StepIs F declared (AtCells (Lock u.number n)) (lock_word n) (λ word. cond (eqb word 0) (u.number + 1) word) id u holder w → IsHeldUp F declared id o v w (holder - 1)
-  held_up v u w n holder rooted walk cell lt is another lock =
+  held_up v u w n holder rooted unrefused walk cell lt is another lock =
       let back : holder ≡ holder - 1 + 1 = omega (arith, lt) in
       let view : w ≡ locked_view (cell_named o u) (holder - 1 + 1) u = is ∙ (λ k. locked_view (cell k) (back k) u) in
       record {
         before = u;
         rooted = rooted;
+        unrefused = unrefused;
         walk = walk;
         held = record {
           lock =

@@ -1,5 +1,5 @@
 -- A pass that waits for a cell, and takes the step of the handler again.
-use Rattle.std.proofs.Common.{◌≡◌, ℕ, ◌+◌, ◌<◌, false, eqb, List, Result, Ok, Err, length, refl, sym, ap, ◌∙◌, subst, arith}
+use Rattle.std.proofs.Common.{◌≡◌, ℕ, ◌+◌, ◌<◌, false, eqb, List, ◌∷◌, Result, Ok, Err, length, refl, sym, ap, ◌∙◌, subst, arith}
 use Rattle.std.specs.Prelude.{OnErr}
 use Rattle.std.proofs.lemmas.Bool.Decides.{nat_tests}
 use Rattle.phase_core.specs.Event as phases
@@ -50,13 +50,13 @@ module _ {P : Type 0} where
   rooted_further v u w first second = record { there = still_further v u w first second.there; layout = second.layout; learned = second.learned; known = second.known }
 
   -- a lock that was found taken changes nothing but the words found
-  found_held : (n holder : ℕ) (v : PassView P) → locked_view n (holder + 1) v ≡ record v { heard = holder + 1; refused = holder + 1 }
+  found_held : (n holder : ℕ) (v : PassView P) → locked_view n (holder + 1) v ≡ record v { heard = holder + 1; refused = (holder + 1) ∷ v.refused }
   found_held n holder v = let taken : eqb (holder + 1) 0 ≡ false = grind (arith, nat_tests) in rw taken refl
 
   pub held_there : (v u w : PassView P) (n holder : ℕ) → IsRooted v u → w ≡ locked_view n (holder + 1) u → IsStillThere v w
   held_there v u w n holder rooted is =
-      let same : w ≡ record u { heard = holder + 1; refused = holder + 1 } = is ∙ found_held n holder u in
-      subst (IsStillThere v) (sym (same ∙ ap (λ (x : PassView P). record x { heard = holder + 1; refused = holder + 1 }) rooted.there)) refl
+      let same : w ≡ record u { heard = holder + 1; refused = (holder + 1) ∷ u.refused } = is ∙ found_held n holder u in
+      subst (IsStillThere v) (sym (same ∙ ap (λ (x : PassView P). record x { heard = holder + 1; refused = (holder + 1) ∷ u.refused }) rooted.there)) refl
 
   pub may_still : (objects o : ℕ) (v w : PassView P) → IsStillThere v w → MayMiss objects o v → MayMiss objects o w
   may_still objects o v w there may = record {
@@ -137,6 +137,7 @@ module _ {S L P : Type 0} (F : Layouts S L P) (declared : List L) where
         held = is.held;
         rest = subst (λ x. WalksAside F declared id x w) is.view (walk_at F declared id id' u w same (end_walk F declared id' u w found end));
         out = over;
-        refused = ap (λ (x : PassView _). x.refused) out ∙ ap (λ (x : PassView _). x.refused) (is.view ∙ found_held n holder is.before);
+        refused = ap (λ (x : PassView _). x.refused) out ∙ ap (λ (x : PassView _). x.refused) (is.view ∙ found_held n holder is.before)
+            ∙ ap (λ (words : List ℕ). (holder + 1) ∷ words) is.unrefused;
         installed = none_installed v w over;
       }

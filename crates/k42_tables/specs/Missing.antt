@@ -1,5 +1,5 @@
 -- The handler of a miss, for one pass: where it may be called, and what the pass knows after it.
-use Rattle.std.specs.Prelude.{◌≡◌, ℕ, ◌+◌, ◌<◌, ◌≤◌, ◌==◌, true, if◌then◌else◌, List, Some}
+use Rattle.std.specs.Prelude.{◌≡◌, ℕ, ◌+◌, ◌<◌, ◌≤◌, ◌==◌, true, if◌then◌else◌, List, ◌∷◌, Some}
 use Rattle.phase_core.specs.Effects.{root_of}
 use Rattle.phase_core.specs.Event as phases
 use Rattle.phase_core.specs.Stages.{is_missed, row_of}
@@ -86,15 +86,16 @@ module _ {S L P : Type 0} (F : Layouts S L P) (declared : List L) (id o : ℕ) w
         (locked_view (cell_named o before) (holder + 1) before)
     pub another : LockFound (cell_named o before) before (holder + 1)
 
-  -- it has found its cell held just now
+  -- it has found its cell held just now, and no other lock
   pub record IsHeldUp (old new : PassView P) (holder : ℕ) : Type 0 where
     pub before : PassView P
     pub rooted : IsRooted old before
+    pub unrefused : before.refused ≡ old.refused
     pub walk : WalksAside F declared id old before
     pub held : FoundHeld before holder
     pub view : new ≡ locked_view (cell_named o before) (holder + 1) before
 
-  -- it has found its cell held, which is the last lock that it was refused, has installed nothing, and has given up
+  -- it has found its cell held, which is the one lock that it was refused, has installed nothing, and has given up
   pub record HasFoundHeld (old new : PassView P) (holder : ℕ) : Type 0 where
     pub before : PassView P
     pub rooted : IsRooted old before
@@ -102,5 +103,5 @@ module _ {S L P : Type 0} (F : Layouts S L P) (declared : List L) (id o : ℕ) w
     pub held : FoundHeld before holder
     pub rest : WalksAside F declared id (locked_view (cell_named o before) (holder + 1) before) new
     pub out : HasEnded old new
-    pub refused : new.refused ≡ holder + 1
+    pub refused : new.refused ≡ (holder + 1) ∷ old.refused
     pub installed : new.installed ≡ old.installed

@@ -46,6 +46,7 @@ fn try_fill<L: Layout>(
     ensures served { IfOk result (λ tried. IfFilled tried (λ answer. IfInstalled answer (λ cell. Always
         (layouts_on L.object L.tag_of L.ways L.whole L.serves L.admitted L.act_of sys.now.procs sys.now.callers)
         sys.now.layouts pass.old.seat pass.new.view (IsServed object cell pass.new.view)))) }
+    ensures unrefused { IfOk result (λ tried. IfFilled tried (λ answer. pass.new.view.refused ≡ pass.old.view.refused)) }
     ensures held { IfOk result (λ tried. IfHeld tried (IsHeldUp
         (layouts_on L.object L.tag_of L.ways L.whole L.serves L.admitted L.act_of sys.now.procs sys.now.callers)
         sys.now.layouts pass.old.seat object pass.old.view pass.new.view)) }
@@ -126,6 +127,7 @@ pub fn try_miss<L: Layout>(
     ensures served { IfOk result (λ tried. IfFilled tried (λ answer. IfInstalled answer (λ cell. Always
         (layouts_on L.object L.tag_of L.ways L.whole L.serves L.admitted L.act_of sys.now.procs sys.now.callers)
         sys.now.layouts pass.old.seat pass.new.view (IsServed object cell pass.new.view)))) }
+    ensures unrefused { IfOk result (λ tried. IfFilled tried (λ answer. pass.new.view.refused ≡ pass.old.view.refused)) }
     ensures held { IfOk result (λ tried. IfHeld tried (HasFoundHeld
         (layouts_on L.object L.tag_of L.ways L.whole L.serves L.admitted L.act_of sys.now.procs sys.now.callers)
         sys.now.layouts pass.old.seat object pass.old.view pass.new.view)) }

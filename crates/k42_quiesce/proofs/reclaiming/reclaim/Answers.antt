@@ -25,7 +25,7 @@ loop-object-preserved g c =
       same,
       sweeps_next _ _ _ _ before.2 c.sweep-count.ensures.sweeps,
       one_more _ _ _ before.3 c.sweep-count.ensures.one,
-      swept_next _ _ _ _ _ _ _ before.4 swept.0 swept.1
+      swept_next _ _ _ _ _ _ _ _ _ _ before.4 c.sweep-count.ensures.counted swept.0 swept.1
           (swept_here _ _ _ _ _ _ _ swept.0 before.1.seat (ap (λ (v : PassView _). v.visitor.noted) before.2.rest) swept.2),
     )
 

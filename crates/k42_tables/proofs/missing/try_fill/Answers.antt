@@ -14,7 +14,7 @@ use Rattle.k42_tables.specs.Missing.{IsRooted, HasEnded, place_named, cell_named
 use Rattle.k42_tables.specs.Entries.{IfInstalled}
 use Rattle.k42_tables.specs.Serving.{IsServed}
 use Rattle.k42_tables.specs.Walks.{WalksAside}
-use Rattle.k42_tables.proofs.Missed.{rooted_by, unlocked_there, place_learned, cell_learned, same_place, same_row, same_cell, ended_there, none_installed, held_up, represented_from, filled_at_last, installed_served}
+use Rattle.k42_tables.proofs.Missed.{rooted_by, unlocked_there, place_learned, cell_learned, same_place, same_row, same_cell, ended_there, none_installed, held_up, represented_from, filled_at_last, refused_installed, installed_served}
 use Rattle.k42_tables.proofs.Walking.{root_walk, lock_walk, end_walk, walk_on, walk_at}
 use Rattle.k42_tables.proofs.missing.try_fill.Goals as goal
 
@@ -29,7 +29,7 @@ returns-then-holder-gt0-clause-held g c =
     let seat : c.root_step-word.new.pass.seat ≡ id = c.root_step-word.ensures.same.seat in
     let lock =
     subst (λ i. StepIs F declared (AtCells (Lock u.number cell)) (lock_word cell) (λ w. cond (eqb w 0) (u.number + 1) w) i u c.lock-holder.result c.lock-holder.new.pass.view) seat c.lock-holder.ensures.event in
-    held_up F declared id o v u c.lock-holder.new.pass.view cell c.lock-holder.result rooted walk is c.if-holder-gt0.true c.lock-holder.ensures.knows c.lock-holder.ensures.found lock
+    held_up F declared id o v u c.lock-holder.new.pass.view cell c.lock-holder.result rooted (ap (λ (w : PassView _). w.refused) c.root_step-word.ensures.knows) walk is c.if-holder-gt0.true c.lock-holder.ensures.knows c.lock-holder.ensures.found lock
 
 pub returns-in_default-clause-memory : goal.returns-in_default-clause-memory
 returns-in_default-clause-memory g c =
@@ -90,6 +90,16 @@ returns-clause-filled g c =
     filled_at_last F declared id o v x c.install_step-found.new.pass.view c.filled_at.result (c.root_step-word.result / 4294967296) c.cell_named-place.result c.install_step-found.result there
     (represented_from F declared id o v c.lock-holder.new.pass.view x cell (cell_named o x) (is ∙ same_cell v u x o rooted there kept) to_lock made) install c.install_step-found.ensures.knows row_is place_is
     c.filled_at.ensures
+
+pub returns-clause-unrefused : goal.returns-clause-unrefused
+returns-clause-unrefused g c =
+    let v = c.args.pass.now.view in let u = c.root_step-word.new.pass.view in let cell : ℕ = ((c.args.object * 2 + c.root_step-word.result / 4294967296 % 2) * 8 + c.cell_named-place.result) in
+    let free : c.lock-holder.result ≡ 0 = (let not = c.if-holder-gt0.false in omega (arith, not)) in
+    let x = c.represent.new.pass.view in
+    let locked : c.lock-holder.new.pass.view ≡ locked_view cell 0 u = c.lock-holder.ensures.knows ∙ ap (λ n. locked_view cell n u) free in
+    let back : x ≡ unlocked_view cell (locked_view cell 0 u) = c.represent.ensures.knows ∙ ap (unlocked_view cell) locked in
+    refused_installed c.args.object c.install_step-found.result x c.install_step-found.new.pass.view c.install_step-found.ensures.knows
+    ∙ ap (λ (w : PassView _). w.refused) back ∙ ap (λ (w : PassView _). w.refused) c.root_step-word.ensures.knows
 
 pub returns-clause-served : goal.returns-clause-served
 returns-clause-served g c =
