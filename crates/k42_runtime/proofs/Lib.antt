@@ -4,6 +4,7 @@ pub mod SwapEnds
 pub mod SwapMoves
 pub mod SwapBegins
 pub mod Planned
+pub mod PlanExamples
 pub mod Traces
 pub mod SeenUpTo
 pub mod Closed
