@@ -15,3 +15,4 @@ pub mod PartsAfter
 pub mod Unique
 pub mod Examples
 pub mod Listed
+pub mod NextEntries

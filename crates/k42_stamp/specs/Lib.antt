@@ -8,3 +8,4 @@ pub mod Draws
 pub mod Hands
 pub mod Laws
 pub mod Lists
+pub mod Merging

@@ -3,9 +3,10 @@
 
 mod laws;
 mod merging;
+mod rests;
 
 pub use laws::{draw_keeps, hand_begins, merged_is_legal};
-pub use merging::merge;
+pub use merging::{Room, merge, merge_into};
 
 #[cfg(test)]
 mod tests;

@@ -1,9 +1,12 @@
-ghost use Rattle.std.specs.Prelude.{◌≡◌, map, flat_map, vec_items, IfOk};
-ghost use Rattle.k42_stamp.specs.Lists.{AreLists, IsMerged, numbered_from};
+ghost use Rattle.std.specs.Prelude.{◌≡◌, ◌+◌, ◌≤◌, true, false, None, [], map, vec_items, vec_len, vec_capacity, length, IfOk, IfSome};
+ghost use Rattle.k42_stamp.specs.Lists.{AreLists, IsMerged, IsTrace, numbered_from};
+ghost use Rattle.k42_stamp.specs.Merging.{HasRoom, HasMoved, AreEmpty, IsAlone, entries_in};
 
+use crate::rests::{Rest, next_entry};
 use k42_kinds::Entry;
 use k42_memory::Memory;
 use std::alloc::Global;
+use std::marker::Model;
 
 /// Gives each entry its place, from 1, as stamp.
 fn number(entries: &mut Vec<Entry>)
@@ -14,28 +17,135 @@ fn number(entries: &mut Vec<Entry>)
     }
 }
 
-/// The entries of all lists, one list after the other.
-fn joined(alloc: Global, lists: Vec<Vec<Entry>>) -> Result<Vec<Entry>, Memory>
-    ensures { IfOk result (λ entries. entries.items ≡ flat_map vec_items lists.items) }
-{
-    let mut lists = lists.into_iter();
-    // The first list is the room of the others: no entry of it is copied.
-    let Some(mut entries) = lists.next() else {
-        return Ok(Vec::new(alloc));
-    };
-    for mut list in lists {
-        entries.append(&mut list)?;
-    }
-    Ok(entries)
+/// Room in which lists are merged.
+#[derive(Drop)]
+pub struct Room {
+    rests: Vec<Rest>,
+    entries: Vec<Entry>,
 }
 
-/// The entries of all lists in the order of stamp, object, cell and caller, numbered anew from 1.
+impl Model for Room {
+    ghost use Rattle.std.specs.Prelude.{◌≡◌, [], vec_capacity};
+    ghost use Rattle.k42_stamp.specs.Merging.{RoomSeen};
+
+    ghost Value = { RoomSeen };
+
+    ghost view = { λ r. record { lists = vec_capacity r.rests; entries = vec_capacity r.entries } };
+
+    ghost invariant = { λ r. (r.rests.items ≡ []) × (r.entries.items ≡ []) };
+}
+
+impl Room {
+    /// Room for so many lists, which have so many entries in all.
+    pub fn new(alloc: Global, lists: usize, entries: usize) -> Result<Room, Memory>
+        ensures { IfOk result (λ room. room ≡ record { lists = lists; entries = entries }) }
+    {
+        Ok(Room {
+            rests: Vec::with_capacity(alloc, lists)?,
+            entries: Vec::with_capacity(alloc, entries)?,
+        })
+    }
+}
+
+/// Moves the next entry behind the others, and answers whether there was one.
+fn move_next(rests: &mut Vec<Rest>, entries: &mut Vec<Entry>) -> bool
+    requires room { vec_len entries.old + entries_in rests.old.items ≤ vec_capacity entries.old }
+    ensures capacity { vec_capacity entries.new ≡ vec_capacity entries.old }
+    ensures room { vec_len entries.new + entries_in rests.new.items ≡ vec_len entries.old + entries_in rests.old.items }
+    ensures fewer { result ≡ true → entries_in rests.new.items + 1 ≡ entries_in rests.old.items }
+    ensures moved { result ≡ true → HasMoved rests.old.items rests.new.items entries.old.items entries.new.items }
+    ensures all { result ≡ false → AreEmpty rests.old.items × (entries.new.items ≡ entries.old.items) }
+{
+    let Some((place, _)) = next_entry(rests.as_slice()) else {
+        return false;
+    };
+    entries.push_reserved(rests[place].pop());
+    true
+}
+
+/// Moves all entries, each time the next one.
+fn move_all(rests: &mut Vec<Rest>, entries: &mut Vec<Entry>)
+    requires lists { AreLists rests.old.items }
+    requires room { entries_in rests.old.items ≤ vec_capacity entries.old }
+    requires none { entries.old.items ≡ [] }
+    ensures { IsTrace rests.old.items entries.new.items }
+{
+    while move_next(rests, entries) {}
+}
+
+/// Whether no list has entries.
+fn are_empty(lists: &[Vec<Entry>]) -> bool
+    ensures { result ≡ true → AreEmpty (map vec_items lists.now) }
+{
+    let Some((list, others)) = lists.split_first() else {
+        return true;
+    };
+    list.is_empty() && are_empty(others)
+}
+
+/// The place of the list that alone has entries.
+fn only_place(lists: &[Vec<Entry>]) -> Option<usize>
+    ensures { IfSome result (λ place. IsAlone (map vec_items lists.now) place) }
+{
+    let (list, others) = lists.split_first()?;
+    if are_empty(others) {
+        return Some(0);
+    }
+    if !list.is_empty() {
+        return None;
+    }
+    Some(only_place(others)? + 1)
+}
+
+/// What is left of the lists before the first entry has moved.
+fn rests_of(mut rests: Vec<Rest>, lists: Vec<Vec<Entry>>) -> Vec<Rest>
+    requires none { rests.items ≡ [] }
+    requires room { length lists.items ≤ vec_capacity rests }
+    ensures { result.items ≡ map vec_items lists.items }
+{
+    for list in lists {
+        rests.push_reserved(Rest::of(list));
+    }
+    rests
+}
+
+/// The entries of all lists in the order of stamp, object, cell and caller, numbered anew from 1. A list that alone has
+/// entries is not copied.
+pub fn merge_into(room: Room, mut lists: Vec<Vec<Entry>>) -> Vec<Entry>
+    requires lists { AreLists (map vec_items lists.items) }
+    requires room { HasRoom room (map vec_items lists.items) }
+    ensures { IsMerged (map vec_items lists.items) result.items }
+{
+    if let Some(place) = only_place(lists.as_slice()) {
+        let mut list = lists.swap_remove(place);
+        number(&mut list);
+        return list;
+    }
+    let Room { rests, mut entries } = room;
+    let mut rests = rests_of(rests, lists);
+    move_all(&mut rests, &mut entries);
+    number(&mut entries);
+    entries
+}
+
+/// How many entries the lists have.
+fn total_of(lists: &[Vec<Entry>]) -> Option<usize>
+    ensures { IfSome result (λ total. total ≡ entries_in (map vec_items lists.now)) }
+{
+    let Some((list, others)) = lists.split_first() else {
+        return Some(0);
+    };
+    total_of(others)?.checked_add(list.len())
+}
+
+/// The same, with room of its own.
 pub fn merge(alloc: Global, lists: Vec<Vec<Entry>>) -> Result<Vec<Entry>, Memory>
     requires { AreLists (map vec_items lists.items) }
     ensures { IfOk result (λ merged. IsMerged (map vec_items lists.items) merged.items) }
 {
-    let mut entries = joined(alloc, lists)?;
-    entries.sort_by_cached_key(|entry| (entry.stamp, entry.object, entry.cell, entry.caller))?;
-    number(&mut entries);
-    Ok(entries)
+    let Some(total) = total_of(lists.as_slice()) else {
+        return Err(Memory);
+    };
+    let room = Room::new(alloc, lists.len(), total)?;
+    Ok(merge_into(room, lists))
 }

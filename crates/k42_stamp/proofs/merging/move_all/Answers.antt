@@ -1,0 +1,19 @@
+use Rattle.std.proofs.Common.{rules}
+use Rattle.k42_stamp.specs.Merging.{HasMoved}
+use Rattle.k42_stamp.proofs.NextEntries.{merges_on, all_merged}
+use Rattle.k42_stamp.proofs.merging.move_all.Goals as goal
+
+pub loop-preserved : goal.loop-preserved
+loop-preserved c =
+    let old = c.loop.rests.items in
+    let new = c.move_next.new.rests.items in
+    let moved : HasMoved old new c.loop.entries.items c.move_next.new.entries.items = search rules in
+    record {
+      merging = merges_on c.args.rests.now.items old new c.loop.entries.items c.move_next.new.entries.items c.loop.invariant.merging moved;
+      room = rw (c.move_next.ensures.capacity, c.move_next.ensures.room) c.loop.invariant.room;
+    }
+
+pub returns : goal.returns
+returns c =
+    let all = c.move_next.ensures.all (search rules) in
+    all_merged c.args.rests.now.items c.loop.rests.items c.loop.entries.items c.move_next.new.entries.items c.loop.invariant.merging all.0 all.1
