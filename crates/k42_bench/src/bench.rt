@@ -1,19 +1,17 @@
 //! How the library is used: a system is started, its passes call and swap on threads, and it is closed.
-ghost use Rattle.std.specs.Prelude.{◌≡◌, ◌<◌, ◌≤◌, ◌+◌, ◌^◌, true, length, IfOk, OnOk};
-ghost use Rattle.std.specs.Thread.{IsSync};
-ghost use Rattle.k42_board.specs.Generations.{MOST};
-ghost use Rattle.k42_bench.specs.Ready.{IsFree, AreFree, RestInOrder};
+ghost use Rattle.std.specs.Prelude.{OnOk};
+ghost use Rattle.k42_crews.specs.Ready.{IsFree};
 
 use crate::load::{Load, op_of};
+use k42_crews::{Work, close, may_call, may_swap, start, work_all};
 use k42_kinds::{Answer, LayoutName};
 use k42_memory::Memory;
 use k42_runtime::{History, ObjectPlan, Pass, Plan, System};
 use std::alloc::Global;
 use std::sync::Wait;
-use std::thread;
 use std::thread::Threads;
 
-/// A pass has fewer entries, activities and graces.
+/// A pass makes fewer calls.
 const LIMIT: u32 = 1_048_576;
 
 /// How many calls and swaps were done, and whether the history has just the entries of the passes.
@@ -22,17 +20,6 @@ pub struct Done {
     pub calls: usize,
     pub swaps: usize,
     pub whole: bool,
-}
-
-/// Whether the pass may call once more.
-fn has_room(pass: &Pass) -> bool
-    ensures entries { result ≡ true → length pass.now.view.taker.mine < MOST }
-    ensures activities { result ≡ true → pass.now.view.activities < MOST }
-{
-    if pass.entries().len() >= LIMIT as usize {
-        return false;
-    }
-    pass.activities() < LIMIT
 }
 
 /// Whether the pass has made its calls, the last of them after all swaps.
@@ -49,25 +36,25 @@ fn call_often<R: Wait>(
     rt: &R,
     alloc: Global,
     system: &System,
-    mut pass: Pass,
+    pass: &mut Pass,
     load: &Load,
-) -> Result<Pass, Memory>
-    requires { IsFree system.now pass }
-    ensures { IfOk result (λ out. IsFree system.now out) }
+) -> Result<(), Memory>
+    requires { IsFree system.now pass.old }
+    ensures { OnOk result (IsFree system.now pass.new) }
 {
     for number in 0..LIMIT - 1 {
         let Some(op) = op_of(load, pass.caller(), number) else {
-            return Ok(pass);
+            return Ok(());
         };
-        if !has_room(&pass) || !system.takes(0, &op) || is_done(&pass, load, number) {
-            return Ok(pass);
+        if !may_call(pass) || !system.takes(0, &op) || is_done(pass, load, number) {
+            return Ok(());
         }
-        system.enter(&mut pass);
-        let reply = system.call(rt, alloc, &mut pass, 0, op);
-        system.leave(&mut pass);
+        system.enter(pass);
+        let reply = system.call(rt, alloc, pass, 0, op);
+        system.leave(pass);
         reply?;
     }
-    Ok(pass)
+    Ok(())
 }
 
 /// Swaps so often, to the other layout and back.
@@ -75,103 +62,40 @@ fn swap_often<R: Wait>(
     rt: &R,
     alloc: Global,
     system: &System,
-    mut pass: Pass,
+    pass: &mut Pass,
     load: &Load,
-) -> Result<Pass, Memory>
-    requires { IsFree system.now pass }
-    ensures { IfOk result (λ out. IsFree system.now out) }
+) -> Result<(), Memory>
+    requires { IsFree system.now pass.old }
+    ensures { OnOk result (IsFree system.now pass.new) }
 {
     for number in 0..load.swaps {
-        if pass.entries().len() >= LIMIT as usize
-            || pass.graces() >= LIMIT
-            || system.objects() == 0
-        {
-            return Ok(pass);
+        if !may_swap(pass) || system.objects() == 0 {
+            return Ok(());
         }
         let to = match (load.layout, number % 2) {
             (LayoutName::Shared, 0) | (LayoutName::Spread, 1) => LayoutName::Spread,
             _ => LayoutName::Shared,
         };
-        system.swap(rt, alloc, &mut pass, 0, to)?;
+        system.swap(rt, alloc, pass, 0, to)?;
     }
-    Ok(pass)
+    Ok(())
 }
 
-/// Takes the passes behind the first so many out of the list.
-fn cut(system: &System, passes: &mut Vec<Pass>, half: usize) -> Result<Vec<Pass>, Memory>
-    requires free { AreFree system.now passes.old.items }
-    requires within { half ≤ length passes.old.items }
-    ensures front { OnOk result (AreFree system.now passes.new.items) }
-    ensures back { IfOk result (λ others. AreFree system.now others.items) }
-    ensures front_len { OnOk result (length passes.new.items ≡ half) }
-    ensures back_len { IfOk result (λ others. length others.items + half ≡ length passes.old.items) }
-{
-    let _ = system.objects();
-    let others = passes.split_off(half)?;
-    Ok(others)
-}
-
-/// Puts the passes behind the others.
-#[tactic(auto, using(crate::proofs::Crews::both_free))]
-fn joined(system: &System, mut front: Vec<Pass>, mut back: Vec<Pass>) -> Result<Vec<Pass>, Memory>
-    requires { AreFree system.now front.items × AreFree system.now back.items }
-    ensures { IfOk result (λ all. AreFree system.now all.items) }
-{
-    let _ = system.objects();
-    front.append(&mut back)?;
-    Ok(front)
-}
-
-/// Each pass on a thread of its own: the last one swaps, and the others call.
-fn run_all<R: Threads + Wait + Sync>(
-    rt: &R,
-    alloc: Global,
-    system: &System,
-    mut passes: Vec<Pass>,
-    load: &Load,
-) -> Result<Vec<Pass>, Memory>
-    requires { AreFree system.now passes.items }
-    ensures { IfOk result (λ out. AreFree system.now out.items) }
-{
-    let half = passes.len() / 2;
-    if half == 0 {
-        if let Some(pass) = passes.pop() {
-            let pass = if pass.caller() == load.threads {
-                swap_often(rt, alloc, system, pass, load)?
-            } else {
-                call_often(rt, alloc, system, pass, load)?
-            };
-            passes.push(pass)?;
+/// The last pass swaps, and the others call.
+impl Work for Load {
+    fn work<R: Wait>(
+        &self,
+        rt: &R,
+        alloc: Global,
+        system: &System,
+        pass: &mut Pass,
+    ) -> Result<(), Memory> {
+        if pass.caller() == self.threads {
+            swap_often(rt, alloc, system, pass, self)
+        } else {
+            call_often(rt, alloc, system, pass, self)
         }
-        return Ok(passes);
     }
-    let others = cut(system, &mut passes, half)?;
-    let (front, back) = thread::join(
-        rt,
-        move || -> Result<Vec<Pass>, Memory>
-            requires { IsSync R.row × AreFree system.now passes.items }
-            ensures { IfOk result (λ out. AreFree system.entry.now out.items) }
-        { run_all(rt, alloc, system, passes, load) },
-        move || -> Result<Vec<Pass>, Memory>
-            requires { IsSync R.row × AreFree system.now others.items }
-            ensures { IfOk result (λ out. AreFree system.entry.now out.items) }
-        { run_all(rt, alloc, system, others, load) },
-    );
-    joined(system, front?, back?)
-}
-
-/// Whether the passes are those of the next callers, and rest.
-fn rest_in_order(passes: &[Pass], first: u32) -> bool
-    requires { first + length passes.now < 2 ^ 32 }
-    ensures { result ≡ true → RestInOrder first passes.now }
-{
-    let Some((pass, others)) = passes.split_first() else {
-        return true;
-    };
-    if pass.caller() != first || !pass.is_idle() {
-        return false;
-    }
-    rest_in_order(others, first + 1)
 }
 
 fn is_call(answer: &Answer) -> bool {
@@ -217,17 +141,7 @@ fn entries_of(passes: &[Pass]) -> usize {
     entries
 }
 
-/// The system of the plan, and its passes.
-#[tactic(auto, using(crate::proofs::Crews::started_free))]
-fn begin(alloc: Global, plan: Plan) -> Result<(System, Vec<Pass>), Memory>
-    ensures { IfOk result (λ made. AreFree made.0 made.1.items) }
-{
-    let (system, passes) = System::start(alloc, plan)?;
-    Ok((system, passes))
-}
-
 /// Runs the load, and answers what was done.
-#[tactic(auto, using(crate::proofs::Crews::may_close))]
 pub fn run<R: Threads + Wait + Sync>(
     rt: &R,
     alloc: Global,
@@ -236,14 +150,9 @@ pub fn run<R: Threads + Wait + Sync>(
     let Some(plan) = plan_of(alloc, load)? else {
         return Ok(None);
     };
-    let (system, passes) = begin(alloc, plan)?;
-    let passes = run_all(rt, alloc, &system, passes, load)?;
-    if passes.len() != system.callers() as usize || !rest_in_order(passes.as_slice(), 0) {
-        return Ok(None);
-    }
+    let (system, mut passes) = start(alloc, plan)?;
+    work_all(rt, alloc, &system, load, passes.as_mut_slice())?;
     let entries = entries_of(passes.as_slice());
-    match system.close(alloc, passes) {
-        Ok(history) => Ok(Some(told_by(&history, entries))),
-        Err(_) => Err(Memory),
-    }
+    let history = close(alloc, system, passes)?;
+    Ok(history.map(|history| told_by(&history, entries)))
 }

@@ -1,4 +1,4 @@
-use Rattle.k42_bench.specs.Ready.{IsFree}
+use Rattle.k42_crews.specs.Ready.{IsFree}
 use Rattle.k42_bench.proofs.bench.swap_often.Given as goal
 
 abbrev pub invariant-loop-number : goal.invariant-loop-number

@@ -1,0 +1,8 @@
+//! The passes of a system: each is given to a thread of its own, and all are closed in the end.
+#![tactic(auto)]
+
+mod crews;
+mod threads;
+
+pub use crews::{close, last, may_call, may_swap, start};
+pub use threads::{Work, work_all};

@@ -1,0 +1,116 @@
+//! Four passes call while a fifth swaps the object to and fro until they are done.
+ghost use Rattle.std.specs.Prelude.{OnOk};
+ghost use Rattle.k42_crews.specs.Ready.{IsFree};
+
+use crate::tests::asking::asked_by;
+use crate::tests::crews::wait_for;
+use crossbeam_utils::Backoff;
+use k42_crews::{Work, may_call, may_swap};
+use k42_kinds::{KindName, LayoutName};
+use k42_memory::Memory;
+use k42_runtime::{Pass, System};
+use std::alloc::Global;
+use std::sync::Wait;
+use std::sync::atomic::{AtomicU64, Ordering};
+
+/// How many calls each of the four makes.
+pub(super) const CALLS: u32 = 1001;
+
+/// How many callers have made all their calls, how many replies were not those due, and how many swaps are done.
+#[derive(Drop)]
+pub(super) struct ToAndFro {
+    kind: KindName,
+    pub(super) done: AtomicU64,
+    pub(super) wrong: AtomicU64,
+    pub(super) swaps: AtomicU64,
+}
+
+impl ToAndFro {
+    pub(super) fn new(kind: KindName) -> ToAndFro {
+        ToAndFro {
+            kind,
+            done: AtomicU64::new(0),
+            wrong: AtomicU64::new(0),
+            swaps: AtomicU64::new(0),
+        }
+    }
+
+    /// Makes all calls of the pass. The second half waits for three swaps.
+    fn ask_all<R: Wait>(
+        &self,
+        rt: &R,
+        alloc: Global,
+        system: &System,
+        pass: &mut Pass,
+    ) -> Result<(), Memory>
+        requires { IsFree system.now pass.old }
+        ensures { OnOk result (IsFree system.now pass.new) }
+    {
+        for number in 0..CALLS {
+            if number == CALLS / 2 {
+                wait_for(rt, &self.swaps, 3);
+            }
+            let Some((op, due)) = asked_by(self.kind, pass.caller(), number) else {
+                return Ok(());
+            };
+            if !may_call(pass) || !system.takes(0, &op) {
+                return Ok(());
+            }
+            system.enter(pass);
+            let reply = system.call(rt, alloc, pass, 0, op);
+            system.leave(pass);
+            if reply? != due {
+                self.wrong.fetch_add(1, Ordering::SeqCst);
+            }
+        }
+        Ok(())
+    }
+
+    /// Swaps until the four are done.
+    fn swap_on<R: Wait>(
+        &self,
+        rt: &R,
+        alloc: Global,
+        system: &System,
+        pass: &mut Pass,
+    ) -> Result<(), Memory>
+        requires { IsFree system.now pass.old }
+        ensures { OnOk result (IsFree system.now pass.new) }
+    {
+        let backoff = Backoff::new();
+        for number in 0..1_000_000 {
+            if self.done.load(Ordering::SeqCst) >= 4 || !may_swap(pass) || system.objects() == 0 {
+                return Ok(());
+            }
+            let to = if number % 2 == 0 {
+                LayoutName::Shared
+            } else {
+                LayoutName::Spread
+            };
+            system.swap(rt, alloc, pass, 0, to)?;
+            self.swaps.fetch_add(1, Ordering::SeqCst);
+            backoff.snooze();
+        }
+        Ok(())
+    }
+}
+
+impl Work for ToAndFro {
+    fn work<R: Wait>(
+        &self,
+        rt: &R,
+        alloc: Global,
+        system: &System,
+        pass: &mut Pass,
+    ) -> Result<(), Memory> {
+        if pass.caller() == 4 {
+            let swapped = self.swap_on(rt, alloc, system, pass);
+            // The callers wait for no swaps more.
+            self.swaps.fetch_add(3, Ordering::SeqCst);
+            return swapped;
+        }
+        let asked = self.ask_all(rt, alloc, system, pass);
+        self.done.fetch_add(1, Ordering::SeqCst);
+        asked
+    }
+}
