@@ -40,10 +40,12 @@ module _ {S L P : Type 0} (F : Layouts S L P) (declared : List L) (id o : ℕ) (
   found_held answer holder is has' =
       let has : HasFoundHeld F declared id o old new holder = subst (λ a. IfHeld a (HasFoundHeld F declared id o old new)) is has' in (
         ap (λ (v : PassView P). is_out v.visitor.place) has.out,
-        (has.refused,
-            record {
-              incarnation = row_of has.before.visitor.place;
-              place = place_named has.before;
-              held = record { before = has.before; lock = has.held.lock; another = has.held.another };
-            }),
+        (
+          has.refused,
+          record {
+            incarnation = row_of has.before.visitor.place;
+            place = place_named has.before;
+            held = record { before = has.before; lock = has.held.lock; another = has.held.another };
+          },
+        ),
       )

@@ -1,8 +1,5 @@
 -- What a pass has seen is not later than its last entry.
-use Rattle.std.proofs.Common.{◌≡◌, ℕ, ◌<◌, ◌≤◌, List, [], ◌∷◌, ap, subst, ⊎_elim, arith}
-use mathlib.Core.Option.{some}
-use lib.ListN.{get_elem?}
-use Rattle.atomic_table.specs.Table.{State}
+use Rattle.std.proofs.Common.{ℕ, ◌<◌, ◌≤◌, List, ap, subst, ⊎_elim, arith}
 use Rattle.k42_kinds.specs.declared.entry.Entry.{Entry}
 use Rattle.turn_core.specs.Plain.{Caller}
 use Rattle.turn_core.specs.Stamps.{last_stamp}
@@ -17,12 +14,8 @@ use Rattle.k42_joined.specs.Sound.{IsSound}
 use Rattle.k42_joined.specs.State.{many_callers, mine}
 use Rattle.k42_joined.proofs.RowsStamps.{in_place}
 use Rattle.k42_joined.proofs.SeenBelow.{stood_below, handed_below}
-use Rattle.k42_board.specs.Cells.{Slot}
-use Rattle.k42_board.specs.Rule.{Rule}
 use Rattle.k42_board.specs.Steps.{Always}
 use Rattle.k42_board.specs.declared.view.PassView.{PassView}
-use Rattle.k42_board.specs.declared.view.View.{View}
-use Rattle.k42_board.specs.declared.view.View.TheVariants.{Crew}
 use Rattle.k42_board.proofs.OnePass.{known}
 use Rattle.k42_runtime.specs.Calls.{SeesUpTo}
 

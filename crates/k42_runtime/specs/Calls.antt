@@ -88,8 +88,8 @@ module _ {S L P : Type 0} (F : Layouts S L P) (declared : List L) (id : ℕ) whe
     pub place : ℕ
     pub held : WasHeldAt (cell_of object incarnation place) holder
 
-  -- What this step of the call found that holds it up. The word of a knock, and that of a lock, is the one that the pass
-  -- has heard of so since.
+  -- What this step of the call found that holds it up. The word of its knock, or the one lock word by which it was refused,
+  -- stands in front of those that the pass listed before.
   abbrev pub HoldsUp : CallCause → ℕ → PassView P → PassView P → Type 0
   HoldsUp causes.Blocked object old new =
       (before : PassView P) × (before.knocked ≡ old.knocked) × IsKnock F declared id object before new Blocked

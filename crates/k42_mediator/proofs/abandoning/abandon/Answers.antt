@@ -1,4 +1,4 @@
-use Rattle.std.proofs.Common.{rules, ◌≡◌, ℕ, false, sym, ap, ◌∙◌, subst}
+use Rattle.std.proofs.Common.{rules, ◌≡◌, ℕ, sym, ap, ◌∙◌, subst}
 use Rattle.phase_core.specs.Event as phases
 use Rattle.phase_core.specs.declared.caller.SwapAt.TheVariants.{Opened}
 use Rattle.k42_joined.specs.Event.{AtPhases}

@@ -1,10 +1,9 @@
-use Rattle.std.proofs.Common.{◌≡◌, ℕ, ◌+◌, ◌≤◌, ◌<◌, List, Some, length, refl, sym, ap, ◌∙◌, subst, arith}
+use Rattle.std.proofs.Common.{◌≡◌, ℕ, ◌+◌, ◌≤◌, ◌<◌, Some, length, refl, sym, ap, ◌∙◌, subst, arith}
 use Rattle.phase_core.specs.State.{note_at}
 use Rattle.k42_joined.specs.Numbers.{cell_of}
 use Rattle.k42_board.specs.Freeing.{number_noted}
 use Rattle.k42_board.specs.Plan.{layouts_on}
 use Rattle.k42_board.specs.declared.view.PassView.{PassView}
-use Rattle.k42_board.specs.declared.view.Row.{Row}
 use Rattle.std.specs.Option.{unwrap_or}
 use Rattle.k42_quiesce.specs.Reclaiming.{WasEmptied}
 use Rattle.k42_quiesce.proofs.Sweeping.{lists, lists_none, lists_one, swept_none, swept_past, swept_row}

@@ -1,8 +1,4 @@
-use Rattle.std.proofs.Common.{subst}
-use Rattle.co_any.specs.declared.part.AnyPart.{AnyPart}
-use Rattle.k42_board.specs.Steps.{Always}
-use Rattle.k42_board.specs.declared.view.PassView.{PassView}
-use Rattle.k42_runtime.specs.Systems.{SystemSeen, layouts_in}
+use Rattle.k42_runtime.specs.Systems.{layouts_in}
 use Rattle.k42_runtime.proofs.SeenUpTo.{seen_always}
 use Rattle.k42_runtime.proofs.laws.nothing_seen_is_later_than_the_last_entry.Goals as goal
 
