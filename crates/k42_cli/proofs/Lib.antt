@@ -3,4 +3,3 @@ pub mod Separating
 pub mod Parted
 pub mod CutInput
 pub mod Endings
-pub mod Steps

@@ -21,7 +21,11 @@ use Rattle.script_text.specs.declared.script.CallLine.{CallLine}
 use Rattle.script_text.specs.declared.script.Script.{Script}
 use Rattle.script_text.specs.declared.script.WorkerLines.{WorkerLines}
 use Rattle.record_text.specs.Histories.{calls_of, HasLine, line_of, record_of}
+use Rattle.record_text.specs.Rules.{IsLawfulRecord}
 use Rattle.record_text.specs.Spelling.{EndsCall, EndsSwap, Ends, HasSpelling, HasGeneration, IsOfVersion, IsVersion, HasText}
+use Rattle.k42_runtime.specs.Histories.{HistorySeen}
+use Rattle.k42_workers.specs.Plans.{plan_due}
+use Rattle.k42_cli.specs.Program.{IsRun}
 
 -- a deed of these lines, counted on from a number, at a place
 pub record IsDeedAt (lines : List CallLine) (first place : ℕ) (deed : Deed) : Type 0 where
@@ -143,3 +147,13 @@ module _ (script : Script) (sound : IsSound script) (history : List Entry) (lawf
     told = All-map (IsOfVersion version) (line_of script version) history (each_all (λ entry. IsOfVersion version (line_of script version entry)) history (λ before entry after e.
         told_by version is entry (All-at_split (λ (other : Entry). HasGeneration other.act other.generation) history has before entry after e)));
   }
+
+-- what a run gives is a run
+pub run_of : (script : Script) → IsSound script → (history : HistorySeen) → IsLawful script history.entries → history.plan ≡ plan_due script → ((version : ℕ) → IsLawfulRecord script (record_of script history.entries version))
+    → All (λ (entry : Entry). HasGeneration entry.act entry.generation) history.entries → IsRun script history
+run_of script sound history lawful plan judged has = record {
+  lawful = lawful;
+  plan = plan;
+  spelled = text_there script sound history.entries lawful has;
+  judged = judged;
+}

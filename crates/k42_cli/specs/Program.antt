@@ -9,11 +9,12 @@ use Rattle.script_text.specs.declared.fault.ScriptFault.{ScriptFault}
 use Rattle.script_text.specs.declared.script.Script.{Script}
 use Rattle.record_text.specs.Histories.{record_of, history_text}
 use Rattle.record_text.specs.Rules.{IsLawfulRecord}
+use Rattle.record_text.specs.Spelling.{IsVersion, HasText}
 use Rattle.k42_io.specs.Sink.{Grows, GrowsByFront, Stays}
 use Rattle.k42_runtime.specs.Histories.{HistorySeen}
-use Rattle.k42_workers.specs.Loads.{summary_due, summary_of, tallied}
 use Rattle.k42_workers.specs.Plans.{plan_due}
-use Rattle.k42_workers.specs.declared.totals.Summary.{Summary}
+use Rattle.load_totals.specs.Loads.{summary_due, summary_of, tallied}
+use Rattle.load_totals.specs.declared.totals.Summary.{Summary}
 use Rattle.k42_cli.specs.Separation.{script_part}
 use Rattle.k42_cli.specs.Verdicts.{IsVerdict, verdict_line, status_of}
 use Rattle.k42_cli.specs.Words.{version_number}
@@ -43,11 +44,13 @@ load_line steps sums =
     ++ counted (codes "total") sums.total ++ counted (codes "names") sums.names
     ++ counted (codes "dirty") sums.dirty ++ counted (codes "swaps") sums.swaps ++ codes "\n"
 
--- The history of a run of the script: it is lawful and has the script's plan, and its record is
--- lawful in all that it tells.
+-- The history of a run of the script: it is lawful and has the script's plan. In either version its
+-- record has a text, and is lawful in all that it tells, processors and generations too.
 pub record IsRun (script : Script) (history : HistorySeen) : Type 0 where
   pub lawful : IsLawful script history.entries
   pub plan : history.plan ≡ plan_due script
+  pub spelled : (version : ℕ) → IsVersion version →
+      HasText script (record_of script history.entries version)
   pub judged : (version : ℕ) → IsLawfulRecord script (record_of script history.entries version)
 
 -- The bytes are a script, the output is the record of one run of it, and the history of this run is

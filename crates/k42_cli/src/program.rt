@@ -1,4 +1,4 @@
-ghost use Rattle.std.specs.Prelude.{◌≡◌, ◌≢◌, ℕ, ◌-◌, ◌^◌, ◌<◌, ◌≤◌, ◌⊎◌, ◌↔◌, false, List, length, take, Option, Some, None, IfOk, OnOk, IsErrOf, map, string_bytes, is_some};
+ghost use Rattle.std.specs.Prelude.{◌≡◌, ◌≢◌, ℕ, ◌-◌, ◌^◌, ◌<◌, ◌≤◌, ◌⊎◌, ◌↔◌, true, false, List, length, take, Option, Some, None, IfOk, OnOk, IsErrOf, map, string_bytes, is_some};
 ghost use Rattle.k42_io.specs.Source.{TakesFirst, LosesAtMost};
 ghost use Rattle.k42_runtime.specs.Histories.{HistorySeen};
 ghost use Rattle.k42_cli.specs.Program as program;
@@ -151,8 +151,10 @@ pub fn k42_main<R: Threads + Wait + Sync, S: Source, K: Sink, G: Gate + Sync>(
     // A history is kept exactly where a run was done and its output written whole.
     ensures kept { is_some kept.new
         ≡ program.keeps (asked.form_of (map string_bytes words.now)) result }
-    // Which status comes where nothing failed.
-    ensures complete { (bytes : List ℕ) → S.left source.old ≡ Some bytes →
+    // Which status comes where nothing failed. Words that read nothing need no bytes.
+    ensures complete { (bytes : List ℕ) →
+        (asked.reads (asked.form_of (map string_bytes words.now)) ≡ true →
+        S.left source.old ≡ Some bytes) →
         S.faults source.new ≡ S.faults source.old → K.faults sink.new ≡ K.faults sink.old →
         program.Completes (asked.form_of (map string_bytes words.now)) bytes result }
     // What stands past the first byte that is one too many makes no difference to what is due.
@@ -163,15 +165,9 @@ pub fn k42_main<R: Threads + Wait + Sync, S: Source, K: Sink, G: Gate + Sync>(
     // No more is read than the first byte that is one too many.
     ensures within { (form : Form) → asked.form_of (map string_bytes words.now) ≡ Some form →
         LosesAtMost (limit_of form) (S.left source.old) (S.left source.new) }
-    // For a load, and without a form, nothing is read, and only a write or want of memory can fail.
+    // For a load, and for words that are no form, nothing is read.
     ensures unread { asked.reads (asked.form_of (map string_bytes words.now)) ≡ false →
         source.new ≡ source.old }
-    ensures usage { asked.form_of (map string_bytes words.now) ≡ None →
-        K.faults sink.new ≡ K.faults sink.old → result ≡ Status.Usage }
-    ensures load { (steps : ℕ) →
-        asked.form_of (map string_bytes words.now) ≡ Some (Form.Load steps) →
-        K.faults sink.new ≡ K.faults sink.old →
-        (result ≡ Status.Ok) ⊎ (result ≡ Status.Memory) }
     // What was written whole is held back nowhere.
     ensures flushed { result ≢ Status.ReadFault → result ≢ Status.Memory →
         result ≢ Status.WriteFault → K.flushed sink.new }

@@ -165,6 +165,7 @@ fn words_that_are_no_form_read_nothing(rt: HostRuntime) -> Result<(), Fail> {
         assert_eq!(rt; status, Status::Usage, "of {line}");
         assert_eq!(rt; sink.taken(), USAGE_LINE, "of {line}");
         assert_eq!(rt; source.reads, 0, "of {line}");
+        assert_eq!(rt; kept_entries(&kept), None, "of {line}");
     }
     Ok(())
 }
@@ -174,6 +175,7 @@ fn a_failed_read_leaves_the_sink_empty(rt: HostRuntime) -> Result<(), Fail> {
     let ran = run_in_pieces(&rt, rt.alloc(), RUN, ADD_AND_GET, 4096, &[2], &[])?;
     assert_eq!(rt; ran.status, Status::ReadFault);
     assert_eq!(rt; ran.text.len(), 0);
+    assert_eq!(rt; ran.kept, None);
     Ok(())
 }
 
@@ -182,6 +184,7 @@ fn a_failed_write_leaves_what_came_before_it(rt: HostRuntime) -> Result<(), Fail
     let ran = run_in_pieces(&rt, rt.alloc(), RUN, ADD_AND_GET, 8, &[], &[3])?;
     assert_eq!(rt; ran.status, Status::WriteFault);
     assert_eq!(rt; ran.text.as_slice(), b"k42 record 1\n1 a".as_slice());
+    assert_eq!(rt; ran.kept, None);
     Ok(())
 }
 

@@ -50,6 +50,16 @@ impl Holding {
         }
     }
 
+    /// The lines that were reached.
+    pub fn reached(&self) -> u32 {
+        self.reached.load(Ordering::SeqCst)
+    }
+
+    /// The lines that were answered.
+    pub fn answered(&self) -> u32 {
+        self.answered.load(Ordering::SeqCst)
+    }
+
     /// How many lines were held for as many turns as a line is held at most.
     pub fn late(&self) -> u32 {
         self.late.load(Ordering::SeqCst)

@@ -48,7 +48,10 @@ fn the_workers_of_a_load_run_side_by_side(rt: HostRuntime) -> Result<(), Fail> {
         },
     ]);
     let ran = run_under(&rt, rt.alloc(), "load 8", b"", &gate)?;
+    let all = lines(&[6, 7, 9, 10, 12, 13, 15, 16]);
     assert_eq!(rt; ran.status, Status::Ok);
+    assert_eq!(rt; gate.reached(), all);
+    assert_eq!(rt; gate.answered(), all);
     assert_eq!(rt; gate.late(), 0);
     Ok(())
 }

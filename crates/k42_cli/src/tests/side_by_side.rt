@@ -84,6 +84,8 @@ fn two_workers_reach_their_first_lines_side_by_side(rt: HostRuntime) -> Result<(
         let gate = adds_meet();
         let ran = run_under(&rt, rt.alloc(), line, TWO_ADD, &gate)?;
         assert_eq!(rt; ran.status, Status::Ok);
+        assert_eq!(rt; gate.reached(), lines(&[4, 5, 7, 8]));
+        assert_eq!(rt; gate.answered(), lines(&[4, 5, 7, 8]));
         assert_eq!(rt; gate.late(), 0);
         assert_eq!(rt; ran.kept, Some(4));
         let found = judged(&rt, rt.alloc(), TWO_ADD, &ran.text)?;
@@ -98,6 +100,8 @@ fn a_value_behind_both_adds_is_their_sum(rt: HostRuntime) -> Result<(), Fail> {
     let gate = adds_meet();
     let ran = run_under(&rt, rt.alloc(), "run", TWO_ADD_SHARED, &gate)?;
     assert_eq!(rt; ran.status, Status::Ok);
+    assert_eq!(rt; gate.reached(), lines(&[4, 5, 7, 8]));
+    assert_eq!(rt; gate.answered(), lines(&[4, 5, 7, 8]));
     assert_eq!(rt; gate.late(), 0);
     assert!(rt; has_line(&ran.text, b" b 8 hits get = 12 @0"));
     let found = judged(&rt, rt.alloc(), TWO_ADD_SHARED, &ran.text)?;
@@ -110,7 +114,12 @@ fn of_two_swaps_at_once_one_is_busy(rt: HostRuntime) -> Result<(), Fail> {
     let gate = swaps_meet();
     let ran = run_under(&rt, rt.alloc(), "run", TWO_SWAP, &gate)?;
     assert_eq!(rt; ran.status, Status::Ok);
+    assert_eq!(rt; gate.reached(), lines(&[4, 6, 9, 10]));
+    assert_eq!(rt; gate.answered(), lines(&[4, 6, 9, 10]));
     assert_eq!(rt; gate.late(), 0);
+    assert_eq!(rt; ran.kept, Some(4));
+    let found = judged(&rt, rt.alloc(), TWO_SWAP, &ran.text)?;
+    assert_eq!(rt; found.text.as_slice(), b"lawful 4\n".as_slice());
     let first = has_line(&ran.text, b" a 4 swap hits spread = done 1 @0");
     let second = has_line(&ran.text, b" b 6 swap hits spread = done 1 @0");
     assert!(rt; first != second);
