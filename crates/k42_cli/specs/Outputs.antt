@@ -1,5 +1,5 @@
 -- What a form has to write, and what is kept.
-use Rattle.std.specs.Prelude.{◌≡◌, ℕ, ◌<◌, ◌⊎◌, ⊤, List, [], Option, Some, None, IfSome, length}
+use Rattle.std.specs.Prelude.{◌≡◌, ℕ, ◌<◌, ◌⊎◌, ⊤, List, Option, Some, IfSome, length}
 use Rattle.k42_io.specs.Sink.{Grows, GrowsByFront}
 use Rattle.script_text.specs.Language.{byte_limit}
 use Rattle.script_text.specs.declared.script.Script.{Script}

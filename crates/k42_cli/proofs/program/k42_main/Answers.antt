@@ -1,5 +1,5 @@
 use Rattle.std.proofs.Common.{refl}
-use Rattle.k42_cli.proofs.Endings.{usage_said, work_said, work_keeps, work_completes, memory_completes, nothing_past_limit, is_none}
+use Rattle.k42_cli.proofs.Endings.{usage_said, memory_completes, nothing_past_limit, is_none}
 use Rattle.k42_cli.proofs.program.k42_main.Goals as goal
 
 pub returns-in_default-clause-says : goal.returns-in_default-clause-says
