@@ -1,13 +1,4 @@
-pub mod Running
-pub mod Counting
-pub mod Working
-pub mod Fresh
 pub mod Records
-pub mod Turns
-pub mod Crew
-pub mod Filtered
-pub mod Blocks
-pub mod InStep
 pub mod Separating
 pub mod Parted
 pub mod CutInput

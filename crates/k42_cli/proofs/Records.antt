@@ -21,9 +21,11 @@ use Rattle.script_text.specs.declared.script.CallLine.{CallLine}
 use Rattle.script_text.specs.declared.script.Script.{Script}
 use Rattle.script_text.specs.declared.script.WorkerLines.{WorkerLines}
 use Rattle.record_text.specs.Histories.{calls_of, HasLine, line_of, record_of}
+use Rattle.record_text.specs.Rules.{IsLawfulRecord}
 use Rattle.record_text.specs.Spelling.{EndsCall, EndsSwap, Ends, HasSpelling, HasGeneration, IsOfVersion, IsVersion, HasText}
-use Rattle.k42_cli.specs.Entries.{generation_of}
-use Rattle.k42_cli.specs.Generations.{carried_out, CountsGenerations}
+use Rattle.k42_runtime.specs.Histories.{HistorySeen}
+use Rattle.k42_workers.specs.Plans.{plan_due}
+use Rattle.k42_cli.specs.Program.{IsRun}
 
 -- a deed of these lines, counted on from a number, at a place
 pub record IsDeedAt (lines : List CallLine) (first place : ℕ) (deed : Deed) : Type 0 where
@@ -93,12 +95,6 @@ record Answers (script : Script) (entry : Entry) : Type 0 where
   asked : IsActOn kind entry.act
   ends : Ends entry.act entry.answer
 
--- a call has a generation, a swap or destroy has none
-has_generation : (number : ℕ) (act : Act) → HasGeneration act (generation_of number act)
-has_generation number (Call op) = refl
-has_generation number (Swap layout) = refl
-has_generation number Destroy = refl
-
 module _ (script : Script) (sound : IsSound script) (history : List Entry) (lawful : IsLawful script history) where
   -- each entry of a worker is the deed of one of its lines
   pub deed_by : (before : List Entry) (entry : Entry) (after : List Entry) → history ≡ before ++ entry ∷ after → (worker : WorkerLines) → slice_get script.workers entry.caller ≡ Some worker → IsDeedAt (call_lines worker.items) 0 (length (map deed_of (entries_of entry.caller before))) (deed_of entry)
@@ -142,12 +138,22 @@ module _ (script : Script) (sound : IsSound script) (history : List Entry) (lawf
   told_by version (inr two) entry has = rw two (record { told = (refl, has) })
 
   -- and the record of all has a text
-  pub text_there : CountsGenerations script history → (version : ℕ) → IsVersion version → HasText script (record_of script history version)
-  text_there counted version is = record {
+  pub text_there : All (λ (entry : Entry). HasGeneration entry.act entry.generation) history → (version : ℕ) → IsVersion version → HasText script (record_of script history version)
+  text_there has version is = record {
     version = is;
     spelled = All-map (HasSpelling script) (line_of script version) history (each_all (λ entry. HasSpelling script (line_of script version entry)) history (λ before entry after e.
         let a = answers before entry after e in
         record { by_worker = a.has.caller; kind = a.kind; of_object = a.declared; asked = a.asked; answered = a.ends }));
     told = All-map (IsOfVersion version) (line_of script version) history (each_all (λ entry. IsOfVersion version (line_of script version entry)) history (λ before entry after e.
-        told_by version is entry (subst (HasGeneration entry.act) (sym (counted.generations before entry after e)) (has_generation (carried_out before) entry.act))));
+        told_by version is entry (All-at_split (λ (other : Entry). HasGeneration other.act other.generation) history has before entry after e)));
   }
+
+-- what a run gives is a run
+pub run_of : (script : Script) → IsSound script → (history : HistorySeen) → IsLawful script history.entries → history.plan ≡ plan_due script → ((version : ℕ) → IsLawfulRecord script (record_of script history.entries version))
+    → All (λ (entry : Entry). HasGeneration entry.act entry.generation) history.entries → IsRun script history
+run_of script sound history lawful plan judged has = record {
+  lawful = lawful;
+  plan = plan;
+  spelled = text_there script sound history.entries lawful has;
+  judged = judged;
+}

@@ -1,7 +1,3 @@
-pub mod Entries
-pub mod Generations
-pub mod Objects
-pub mod Runs
 pub mod Words
 pub mod Separation
 pub mod Verdicts

@@ -1,16 +1,15 @@
--- What a run has to write.
-use Rattle.std.specs.Prelude.{◌≡◌, ℕ, ◌<◌, ◌⊎◌, List, [], Option, Some, IfSome}
-use Rattle.k42_kinds.specs.declared.entry.Entry.{Entry}
+-- What a form has to write, and what is kept.
+use Rattle.std.specs.Prelude.{◌≡◌, ℕ, ◌<◌, ◌⊎◌, ⊤, List, Option, Some, IfSome, length}
 use Rattle.k42_io.specs.Sink.{Grows, GrowsByFront}
 use Rattle.script_text.specs.Language.{byte_limit}
-use Rattle.script_text.specs.Lawful.{IsLawful}
 use Rattle.script_text.specs.declared.script.Script.{Script}
-use Rattle.record_text.specs.Histories.{record_of, history_text}
-use Rattle.record_text.specs.Rules.{IsLawfulRecord}
+use Rattle.record_text.specs.Histories.{history_text}
+use Rattle.k42_runtime.specs.Histories.{HistorySeen}
 use Rattle.k42_cli.specs.Verdicts.{input_limit}
-use Rattle.k42_cli.specs.Program.{IsDue}
+use Rattle.k42_cli.specs.Program.{IsRun, IsLoadDue, IsDue, HasRead}
 use Rattle.k42_cli.specs.declared.words.Form.{Form}
-use Rattle.k42_cli.specs.declared.words.Form.TheVariants.{Run, Check}
+use Rattle.k42_cli.specs.declared.words.Form.TheVariants.{Run, Check, Load}
+use Rattle.k42_cli.specs.declared.output.Output.{Output}
 use Rattle.k42_io.specs.declared.reading.ReadEnd.{ReadEnd}
 use Rattle.k42_io.specs.declared.reading.ReadEnd.TheVariants as reads
 use Rattle.k42_cli.specs.declared.program.WorkEnd.{WorkEnd}
@@ -18,26 +17,39 @@ use Rattle.k42_cli.specs.declared.program.WorkEnd.TheVariants as ends
 use Rattle.k42_cli.specs.declared.status.Status.{Status}
 use Rattle.k42_cli.specs.declared.status.Status.TheVariants as statuses
 
--- the first byte that the input for a form may not have, counted from 1
+-- the first byte that the input for a form may not have, counted from 1; a load has no input
 abbrev pub limit_of : Form → ℕ
 limit_of (Run version) = byte_limit
 limit_of Check = input_limit
+limit_of (Load steps) = 0
 
--- The text is the record of a lawful history, and the record is lawful in all that it tells.
-pub record IsRecordText (script : Script) (version : ℕ) (written : List ℕ) : Type 0 where
-  pub history : List Entry
-  pub lawful : IsLawful script history
-  pub judged : IsLawfulRecord script (record_of script history version)
-  pub text : written ≡ history_text script history version
+-- the input ended before its limit, where a form has one
+abbrev pub IsShort : Form → List ℕ → Type 0
+IsShort (Run version) bytes = length bytes < byte_limit
+IsShort Check bytes = length bytes < input_limit
+IsShort (Load steps) bytes = ⊤
 
--- The output is due for the bytes that the source had left, and the work was done only where they
--- were read to their end.
+-- The text is the record of a run of the script, whose history is held.
+pub record IsRecorded (script : Script) (version : ℕ) (output : Output) : Type 0 where
+  pub status : output.status ≡ statuses.Ok
+  pub history : HistorySeen
+  pub ran : IsRun script history
+  pub text : output.text.items ≡ history_text script history.entries version
+  pub held : output.history ≡ Some history
+
+-- The generated script was run and its history summed up.
+pub record IsSummedUp (steps : ℕ) (output : Output) : Type 0 where
+  pub status : output.status ≡ statuses.Ok
+  pub due : IsLoadDue steps output.text.items output.history
+
+-- The output is due for the bytes that the source had left, and the work was done only where its
+-- input was read to the end.
 pub record IsWorkedOut (form : Form) (left left_after : Option (List ℕ)) (status : Status)
-    (output : List ℕ) : Type 0 where
+    (output : List ℕ) (history : Option HistorySeen) : Type 0 where
   pub bytes : List ℕ
   pub told : IfSome left (λ before. before ≡ bytes)
-  pub due : IsDue (Some form) bytes status output
-  pub consumed : status ≡ statuses.Ok → IfSome left (λ before. left_after ≡ Some [])
+  pub due : IsDue (Some form) bytes status output history
+  pub consumed : status ≡ statuses.Ok → HasRead form left left_after
 
 -- The text was written whole, or a write failed and its front was written.
 abbrev pub Delivers : Option (List ℕ) → Option (List ℕ) → ℕ → ℕ → List ℕ → Status → Status
@@ -46,6 +58,11 @@ Delivers taken taken_after faults faults_after text status answered =
     ((answered ≡ status) × Grows taken taken_after text × (faults_after ≡ faults))
     ⊎ ((answered ≡ statuses.WriteFault) × GrowsByFront taken taken_after text
     × (faults < faults_after))
+
+-- where the work was done its history is kept
+abbrev pub kept_after : Status → Option HistorySeen → Option HistorySeen → Option HistorySeen
+kept_after statuses.Ok history kept = history
+kept_after status history kept = kept
 
 -- why there is nothing to write, where reading ended early
 abbrev pub end_of : ReadEnd → WorkEnd

@@ -1,10 +1,12 @@
 -- What the words of the command line ask for.
-use Rattle.std.specs.Prelude.{ℕ, List, [], ◌∷◌, ◌&&◌, codes, Option, Some, None, if◌then◌else◌}
+use Rattle.std.specs.Prelude.{ℕ, ◌≤◌, List, [], ◌∷◌, ◌&&◌, codes, Bool, true, false, ⊤, Option, Some, None, if◌then◌else◌}
+use Rattle.std.specs.Option.{option_map}
 use Rattle.std.specs.Str.{bytes_eq}
+use Rattle.script_text.specs.Numbers.{number_within}
 use Rattle.k42_cli.specs.declared.words.Version.{Version}
 use Rattle.k42_cli.specs.declared.words.Version.TheVariants.{One, Two}
 use Rattle.k42_cli.specs.declared.words.Form.{Form}
-use Rattle.k42_cli.specs.declared.words.Form.TheVariants.{Run, Check}
+use Rattle.k42_cli.specs.declared.words.Form.TheVariants.{Run, Check, Load}
 
 -- the number that a record of this version bears
 abbrev pub version_number : Version → ℕ
@@ -17,13 +19,33 @@ form_of_one word =
     if bytes_eq word (codes "run") then Some (Run One)
     else if bytes_eq word (codes "check") then Some Check else None
 
--- `run 2`
+-- the most steps that a load has
+abbrev pub most_steps : ℕ
+most_steps = 10000
+
+-- the load of as many steps as the word says
+abbrev pub load_of : List ℕ → Option Form
+load_of word = option_map Load (number_within 1 most_steps word)
+
+-- `run 2` or `load N`
 abbrev pub form_of_two : List ℕ → List ℕ → Option Form
 form_of_two first second =
-    if bytes_eq first (codes "run") && bytes_eq second (codes "2") then Some (Run Two) else None
+    if bytes_eq first (codes "run") && bytes_eq second (codes "2") then Some (Run Two)
+    else if bytes_eq first (codes "load") then load_of second else None
 
 -- the form that the words are, if they are one
 abbrev pub form_of : List (List ℕ) → Option Form
 form_of (word ∷ []) = form_of_one word
 form_of (first ∷ second ∷ []) = form_of_two first second
 form_of _ = None
+
+-- whether the input is read: a load and words that are no form need none
+abbrev pub reads : Option Form → Bool
+reads (Some (Run version)) = true
+reads (Some Check) = true
+reads _ = false
+
+-- only a number of steps has limits
+abbrev pub IsKnown : Form → Type 0
+IsKnown (Load steps) = (1 ≤ steps) × (steps ≤ most_steps)
+IsKnown _ = ⊤

@@ -1,17 +1,22 @@
-ghost use Rattle.std.specs.Prelude.{◌≡◌, ◌≢◌, ℕ, ◌+◌, ◌-◌, ◌^◌, ◌<◌, ◌⊎◌, ◌↔◌, List, take, Some, None, IfOk, OnOk, IsErrOf, map, string_bytes};
-ghost use Rattle.k42_io.specs.Source.{LosesAtMost};
+ghost use Rattle.std.specs.Prelude.{◌≡◌, ◌≢◌, ℕ, ◌-◌, ◌^◌, ◌<◌, ◌≤◌, ◌⊎◌, ◌↔◌, true, false, List, length, take, Option, Some, None, IfOk, OnOk, IsErrOf, map, string_bytes, is_some};
+ghost use Rattle.k42_io.specs.Source.{TakesFirst, LosesAtMost};
+ghost use Rattle.k42_runtime.specs.Histories.{HistorySeen};
 ghost use Rattle.k42_cli.specs.Program as program;
 ghost use Rattle.k42_cli.specs.Words as asked;
-ghost use Rattle.k42_cli.specs.Outputs.{IsWorkedOut, Delivers, limit_of};
+ghost use Rattle.k42_cli.specs.Outputs.{IsWorkedOut, Delivers, kept_after, limit_of};
 
-use crate::gate::Gate;
+use crate::output::Output;
 use crate::status::Status;
 use crate::words::{Form, form_of};
-use crate::work::{Output, work};
+use crate::work::work;
 use k42_io::{ReadEnd, Sink, Source, read_all, write_all};
 use k42_limits::{INPUT_BYTES, SCRIPT_BYTES};
 use k42_memory::Memory;
+use k42_runtime::History;
+use k42_workers::Gate;
 use std::alloc::Global;
+use std::sync::Wait;
+use std::thread::Threads;
 
 const USAGE: &str = "usage: k42 run [2] | k42 check | k42 load N\n";
 
@@ -46,33 +51,45 @@ impl From<Memory> for WorkEnd {
     }
 }
 
-/// The most bytes that the input for a form has.
-fn most_bytes(form: Form) -> usize
-    ensures { result + 1 ≡ limit_of form }
+/// Reads the input of a form as far as it may go. A load has none.
+fn input_of<S: Source>(alloc: Global, form: Form, source: &mut S) -> Result<Vec<u8>, WorkEnd>
+    requires { S.faults source.old < 2 ^ 64 - 1 }
+    ensures bytes { IfOk result (λ bytes.
+        TakesFirst (limit_of form) (S.left source.old) (S.left source.new) bytes.items) }
+    ensures bound { IfOk result (λ bytes. length bytes.items ≤ limit_of form) }
+    ensures quiet { OnOk result (S.faults source.new ≡ S.faults source.old) }
+    ensures fault { IsErrOf result WorkEnd.ReadFault → S.faults source.old < S.faults source.new }
+    ensures memory { IsErrOf result WorkEnd.Memory → S.faults source.new ≡ S.faults source.old }
+    ensures within { LosesAtMost (limit_of form) (S.left source.old) (S.left source.new) }
+    ensures unread { asked.reads (Some form) ≡ false → source.new ≡ source.old }
 {
     match form {
-        Form::Run(_) => SCRIPT_BYTES,
-        Form::Check => INPUT_BYTES,
+        Form::Run(_) => Ok(read_all(alloc, source, SCRIPT_BYTES)?),
+        Form::Check => Ok(read_all(alloc, source, INPUT_BYTES)?),
+        Form::Load(_) => Ok(Vec::new(alloc)),
     }
 }
 
 /// Reads the input, and works out what it has to answer.
-fn work_out<S: Source, G: Gate>(
+fn work_out<R: Threads + Wait + Sync, S: Source, G: Gate + Sync>(
+    rt: &R,
     alloc: Global,
     form: Form,
     source: &mut S,
     gate: &G,
 ) -> Result<Output, WorkEnd>
-    requires { S.faults source.old < 2 ^ 64 - 1 }
-    ensures ok { IfOk result (λ output.
-        IsWorkedOut form (S.left source.old) (S.left source.new) output.status output.text.items) }
+    requires known { asked.IsKnown form }
+    requires faults { S.faults source.old < 2 ^ 64 - 1 }
+    ensures ok { IfOk result (λ output. IsWorkedOut form (S.left source.old) (S.left source.new)
+        output.status output.text.items output.history) }
     ensures quiet { OnOk result (S.faults source.new ≡ S.faults source.old) }
     ensures fault { IsErrOf result WorkEnd.ReadFault → S.faults source.old < S.faults source.new }
     ensures memory { IsErrOf result WorkEnd.Memory → S.faults source.new ≡ S.faults source.old }
     ensures within { LosesAtMost (limit_of form) (S.left source.old) (S.left source.new) }
+    ensures unread { asked.reads (Some form) ≡ false → source.new ≡ source.old }
 {
-    let bytes = read_all(alloc, source, most_bytes(form))?;
-    Ok(work(alloc, form, bytes, gate)?)
+    let bytes = input_of(alloc, form, source)?;
+    Ok(work(rt, alloc, form, bytes, gate)?)
 }
 
 /// Hands the text to the sink.
@@ -88,23 +105,37 @@ fn deliver<K: Sink>(sink: &mut K, text: &[u8], status: Status) -> Status
     }
 }
 
+/// Keeps the history where its output was written whole.
+fn keep(status: Status, history: Option<History>, kept: &mut Option<History>)
+    ensures { kept.new ≡ kept_after status history kept.old }
+{
+    if status == Status::Ok {
+        *kept = history;
+    }
+}
+
 /// The program, for its words without its own name.
 ///
-/// `run` reads a script, runs it, and writes its record, and `run 2` its record of version 2.
-/// `check` reads a script, a line `---` and a record, and writes `lawful N`, or the first line of
-/// the record that breaks a rule. A script that is refused is answered by one line,
-/// `line N: CAUSE`. Other words are answered by the line that names the forms. The work is done
-/// first, and the whole output is then written at once.
-pub fn k42_main<S: Source, K: Sink, G: Gate>(
+/// `run` reads a script, runs its workers on threads, and writes the record of the run, and `run 2`
+/// its record of version 2. `check` reads a script, a line `---` and a record, and writes
+/// `lawful N`, or the first line of the record that breaks a rule. `load N` runs the generated
+/// script of N steps, and writes five numbers that its history comes to. A script that is refused
+/// is answered by one line, `line N: CAUSE`. Other words are answered by the line that names the
+/// forms. The work is done first, and the whole output is then written at once. `kept` holds the
+/// history of the run. The call may wait for threads that it started.
+pub fn k42_main<R: Threads + Wait + Sync, S: Source, K: Sink, G: Gate + Sync>(
+    rt: &R,
     alloc: Global,
     words: &[String],
     source: &mut S,
     sink: &mut K,
     gate: &G,
+    kept: &mut Option<History>,
 ) -> Status
     requires source { S.faults source.old < 2 ^ 64 - 1 }
     requires sink { K.faults sink.old < 2 ^ 64 - 1 }
-    // What the status says of what was read and written.
+    requires fresh { kept.old ≡ None }
+    // What the status says of what was read, written and kept.
     ensures says { program.Says (asked.form_of (map string_bytes words.now))
         (record {
           left = S.left source.old;
@@ -115,23 +146,28 @@ pub fn k42_main<S: Source, K: Sink, G: Gate>(
           read_faults_after = S.faults source.new;
           write_faults = K.faults sink.old;
           write_faults_after = K.faults sink.new;
+          kept = kept.new;
         }) result }
-    // Which status comes where nothing failed.
-    ensures complete { (bytes : List ℕ) → S.left source.old ≡ Some bytes →
+    // A history is kept exactly where a run was done and its output written whole.
+    ensures kept { is_some kept.new
+        ≡ program.keeps (asked.form_of (map string_bytes words.now)) result }
+    // Which status comes where nothing failed. Words that read nothing need no bytes.
+    ensures complete { (bytes : List ℕ) →
+        (asked.reads (asked.form_of (map string_bytes words.now)) ≡ true →
+        S.left source.old ≡ Some bytes) →
         S.faults source.new ≡ S.faults source.old → K.faults sink.new ≡ K.faults sink.old →
         program.Completes (asked.form_of (map string_bytes words.now)) bytes result }
     // What stands past the first byte that is one too many makes no difference to what is due.
-    ensures enough { (form : Form) (bytes output : List ℕ) (status : Status) →
-        program.IsDue (Some form) (take (limit_of form) bytes) status output
-        ↔ program.IsDue (Some form) bytes status output }
+    ensures enough { (form : Form) (bytes output : List ℕ) (status : Status)
+        (history : Option HistorySeen) →
+        program.IsDue (Some form) (take (limit_of form) bytes) status output history
+        ↔ program.IsDue (Some form) bytes status output history }
     // No more is read than the first byte that is one too many.
     ensures within { (form : Form) → asked.form_of (map string_bytes words.now) ≡ Some form →
         LosesAtMost (limit_of form) (S.left source.old) (S.left source.new) }
-    // Without a form nothing is read, and only a write can fail.
-    ensures unread { asked.form_of (map string_bytes words.now) ≡ None →
+    // For a load, and for words that are no form, nothing is read.
+    ensures unread { asked.reads (asked.form_of (map string_bytes words.now)) ≡ false →
         source.new ≡ source.old }
-    ensures usage { asked.form_of (map string_bytes words.now) ≡ None →
-        K.faults sink.new ≡ K.faults sink.old → result ≡ Status.Usage }
     // What was written whole is held back nowhere.
     ensures flushed { result ≢ Status.ReadFault → result ≢ Status.Memory →
         result ≢ Status.WriteFault → K.flushed sink.new }
@@ -142,8 +178,12 @@ pub fn k42_main<S: Source, K: Sink, G: Gate>(
     let Some(form) = form_of(words) else {
         return deliver(sink, USAGE.as_bytes(), Status::Usage);
     };
-    match work_out(alloc, form, source, gate) {
-        Ok(output) => deliver(sink, &output.text, output.status),
+    match work_out(rt, alloc, form, source, gate) {
+        Ok(output) => {
+            let status = deliver(sink, &output.text, output.status);
+            keep(status, output.history, kept);
+            status
+        }
         Err(WorkEnd::ReadFault) => Status::ReadFault,
         Err(WorkEnd::Memory) => Status::Memory,
     }

@@ -1,16 +1,21 @@
 ghost use Rattle.std.specs.Prelude.{◌<◌, None};
 
-use crate::gate::{FreeGate, Gate};
 use crate::program::k42_main;
 use crate::status::Status;
 use k42_io::{Failed, MemSink, MemSource, QuietSink, QuietSource, Source};
+use k42_runtime::History;
+use k42_workers::{FreeGate, Gate};
 use std::alloc::Global;
-use std::cell::Cell;
 use std::process::Abort;
+use std::sync::Wait;
 use std::test::Fail;
+use std::thread::Threads;
 
+mod gates;
 mod library;
+mod loads;
 mod separating;
+mod side_by_side;
 
 const RUN: &str = "run";
 
@@ -43,30 +48,12 @@ impl Source for Counted {
     }
 }
 
-/// A gate that awaits this, told as worker, line and whether it comes before the line.
-#[derive(Drop)]
-struct Awaiting {
-    told: &'static [(u32, u32, bool)],
-    met: Cell<usize>,
-    astray: Cell<bool>,
-}
-
-impl Gate for Awaiting {
-    fn at(&self, worker: u32, line: u32, before: bool) {
-        let met = self.met.get();
-        if self.told.get(met) == Some(&(worker, line, before)) {
-            self.met.set(met.saturating_add(1));
-        } else {
-            self.astray.set(true);
-        }
-    }
-}
-
-/// How a run of the program ended, and what its sink holds.
+/// How a run of the program ended, what its sink holds, and how many entries the history has that it kept.
 #[derive(Drop)]
 struct Ran {
     status: Status,
     text: Vec<u8>,
+    kept: Option<usize>,
 }
 
 /// The words of a command line.
@@ -78,8 +65,14 @@ fn words_in(alloc: Global, line: &str) -> Result<Vec<String>, Fail> {
     Ok(words)
 }
 
+/// How many entries there are, where a history is kept.
+fn kept_entries(kept: &Option<History>) -> Option<usize> {
+    kept.as_ref().map(|history| history.entries().len())
+}
+
 /// Runs over a source and a sink of this piece that fail at these reads and writes.
-fn run_in_pieces(
+fn run_in_pieces<R: Threads + Wait + Sync>(
+    rt: &R,
     alloc: Global,
     line: &str,
     input: &[u8],
@@ -92,33 +85,51 @@ fn run_in_pieces(
     let words = words_in(alloc, line)?;
     let mut source = MemSource::new(input.to_vec(alloc)?, piece, reads.to_vec(alloc)?);
     let mut sink = MemSink::new(alloc, 4096, piece, writes.to_vec(alloc)?)?;
-    let status = k42_main(alloc, &words, &mut source, &mut sink, &FreeGate);
+    let mut kept = None;
+    let status = k42_main(
+        rt,
+        alloc,
+        &words,
+        &mut source,
+        &mut sink,
+        &FreeGate,
+        &mut kept,
+    );
     let text = sink.taken().to_vec(alloc)?;
-    Ok(Ran { status, text })
+    let kept = kept_entries(&kept);
+    Ok(Ran { status, text, kept })
 }
 
-/// Runs over ends that never fail, with this room in the sink.
-fn run_quietly(alloc: Global, line: &str, input: Vec<u8>, room: usize) -> Result<Ran, Fail> {
+/// Runs under a gate over ends that never fail.
+fn run_under<R: Threads + Wait + Sync, G: Gate + Sync>(
+    rt: &R,
+    alloc: Global,
+    line: &str,
+    input: &[u8],
+    gate: &G,
+) -> Result<Ran, Fail> {
     let words = words_in(alloc, line)?;
-    let mut source = QuietSource::new(input);
-    let mut sink = QuietSink::new(alloc, room)?;
-    let status = k42_main(alloc, &words, &mut source, &mut sink, &FreeGate);
+    let mut source = QuietSource::new(input.to_vec(alloc)?);
+    let mut sink = QuietSink::new(alloc, 4096)?;
+    let mut kept = None;
+    let status = k42_main(rt, alloc, &words, &mut source, &mut sink, gate, &mut kept);
     let text = sink.taken().to_vec(alloc)?;
-    Ok(Ran { status, text })
+    let kept = kept_entries(&kept);
+    Ok(Ran { status, text, kept })
 }
 
 #[test]
 fn memory_is_not_lacking_where_there_is_enough(rt: HostRuntime) -> Result<(), Fail> {
-    let ran = run_in_pieces(rt.alloc(), RUN, ADD_AND_GET, 4096, &[], &[])?;
+    let ran = run_in_pieces(&rt, rt.alloc(), RUN, ADD_AND_GET, 4096, &[], &[])?;
     assert_eq!(rt; ran.status, Status::Ok);
     assert_eq!(rt; ran.text.as_slice(), ADD_AND_GET_RECORD);
+    assert_eq!(rt; ran.kept, Some(2));
     Ok(())
 }
 
 #[test]
 fn a_run_without_calls_over_ends_that_never_fail(rt: HostRuntime) -> Result<(), Fail> {
-    let script = b"procs 1\n".to_vec(rt.alloc())?;
-    let ran = run_quietly(rt.alloc(), RUN, script, 64)?;
+    let ran = run_under(&rt, rt.alloc(), RUN, b"procs 1\n", &FreeGate)?;
     assert_eq!(rt; ran.status, Status::Ok);
     assert_eq!(rt; ran.text.as_slice(), NO_CALLS_RECORD);
     Ok(())
@@ -135,41 +146,52 @@ fn words_that_are_no_form_read_nothing(rt: HostRuntime) -> Result<(), Fail> {
         "run x",
         "check x",
         "run 2 2",
-        // This is a form of a later version of the program.
-        "load 8",
+        "load 8 8",
     ];
     for line in cases {
         let words = words_in(rt.alloc(), line)?;
         let mut source = Counted { reads: 0 };
         let mut sink = MemSink::new(rt.alloc(), 4096, 4096, Vec::new(rt.alloc()))?;
-        let status = k42_main(rt.alloc(), &words, &mut source, &mut sink, &FreeGate);
+        let mut kept = None;
+        let status = k42_main(
+            &rt,
+            rt.alloc(),
+            &words,
+            &mut source,
+            &mut sink,
+            &FreeGate,
+            &mut kept,
+        );
         assert_eq!(rt; status, Status::Usage, "of {line}");
         assert_eq!(rt; sink.taken(), USAGE_LINE, "of {line}");
         assert_eq!(rt; source.reads, 0, "of {line}");
+        assert_eq!(rt; kept_entries(&kept), None, "of {line}");
     }
     Ok(())
 }
 
 #[test]
 fn a_failed_read_leaves_the_sink_empty(rt: HostRuntime) -> Result<(), Fail> {
-    let ran = run_in_pieces(rt.alloc(), RUN, ADD_AND_GET, 4096, &[2], &[])?;
+    let ran = run_in_pieces(&rt, rt.alloc(), RUN, ADD_AND_GET, 4096, &[2], &[])?;
     assert_eq!(rt; ran.status, Status::ReadFault);
     assert_eq!(rt; ran.text.len(), 0);
+    assert_eq!(rt; ran.kept, None);
     Ok(())
 }
 
 #[test]
 fn a_failed_write_leaves_what_came_before_it(rt: HostRuntime) -> Result<(), Fail> {
-    let ran = run_in_pieces(rt.alloc(), RUN, ADD_AND_GET, 8, &[], &[3])?;
+    let ran = run_in_pieces(&rt, rt.alloc(), RUN, ADD_AND_GET, 8, &[], &[3])?;
     assert_eq!(rt; ran.status, Status::WriteFault);
     assert_eq!(rt; ran.text.as_slice(), b"k42 record 1\n1 a".as_slice());
+    assert_eq!(rt; ran.kept, None);
     Ok(())
 }
 
 #[test]
 fn each_read_failing_in_turn(rt: HostRuntime) -> Result<(), Fail> {
     for k in 1..=68 {
-        let ran = run_in_pieces(rt.alloc(), RUN, ADD_AND_GET, 1, &[k], &[])?;
+        let ran = run_in_pieces(&rt, rt.alloc(), RUN, ADD_AND_GET, 1, &[k], &[])?;
         let (status, text): (Status, &[u8]) = if k < 68 {
             (Status::ReadFault, b"")
         } else {
@@ -184,7 +206,7 @@ fn each_read_failing_in_turn(rt: HostRuntime) -> Result<(), Fail> {
 #[test]
 fn each_write_failing_in_turn(rt: HostRuntime) -> Result<(), Fail> {
     for k in 1..=67u64 {
-        let ran = run_in_pieces(rt.alloc(), RUN, ADD_AND_GET, 1, &[], &[k])?;
+        let ran = run_in_pieces(&rt, rt.alloc(), RUN, ADD_AND_GET, 1, &[], &[k])?;
         let status = if k < 67 {
             Status::WriteFault
         } else {
@@ -200,43 +222,11 @@ fn each_write_failing_in_turn(rt: HostRuntime) -> Result<(), Fail> {
 #[test]
 fn reads_and_writes_that_fail_under_check(rt: HostRuntime) -> Result<(), Fail> {
     let input = b"procs 1\n---\nk42 record 1\nend 0\n";
-    let read = run_in_pieces(rt.alloc(), "check", input, 8, &[2], &[])?;
+    let read = run_in_pieces(&rt, rt.alloc(), "check", input, 8, &[2], &[])?;
     assert_eq!(rt; read.status, Status::ReadFault);
     assert_eq!(rt; read.text.len(), 0);
-    let written = run_in_pieces(rt.alloc(), "check", input, 4, &[], &[2])?;
+    let written = run_in_pieces(&rt, rt.alloc(), "check", input, 4, &[], &[2])?;
     assert_eq!(rt; written.status, Status::WriteFault);
     assert_eq!(rt; written.text.as_slice(), b"lawf".as_slice());
-    Ok(())
-}
-
-/// Two workers over one counter, and what a gate is to hear of them.
-const TWO_WORKERS: &[u8] = b"procs 2\nobject hits counter spread\nworker a 0\nhits add 5\n\
-    swap hits shared\nworker b 1\nbegin\nhits get\nend\ndestroy hits\n";
-
-const HEARD: &[(u32, u32, bool)] = &[
-    (0, 4, true),
-    (0, 4, false),
-    (0, 5, true),
-    (0, 5, false),
-    (1, 8, true),
-    (1, 8, false),
-    (1, 10, true),
-    (1, 10, false),
-];
-
-#[test]
-fn the_gate_is_told_of_each_worker_before_and_after_each_line(rt: HostRuntime) -> Result<(), Fail> {
-    let words = words_in(rt.alloc(), RUN)?;
-    let mut source = QuietSource::new(TWO_WORKERS.to_vec(rt.alloc())?);
-    let mut sink = QuietSink::new(rt.alloc(), 4096)?;
-    let gate = Awaiting {
-        told: HEARD,
-        met: Cell::new(0),
-        astray: Cell::new(false),
-    };
-    let status = k42_main(rt.alloc(), &words, &mut source, &mut sink, &gate);
-    assert_eq!(rt; status, Status::Ok);
-    assert_eq!(rt; gate.met.get(), HEARD.len());
-    assert!(rt; !gate.astray.get());
     Ok(())
 }

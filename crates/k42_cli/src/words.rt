@@ -1,5 +1,11 @@
-ghost use Rattle.std.specs.Prelude.{◌≡◌, map, string_bytes};
+ghost use Rattle.std.specs.Prelude.{◌≡◌, map, string_bytes, IfSome};
+ghost use Rattle.script_text.specs.Numbers.{number_within};
 ghost use Rattle.k42_cli.specs.Words as asked;
+
+use script_text::number_up_to;
+
+/// A load has 1 to this many steps.
+const MOST_STEPS: u64 = 10_000;
 
 /// The versions of a record.
 #[derive(Clone, Copy, Debug, PartialEq, Eq)]
@@ -30,10 +36,13 @@ pub enum Form {
     Run(Version),
     /// Judge a record by its script.
     Check,
+    /// Run the generated script of so many steps, and sum its history up.
+    Load(u32),
 }
 
 fn form_of_one(word: &str) -> Option<Form>
-    ensures { result ≡ asked.form_of_one word.now }
+    ensures form { result ≡ asked.form_of_one word.now }
+    ensures known { IfSome result asked.IsKnown }
 {
     if word == "run" {
         Some(Form::Run(Version::One))
@@ -44,19 +53,40 @@ fn form_of_one(word: &str) -> Option<Form>
     }
 }
 
-fn form_of_two(first: &str, second: &str) -> Option<Form>
-    ensures { result ≡ asked.form_of_two first.now second.now }
+/// The number of steps that the word says.
+fn steps_in(word: &str) -> Option<u32>
+    ensures steps { result ≡ number_within 1 asked.most_steps word.now }
+    ensures range { IfSome result (λ steps. asked.IsKnown (Form.Load steps)) }
 {
-    if first == "run" && second == "2" {
-        Some(Form::Run(Version::Two))
-    } else {
-        None
+    match number_up_to(word.as_bytes(), MOST_STEPS) {
+        None | Some(0) => None,
+        Some(steps) => Some(steps as u32),
+    }
+}
+
+/// The load of as many steps as the word says.
+fn load_of(word: &str) -> Option<Form>
+    ensures form { result ≡ asked.load_of word.now }
+    ensures known { IfSome result asked.IsKnown }
+{
+    Some(Form::Load(steps_in(word)?))
+}
+
+fn form_of_two(first: &str, second: &str) -> Option<Form>
+    ensures form { result ≡ asked.form_of_two first.now second.now }
+    ensures known { IfSome result asked.IsKnown }
+{
+    match first {
+        "run" if second == "2" => Some(Form::Run(Version::Two)),
+        "load" => load_of(second),
+        _ => None,
     }
 }
 
 /// The form that the words are, if they are one that the program knows.
 pub fn form_of(words: &[String]) -> Option<Form>
-    ensures { result ≡ asked.form_of (map string_bytes words.now) }
+    ensures form { result ≡ asked.form_of (map string_bytes words.now) }
+    ensures known { IfSome result asked.IsKnown }
 {
     match words {
         [word] => form_of_one(word.as_str()),

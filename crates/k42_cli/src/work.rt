@@ -1,84 +1,65 @@
-ghost use Rattle.std.specs.Prelude.{◌≡◌, ◌≤◌, ◌<◌, length, Some, IfOk};
+ghost use Rattle.std.specs.Prelude.{◌≡◌, ◌<◌, ◌≤◌, length, None, IfOk};
 ghost use Rattle.script_text.specs.Language.{byte_limit};
 ghost use Rattle.script_text.specs.Sound.{IsSound};
 ghost use Rattle.record_text.specs.Spelling.{IsVersion};
 ghost use Rattle.k42_cli.specs.Program as program;
 ghost use Rattle.k42_cli.specs.Verdicts.{input_limit};
-ghost use Rattle.k42_cli.specs.Outputs.{IsRecordText, limit_of};
+ghost use Rattle.k42_cli.specs.Outputs.{IsRecorded, IsShort, limit_of};
+ghost use Rattle.k42_cli.specs.Words.{IsKnown};
 
-use crate::engine::run_alone;
-use crate::gate::Gate;
+use crate::load::load;
+use crate::output::{Output, refusal};
 use crate::separation::separate;
 use crate::status::Status;
 use crate::verdict::verdict_in;
 use crate::words::Form;
 use k42_memory::Memory;
+use k42_workers::{Gate, run_script};
 use record_text::print_history;
-use script_text::{ParseEnd, Script, ScriptFault, parse};
+use script_text::{ParseEnd, Script, parse};
 use std::alloc::Global;
+use std::sync::Wait;
+use std::thread::Threads;
 
-/// What is to be written, and the status that goes with it.
-#[derive(Debug, Drop)]
-pub struct Output {
-    pub status: Status,
-    pub text: Vec<u8>,
-}
-
-/// The line that tells the fault of a script.
-fn refusal_line(alloc: Global, fault: &ScriptFault) -> Result<Vec<u8>, Memory>
-    ensures { IfOk result (λ text. text.items ≡ program.refusal_line fault.now) }
-{
-    let mut text = Vec::new(alloc);
-    text.extend_from_slice(b"line ")?;
-    let number = fault.line.to_string(alloc)?;
-    text.extend_from_slice(number.as_bytes())?;
-    text.extend_from_slice(b": ")?;
-    text.extend_from_slice(fault.cause.word().as_bytes())?;
-    text.push(b'\n')?;
-    Ok(text)
-}
-
-/// What a refused script has to answer.
-fn refusal(alloc: Global, fault: &ScriptFault) -> Result<Output, Memory>
-    ensures status { IfOk result (λ output. output.status ≡ Status.Refused) }
-    ensures text { IfOk result (λ output. output.text.items ≡ program.refusal_line fault.now) }
-{
-    Ok(Output {
-        status: Status::Refused,
-        text: refusal_line(alloc, fault)?,
-    })
-}
-
-/// Runs the script, and gives the text of its record.
-fn record<G: Gate>(
+/// Runs the script, and gives its history and the text of its record.
+fn record<R: Threads + Wait + Sync, G: Gate + Sync>(
+    rt: &R,
     alloc: Global,
     script: &Script,
     version: u32,
     gate: &G,
-) -> Result<Vec<u8>, Memory>
+) -> Result<Output, Memory>
     requires sound { IsSound script.now }
     requires version { IsVersion version }
-    ensures { IfOk result (λ text. IsRecordText script.now version text.items) }
+    ensures { IfOk result (IsRecorded script.now version) }
 {
-    let history = run_alone(alloc, script, gate)?;
-    print_history(alloc, script, &history, version)
+    let history = run_script(rt, alloc, script, gate)?;
+    let text = print_history(alloc, script, history.entries(), version)?;
+    Ok(Output {
+        status: Status::Ok,
+        text,
+        history: Some(history),
+    })
 }
 
 /// What a script that is to be run has to answer.
-fn run<G: Gate>(alloc: Global, version: u32, bytes: Vec<u8>, gate: &G) -> Result<Output, Memory>
+fn run<R: Threads + Wait + Sync, G: Gate + Sync>(
+    rt: &R,
+    alloc: Global,
+    version: u32,
+    bytes: Vec<u8>,
+    gate: &G,
+) -> Result<Output, Memory>
     requires { IsVersion version }
     ensures due { IfOk result (λ output.
-        program.IsRunDue version bytes.items output.status output.text.items) }
+        program.IsRunDue version bytes.items output.status output.text.items output.history) }
     ensures short { IfOk result (λ output.
         output.status ≡ Status.Ok → length bytes.items < byte_limit) }
 {
     let parsed = parse(alloc, &bytes);
     drop(bytes);
     match parsed {
-        Ok(script) => Ok(Output {
-            status: Status::Ok,
-            text: record(alloc, &script, version, gate)?,
-        }),
+        Ok(script) => record(rt, alloc, &script, version, gate),
         Err(ParseEnd::Fault(fault)) => refusal(alloc, &fault),
         Err(ParseEnd::Memory) => Err(Memory),
     }
@@ -91,6 +72,7 @@ fn check(alloc: Global, input: &[u8]) -> Result<Output, Memory>
         program.IsCheckDue input.now output.status output.text.items) }
     ensures short { IfOk result (λ output.
         output.status ≡ Status.Ok → length input.now < input_limit) }
+    ensures unkept { IfOk result (λ output. output.history ≡ None) }
 {
     let parts = separate(input);
     match parse(alloc, parts.script) {
@@ -99,6 +81,7 @@ fn check(alloc: Global, input: &[u8]) -> Result<Output, Memory>
             Ok(Output {
                 status: verdict.status(),
                 text: verdict.text(alloc)?,
+                history: None,
             })
         }
         Err(ParseEnd::Fault(fault)) => refusal(alloc, &fault),
@@ -106,16 +89,23 @@ fn check(alloc: Global, input: &[u8]) -> Result<Output, Memory>
     }
 }
 
-/// What the bytes that were read for a form have to answer.
-pub fn work<G: Gate>(alloc: Global, form: Form, bytes: Vec<u8>, gate: &G) -> Result<Output, Memory>
-    requires { length bytes.items ≤ limit_of form }
+/// What a form has to answer where these bytes were read for it.
+pub fn work<R: Threads + Wait + Sync, G: Gate + Sync>(
+    rt: &R,
+    alloc: Global,
+    form: Form,
+    bytes: Vec<u8>,
+    gate: &G,
+) -> Result<Output, Memory>
+    requires known { IsKnown form }
+    requires within { length bytes.items ≤ limit_of form }
     ensures due { IfOk result (λ output.
-        program.IsDue (Some form) bytes.items output.status output.text.items) }
-    ensures short { IfOk result (λ output.
-        output.status ≡ Status.Ok → length bytes.items < limit_of form) }
+        program.IsDue (Some form) bytes.items output.status output.text.items output.history) }
+    ensures short { IfOk result (λ output. output.status ≡ Status.Ok → IsShort form bytes.items) }
 {
     match form {
-        Form::Run(version) => run(alloc, version.number(), bytes, gate),
+        Form::Run(version) => run(rt, alloc, version.number(), bytes, gate),
         Form::Check => check(alloc, &bytes),
+        Form::Load(steps) => load(rt, alloc, steps, gate),
     }
 }

@@ -111,7 +111,56 @@ fn two_workers_reach_their_first_lines_side_by_side(rt: HostRuntime) -> Result<(
         late: AtomicU32::new(0),
     };
     let history = run_script(&rt, rt.alloc(), &script, &gate)?;
+    assert_eq!(rt; gate.there.load(Ordering::SeqCst), 2);
     assert_eq!(rt; gate.late.load(Ordering::SeqCst), 0);
     assert_eq!(rt; history.entries().len(), 4);
+    Ok(())
+}
+
+/// Two workers, of which the second adds, swaps, asks in an activity, and destroys.
+const SECOND_WORKS: &[u8] =
+    b"procs 2\nobject hits counter spread\nworker a 0\nworker b 1\nhits add 5\nswap hits shared\nbegin\nhits get\nend\ndestroy hits\n";
+
+/// What its gate is to hear: worker, line, and whether it comes before the line.
+const HEARD: [(u32, u32, bool); 8] = [
+    (1, 5, true),
+    (1, 5, false),
+    (1, 6, true),
+    (1, 6, false),
+    (1, 8, true),
+    (1, 8, false),
+    (1, 10, true),
+    (1, 10, false),
+];
+
+/// Counts what it is told, and what of it was not to be heard then.
+#[derive(Drop)]
+struct Listening {
+    told: AtomicU32,
+    astray: AtomicU32,
+}
+
+impl Gate for Listening {
+    fn at(&self, worker: u32, line: u32, before: bool) {
+        let place = self.told.fetch_add(1, Ordering::SeqCst);
+        if HEARD.get(place as usize) != Some(&(worker, line, before)) {
+            self.astray.fetch_add(1, Ordering::SeqCst);
+        }
+    }
+}
+
+#[test]
+fn the_gate_is_told_of_its_worker_before_and_after_each_line(rt: HostRuntime) -> Result<(), Fail> {
+    let Ok(script) = parse(rt.alloc(), SECOND_WORKS) else {
+        return Err("no script")?;
+    };
+    let gate = Listening {
+        told: AtomicU32::new(0),
+        astray: AtomicU32::new(0),
+    };
+    let history = run_script(&rt, rt.alloc(), &script, &gate)?;
+    assert_eq!(rt; history.entries().len(), 4);
+    assert_eq!(rt; gate.told.load(Ordering::SeqCst), 8);
+    assert_eq!(rt; gate.astray.load(Ordering::SeqCst), 0);
     Ok(())
 }

@@ -1,10 +1,10 @@
 use Rattle.std.proofs.Common.{refl}
-use Rattle.k42_cli.proofs.Endings.{usage_said, work_completes, memory_completes, nothing_past_limit, is_none}
+use Rattle.k42_cli.proofs.Endings.{usage_said, memory_completes, nothing_past_limit, is_none}
 use Rattle.k42_cli.proofs.program.k42_main.Goals as goal
 
 pub returns-in_default-clause-says : goal.returns-in_default-clause-says
 returns-in_default-clause-says g c =
-    rw (← c.form_of.ensures, is_none c.form_of.result c.in_default.not-Some) (usage_said (record {
+    rw (← c.form_of.ensures.form, is_none c.form_of.result c.in_default.not-Some) (usage_said (record {
       left = g.S.Source.left c.args.source.now;
       left_after = g.S.Source.left c.args.source.now;
       taken = g.K.Sink.taken c.args.sink.now;
@@ -13,23 +13,11 @@ returns-in_default-clause-says g c =
       read_faults_after = g.S.Source.faults c.args.source.now;
       write_faults = g.K.Sink.faults c.args.sink.now;
       write_faults_after = g.K.Sink.faults c.deliver.new.sink;
-    }) c.deliver.result refl refl (rw c.as_bytes.ensures.value at c.deliver.ensures.delivers))
-
-pub returns-in-Ok-clause-complete : goal.returns-in-Ok-clause-complete
-returns-in-Ok-clause-complete g c = λ bytes told reads writes.
-    rw (← c.form_of.ensures, c.in-Some.is) (work_completes (record {
-      left = g.S.Source.left c.args.source.now;
-      left_after = g.S.Source.left c.work_out.new.source;
-      taken = g.K.Sink.taken c.args.sink.now;
-      taken_after = g.K.Sink.taken c.deliver-in-Ok.new.sink;
-      read_faults = g.S.Source.faults c.args.source.now;
-      read_faults_after = g.S.Source.faults c.work_out.new.source;
-      write_faults = g.K.Sink.faults c.args.sink.now;
-      write_faults_after = g.K.Sink.faults c.deliver-in-Ok.new.sink;
-    }) c.in-Some.form c.in-Ok.output.status c.in-Ok.output.text.items c.deliver-in-Ok.result bytes c.in-Ok.ensures.ok told writes (rw c.deref.ensures.value at c.deliver-in-Ok.ensures.delivers))
+      kept = c.args.kept.now;
+    }) c.deliver.result c.requires.fresh refl refl (rw c.as_bytes.ensures.value at c.deliver.ensures.delivers))
 
 pub returns-in-Err-Memory-clause-complete : goal.returns-in-Err-Memory-clause-complete
-returns-in-Err-Memory-clause-complete g c = λ bytes told reads writes. rw (← c.form_of.ensures, c.in-Some.is) (memory_completes c.in-Some.form bytes)
+returns-in-Err-Memory-clause-complete g c = λ bytes told reads writes. rw (← c.form_of.ensures.form, c.in-Some.is) (memory_completes c.in-Some.form bytes)
 
 pub returns-in_default-clause-enough : goal.returns-in_default-clause-enough
 returns-in_default-clause-enough g c = nothing_past_limit

@@ -1,26 +1,18 @@
-use Rattle.std.proofs.Common.{◌≡◌}
-use Rattle.record_text.specs.Histories.{history_text}
-use Rattle.k42_cli.specs.Outputs.{IsRecordText}
-use Rattle.k42_cli.proofs.Records.{lines_there, text_there, where_ok}
-use Rattle.k42_cli.proofs.InStep.{judged_lawful}
+use Rattle.std.proofs.Common.{refl}
+use Rattle.k42_cli.proofs.Records.{lines_there, text_there, run_of}
 use Rattle.k42_cli.proofs.work.record.Goals as goal
 
 pub print_history-requires-clause-placed : goal.print_history-requires-clause-placed
-print_history-requires-clause-placed g c = lines_there c.args.script.now c.requires.sound c.in_ok-history.history.items c.in_ok-history.ensures.lawful
+print_history-requires-clause-placed g c = rw c.entries.ensures (lines_there c.args.script.now c.requires.sound c.in_ok-history.history.entries c.in_ok-history.ensures.lawful)
 
 pub print_history-requires-clause-spelled : goal.print_history-requires-clause-spelled
-print_history-requires-clause-spelled g c = text_there c.args.script.now c.requires.sound c.in_ok-history.history.items c.in_ok-history.ensures.lawful c.in_ok-history.ensures.counted c.args.version c.requires.version
+print_history-requires-clause-spelled g c = rw c.entries.ensures (text_there c.args.script.now c.requires.sound c.in_ok-history.history.entries c.in_ok-history.ensures.lawful c.in_ok-history.ensures.generations c.args.version c.requires.version)
 
 pub returns : goal.returns
-returns g c =
-    let script = c.args.script.now in
-    let history = c.in_ok-history.history.items in
-    let known = c.in_ok-history.ensures in
-    where_ok (λ text. text.items ≡ history_text script history c.args.version) (λ text. IsRecordText script c.args.version text.items)
-    (λ text same. record {
-      history = history;
-      lawful = known.lawful;
-      judged = judged_lawful script c.requires.sound history known.lawful known.counted known.in_turn c.args.version;
-      text = same;
-    })
-    c.print_history.result c.print_history.ensures
+returns g c = record {
+  status = refl;
+  history = c.in_ok-history.history;
+  ran = run_of c.args.script.now c.requires.sound c.in_ok-history.history c.in_ok-history.ensures.lawful c.in_ok-history.ensures.plan c.in_ok-history.ensures.recorded c.in_ok-history.ensures.generations;
+  text = rw c.entries.ensures at c.in_ok-text.ensures;
+  held = refl;
+}

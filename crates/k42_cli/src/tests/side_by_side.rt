@@ -1,0 +1,135 @@
+//! Workers that run side by side, held at lines by a gate.
+use super::gates::{Hold, Holding, Until, lines};
+use super::{Ran, run_under};
+use crate::status::Status;
+use k42_workers::FreeGate;
+use std::alloc::Global;
+use std::process::Abort;
+use std::sync::Wait;
+use std::test::Fail;
+use std::thread::Threads;
+
+/// Two workers add to one counter and ask for its value.
+const TWO_ADD: &[u8] =
+    b"procs 2\nobject hits counter spread\nworker a 0\nhits add 5\nhits get\nworker b 1\nhits add 7\nhits get\n";
+
+const TWO_ADD_SHARED: &[u8] =
+    b"procs 2\nobject hits counter shared\nworker a 0\nhits add 5\nhits get\nworker b 1\nhits add 7\nhits get\n";
+
+/// Two workers swap a counter while a third is in an activity.
+const TWO_SWAP: &[u8] =
+    b"procs 1\nobject hits counter shared\nworker a 0\nswap hits spread\nworker b 0\nswap hits spread\nworker c 0\nbegin\nhits add 1\nhits get\nend\n";
+
+/// Both workers are at their adds before either is made, and the second asks for the value behind both.
+fn adds_meet() -> Holding {
+    let both = Until::Reached(lines(&[4, 7]));
+    Holding::new([
+        Hold {
+            line: 4,
+            until: both,
+        },
+        Hold {
+            line: 7,
+            until: both,
+        },
+        Hold {
+            line: 8,
+            until: Until::Answered(lines(&[4])),
+        },
+    ])
+}
+
+/// The swaps come while the activity is open, and it goes on once one of them was answered.
+fn swaps_meet() -> Holding {
+    let added = Until::Answered(lines(&[9]));
+    Holding::new([
+        Hold {
+            line: 4,
+            until: added,
+        },
+        Hold {
+            line: 6,
+            until: added,
+        },
+        Hold {
+            line: 10,
+            until: Until::Answered(lines(&[4, 6])),
+        },
+    ])
+}
+
+/// What `check` says of a record.
+fn judged<R: Threads + Wait + Sync>(
+    rt: &R,
+    alloc: Global,
+    script: &[u8],
+    record: &[u8],
+) -> Result<Ran, Fail> {
+    let mut input = script.to_vec(alloc)?;
+    input.extend_from_slice(b"---\n")?;
+    input.extend_from_slice(record)?;
+    run_under(rt, alloc, "check", &input, &FreeGate)
+}
+
+/// Whether a line of the record stands behind its number as it is told.
+fn has_line(record: &[u8], told: &[u8]) -> bool {
+    record
+        .split(|&byte| byte == b'\n')
+        .any(|line| line.ends_with(told))
+}
+
+#[test]
+fn two_workers_reach_their_first_lines_side_by_side(rt: HostRuntime) -> Result<(), Fail> {
+    for line in ["run", "run 2"] {
+        let gate = adds_meet();
+        let ran = run_under(&rt, rt.alloc(), line, TWO_ADD, &gate)?;
+        assert_eq!(rt; ran.status, Status::Ok);
+        assert_eq!(rt; gate.reached(), lines(&[4, 5, 7, 8]));
+        assert_eq!(rt; gate.answered(), lines(&[4, 5, 7, 8]));
+        assert_eq!(rt; gate.late(), 0);
+        assert_eq!(rt; ran.kept, Some(4));
+        let found = judged(&rt, rt.alloc(), TWO_ADD, &ran.text)?;
+        assert_eq!(rt; found.text.as_slice(), b"lawful 4\n".as_slice());
+        assert_eq!(rt; found.kept, None);
+    }
+    Ok(())
+}
+
+#[test]
+fn a_value_behind_both_adds_is_their_sum(rt: HostRuntime) -> Result<(), Fail> {
+    let gate = adds_meet();
+    let ran = run_under(&rt, rt.alloc(), "run", TWO_ADD_SHARED, &gate)?;
+    assert_eq!(rt; ran.status, Status::Ok);
+    assert_eq!(rt; gate.reached(), lines(&[4, 5, 7, 8]));
+    assert_eq!(rt; gate.answered(), lines(&[4, 5, 7, 8]));
+    assert_eq!(rt; gate.late(), 0);
+    assert!(rt; has_line(&ran.text, b" b 8 hits get = 12 @0"));
+    let found = judged(&rt, rt.alloc(), TWO_ADD_SHARED, &ran.text)?;
+    assert_eq!(rt; found.text.as_slice(), b"lawful 4\n".as_slice());
+    Ok(())
+}
+
+#[test]
+fn of_two_swaps_at_once_one_is_busy(rt: HostRuntime) -> Result<(), Fail> {
+    let gate = swaps_meet();
+    let ran = run_under(&rt, rt.alloc(), "run", TWO_SWAP, &gate)?;
+    assert_eq!(rt; ran.status, Status::Ok);
+    assert_eq!(rt; gate.reached(), lines(&[4, 6, 9, 10]));
+    assert_eq!(rt; gate.answered(), lines(&[4, 6, 9, 10]));
+    assert_eq!(rt; gate.late(), 0);
+    assert_eq!(rt; ran.kept, Some(4));
+    let found = judged(&rt, rt.alloc(), TWO_SWAP, &ran.text)?;
+    assert_eq!(rt; found.text.as_slice(), b"lawful 4\n".as_slice());
+    let first = has_line(&ran.text, b" a 4 swap hits spread = done 1 @0");
+    let second = has_line(&ran.text, b" b 6 swap hits spread = done 1 @0");
+    assert!(rt; first != second);
+    let other: &[u8] = if first {
+        b" b 6 swap hits spread = busy 1 @0"
+    } else {
+        b" a 4 swap hits spread = busy 1 @0"
+    };
+    assert!(rt; has_line(&ran.text, other));
+    assert!(rt; has_line(&ran.text, b" c 9 hits add 1 = ok @0"));
+    assert!(rt; has_line(&ran.text, b" c 10 hits get = 1 @0"));
+    Ok(())
+}
