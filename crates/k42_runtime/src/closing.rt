@@ -1,8 +1,8 @@
 //! A system is closed.
-ghost use Rattle.std.specs.Prelude.{◌≡◌, ◌≤◌, ◌+◌, ◌++◌, length, map, vec_items, IfOk, IfErr, OnOk};
+ghost use Rattle.std.specs.Prelude.{◌≡◌, ◌≤◌, ◌+◌, length, IfOk, IfErr, IfSome, OnOk};
 ghost use Rattle.k42_limits.specs.declared.TheConstants.{CALLERS};
 ghost use Rattle.k42_rule.specs.Finishing.{lists_in};
-ghost use Rattle.k42_stamp.specs.Lists.{IsMerged};
+ghost use Rattle.k42_stamp.specs.Merging.{HasRoom, entries_in};
 ghost use Rattle.k42_runtime.specs.Closing.{AreNumbered, AreListsFrom};
 ghost use Rattle.k42_runtime.specs.Histories.{IsClosed, MayClose};
 
@@ -10,43 +10,35 @@ use crate::history::{History, Unclosed};
 use crate::system::{Pass, System};
 use co_any::AnyLayout;
 use k42_joined::trace_at_rest_is_a_history;
-use k42_kinds::Entry;
 use k42_memory::Memory;
 use k42_rule::{Unfinished, layouts_are_lawful};
-use k42_stamp::merge;
+use k42_stamp::{Room, merge_into};
 use std::alloc::Global;
 
-/// Puts the entries of each pass behind the lists. The passes are counted from a first caller.
-fn copy_behind(
-    alloc: Global,
-    first: u32,
-    passes: &[Pass],
-    lists: &mut Vec<Vec<Entry>>,
-) -> Result<(), Memory>
+/// How many entries the passes have, where a number is so large. The passes are counted from a first caller.
+fn total_of(first: u32, passes: &[Pass]) -> Option<usize>
     requires numbered { AreNumbered first passes.now }
     requires few { first + length passes.now ≤ CALLERS }
-    ensures lists { OnOk result (map vec_items lists.new.items ≡ map vec_items lists.old.items ++ lists_in passes.now) }
-    ensures listed { OnOk result (AreListsFrom first (lists_in passes.now)) }
+    ensures total { IfSome result (λ total. total ≡ entries_in (lists_in passes.now)) }
+    ensures listed { IfSome result (λ total. AreListsFrom first (lists_in passes.now)) }
 {
     let Some((pass, others)) = passes.split_first() else {
-        return Ok(());
+        return Some(0);
     };
-    let mut list = Vec::new(alloc);
-    list.extend_from_slice(pass.entries())?;
-    lists.push(list)?;
-    copy_behind(alloc, first + 1, others, lists)
+    total_of(first + 1, others)?.checked_add(pass.entries().len())
 }
 
-/// The entries of all passes in one order, numbered anew.
-fn merged(alloc: Global, passes: &[Pass]) -> Result<Vec<Entry>, Memory>
+/// Room for the entries of all passes in one order.
+fn room_for(alloc: Global, passes: &[Pass]) -> Result<Room, Memory>
     requires numbered { AreNumbered 0 passes.now }
     requires few { length passes.now ≤ CALLERS }
-    ensures merged { IfOk result (λ entries. IsMerged (lists_in passes.now) entries.items) }
+    ensures room { IfOk result (λ room. HasRoom room (lists_in passes.now)) }
     ensures listed { OnOk result (AreListsFrom 0 (lists_in passes.now)) }
 {
-    let mut lists = Vec::new(alloc);
-    copy_behind(alloc, 0, passes, &mut lists)?;
-    merge(alloc, lists)
+    match total_of(0, passes) {
+        Some(total) => Room::new(alloc, passes.len(), total),
+        None => Err(Memory),
+    }
 }
 
 impl System {
@@ -58,7 +50,7 @@ impl System {
     {
         layouts_are_lawful(&self.sys);
         trace_at_rest_is_a_history::<AnyLayout>(self.sys.procs());
-        let Ok(entries) = merged(alloc, passes.as_slice()) else {
+        let Ok(room) = room_for(alloc, passes.as_slice()) else {
             return Err(Unclosed {
                 system: self,
                 passes,
@@ -66,7 +58,10 @@ impl System {
         };
         let System { sys, plan } = self;
         match sys.finish(alloc, passes) {
-            Ok(_) => Ok(History { entries, plan }),
+            Ok(lists) => Ok(History {
+                entries: merge_into(room, lists),
+                plan,
+            }),
             Err(Unfinished { sys, passes }) => Err(Unclosed {
                 system: System { sys, plan },
                 passes,
