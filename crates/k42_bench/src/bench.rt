@@ -98,22 +98,21 @@ impl Work for Load {
     }
 }
 
-fn is_call(answer: &Answer) -> bool {
-    matches!(answer, Answer::Replied(_))
-}
-
-fn is_swap(answer: &Answer) -> bool {
-    matches!(answer, Answer::Swapped(_))
-}
-
 /// What the history tells of so many entries.
 fn told_by(history: &History, entries: usize) -> Done {
-    let all = history.entries();
-    Done {
-        calls: all.iter().filter(|entry| is_call(&entry.answer)).count(),
-        swaps: all.iter().filter(|entry| is_swap(&entry.answer)).count(),
-        whole: all.len() == entries,
+    let mut done = Done {
+        calls: 0,
+        swaps: 0,
+        whole: history.entries().len() == entries,
+    };
+    for entry in history.entries() {
+        match entry.answer {
+            Answer::Replied(_) => done.calls = done.calls.saturating_add(1),
+            Answer::Swapped(_) => done.swaps = done.swaps.saturating_add(1),
+            _ => (),
+        }
     }
+    done
 }
 
 /// A system of one object, with a processor for each thread and a pass more that swaps.

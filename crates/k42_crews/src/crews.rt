@@ -13,7 +13,7 @@ use std::alloc::Global;
 const LIMIT: u32 = 1_048_576;
 
 /// The system of the plan, and its passes in the order of the plan's callers.
-#[tactic(auto, using(crate::proofs::Crews::started_free))]
+#[tactic(auto, using(crate::proofs::FreePasses::started_free))]
 pub fn start(alloc: Global, plan: Plan) -> Result<(System, Vec<Pass>), Memory>
     ensures plan { IfOk result (λ made. made.0.plan ≡ plan) }
     ensures many { IfOk result (λ made. length made.1.items ≡ length plan.callers) }
@@ -69,7 +69,7 @@ fn are_in_order(passes: &[Pass], first: u32) -> bool
 }
 
 /// The history of the passes, where they are those of all callers in order.
-#[tactic(auto, using(crate::proofs::Crews::may_close))]
+#[tactic(auto, using(crate::proofs::FreePasses::may_close))]
 pub fn close(alloc: Global, system: System, passes: Vec<Pass>) -> Result<Option<History>, Memory>
     requires free { AreFree system passes.items }
     ensures closed { IfOk result (λ closed. IfSome closed (IsClosed system.plan (lists_in passes.items))) }

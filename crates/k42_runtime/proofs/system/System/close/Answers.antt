@@ -1,7 +1,6 @@
 use Rattle.std.proofs.Common.{rules, ◌≡◌, length, map, vec_items, sym, subst}
 use Rattle.k42_rule.specs.Finishing.{AreLastLists, lists_in}
 use Rattle.k42_stamp.specs.Lists.{AreLists, IsMerged}
-use Rattle.k42_stamp.specs.Merging.{HasRoom}
 use Rattle.k42_runtime.specs.Closing.{AreNumbered, AreListsFrom}
 use Rattle.k42_runtime.specs.Histories.{MayClose}
 use Rattle.k42_runtime.specs.Systems.{SystemSeen, layouts_in}
@@ -16,3 +15,20 @@ pub finish-requires-after_bounds : goal.finish-requires-after_bounds
 finish-requires-after_bounds c κs =
     let may : MayClose (record { sys = c.self.inside.sys; plan = c.self.inside.plan }) c.args.passes.items = subst (λ system. MayClose system c.args.passes.items) (sym c.self.view_is) c.requires in
     at_rest (record { sys = c.self.inside.sys; plan = c.self.inside.plan }) c.args.passes.items c.self.invariant may
+
+pub merge_into-requires-clause-lists : goal.merge_into-requires-clause-lists
+merge_into-requires-clause-lists c =
+    let same : map vec_items c.in-Ok-finish.lists.items ≡ lists_in c.args.passes.items = search rules in
+    let from : AreListsFrom 0 (lists_in c.args.passes.items) = search rules in
+    subst AreLists (sym same) (listed (lists_in c.args.passes.items) from)
+
+pub returns-in-Ok-finish-clause-ok : goal.returns-in-Ok-finish-clause-ok
+returns-in-Ok-finish-clause-ok c =
+    let system : SystemSeen = record { sys = c.self.inside.sys; plan = c.self.inside.plan } in
+    let lists = lists_in c.args.passes.items in
+    let from : AreListsFrom 0 lists = search rules in
+    let last : AreLastLists (layouts_in system) system.sys.layouts (length system.sys.callers) lists = search rules in
+    let same : map vec_items c.in-Ok-finish.lists.items ≡ lists = search rules in
+    let merged : IsMerged lists c.merge_into.result.items = subst (λ ls. IsMerged ls c.merge_into.result.items) same c.merge_into.ensures in
+    rw (← c.self.view_is)
+    (closed system c.self.invariant (subst TraceLaw c.procs.ensures.is c.trace_at_rest_is_a_history.ensures) lists c.merge_into.result.items from last merged)
