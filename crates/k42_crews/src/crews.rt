@@ -13,7 +13,6 @@ use std::alloc::Global;
 const LIMIT: u32 = 1_048_576;
 
 /// The system of the plan, and its passes in the order of the plan's callers.
-#[tactic(auto, using(crate::proofs::FreePasses::started_free))]
 pub fn start(alloc: Global, plan: Plan) -> Result<(System, Vec<Pass>), Memory>
     ensures plan { IfOk result (λ made. made.0.plan ≡ plan) }
     ensures many { IfOk result (λ made. length made.1.items ≡ length plan.callers) }

@@ -1,6 +1,6 @@
 //! Systems on one processor, and the passes of their callers.
-ghost use Rattle.std.specs.Prelude.{◌×◌, IfOk, IfSome};
-ghost use Rattle.k42_crews.specs.Ready.{IsFree, AreFree};
+ghost use Rattle.std.specs.Prelude.{IfOk, IfSome};
+ghost use Rattle.k42_crews.specs.Ready.{IsFree};
 
 use k42_crews::{close, last, start};
 use k42_kinds::{KindName, LayoutName};
