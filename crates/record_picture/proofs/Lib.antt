@@ -1,0 +1,2 @@
+pub mod PlacedTexts
+pub mod Escapes
