@@ -1,0 +1,4 @@
+pub mod Separation
+pub mod Endings
+pub mod Verdicts
+pub mod Delivery
