@@ -18,7 +18,7 @@ escape-inert byte = elim (cases_Bool (byte == 38)) [
         | inl is ↦ rw (not_and, not_less, not_more, is) refl
         | inr not_double ↦ elim (cases_Bool (byte == 39)) [
           | inl is ↦ rw (not_and, not_less, not_more, not_double, is) refl
-          | inr not_single ↦ rw (not_and, not_less, not_more, not_double, not_single) refl
+          | inr not_single ↦ rw (not_and, not_less, not_more, not_double, not_single) (rw (not_less, not_more, not_double, not_single) refl)
         ]
       ]
     ]
@@ -40,7 +40,7 @@ names-escape byte text = elim (cases_Bool (byte == 38)) [
         | inl is ↦ rw (not_and, not_less, not_more, is) refl
         | inr not_double ↦ elim (cases_Bool (byte == 39)) [
           | inl is ↦ rw (not_and, not_less, not_more, not_double, is) refl
-          | inr not_single ↦ rw (not_and, not_less, not_more, not_double, not_single) refl
+          | inr not_single ↦ rw (not_and, not_less, not_more, not_double, not_single) (rw not_and refl)
         ]
       ]
     ]

@@ -1,2 +1,5 @@
 pub mod PlacedTexts
+pub mod OneEach
+pub mod FrameSteps
 pub mod Escapes
+pub mod Drawings

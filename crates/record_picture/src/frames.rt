@@ -1,4 +1,4 @@
-ghost use Rattle.std.specs.Prelude.{◌≡◌, ◌≤◌, ◌++◌, length, false, slice_index_or, OnOk};
+ghost use Rattle.std.specs.Prelude.{◌≡◌, ◌+◌, ◌<◌, ◌≤◌, List, ◌∷◌, ◌++◌, length, false, slice_index_or, IfOk, OnOk};
 ghost use Rattle.k42_limits.specs.declared.TheConstants.{CALLERS};
 ghost use Rattle.record_text.specs.Told as told;
 ghost use Rattle.record_picture.specs.Frames as drawn;
@@ -63,6 +63,48 @@ fn is_joined(joined: &[bool]) -> bool
     joined.first().copied().unwrap_or(false)
 }
 
+/// How far the frames in a lane have come.
+#[derive(Clone, Copy)]
+struct Trail<'a> {
+    /// Which of the worker's lines that are not yet answered go on with an activity.
+    left: &'a [bool],
+    /// The column of the worker's former entry.
+    former: u32,
+    /// The column of the next entry.
+    column: u32,
+}
+
+/// Adds the frame of the next entry, where it is one of this lane.
+fn put_next_frame<'a>(
+    out: &mut Vec<u8>,
+    lane: u32,
+    trail: Trail<'a>,
+    line: &RecordLine,
+) -> Result<Trail<'a>, Memory>
+    requires order { trail.former ≤ trail.column }
+    requires fits { trail.column < COLUMNS }
+    ensures told { IfOk result (λ after. (lines : List RecordLine) →
+        out.new.items ++ drawn.frames_from lane after.left.now after.former after.column lines
+        ≡ out.old.items
+        ++ drawn.frames_from lane trail.entry.left.now trail.entry.former trail.entry.column
+        (line.now ∷ lines)) }
+    ensures order { IfOk result (λ after. after.former ≤ after.column) }
+    ensures next { IfOk result (λ after. after.column ≡ trail.entry.column + 1) }
+{
+    let column = trail.column + 1;
+    if line.worker != lane {
+        return Ok(Trail { column, ..trail });
+    }
+    let joined = is_joined(trail.left);
+    let generation = generation_of(&line.extra);
+    put_frame_of_call(out, lane, joined, trail.former, trail.column, generation)?;
+    Ok(Trail {
+        left: behind(trail.left, 1),
+        former: trail.column,
+        column,
+    })
+}
+
 /// Adds the frames in a lane, where this says which of the worker's lines go on with an activity.
 fn put_frames_from(
     out: &mut Vec<u8>,
@@ -74,17 +116,13 @@ fn put_frames_from(
     ensures { OnOk result (
         out.new.items ≡ out.old.items ++ drawn.frames_from lane joined.now 0 0 lines.now) }
 {
-    let mut left = joined;
-    let mut former = 0;
-    let mut column = 0;
+    let mut trail = Trail {
+        left: joined,
+        former: 0,
+        column: 0,
+    };
     for line in lines {
-        if line.worker == lane {
-            let generation = generation_of(&line.extra);
-            put_frame_of_call(out, lane, is_joined(left), former, column, generation)?;
-            left = behind(left, 1);
-            former = column;
-        }
-        column += 1;
+        trail = put_next_frame(out, lane, trail, line)?;
     }
     Ok(())
 }

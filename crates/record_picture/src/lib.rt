@@ -18,6 +18,8 @@ mod verdict;
 mod window;
 
 pub use drawing::draw;
-pub use laws::{escapes_are_entities, no_byte_breaks_out};
+pub use laws::{
+    each_entry_has_one_box, each_swap_has_one_line, escapes_are_entities, no_byte_breaks_out,
+};
 pub use verdict::Verdict;
 pub use window::{COLUMNS, Window};

@@ -4,5 +4,5 @@ use Rattle.record_picture.proofs.frames.put_frames_from.Given as goal
 
 abbrev pub invariant-loop-line : goal.invariant-loop-line
 invariant-loop-line l =
-    (l.column ≡ l.line-index) × (l.former ≤ l.column)
-    × (l.out.items ++ frames_from l.lane l.left l.former l.column (drop l.line-index l.lines) ≡ l.initial.out.items ++ frames_from l.lane l.joined 0 0 l.lines)
+    (l.trail.column ≡ l.line-index) × (l.trail.former ≤ l.trail.column)
+    × (l.out.items ++ frames_from l.lane l.trail.left.now l.trail.former l.trail.column (drop l.line-index l.lines) ≡ l.initial.out.items ++ frames_from l.lane l.joined 0 0 l.lines)
