@@ -1,2 +1,0 @@
-pub mod Separating
-pub mod Parted

@@ -1,4 +1,0 @@
-pub mod Separation
-pub mod Endings
-pub mod Verdicts
-pub mod Delivery
