@@ -1,0 +1,4 @@
+pub mod PlacedTexts
+pub mod OneEach
+pub mod Escapes
+pub mod Drawings

@@ -1,0 +1,14 @@
+use Rattle.record_picture.specs.Swaps.{swap_text}
+use Rattle.record_picture.proofs.PlacedTexts.{underway_more, underway_all}
+use Rattle.record_picture.proofs.swaps.put_swaps.Goals as goal
+
+pub loop-line-preserved : goal.loop-line-preserved
+loop-line-preserved c =
+    let l = c.loop-line in
+    rw c.in_ok-put_swap.ensures
+    (underway_more (swap_text c.args.script.now) c.args.lines.now c.args.out.now.items l.out.items l.line-index l.column c.line-item.result c.loop-line-test.true c.line-item.is l.invariant)
+
+pub returns : goal.returns
+returns c =
+    let l = c.loop-line in
+    underway_all (swap_text c.args.script.now) c.args.lines.now c.args.out.now.items l.out.items l.line-index l.column c.loop-line-test.false l.invariant

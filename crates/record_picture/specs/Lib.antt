@@ -1,0 +1,14 @@
+pub mod Measures
+pub mod Pieces
+pub mod Harmless
+pub mod Windows
+pub mod Verdicts
+pub mod Style
+pub mod Head
+pub mod Lanes
+pub mod Activities
+pub mod Frames
+pub mod Swaps
+pub mod Boxes
+pub mod Faults
+pub mod Picture

@@ -1,0 +1,25 @@
+//! The picture of a record: a lane for each worker and a box for each entry, as an SVG document.
+#![tactic(auto)]
+
+mod activities;
+mod boxes;
+mod drawing;
+mod faults;
+mod frames;
+mod head;
+mod lanes;
+mod laws;
+mod lists;
+mod measures;
+mod pieces;
+mod style;
+mod swaps;
+mod verdict;
+mod window;
+
+pub use drawing::draw;
+pub use laws::{
+    each_entry_has_one_box, each_swap_has_one_line, escapes_are_entities, no_byte_breaks_out,
+};
+pub use verdict::Verdict;
+pub use window::{COLUMNS, Window};
