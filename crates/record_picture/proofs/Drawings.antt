@@ -1,5 +1,5 @@
 -- Which calls are framed together, and what is cut, as the check computes it: accepted and refused.
-use Rattle.std.proofs.Common.{◌≡◌, ℕ, Bool, true, false, List, [], ◌∷◌, ◌++◌, refl}
+use Rattle.std.proofs.Common.{◌≡◌, ℕ, true, false, [], ◌∷◌, ◌++◌, refl}
 use Rattle.std.specs.Prelude.{codes, Some, None}
 use Rattle.k42_kinds.specs.declared.operation.Op.TheVariants.{Get}
 use Rattle.k42_kinds.specs.declared.operation.Reply.TheVariants.{Number}

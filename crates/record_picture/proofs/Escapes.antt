@@ -1,10 +1,10 @@
 -- What escaped text is free of.
-use Rattle.std.proofs.Common.{◌≡◌, ℕ, List, [], ◌∷◌, ◌++◌, Bool, true, false, refl, ◌∙◌, inl, inr}
-use Rattle.std.specs.Prelude.{◌==◌, ◌&&◌, codes}
+use Rattle.std.proofs.Common.{◌≡◌, ℕ, List, [], ◌∷◌, ◌++◌, true, false, refl, ◌∙◌, inl, inr}
+use Rattle.std.specs.Prelude.{◌==◌, codes}
 use Rattle.std.specs.List.{list_all}
 use Rattle.std.proofs.lemmas.Bool.{cases_Bool}
 use Rattle.std.proofs.lemmas.List.Folds.{list_all-append}
-use Rattle.record_picture.specs.Harmless.{is_inert, names_entities, begins_entity}
+use Rattle.record_picture.specs.Harmless.{is_inert, names_entities}
 use Rattle.record_picture.specs.Pieces.{escape, escaped}
 
 escape-inert : (byte : ℕ) → list_all is_inert (escape byte) ≡ true
