@@ -1,0 +1,5 @@
+use Rattle.k42_crews.specs.Ready.{IsIn}
+use Rattle.runtime_threads.proofs.tests.staying.LongStay.add_inside.Given as goal
+
+abbrev pub invariant-loop : goal.invariant-loop
+invariant-loop g l = IsIn l.system l.pass

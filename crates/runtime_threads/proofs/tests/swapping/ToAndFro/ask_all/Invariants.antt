@@ -1,0 +1,5 @@
+use Rattle.k42_crews.specs.Ready.{IsFree}
+use Rattle.runtime_threads.proofs.tests.swapping.ToAndFro.ask_all.Given as goal
+
+abbrev pub invariant-loop-number : goal.invariant-loop-number
+invariant-loop-number g l = IsFree l.system l.pass
