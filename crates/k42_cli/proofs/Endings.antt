@@ -1,32 +1,28 @@
 -- What the program's status says, from what was worked out and what was delivered.
-use Rattle.std.proofs.Common.{◌≡◌, ◌≢◌, ℕ, ◌<◌, ◌≤◌, Bool, true, false, List, [], length, take, drop, inl, inr, refl, sym, ap, ◌∙◌, subst, arith}
-use Rattle.std.specs.Prelude.{Option, Some, None, IfSome, Result, Ok, Err, nat_lt, is_some, ◌↔◌}
-use Rattle.std.proofs.lemmas.Bool.Decides.{nat_tests}
-use Rattle.std.proofs.lemmas.List.{length-take, take_all}
-use Rattle.std.proofs.Math.ListN.{drop_of_length-le}
+use Rattle.std.proofs.Common.{◌≡◌, ◌≢◌, ℕ, true, false, List, take, inl, inr, refl, sym, ap, ◌∙◌, subst, arith}
+use Rattle.std.specs.Prelude.{Option, Some, None, IfSome, Result, Ok, Err, is_some, ◌↔◌}
 use Rattle.k42_io.specs.Sink.{Grows}
-use Rattle.k42_io.specs.Source.{TakesFirst, LosesAtMost}
+use Rattle.k42_io.specs.Source.{TakesFirst}
 use Rattle.script_text.specs.Language.{parsed, byte_limit}
 use Rattle.script_text.specs.declared.fault.ScriptFault.{ScriptFault}
 use Rattle.script_text.specs.declared.script.Script.{Script}
 use Rattle.script_text.proofs.Truncated.{parsed-take}
-use Rattle.script_text.specs.Lines.{lines_of}
-use Rattle.record_text.specs.Reading.{reading}
-use Rattle.k42_cli.specs.Separation.{script_part, record_part}
-use Rattle.k42_cli.specs.Verdicts.{input_limit, spelling_rule, line_refused, IsFound, IsVerdict, status_of}
+use Rattle.k42_input.specs.Separation.{script_part}
+use Rattle.k42_input.specs.Verdicts.{input_limit}
+use Rattle.k42_input.specs.Dues.{IsCheckDue}
+use Rattle.k42_input.specs.Ends.{Ends, IsQuiet, Delivers}
+use Rattle.k42_input.proofs.CutVerdicts.{check_alike, check_cut, completes_check, check_memory, other_verdict}
+use Rattle.k42_input.proofs.ReadBytes.{ended, told_bytes, told_told}
 use Rattle.k42_runtime.specs.Histories.{HistorySeen}
-use Rattle.k42_cli.specs.Program.{usage_line, IsVerdictDue, IsRunDue, IsCheckDue, IsDue, Ends, IsQuiet, HasRead, Says, keeps, CompletesRun, CompletesCheck, Completes}
-use Rattle.k42_cli.proofs.CutInput.{script_part-take}
+use Rattle.k42_cli.specs.Program.{usage_line, IsRunDue, IsDue, HasRead, Says, keeps, CompletesRun, Completes}
 use Rattle.k42_cli.specs.Words.{version_number, reads}
-use Rattle.k42_cli.specs.Outputs.{limit_of, IsShort, IsRecorded, IsWorkedOut, Delivers, kept_after}
-use Rattle.k42_cli.specs.declared.verdict.Verdict.{Verdict}
-use Rattle.k42_cli.specs.declared.verdict.Verdict.TheVariants.{Lawful, Unlawful}
+use Rattle.k42_cli.specs.Outputs.{limit_of, IsShort, IsRecorded, IsWorkedOut, kept_after}
 use Rattle.k42_cli.specs.declared.words.Version.{Version}
 use Rattle.k42_cli.specs.declared.words.Form.{Form}
 use Rattle.k42_cli.specs.declared.words.Form.TheVariants.{Run, Check, Load}
 use Rattle.k42_cli.specs.declared.output.Output.{Output}
-use Rattle.k42_cli.specs.declared.status.Status.{Status}
-use Rattle.k42_cli.specs.declared.status.Status.TheVariants as statuses
+use Rattle.k42_input.specs.declared.status.Status.{Status}
+use Rattle.k42_input.specs.declared.status.Status.TheVariants as statuses
 
 -- The same is due for bytes of which the first were read, and what was read decides.
 due_alike : (version : ℕ) (bytes others : List ℕ) (status : Status) (output : List ℕ) (kept : Option HistorySeen) → parsed bytes ≡ parsed others → IsRunDue version bytes status output kept → IsRunDue version others status output kept
@@ -37,76 +33,6 @@ due_alike version bytes others statuses.Usage output kept same due = absurd due
 due_alike version bytes others statuses.ReadFault output kept same due = absurd due
 due_alike version bytes others statuses.WriteFault output kept same due = absurd due
 due_alike version bytes others statuses.Memory output kept same due = absurd due
-
-found_alike : (script : Script) (bytes : List ℕ) (verdict : Verdict) → IsVerdict script (take input_limit bytes) verdict → IsVerdict script bytes verdict
-found_alike script bytes verdict found = record {
-  whole = λ short.
-      let all : take input_limit bytes ≡ bytes = take_all input_limit bytes (omega (arith, short)) in
-      (subst (λ (input : List ℕ). IsVerdict script input verdict) all found).whole short;
-  too_long = λ long.
-      let same : take input_limit (take input_limit bytes) ≡ take input_limit bytes = take_all input_limit (take input_limit bytes) (omega (arith, length-take input_limit bytes)) in
-      found.too_long (omega (arith, long, length-take input_limit bytes)) ∙ ap (λ (input : List ℕ). Unlawful (line_refused (reading script (record_part input)) (length (lines_of (record_part input)))) spelling_rule) same;
-}
-
--- a record is lawful only where there is no byte too many
-pub short_where_lawful : (script : Script) (input : List ℕ) (verdict : Verdict) → IsVerdict script input verdict → status_of verdict ≡ statuses.Ok → length input < input_limit
-short_where_lawful script input verdict found lawful = by (nat_lt (length input) input_limit) refl
-  where
-    refused : ◌≡◌ {A = Status} statuses.Ok statuses.Unlawful → ⊥
-    refused e = cc
-
-    by : (b : Bool) → nat_lt (length input) input_limit ≡ b → length input < input_limit
-    by true less = grind (arith, nat_tests, less)
-    by false more = absurd (refused (sym lawful ∙ ap status_of (found.too_long (grind (arith, nat_tests, more)))))
-
-verdict_alike : (bytes : List ℕ) (status : Status) (output : List ℕ) → IsVerdictDue (take input_limit bytes) status output → IsVerdictDue bytes status output
-verdict_alike bytes status output due = record {
-  script = due.script;
-  verdict = due.verdict;
-  accepted = sym (script_part-take bytes) ∙ due.accepted;
-  found = found_alike due.script bytes due.verdict due.found;
-  answered = due.answered;
-  text = due.text;
-}
-
-check_alike : (bytes : List ℕ) (status : Status) (output : List ℕ) → IsCheckDue (take input_limit bytes) status output → IsCheckDue bytes status output
-check_alike bytes statuses.Refused output due = record { fault = due.fault; refused = sym (script_part-take bytes) ∙ due.refused; text = due.text }
-check_alike bytes statuses.Ok output due = verdict_alike bytes statuses.Ok output due
-check_alike bytes statuses.Unlawful output due = verdict_alike bytes statuses.Unlawful output due
-check_alike bytes statuses.Usage output due = verdict_alike bytes statuses.Usage output due
-check_alike bytes statuses.ReadFault output due = verdict_alike bytes statuses.ReadFault output due
-check_alike bytes statuses.WriteFault output due = verdict_alike bytes statuses.WriteFault output due
-check_alike bytes statuses.Memory output due = verdict_alike bytes statuses.Memory output due
-
--- and so the other way
-found_cut : (script : Script) (bytes : List ℕ) (verdict : Verdict) → IsVerdict script bytes verdict → IsVerdict script (take input_limit bytes) verdict
-found_cut script bytes verdict found = record {
-  whole = λ short.
-      let few : length bytes < input_limit = omega (arith, short, length-take input_limit bytes) in
-      subst (λ (input : List ℕ). IsFound script (reading script (record_part input)) verdict) (sym (take_all input_limit bytes (omega (arith, few)))) (found.whole few);
-  too_long = λ long.
-      let same : take input_limit (take input_limit bytes) ≡ take input_limit bytes = take_all input_limit (take input_limit bytes) (omega (arith, length-take input_limit bytes)) in
-      found.too_long (omega (arith, long, length-take input_limit bytes)) ∙ ap (λ (input : List ℕ). Unlawful (line_refused (reading script (record_part input)) (length (lines_of (record_part input)))) spelling_rule) (sym same);
-}
-
-verdict_cut : (bytes : List ℕ) (status : Status) (output : List ℕ) → IsVerdictDue bytes status output → IsVerdictDue (take input_limit bytes) status output
-verdict_cut bytes status output due = record {
-  script = due.script;
-  verdict = due.verdict;
-  accepted = script_part-take bytes ∙ due.accepted;
-  found = found_cut due.script bytes due.verdict due.found;
-  answered = due.answered;
-  text = due.text;
-}
-
-check_cut : (bytes : List ℕ) (status : Status) (output : List ℕ) → IsCheckDue bytes status output → IsCheckDue (take input_limit bytes) status output
-check_cut bytes statuses.Refused output due = record { fault = due.fault; refused = script_part-take bytes ∙ due.refused; text = due.text }
-check_cut bytes statuses.Ok output due = verdict_cut bytes statuses.Ok output due
-check_cut bytes statuses.Unlawful output due = verdict_cut bytes statuses.Unlawful output due
-check_cut bytes statuses.Usage output due = verdict_cut bytes statuses.Usage output due
-check_cut bytes statuses.ReadFault output due = verdict_cut bytes statuses.ReadFault output due
-check_cut bytes statuses.WriteFault output due = verdict_cut bytes statuses.WriteFault output due
-check_cut bytes statuses.Memory output due = verdict_cut bytes statuses.Memory output due
 
 due_cut : (form : Form) (bytes : List ℕ) (status : Status) (output : List ℕ) (kept : Option HistorySeen) → IsDue (Some form) bytes status output kept → IsDue (Some form) (take (limit_of form) bytes) status output kept
 due_cut (Run version) bytes status output kept due = due_alike (version_number version) bytes (take byte_limit bytes) status output kept (sym (parsed-take bytes)) due
@@ -121,12 +47,6 @@ due_whole (Load steps) all bytes status output kept is due = due
 -- what stands past the limit makes no difference
 pub nothing_past_limit : (form : Form) (bytes output : List ℕ) (status : Status) (kept : Option HistorySeen) → IsDue (Some form) (take (limit_of form) bytes) status output kept ↔ IsDue (Some form) bytes status output kept
 nothing_past_limit form bytes output status kept = (due_whole form (take (limit_of form) bytes) bytes status output kept refl, due_cut form bytes status output kept)
-
--- what is short of its limit was read to its end
-ended : (limit : ℕ) (bytes all : List ℕ) (left_after : Option (List ℕ)) → all ≡ take limit bytes → left_after ≡ Some (drop limit bytes) → length all < limit → left_after ≡ Some []
-ended limit bytes all left_after taken after short =
-    let few : length bytes ≤ limit = omega (arith, short, ap length taken, length-take limit bytes) in
-    after ∙ ap Some (drop_of_length-le bytes {i = limit} few)
 
 has_read : (form : Form) (left left_after : Option (List ℕ)) (all : List ℕ) → TakesFirst (limit_of form) left left_after all → IsShort form all → (reads (Some form) ≡ false → left_after ≡ left) → HasRead form left left_after
 has_read (Load steps) left left_after all takes short unread = unread refl
@@ -146,15 +66,6 @@ worked_out form (Some bytes) left_after all status output kept takes unread due 
   consumed = λ accepted. has_read form (Some bytes) left_after all takes (short accepted) unread;
 }
 
-told_bytes : Option (List ℕ) → List ℕ
-told_bytes None = []
-told_bytes (Some bytes) = bytes
-
-told_told : (left : Option (List ℕ)) → IfSome left (λ before. before ≡ told_bytes left)
-unfolding told_bytes
-told_told None = tt
-told_told (Some bytes) = refl
-
 completes_run : (version : ℕ) (bytes : List ℕ) (status : Status) (output : List ℕ) (kept : Option HistorySeen) → IsRunDue version bytes status output kept → CompletesRun (parsed bytes) status
 completes_run version bytes statuses.Ok output kept due = rw due.accepted (inl refl)
 completes_run version bytes statuses.Refused output kept due = rw due.0.refused (inl refl)
@@ -164,32 +75,10 @@ completes_run version bytes statuses.ReadFault output kept due = absurd due
 completes_run version bytes statuses.WriteFault output kept due = absurd due
 completes_run version bytes statuses.Memory output kept due = absurd due
 
--- which statuses go with a verdict
-status_found : (script : Script) (verdict : Verdict) (status : Status) → status ≡ status_of verdict → CompletesCheck (Ok script) status
-status_found script (Lawful entries) status is = inl is
-status_found script (Unlawful line rule) status is = inr (inl is)
-
-verdict_completes : (input : List ℕ) (status : Status) (output : List ℕ) → IsVerdictDue input status output → CompletesCheck (parsed (script_part input)) status
-verdict_completes input status output due = rw due.accepted (status_found due.script due.verdict status due.answered)
-
-completes_check : (input : List ℕ) (status : Status) (output : List ℕ) → IsCheckDue input status output → CompletesCheck (parsed (script_part input)) status
-completes_check input statuses.Refused output due = rw due.refused (inl refl)
-completes_check input statuses.Ok output due = verdict_completes input statuses.Ok output due
-completes_check input statuses.Unlawful output due = verdict_completes input statuses.Unlawful output due
-completes_check input statuses.Usage output due = verdict_completes input statuses.Usage output due
-completes_check input statuses.ReadFault output due = verdict_completes input statuses.ReadFault output due
-completes_check input statuses.WriteFault output due = verdict_completes input statuses.WriteFault output due
-completes_check input statuses.Memory output due = verdict_completes input statuses.Memory output due
-
 completes_by : (form : Form) (bytes : List ℕ) (status : Status) (output : List ℕ) (kept : Option HistorySeen) → IsDue (Some form) bytes status output kept → Completes (Some form) bytes status
 completes_by (Run version) bytes status output kept due = completes_run (version_number version) bytes status output kept due
 completes_by Check bytes status output kept due = completes_check bytes status output due.0
 completes_by (Load steps) bytes status output kept due = inl due.0
-
--- no other status goes with a verdict
-other_verdict : {Y : Type 0} (verdict : Verdict) (status : Status) → status ≡ status_of verdict → status ≢ statuses.Ok → status ≢ statuses.Unlawful → Y
-other_verdict (Lawful entries) status is not_ok not_unlawful = absurd (not_ok is)
-other_verdict (Unlawful line rule) status is not_ok not_unlawful = absurd (not_unlawful is)
 
 -- the bytes that are told are those for which the output is due
 due_told : (form : Form) (left : Option (List ℕ)) (bytes others : List ℕ) (status : Status) (output : List ℕ) (history : Option HistorySeen) → (reads (Some form) ≡ true → left ≡ Some bytes) → IfSome left (λ before. before ≡ others)
@@ -276,20 +165,20 @@ none_due Check bytes statuses.WriteFault output kept a b c due = other_verdict d
 none_due Check bytes statuses.Memory output kept a b c due = other_verdict due.0.verdict statuses.Memory due.0.answered a b
 none_due (Load steps) bytes status output kept a b c due = absurd (a due.0)
 
-module _ (ends : Ends) where
-  work_done : (form : Form) (status : Status) (output : List ℕ) (history : Option HistorySeen) (worked : IsWorkedOut form ends.left ends.left_after status output history) → IsQuiet ends → Grows ends.taken ends.taken_after output → history ≡ ends.kept → IsDue (Some form) worked.bytes status output ends.kept → Says (Some form) ends status
-  work_done form statuses.Ok output history worked quiet written kept due =
+module _ (ends : Ends) (kept : Option HistorySeen) where
+  work_done : (form : Form) (status : Status) (output : List ℕ) (history : Option HistorySeen) (worked : IsWorkedOut form ends.left ends.left_after status output history) → IsQuiet ends → Grows ends.taken ends.taken_after output → history ≡ kept → IsDue (Some form) worked.bytes status output kept → Says (Some form) ends kept status
+  work_done form statuses.Ok output history worked quiet written same due =
       (record { bytes = worked.bytes; output = output; told = worked.told; due = due; written = written; quiet = quiet }, worked.consumed refl)
-  work_done form statuses.Refused output history worked quiet written kept due = record { bytes = worked.bytes; output = output; told = worked.told; due = due; written = written; quiet = quiet }
-  work_done form statuses.Unlawful output history worked quiet written kept due = record { bytes = worked.bytes; output = output; told = worked.told; due = due; written = written; quiet = quiet }
-  work_done form statuses.Usage output history worked quiet written kept due = none_due form worked.bytes statuses.Usage output ends.kept (λ e. cc) (λ e. cc) (λ e. cc) due
-  work_done form statuses.ReadFault output history worked quiet written kept due = none_due form worked.bytes statuses.ReadFault output ends.kept (λ e. cc) (λ e. cc) (λ e. cc) due
-  work_done form statuses.WriteFault output history worked quiet written kept due = none_due form worked.bytes statuses.WriteFault output ends.kept (λ e. cc) (λ e. cc) (λ e. cc) due
-  work_done form statuses.Memory output history worked quiet written kept due = none_due form worked.bytes statuses.Memory output ends.kept (λ e. cc) (λ e. cc) (λ e. cc) due
+  work_done form statuses.Refused output history worked quiet written same due = record { bytes = worked.bytes; output = output; told = worked.told; due = due; written = written; quiet = quiet }
+  work_done form statuses.Unlawful output history worked quiet written same due = record { bytes = worked.bytes; output = output; told = worked.told; due = due; written = written; quiet = quiet }
+  work_done form statuses.Usage output history worked quiet written same due = none_due form worked.bytes statuses.Usage output kept (λ e. cc) (λ e. cc) (λ e. cc) due
+  work_done form statuses.ReadFault output history worked quiet written same due = none_due form worked.bytes statuses.ReadFault output kept (λ e. cc) (λ e. cc) (λ e. cc) due
+  work_done form statuses.WriteFault output history worked quiet written same due = none_due form worked.bytes statuses.WriteFault output kept (λ e. cc) (λ e. cc) (λ e. cc) due
+  work_done form statuses.Memory output history worked quiet written same due = none_due form worked.bytes statuses.Memory output kept (λ e. cc) (λ e. cc) (λ e. cc) due
 
   -- words that are no form
-  pub usage_said : (answered : Status) → ends.kept ≡ None → ends.left_after ≡ ends.left → ends.read_faults_after ≡ ends.read_faults → Delivers ends.taken ends.taken_after ends.write_faults ends.write_faults_after usage_line statuses.Usage answered → Says None ends answered
-  usage_said answered unkept unread quiet (inl done) = subst (Says None ends) (sym done.0) (
+  pub usage_said : (answered : Status) → kept ≡ None → ends.left_after ≡ ends.left → ends.read_faults_after ≡ ends.read_faults → Delivers ends.taken ends.taken_after ends.write_faults ends.write_faults_after usage_line statuses.Usage answered → Says None ends kept answered
+  usage_said answered unkept unread quiet (inl done) = subst (Says None ends kept) (sym done.0) (
     record {
       bytes = told_bytes ends.left;
       output = usage_line;
@@ -300,7 +189,7 @@ module _ (ends : Ends) where
     },
     unread,
   )
-  usage_said answered unkept unread quiet (inr failed) = subst (Says None ends) (sym failed.0) (
+  usage_said answered unkept unread quiet (inr failed) = subst (Says None ends kept) (sym failed.0) (
     record {
       fault = failed.2;
       reads = quiet;
@@ -316,12 +205,12 @@ module _ (ends : Ends) where
   )
 
   -- a form for which an output was worked out
-  pub work_said : (form : Form) (status : Status) (output : List ℕ) (history : Option HistorySeen) (answered : Status) → IsWorkedOut form ends.left ends.left_after status output history → ends.kept ≡ kept_after answered history None → ends.read_faults_after ≡ ends.read_faults
-      → Delivers ends.taken ends.taken_after ends.write_faults ends.write_faults_after output status answered → Says (Some form) ends answered
-  work_said form status output history answered worked kept quiet (inl done) =
-      let same : history ≡ ends.kept = kept_is form worked.bytes status output history worked.due ∙ ap (λ (s : Status). kept_after s history None) (sym done.0) ∙ sym kept in
-      subst (Says (Some form) ends) (sym done.0) (work_done form status output history worked (record { reads = quiet; writes = done.2 }) done.1 same (subst (IsDue (Some form) worked.bytes status output) same worked.due))
-  work_said form status output history answered worked kept quiet (inr failed) = subst (Says (Some form) ends) (sym failed.0) (record {
+  pub work_said : (form : Form) (status : Status) (output : List ℕ) (history : Option HistorySeen) (answered : Status) → IsWorkedOut form ends.left ends.left_after status output history → kept ≡ kept_after answered history None → ends.read_faults_after ≡ ends.read_faults
+      → Delivers ends.taken ends.taken_after ends.write_faults ends.write_faults_after output status answered → Says (Some form) ends kept answered
+  work_said form status output history answered worked is quiet (inl done) =
+      let same : history ≡ kept = kept_is form worked.bytes status output history worked.due ∙ ap (λ (s : Status). kept_after s history None) (sym done.0) ∙ sym is in
+      subst (Says (Some form) ends kept) (sym done.0) (work_done form status output history worked (record { reads = quiet; writes = done.2 }) done.1 same (subst (IsDue (Some form) worked.bytes status output) same worked.due))
+  work_said form status output history answered worked is quiet (inr failed) = subst (Says (Some form) ends kept) (sym failed.0) (record {
     fault = failed.2;
     reads = quiet;
     bytes = worked.bytes;
@@ -333,6 +222,7 @@ module _ (ends : Ends) where
     written = failed.1;
   })
 
+module _ (ends : Ends) where
   -- whether a history is kept
   pub work_keeps : (form : Form) (status : Status) (output : List ℕ) (history : Option HistorySeen) (answered : Status) → IsWorkedOut form ends.left ends.left_after status output history
       → Delivers ends.taken ends.taken_after ends.write_faults ends.write_faults_after output status answered → is_some (kept_after answered history None) ≡ keeps (Some form) answered
@@ -350,19 +240,10 @@ module _ (ends : Ends) where
 pub recorded_due : (version : ℕ) (bytes : List ℕ) (script : Script) (output : Output) → parsed bytes ≡ Ok script → IsRecorded script version output → IsRunDue version bytes output.status output.text.items output.history
 recorded_due version bytes script output accepted made = rw made.status (record { script = script; history = made.history; accepted = accepted; ran = made.ran; text = made.text; held = made.held })
 
--- what was taken was lost, and no more
-pub taken_lost : (limit : ℕ) (left left_after : Option (List ℕ)) (bytes : List ℕ) → TakesFirst limit left left_after bytes → LosesAtMost limit left left_after
-taken_lost limit None left_after bytes takes = tt
-taken_lost limit (Some all) left_after bytes takes = (limit, omega arith, takes.1)
-
 -- want of memory may come whatever the bytes are
 run_memory : (outcome : Result Script ScriptFault) → CompletesRun outcome statuses.Memory
 run_memory (Ok script) = inr refl
 run_memory (Err fault) = inr refl
-
-check_memory : (outcome : Result Script ScriptFault) → CompletesCheck outcome statuses.Memory
-check_memory (Ok script) = inr (inr refl)
-check_memory (Err fault) = inr refl
 
 pub memory_completes : (form : Form) (bytes : List ℕ) → Completes (Some form) bytes statuses.Memory
 memory_completes (Run version) bytes = run_memory (parsed bytes)

@@ -1,5 +1,2 @@
 pub mod Records
-pub mod Separating
-pub mod Parted
-pub mod CutInput
 pub mod Endings

@@ -1,21 +1,16 @@
 -- What a form has to write, and what is kept.
-use Rattle.std.specs.Prelude.{◌≡◌, ℕ, ◌<◌, ◌⊎◌, ⊤, List, Option, Some, IfSome, length}
-use Rattle.k42_io.specs.Sink.{Grows, GrowsByFront}
+use Rattle.std.specs.Prelude.{◌≡◌, ℕ, ◌<◌, ⊤, List, Option, Some, IfSome, length}
 use Rattle.script_text.specs.Language.{byte_limit}
 use Rattle.script_text.specs.declared.script.Script.{Script}
 use Rattle.record_text.specs.Histories.{history_text}
 use Rattle.k42_runtime.specs.Histories.{HistorySeen}
-use Rattle.k42_cli.specs.Verdicts.{input_limit}
+use Rattle.k42_input.specs.Verdicts.{input_limit}
 use Rattle.k42_cli.specs.Program.{IsRun, IsLoadDue, IsDue, HasRead}
 use Rattle.k42_cli.specs.declared.words.Form.{Form}
 use Rattle.k42_cli.specs.declared.words.Form.TheVariants.{Run, Check, Load}
 use Rattle.k42_cli.specs.declared.output.Output.{Output}
-use Rattle.k42_io.specs.declared.reading.ReadEnd.{ReadEnd}
-use Rattle.k42_io.specs.declared.reading.ReadEnd.TheVariants as reads
-use Rattle.k42_cli.specs.declared.program.WorkEnd.{WorkEnd}
-use Rattle.k42_cli.specs.declared.program.WorkEnd.TheVariants as ends
-use Rattle.k42_cli.specs.declared.status.Status.{Status}
-use Rattle.k42_cli.specs.declared.status.Status.TheVariants as statuses
+use Rattle.k42_input.specs.declared.status.Status.{Status}
+use Rattle.k42_input.specs.declared.status.Status.TheVariants as statuses
 
 -- the first byte that the input for a form may not have, counted from 1; a load has no input
 abbrev pub limit_of : Form → ℕ
@@ -51,20 +46,7 @@ pub record IsWorkedOut (form : Form) (left left_after : Option (List ℕ)) (stat
   pub due : IsDue (Some form) bytes status output history
   pub consumed : status ≡ statuses.Ok → HasRead form left left_after
 
--- The text was written whole, or a write failed and its front was written.
-abbrev pub Delivers : Option (List ℕ) → Option (List ℕ) → ℕ → ℕ → List ℕ → Status → Status
-    → Type 0
-Delivers taken taken_after faults faults_after text status answered =
-    ((answered ≡ status) × Grows taken taken_after text × (faults_after ≡ faults))
-    ⊎ ((answered ≡ statuses.WriteFault) × GrowsByFront taken taken_after text
-    × (faults < faults_after))
-
 -- where the work was done its history is kept
 abbrev pub kept_after : Status → Option HistorySeen → Option HistorySeen → Option HistorySeen
 kept_after statuses.Ok history kept = history
 kept_after status history kept = kept
-
--- why there is nothing to write, where reading ended early
-abbrev pub end_of : ReadEnd → WorkEnd
-end_of reads.Failed = ends.ReadFault
-end_of reads.Memory = ends.Memory

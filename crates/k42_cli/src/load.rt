@@ -6,8 +6,8 @@ ghost use Rattle.k42_cli.specs.Outputs.{IsSummedUp};
 ghost use Rattle.k42_cli.specs.Words.{IsKnown};
 
 use crate::output::Output;
-use crate::status::Status;
 use crate::words::Form;
+use k42_input::Status;
 use k42_memory::Memory;
 use k42_workers::{Gate, run_script};
 use load_totals::{Summary, summary};

@@ -3,15 +3,14 @@ ghost use Rattle.k42_io.specs.Source.{TakesFirst, LosesAtMost};
 ghost use Rattle.k42_runtime.specs.Histories.{HistorySeen};
 ghost use Rattle.k42_cli.specs.Program as program;
 ghost use Rattle.k42_cli.specs.Words as asked;
-ghost use Rattle.k42_cli.specs.Outputs.{IsWorkedOut, Delivers, kept_after, limit_of};
+ghost use Rattle.k42_cli.specs.Outputs.{IsWorkedOut, kept_after, limit_of};
 
 use crate::output::Output;
-use crate::status::Status;
 use crate::words::{Form, form_of};
 use crate::work::work;
-use k42_io::{ReadEnd, Sink, Source, read_all, write_all};
+use k42_input::{Status, WorkEnd, deliver, read_input};
+use k42_io::{Sink, Source};
 use k42_limits::{INPUT_BYTES, SCRIPT_BYTES};
-use k42_memory::Memory;
 use k42_runtime::History;
 use k42_workers::Gate;
 use std::alloc::Global;
@@ -19,37 +18,6 @@ use std::sync::Wait;
 use std::thread::Threads;
 
 const USAGE: &str = "usage: k42 run [2] | k42 check | k42 load N\n";
-
-/// Why there is nothing to write.
-#[derive(Clone, Copy, Debug, PartialEq, Eq)]
-enum WorkEnd {
-    ReadFault,
-    Memory,
-}
-
-impl From<ReadEnd> for WorkEnd {
-    ghost use Rattle.k42_cli.specs.Outputs.{end_of};
-
-    ghost from_gives = { λ end gives. gives ≡ end_of end };
-
-    fn from(end: ReadEnd) -> WorkEnd {
-        match end {
-            ReadEnd::Failed => WorkEnd::ReadFault,
-            ReadEnd::Memory => WorkEnd::Memory,
-        }
-    }
-}
-
-impl From<Memory> for WorkEnd {
-    ghost use Rattle.std.specs.Prelude.{◌≡◌};
-    ghost use Rattle.k42_cli.specs.declared.program.WorkEnd.TheVariants.{Memory as OutOfMemory};
-
-    ghost from_gives = { λ _ gives. gives ≡ OutOfMemory };
-
-    fn from(_memory: Memory) -> WorkEnd {
-        WorkEnd::Memory
-    }
-}
 
 /// Reads the input of a form as far as it may go. A load has none.
 fn input_of<S: Source>(alloc: Global, form: Form, source: &mut S) -> Result<Vec<u8>, WorkEnd>
@@ -64,8 +32,8 @@ fn input_of<S: Source>(alloc: Global, form: Form, source: &mut S) -> Result<Vec<
     ensures unread { asked.reads (Some form) ≡ false → source.new ≡ source.old }
 {
     match form {
-        Form::Run(_) => Ok(read_all(alloc, source, SCRIPT_BYTES)?),
-        Form::Check => Ok(read_all(alloc, source, INPUT_BYTES)?),
+        Form::Run(_) => read_input(alloc, source, SCRIPT_BYTES),
+        Form::Check => read_input(alloc, source, INPUT_BYTES),
         Form::Load(_) => Ok(Vec::new(alloc)),
     }
 }
@@ -90,19 +58,6 @@ fn work_out<R: Threads + Wait + Sync, S: Source, G: Gate + Sync>(
 {
     let bytes = input_of(alloc, form, source)?;
     Ok(work(rt, alloc, form, bytes, gate)?)
-}
-
-/// Hands the text to the sink.
-fn deliver<K: Sink>(sink: &mut K, text: &[u8], status: Status) -> Status
-    requires { K.faults sink.old < 2 ^ 64 - 1 }
-    ensures delivers { Delivers (K.taken sink.old) (K.taken sink.new)
-        (K.faults sink.old) (K.faults sink.new) text.now status result }
-    ensures flushed { result ≢ Status.WriteFault → K.flushed sink.new }
-{
-    match write_all(sink, text) {
-        Ok(()) => status,
-        Err(_) => Status::WriteFault,
-    }
 }
 
 /// Keeps the history where its output was written whole.
@@ -146,8 +101,7 @@ pub fn k42_main<R: Threads + Wait + Sync, S: Source, K: Sink, G: Gate + Sync>(
           read_faults_after = S.faults source.new;
           write_faults = K.faults sink.old;
           write_faults_after = K.faults sink.new;
-          kept = kept.new;
-        }) result }
+        }) kept.new result }
     // A history is kept exactly where a run was done and its output written whole.
     ensures kept { is_some kept.new
         ≡ program.keeps (asked.form_of (map string_bytes words.now)) result }

@@ -1,7 +1,7 @@
 ghost use Rattle.std.specs.Prelude.{◌<◌, None};
 
 use crate::program::k42_main;
-use crate::status::Status;
+use k42_input::Status;
 use k42_io::{Failed, MemSink, MemSource, QuietSink, QuietSource, Source};
 use k42_runtime::History;
 use k42_workers::{FreeGate, Gate};
@@ -14,7 +14,6 @@ use std::thread::Threads;
 mod gates;
 mod library;
 mod loads;
-mod separating;
 mod side_by_side;
 
 const RUN: &str = "run";

@@ -2,17 +2,16 @@ ghost use Rattle.std.specs.Prelude.{◌≡◌, ◌<◌, ◌≤◌, length, None,
 ghost use Rattle.script_text.specs.Language.{byte_limit};
 ghost use Rattle.script_text.specs.Sound.{IsSound};
 ghost use Rattle.record_text.specs.Spelling.{IsVersion};
+ghost use Rattle.k42_input.specs.Dues.{IsCheckDue};
+ghost use Rattle.k42_input.specs.Verdicts.{input_limit};
 ghost use Rattle.k42_cli.specs.Program as program;
-ghost use Rattle.k42_cli.specs.Verdicts.{input_limit};
 ghost use Rattle.k42_cli.specs.Outputs.{IsRecorded, IsShort, limit_of};
 ghost use Rattle.k42_cli.specs.Words.{IsKnown};
 
 use crate::load::load;
 use crate::output::{Output, refusal};
-use crate::separation::separate;
-use crate::status::Status;
-use crate::verdict::verdict_in;
 use crate::words::Form;
+use k42_input::{Status, separate, verdict_in};
 use k42_memory::Memory;
 use k42_workers::{Gate, run_script};
 use record_text::print_history;
@@ -69,7 +68,7 @@ fn run<R: Threads + Wait + Sync, G: Gate + Sync>(
 fn check(alloc: Global, input: &[u8]) -> Result<Output, Memory>
     requires { length input.now ≤ input_limit }
     ensures due { IfOk result (λ output.
-        program.IsCheckDue input.now output.status output.text.items) }
+        IsCheckDue input.now output.status output.text.items) }
     ensures short { IfOk result (λ output.
         output.status ≡ Status.Ok → length input.now < input_limit) }
     ensures unkept { IfOk result (λ output. output.history ≡ None) }

@@ -1,7 +1,7 @@
 //! Loads: generated scripts that are run and summed up.
 use super::gates::{Hold, Holding, Until, lines};
 use super::run_under;
-use crate::status::Status;
+use k42_input::Status;
 use k42_workers::FreeGate;
 use std::process::Abort;
 use std::test::Fail;

@@ -1,7 +1,7 @@
 //! Workers that run side by side, held at lines by a gate.
 use super::gates::{Hold, Holding, Until, lines};
 use super::{Ran, run_under};
-use crate::status::Status;
+use k42_input::Status;
 use k42_workers::FreeGate;
 use std::alloc::Global;
 use std::process::Abort;

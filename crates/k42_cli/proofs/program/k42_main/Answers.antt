@@ -13,8 +13,7 @@ returns-in_default-clause-says g c =
       read_faults_after = g.S.Source.faults c.args.source.now;
       write_faults = g.K.Sink.faults c.args.sink.now;
       write_faults_after = g.K.Sink.faults c.deliver.new.sink;
-      kept = c.args.kept.now;
-    }) c.deliver.result c.requires.fresh refl refl (rw c.as_bytes.ensures.value at c.deliver.ensures.delivers))
+    }) c.args.kept.now c.deliver.result c.requires.fresh refl refl (rw c.as_bytes.ensures.value at c.deliver.ensures.delivers))
 
 pub returns-in-Err-Memory-clause-complete : goal.returns-in-Err-Memory-clause-complete
 returns-in-Err-Memory-clause-complete g c = λ bytes told reads writes. rw (← c.form_of.ensures.form, c.in-Some.is) (memory_completes c.in-Some.form bytes)

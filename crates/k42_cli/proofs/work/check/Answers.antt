@@ -1,5 +1,5 @@
 use Rattle.std.proofs.Common.{sym, ◌∙◌}
-use Rattle.k42_cli.proofs.Endings.{short_where_lawful}
+use Rattle.k42_input.proofs.CutVerdicts.{short_where_lawful}
 use Rattle.k42_cli.proofs.work.check.Goals as goal
 
 pub returns-in_ok-text-in-Ok-clause-short : goal.returns-in_ok-text-in-Ok-clause-short

@@ -1,0 +1,5 @@
+pub mod Separating
+pub mod Parted
+pub mod CutInput
+pub mod CutVerdicts
+pub mod ReadBytes

@@ -1,0 +1,5 @@
+pub mod Separation
+pub mod Verdicts
+pub mod Dues
+pub mod Ends
+pub mod Endings
