@@ -1,0 +1,91 @@
+//! Rows that are handed over, and objects that are destroyed.
+ghost use Rattle.k42_crews.specs.Ready.{IsFree};
+
+use crate::tests::steps::{destroy, reclaim, swap, visit};
+use crate::tests::waiting::find;
+use k42_kinds::{LayoutName, Op, Reply};
+use k42_memory::Memory;
+use k42_runtime::{Pass, Swapped, System};
+use std::alloc::Global;
+use std::process::Abort;
+use std::sync::Wait;
+
+/// Swaps once, and leaves no row with the pass.
+pub(super) fn swap_once<R: Abort + Wait>(
+    rt: &R,
+    alloc: Global,
+    system: &System,
+    pass: &mut Pass,
+) -> Result<(), Memory>
+    requires free { IsFree system.now pass.old }
+    ensures free { IsFree system.now pass.new }
+{
+    assert_eq!(rt;
+        swap(rt, alloc, system, pass, 0, LayoutName::Spread)?,
+        Swapped::Done(1)
+    );
+    assert!(rt; pass.rows().is_empty());
+    Ok(())
+}
+
+/// Swaps the first object, and then the same one again or the second one.
+pub(super) fn swap_twice<R: Abort + Wait>(
+    rt: &R,
+    alloc: Global,
+    system: &System,
+    pass: &mut Pass,
+    second: u32,
+    number: u32,
+) -> Result<(), Memory>
+    requires free { IsFree system.now pass.old }
+    ensures free { IsFree system.now pass.new }
+{
+    swap_once(rt, alloc, system, pass)?;
+    let end = swap(rt, alloc, system, pass, second, LayoutName::Shared)?;
+    assert_eq!(rt; end, Swapped::Done(number));
+    Ok(())
+}
+
+/// Just one row is freed, by the one pass and not again by the other.
+pub(super) fn free_once<R: Abort + Wait>(rt: &R, system: &System, one: &mut Pass, other: &mut Pass)
+    requires one { IsFree system.now one.old }
+    requires other { IsFree system.now other.old }
+    ensures one { IsFree system.now one.new }
+    ensures other { IsFree system.now other.new }
+{
+    assert_eq!(rt; reclaim(rt, system, one), 1);
+    assert_eq!(rt; reclaim(rt, system, other), 0);
+}
+
+/// Adds, destroys the object, and finds it gone.
+pub(super) fn destroy_once<R: Abort + Wait>(
+    rt: &R,
+    alloc: Global,
+    system: &System,
+    pass: &mut Pass,
+) -> Result<(), Memory>
+    requires free { IsFree system.now pass.old }
+    ensures free { IsFree system.now pass.new }
+{
+    assert_eq!(rt; visit(rt, alloc, system, pass, 0, Op::Add(5))?, Reply::Done);
+    assert_eq!(rt; destroy(rt, alloc, system, pass, 0)?, Swapped::Done(1));
+    find(rt, alloc, system, pass, Reply::Gone)
+}
+
+/// A swap and a destroy find it gone.
+pub(super) fn find_gone<R: Abort + Wait>(
+    rt: &R,
+    alloc: Global,
+    system: &System,
+    pass: &mut Pass,
+) -> Result<(), Memory>
+    requires free { IsFree system.now pass.old }
+    ensures free { IsFree system.now pass.new }
+{
+    assert_eq!(rt;
+        swap(rt, alloc, system, pass, 0, LayoutName::Spread)?,
+        Swapped::Gone
+    );
+    assert_eq!(rt; destroy(rt, alloc, system, pass, 0)?, Swapped::Gone);
+    Ok(())
+}
