@@ -3,7 +3,7 @@
 A block begins with ```console. In it a line `$ COMMAND` is a command for the shell, with its
 here-document below it where it has one that ends with a line `.`; the lines behind it are what it
 writes, and a last line `[N]` is how it ends where that is not 0. Each block has a folder of its own,
-in which `k42` is the program, and `examples` the folder of that name.
+in which `k42` and `k42-view` are the programs, and `examples` and `docs` the folders of these names.
 """
 
 import dataclasses
@@ -15,6 +15,7 @@ import tempfile
 
 TOP = pathlib.Path(__file__).resolve().parent.parent
 PROGRAM = TOP / "crates" / "k42_cli" / "out" / "k42_cli"
+VIEW = TOP / "crates" / "k42_view" / "out" / "k42_view"
 SECONDS = 60
 
 
@@ -73,7 +74,9 @@ def faults_of(block):
     with tempfile.TemporaryDirectory() as folder:
         here = pathlib.Path(folder)
         (here / "k42").symlink_to(PROGRAM)
-        (here / "examples").symlink_to(TOP / "examples")
+        (here / "k42-view").symlink_to(VIEW)
+        for shown in ("examples", "docs"):
+            (here / shown).symlink_to(TOP / shown)
         path = f"{here}:{os.environ['PATH']}"
         for command in block:
             run = subprocess.run(

@@ -1,0 +1,5 @@
+pub mod OneWord
+pub mod Dues
+pub mod AsCheck
+pub mod OneOutput
+pub mod Endings
