@@ -33,12 +33,17 @@ fn page_of(caller: u32, number: u32) -> u16 {
     (caller % 10 * 100 + number % 100) as u16
 }
 
-fn near(kind: KindName, caller: u32, number: u32) -> Option<Op> {
-    let op = match (kind, number % 2) {
+/// The same, of the pages that a spread cache has at the caller's own processor.
+fn near_page_of(load: &Load, caller: u32, number: u32) -> u16 {
+    (number % 100 * load.threads.min(8) + caller % 8) as u16
+}
+
+fn near(load: &Load, caller: u32, number: u32) -> Option<Op> {
+    let op = match (load.kind, number % 2) {
         (KindName::Counter, _) => Op::Add(1),
         (KindName::Directory, _) => Op::Find(name_of(caller, number)?),
-        (KindName::Pages, 0) => Op::Write(page_of(caller, number), Text::of(b"text")?),
-        (KindName::Pages, _) => Op::Read(page_of(caller, number - 1)),
+        (KindName::Pages, 0) => Op::Write(near_page_of(load, caller, number), Text::of(b"text")?),
+        (KindName::Pages, _) => Op::Read(near_page_of(load, caller, number - 1)),
     };
     Some(op)
 }
@@ -63,7 +68,7 @@ fn mix(kind: KindName, caller: u32, number: u32) -> Option<Op> {
 /// What the caller asks in its call of this number.
 pub fn op_of(load: &Load, caller: u32, number: u32) -> Option<Op> {
     match load.ops {
-        Ops::Near => near(load.kind, caller, number),
+        Ops::Near => near(load, caller, number),
         Ops::Mix => mix(load.kind, caller, number),
     }
 }
