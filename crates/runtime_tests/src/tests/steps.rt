@@ -1,5 +1,4 @@
 //! What the passes of the tests do, within their bounds.
-ghost use Rattle.std.specs.Prelude.{◌≡◌, true, false, IfOk};
 ghost use Rattle.k42_crews.specs.Ready.{IsFree, IsIn};
 ghost use Rattle.runtime_tests.specs.Ready.{IsCallOf, IsSwapping};
 
@@ -173,7 +172,5 @@ pub(super) fn end_swap(rt: &impl Abort, system: &System, pass: &Pass, swap: &Swa
     requires swapping { IsSwapping system.now swap.now pass.now }
     ensures free { IsFree system.now pass.now }
 {
-    let _ = system.objects();
-    let _ = pass.caller();
     assert!(rt; swap.ended());
 }

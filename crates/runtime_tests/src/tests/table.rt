@@ -1,7 +1,5 @@
 //! Calls that stay inside a row, made at the table of a system.
-ghost use Rattle.std.specs.Prelude.{◌≡◌, ◌<◌, true, [], ◌∷◌, length};
-ghost use Rattle.phase_core.specs.Stages.{is_at_mediator};
-ghost use Rattle.k42_joined.specs.Numbers.{cell_of};
+ghost use Rattle.std.specs.Prelude.{◌<◌, [], ◌∷◌};
 ghost use Rattle.k42_crews.specs.Ready.{IsIn};
 ghost use Rattle.runtime_tests.specs.Ready.{IsServed};
 
