@@ -50,7 +50,7 @@ module _ {S L P : Type 0} (F : Layouts S L P) (laws : AreLaws F) (declared : Lis
         let after = locks F laws declared table r id v at n may idle in
         let found : ℕ = get_or table.words (lock_word n) 0 in
         let again = recounted F declared table (set table.words (lock_word n) (lock_value v.number found)) table.homes id
-        (record v { taker = cond (eqb found 0) (caller_locked n v.taker) v.taker; heard = found }) at after.0 v.freed v.installed (cond (eqb found 0) v.refused (found ∷ v.refused)) v.knocked in
+        (record v { taker = cond (eqb found 0) (caller_locked n v.taker) v.taker; heard = found }) at after.0 v.freed v.installed (cond (eqb found 0) v.refused (found ∷ v.refused)) v.knocked v.stalls in
         (again.0, again.1 ∙ after.1, after.2);
   }
 

@@ -281,7 +281,7 @@ module _ {S L P : Type 0} (F : Layouts S L P) (laws : AreLaws F) (declared : Lis
     rows_listed =
         let after = frees_rows in
         let again = recounted F declared table (set table.words (freed_word o) m) table.homes id w at after.0 (record { object = o; incarnation = found } ∷ v.freed)
-        v.installed v.refused v.knocked in
+        v.installed v.refused v.knocked v.stalls in
         (again.0, again.1 ∙ after.1, after.2)
 
   -- or not: nothing is freed

@@ -25,7 +25,7 @@ use Rattle.turn_core.specs.Plain as turns
 use Rattle.k42_board.specs.Cells.{Slot}
 use Rattle.k42_board.specs.Rule.{KnowsPass, Rule, Ruled}
 use Rattle.k42_board.specs.Seen.{IsSeatOf}
-use Rattle.k42_board.specs.Views.{pass_in}
+use Rattle.k42_board.specs.Views.{stalled, pass_in}
 use Rattle.k42_board.specs.Steps.{Seated, Tells}
 use Rattle.k42_board.specs.Tabling.{went, entry_object, layout_learned, MayInstall, empty_before, direct_after, direct_view, installs, installed_view}
 use Rattle.k42_board.specs.Values.{local_value}
@@ -180,16 +180,19 @@ module _ {S L P : Type 0} (F : Layouts S L P) (laws : AreLaws F) (declared : Lis
         learned = λ served none. absurd (let has = may.rooted in cc);
       }))
 
-  -- the pass keeps that it has installed
+  -- the pass keeps that it has installed, or by which word it was held up
   abbrev Counted : Bool → Type 0
   Counted b =
       Steps F declared r.state (AtPhases (Install c o)) (with_pass table (set table.words (local_word p o) (cond b (direct_after v) found)) table.homes id
-      (cond b (direct_view o found v) (went found v (at_place v.visitor Out) None)))
+      (cond b (direct_view o found v) (stalled found (went found v (at_place v.visitor Out) None))))
 
   counted : (b : Bool) → Goal b → Counted b
-  counted false after = after
+  counted false after =
+      let again = recounted F declared table (set table.words (local_word p o) found) table.homes id (went found v (at_place v.visitor Out) None) at after.0 v.freed v.installed v.refused v.knocked
+      (found ∷ v.stalls) in
+      (again.0, again.1 ∙ after.1, after.2)
   counted true after =
-      let again = recounted F declared table (set table.words (local_word p o) (direct_after v)) table.homes id (went found v x v.layout) at after.0 v.freed (o ∷ v.installed) v.refused v.knocked in
+      let again = recounted F declared table (set table.words (local_word p o) (direct_after v)) table.homes id (went found v x v.layout) at after.0 v.freed (o ∷ v.installed) v.refused v.knocked v.stalls in
       (again.0, again.1 ∙ after.1, after.2)
 
   pub installed : Counted (eqb found (empty_before v))

@@ -133,7 +133,7 @@ module _ {S L P : Type 0} (F : Layouts S L P) (laws : AreLaws F) (declared : Lis
     knocked_at =
         let after = by_block (has_bit found 25) effect_is in
         let again = recounted F declared table (set table.words (object_word o) ((found + 1) % 2 ^ 64)) table.homes id
-        (went found v (knocked v.visitor o (incarnation_in found) (has_bit found 25)) (cond (has_bit found 25) None (Some (layout_in found)))) at after.0 v.freed v.installed v.refused (found ∷ v.knocked) in
+        (went found v (knocked v.visitor o (incarnation_in found) (has_bit found 25)) (cond (has_bit found 25) None (Some (layout_in found)))) at after.0 v.freed v.installed v.refused (found ∷ v.knocked) v.stalls in
         (again.0, again.1 ∙ after.1, after.2)
 
   -- a counted caller's object counts it

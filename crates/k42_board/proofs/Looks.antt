@@ -36,7 +36,7 @@ use Rattle.k42_board.specs.Cells.{Slot}
 use Rattle.k42_board.specs.Generations.{IsProcessorShown, AreGenerations, will_flip, grace_of}
 use Rattle.k42_board.specs.Gracing.{LooksAhead, LooksBack, MayLook, look_event, looked_at, looked_view, passed_view, ExitsFound}
 use Rattle.k42_board.specs.Rule.{Rule}
-use Rattle.k42_board.specs.Views.{hears}
+use Rattle.k42_board.specs.Views.{hears, stalled}
 use Rattle.k42_board.specs.Words.{exits_word}
 use Rattle.k42_board.specs.declared.view.PassView.{PassView}
 use Rattle.k42_board.specs.declared.view.View.{View}
@@ -46,6 +46,7 @@ use Rattle.k42_board.proofs.Begun.{begun_goes, flips_of}
 use Rattle.k42_board.proofs.Holding.{knows, sound, there, turn, procs_few, waits_many, in_step, base_is, role, stage, holder, busy_test, ltb_same}
 use Rattle.k42_board.proofs.Moves.{Moves, Finds}
 use Rattle.k42_board.proofs.OnePass.{with_pass}
+use Rattle.k42_board.proofs.Recounted.{recounted}
 use Rattle.k42_board.proofs.Turning.{IsTurn, turned, visitors_after, state_after, own_goes, rows_kept, IsSameSwap, same_swap, drained_swap}
 
 odd_is : (generation parity : ℕ) → parity ≡ generation % 2 → generation % 2 ≢ 0 → parity ≡ 1
@@ -391,9 +392,12 @@ module _ {S L P : Type 0} (F : Layouts S L P) (laws : AreLaws F) (declared : Lis
         × (after.state ≡ effect r.state (AtPhases (Turn (look_event c grace)))) × IsPossible F declared r.state (AtPhases (Turn (look_event c grace)))) (sym looks.grace)
         (by_test (eqb found' (slice_index v.turn.waits p)) drained_is)
       where
-        by_test : (b : Bool) → is_drained x (turn_of g0 c) ≡ b → Goal (cond b (passed_view v) v)
+        by_test : (b : Bool) → is_drained x (turn_of g0 c) ≡ b → Goal (cond b (passed_view v) (stalled found' v))
         by_test true e = passes e
-        by_test false e = stays e
+        by_test false e =
+            let after = stays e in
+            let again = recounted F declared table (set table.words i' found') table.homes id (hears found' v) at after.0 v.freed v.installed v.refused v.knocked (found' ∷ v.stalls) in
+            (again.0, again.1 ∙ after.1, after.2)
 
     -- no more have left than had entered
     found_back_is : ExitsFound v found'

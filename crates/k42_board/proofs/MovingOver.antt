@@ -32,7 +32,7 @@ use Rattle.k42_board.specs.Seen.{IsSeatOf}
 use Rattle.k42_board.specs.Steps.{Seated, TellsWith}
 use Rattle.k42_board.specs.Swapping.{object_swapped, at_swap, MayMove, blocked_word, moves, moved_view, CountFound}
 use Rattle.k42_board.specs.Values.{bit, object_value, layout_in, incarnation_in}
-use Rattle.k42_board.specs.Views.{hears, pass_in, word_begun}
+use Rattle.k42_board.specs.Views.{hears, stalled, pass_in, word_begun}
 use Rattle.k42_board.specs.Words.{object_word}
 use Rattle.k42_board.specs.declared.view.PassView.{PassView}
 use Rattle.k42_board.specs.declared.view.View.{View}
@@ -43,6 +43,7 @@ use Rattle.k42_board.proofs.Installing.{both_or_none}
 use Rattle.k42_board.proofs.Looking.{reads, object_shown}
 use Rattle.k42_board.proofs.Moves.{Moves, Finds, seat_allowed_with}
 use Rattle.k42_board.proofs.OnePass.{with_pass, known}
+use Rattle.k42_board.proofs.Recounted.{recounted}
 use Rattle.k42_board.proofs.Staging.{IsStaged, stays_staged, stage_is, there, few, bits, swap_is_set, object_is, staged_effect, staged_visit, swap_staged, rows_staged, rows_old, own_staged}
 
 -- what a blocking stage tells
@@ -220,8 +221,20 @@ module _ {S L P : Type 0} (F : Layouts S L P) (laws : AreLaws F) (declared : Lis
       ∙ ap (λ z. visited r.state s.objects z r.state.kept) (set-get_or s.callers c fresh_visitor) ∙ sym is)
       knows.phases.layout knows.phases.learned (object_word o)
 
-  pub tries_to_move : Goal (eqb found (blocked_word v))
-  tries_to_move = by_test (eqb found (blocked_word v)) refl effect_is
+  -- the pass keeps by which word it was held up
+  abbrev Counted : Bool → Type 0
+  Counted b =
+      Steps F declared r.state (AtPhases (Move c)) (with_pass table (set table.words (object_word o) (cond b (blocked_word v + 2 ^ 26) found)) table.homes id
+      (cond b (at_swap found v (Moved o)) (hears found (stalled found v))))
+
+  counted : (b : Bool) → Goal b → Counted b
+  counted true after = after
+  counted false after =
+      let again = recounted F declared table (set table.words (object_word o) found) table.homes id (hears found v) at after.0 v.freed v.installed v.refused v.knocked (found ∷ v.stalls) in
+      (again.0, again.1 ∙ after.1, after.2)
+
+  pub tries_to_move : Counted (eqb found (blocked_word v))
+  tries_to_move = counted (eqb found (blocked_word v)) (by_test (eqb found (blocked_word v)) refl effect_is)
 
   pub count_seen : CountFound v found
   count_seen =

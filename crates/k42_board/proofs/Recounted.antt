@@ -1,5 +1,5 @@
 -- The rule speaks neither of the rows that a pass lists as freed, nor of what it has installed, nor of the locks that it
--- was refused, nor of what its knocks found.
+-- was refused, nor of what its knocks found, nor of the words by which it was held up.
 use Rattle.std.proofs.Common.{◌≡◌, ℕ, zero, suc, ◌<◌, List, [], ◌∷◌, Some, length, set, sym, refl, ◌∙◌, subst, ⊎_elim}
 use Rattle.std.specs.List.{slice_get}
 use Rattle.std.proofs.lemmas.Option.{same_Some}
@@ -20,12 +20,12 @@ use Rattle.k42_board.proofs.CellsApart.{at_within}
 use Rattle.k42_board.proofs.OnePass.{with_pass, apart_alone}
 
 -- the pass with another record of these
-abbrev pub counting : {P : Type 0} → PassView P → List Row → List ℕ → List ℕ → List ℕ → PassView P
-counting v freed installed refused knocked = record v { freed = freed; installed = installed; refused = refused; knocked = knocked }
+abbrev pub counting : {P : Type 0} → PassView P → List Row → List ℕ → List ℕ → List ℕ → List ℕ → PassView P
+counting v freed installed refused knocked stalls = record v { freed = freed; installed = installed; refused = refused; knocked = knocked; stalls = stalls }
 
-known_counting : {L P : Type 0} (tag_of : L → ℕ) (s : Joined L) (beside : Beside P) (id : ℕ) (v : PassView P) (freed : List Row) (installed refused knocked : List ℕ)
-    → KnowsPass tag_of s beside id v → KnowsPass tag_of s beside id (counting v freed installed refused knocked)
-known_counting tag_of s beside id v freed installed refused knocked k = record {
+known_counting : {L P : Type 0} (tag_of : L → ℕ) (s : Joined L) (beside : Beside P) (id : ℕ) (v : PassView P) (freed : List Row) (installed refused knocked stalls : List ℕ)
+    → KnowsPass tag_of s beside id v → KnowsPass tag_of s beside id (counting v freed installed refused knocked stalls)
+known_counting tag_of s beside id v freed installed refused knocked stalls k = record {
   there = k.there;
   seat = k.seat;
   names = k.names;
@@ -45,12 +45,12 @@ known_counting tag_of s beside id v freed installed refused knocked k = record {
 module _ {S L P : Type 0} (F : Layouts S L P) (declared : List L)
     (table : State (Slot P) (View P)) (words : List ℕ) (homes : List (maybe.Option (Slot P))) (id : ℕ) (w : PassView P)
     (there : id < length table.views)
-    (r : Rule F declared (with_pass table words homes id w)) (freed : List Row) (installed refused knocked : List ℕ) where
+    (r : Rule F declared (with_pass table words homes id w)) (freed : List Row) (installed refused knocked stalls : List ℕ) where
   abbrev again : PassView P
-  again = counting w freed installed refused knocked
+  again = counting w freed installed refused knocked stalls
 
   mine : KnowsPass F.tag_of r.state r.beside id again
-  mine = known_counting F.tag_of r.state r.beside id w freed installed refused knocked ((r.seats id (Crew (w ∷ [])) (set_here table.views id (Crew (w ∷ [])) there)).1 0 w refl)
+  mine = known_counting F.tag_of r.state r.beside id w freed installed refused knocked stalls ((r.seats id (Crew (w ∷ [])) (set_here table.views id (Crew (w ∷ [])) there)).1 0 w refl)
 
   own : (place : ℕ) (x : PassView P) → slice_get (again ∷ []) place ≡ Some x → KnowsPass F.tag_of r.state r.beside id x
   own zero x e = subst (KnowsPass F.tag_of r.state r.beside id) (same_Some again x e) mine
@@ -87,7 +87,7 @@ module _ {S L P : Type 0} (F : Layouts S L P) (declared : List L)
 
 pub recounted : {S L P : Type 0} (F : Layouts S L P) (declared : List L)
     (table : State (Slot P) (View P)) (words : List ℕ) (homes : List (maybe.Option (Slot P))) (id : ℕ) (w : PassView P) {v : PassView P}
-    → get_elem? table.views id ≡ some (Crew (v ∷ [])) → (r : Rule F declared (with_pass table words homes id w)) (freed : List Row) (installed refused knocked : List ℕ)
-    → (after : Rule F declared (with_pass table words homes id (counting w freed installed refused knocked))) × (after.state ≡ r.state)
-recounted F declared table words homes id w {v} at r freed installed refused knocked =
-    recounted_there F declared table words homes id w (at_within table.views id (Crew (v ∷ [])) at) r freed installed refused knocked
+    → get_elem? table.views id ≡ some (Crew (v ∷ [])) → (r : Rule F declared (with_pass table words homes id w)) (freed : List Row) (installed refused knocked stalls : List ℕ)
+    → (after : Rule F declared (with_pass table words homes id (counting w freed installed refused knocked stalls))) × (after.state ≡ r.state)
+recounted F declared table words homes id w {v} at r freed installed refused knocked stalls =
+    recounted_there F declared table words homes id w (at_within table.views id (Crew (v ∷ [])) at) r freed installed refused knocked stalls

@@ -49,7 +49,7 @@ use Rattle.k42_board.specs.Rule.{KnowsPass, Rule, Ruled}
 use Rattle.k42_board.specs.Seen.{IsSeatOf}
 use Rattle.k42_board.specs.Steps.{Seated, TellsWith}
 use Rattle.k42_board.specs.Values.{holder_value, incarnation_in}
-use Rattle.k42_board.specs.Views.{hears, word_begun}
+use Rattle.k42_board.specs.Views.{hears, stalled, word_begun}
 use Rattle.k42_board.specs.Words.{role_word}
 use Rattle.k42_board.specs.declared.view.PassView.{PassView}
 use Rattle.k42_board.specs.declared.view.Row.{Row}
@@ -343,7 +343,7 @@ module _ {S L P : Type 0} (F : Layouts S L P) (laws : AreLaws F) (declared : Lis
         × (after.state ≡ effect r.state (AtPhases (TakeRoleWith c notes))) × IsPossible F declared r.state (AtPhases (TakeRoleWith c notes))
     takes =
         let after = turned F laws declared table r id v at (TakeRoleWith c notes) g y counts turn_is role_word (c + 1) w of_role generations_after pass_after in
-        let again = recounted F declared table (set table.words role_word (c + 1)) table.homes id w at after.0 [] v.installed v.refused v.knocked in
+        let again = recounted F declared table (set table.words role_word (c + 1)) table.homes id w at after.0 [] v.installed v.refused v.knocked v.stalls in
         (again.0, again.1 ∙ after.1, after.2)
 
   -- the rule after the step, and its state
@@ -354,7 +354,7 @@ module _ {S L P : Type 0} (F : Layouts S L P) (laws : AreLaws F) (declared : Lis
   takes_or_not = by_role s.role refl where
     Goal : Bool → Type 0
     Goal b =
-        (after : Rule F declared (with_pass table (set table.words role_word (cond b (c + 1) found)) table.homes id (hears found (cond b (record taken { freed = [] }) v))))
+        (after : Rule F declared (with_pass table (set table.words role_word (cond b (c + 1) found)) table.homes id (hears found (cond b (record taken { freed = [] }) (stalled found v)))))
         × (after.state ≡ effect r.state (AtPhases (TakeRoleWith c notes))) × IsPossible F declared r.state (AtPhases (TakeRoleWith c notes))
 
     by_role : (role : Option ℕ) → s.role ≡ role → Goal (eqb found 0)
@@ -363,9 +363,10 @@ module _ {S L P : Type 0} (F : Layouts S L P) (laws : AreLaws F) (declared : Lis
     by_role (Some holder) e =
         let held : found ≡ holder + 1 = found_is ∙ ap holder_value e in
         subst Goal (sym (ne_eqb found 0 (λ none. omega (arith, held, none))))
-        (let after = stayed F declared table r id v at role_word (hears found v) (known_heard F.tag_of r.state r.beside id v found knows) in (
-          after.0,
-          after.1 ∙ ap (λ (role : Option ℕ). record r.state { phases = taken_with r.state.phases c notes role }) (sym e),
+        (let after = stayed F declared table r id v at role_word (hears found v) (known_heard F.tag_of r.state r.beside id v found knows) in
+        let again = recounted F declared table (set table.words role_word found) table.homes id (hears found v) at after.0 v.freed v.installed v.refused v.knocked (found ∷ v.stalls) in (
+          again.0,
+          again.1 ∙ after.1 ∙ ap (λ (role : Option ℕ). record r.state { phases = taken_with r.state.phases c notes role }) (sym e),
           takes_role,
         ))
 

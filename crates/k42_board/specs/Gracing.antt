@@ -19,7 +19,7 @@ use Rattle.k42_board.specs.Noting.{notes_due}
 use Rattle.k42_board.specs.Phases.{IsGranted}
 use Rattle.k42_board.specs.Seen.{PassSeen}
 use Rattle.k42_board.specs.Values.{generation_in}
-use Rattle.k42_board.specs.Views.{hears}
+use Rattle.k42_board.specs.Views.{hears, stalled}
 use Rattle.k42_board.specs.declared.view.PassView.{PassView}
 
 -- it has no activity and no grace under way, its swap is none or has interposed the mediator, and it has begun few graces
@@ -28,7 +28,7 @@ pub record MayTakeRole {P : Type 0} (v : PassView P) : Type 0 where
   pub swap : may_take v.visitor.swap ≡ true
   pub few : v.graces < MOST
 
--- the role of nobody is taken, with what is noted then
+-- the role of nobody is taken, with what is noted then; another's holds the pass up
 abbrev pub role_view : {P : Type 0} → ℕ → PassView P → PassView P
 role_view found v = hears found (if found == 0 then record v {
   turn = role_taken v.turn;
@@ -38,7 +38,7 @@ role_view found v = hears found (if found == 0 then record v {
   granted = length v.rows;
   swept = [];
   freed = [];
-} else v)
+} else stalled found v)
 
 -- While a grace is under way, the processor that it comes to next is one of so many; it has asked for the generation
 -- before it flips a second one.
@@ -99,7 +99,7 @@ passed_view v =
 
 abbrev pub looked_at : {P : Type 0} → GraceAt → ℕ → PassView P → PassView P
 looked_at (Flipping p) found v = record v { turn = record v.turn { coming = Some found } }
-looked_at (Looking p) found v = if found == slice_index v.turn.waits p then passed_view v else v
+looked_at (Looking p) found v = if found == slice_index v.turn.waits p then passed_view v else stalled found v
 looked_at grace found v = v
 
 abbrev pub looked_view : {P : Type 0} → ℕ → PassView P → PassView P

@@ -10,7 +10,7 @@ use Rattle.phase_core.specs.declared.caller.SwapAt.TheVariants.{Idle, Refused, B
 use Rattle.k42_limits.specs.declared.TheConstants.{CALLERS, LAST_INCARNATION}
 use Rattle.k42_joined.specs.Swapping.{holds_none}
 use Rattle.k42_board.specs.Values.{local_value, count_in, layout_in, incarnation_in}
-use Rattle.k42_board.specs.Views.{hears, object_begun, word_begun}
+use Rattle.k42_board.specs.Views.{hears, stalled, object_begun, word_begun}
 use Rattle.k42_board.specs.declared.view.LastBegin.{LastBegin}
 use Rattle.k42_board.specs.declared.view.PassView.{PassView}
 use Rattle.k42_board.specs.declared.view.Row.{Row}
@@ -79,7 +79,7 @@ abbrev pub moves : {P : Type 0} → PassView P → ℕ → ℕ
 moves v word = if word == blocked_word v then blocked_word v + 2 ^ 26 else word
 
 abbrev pub moved_view : {P : Type 0} → ℕ → PassView P → PassView P
-moved_view found v = if found == blocked_word v then at_swap found v (Moved (object_swapped v)) else hears found v
+moved_view found v = if found == blocked_word v then at_swap found v (Moved (object_swapped v)) else hears found (stalled found v)
 
 -- the word has the callers that are counted
 pub record CountFound {P : Type 0} (v : PassView P) (found : ℕ) : Type 0 where

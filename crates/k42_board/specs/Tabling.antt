@@ -10,7 +10,7 @@ use Rattle.phase_core.specs.declared.caller.Place.TheVariants.{Out, Direct}
 use Rattle.phase_core.specs.declared.object.LocalEntry.{LocalEntry}
 use Rattle.k42_joined.specs.Swapping.{holds_none}
 use Rattle.k42_board.specs.Values.{local_value, layout_in, incarnation_in, has_bit, answer_in}
-use Rattle.k42_board.specs.Views.{hears}
+use Rattle.k42_board.specs.Views.{hears, stalled}
 use Rattle.k42_board.specs.declared.view.PassView.{PassView}
 
 -- a pass that has gone on in its call by a step that found this word, and what it has learned of the row's layout
@@ -99,7 +99,7 @@ direct_view o found v =
 
 abbrev pub installed_view : {P : Type 0} → ℕ → ℕ → PassView P → PassView P
 installed_view o found v =
-    if found == empty_before v then direct_view o found v else went found v (at_place v.visitor Out) None
+    if found == empty_before v then direct_view o found v else stalled found (went found v (at_place v.visitor Out) None)
 
 -- it is in a direct call, or has found its entry empty, and holds no cell
 pub record MayEndCall {P : Type 0} (v : PassView P) : Type 0 where

@@ -27,6 +27,10 @@ object_begun (Some begin) = begin.object
 abbrev pub hears : {P : Type 0} → ℕ → PassView P → PassView P
 hears found v = record v { heard = found }
 
+-- and was held up by it
+abbrev pub stalled : {P : Type 0} → ℕ → PassView P → PassView P
+stalled found v = record v { stalls = found ∷ v.stalls }
+
 -- what the joined machine keeps of the pass
 abbrev pub kept_in : {P : Type 0} → PassView P → Kept
 kept_in v = record { begun = begun_of v.last; found = v.found; abandoned = v.abandoned }
@@ -58,6 +62,7 @@ new_pass procs objects number home = record {
   installed = [];
   refused = [];
   knocked = [];
+  stalls = [];
 }
 
 -- the pass that alone has the view of a seat

@@ -79,6 +79,9 @@ pub struct PassView<P> {
     pub refused: [u64; 0],
     /// The words that its knocks found, the last first.
     pub knocked: [u64; 0],
+    /// The words by which it was held up otherwise, the last first: of the role, with another caller; of exits that are too
+    /// few; of an object with callers that are counted; of an entry that is not the empty one which it was to install in.
+    pub stalls: [u64; 0],
 }
 
 /// What the seat of a cell knows: a copy of its history.
