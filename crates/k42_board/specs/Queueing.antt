@@ -167,7 +167,3 @@ pub record HasPopped {P : Type 0} (old new : PassSeen P) : Type 0 where
   pub queue : new.queue ≡ old.queue
   pub pushed : new.pushed ≡ old.pushed
   pub popped : new.popped ≡ old.popped ++ row ∷ []
-
--- at one moment the queue was empty
-abbrev pub WasEmpty : Type 0 → Type 0
-WasEmpty P = (views : List Carried) × Carries {P = P} [] views

@@ -3,7 +3,7 @@ use Rattle.std.proofs.Common.{◌≡◌, ℕ, Bool, true, false, eqb, cond, refl
 use Rattle.phase_core.specs.Stages.{is_moved}
 use Rattle.phase_core.specs.declared.caller.SwapAt.TheVariants.{Idle, Moved, Reopening}
 use Rattle.k42_board.specs.Swapping.{at_swap, object_swapped, blocked_word, moved_view, rows_ended, cleared_view}
-use Rattle.k42_board.specs.Views.{hears}
+use Rattle.k42_board.specs.Views.{hears, stalled}
 use Rattle.k42_board.specs.declared.view.PassView.{PassView}
 
 pub heard_now : {P : Type 0} (new v : PassView P) (found : ℕ) → new ≡ hears found v → new ≡ hears new.heard v
@@ -11,7 +11,7 @@ heard_now new v found e = e ∙ ap (λ h. hears h v) (sym (ap (λ (w : PassView 
 
 pub moved_heard : {P : Type 0} (found : ℕ) (v : PassView P) → (moved_view found v).heard ≡ found
 moved_heard found v = go (eqb found (blocked_word v)) where
-  go : (b : Bool) → (cond b (at_swap found v (Moved (object_swapped v))) (hears found v)).heard ≡ found
+  go : (b : Bool) → (cond b (at_swap found v (Moved (object_swapped v))) (hears found (stalled found v))).heard ≡ found
   go true = refl
   go false = refl
 

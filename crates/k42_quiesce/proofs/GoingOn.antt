@@ -40,7 +40,7 @@ module _ {P : Type 0} where
         ∙ ap (λ (y : Visitor). record y { swap = drained_at x.turn.grace y.swap }) a.visitor
         ∙ ap (λ (swap : SwapAt). record v.visitor { swap = drained_at x.turn.grace swap }) (undrained w.turn.grace v.visitor.swap busy);
     base = λ asked. let same = a.base asked in b.base (ap is_some same ∙ asked) ∙ same;
-    rest = b.rest ∙ ap (λ (y : PassView P). record y { turn = x.turn; visitor = x.visitor; base = x.base; heard = x.heard }) a.rest;
+    rest = b.rest ∙ ap (λ (y : PassView P). record y { turn = x.turn; visitor = x.visitor; base = x.base; heard = x.heard; stalls = x.stalls }) a.rest;
   }
 
   pub goes_nowhere : (v : PassView P) → is_quiet v.turn.grace ≡ false → GoesOn v v

@@ -1,6 +1,5 @@
 -- Rows on their way through the queue, for the pass that hands them on or takes them in.
-use Rattle.std.specs.Prelude.{◌≡◌, ◌⊎◌, ℕ, ◌+◌, ◌-◌, ◌≤◌, ◌++◌, List, drop, length, take}
-use Rattle.k42_board.specs.Queueing.{WasEmpty}
+use Rattle.std.specs.Prelude.{◌≡◌, ℕ, ◌+◌, ◌-◌, ◌≤◌, ◌++◌, List, drop, length, take}
 use Rattle.k42_board.specs.Seen.{PassSeen}
 use Rattle.k42_board.specs.declared.view.Row.{Row}
 
@@ -27,7 +26,3 @@ pub record HasCollected {P : Type 0} (rows : List Row) (old new : PassSeen P) : 
   pub room : new.room ≡ old.room
   pub queue : new.queue ≡ old.queue
   pub pushed : new.pushed ≡ old.pushed
-
--- a pop found the queue empty, or the pass has room for one more row at most
-abbrev pub CollectsAll : Type 0 → ℕ → Type 0
-CollectsAll P room = WasEmpty P ⊎ (room ≤ 1)

@@ -13,7 +13,7 @@ use Rattle.k42_board.specs.Gracing.{MayTakeRole, role_view, looked_view}
 use Rattle.k42_board.specs.Noting.{notes_due, pairs_from}
 use Rattle.k42_board.specs.Phases.{IsGranted}
 use Rattle.k42_board.specs.Steps.{StepIs}
-use Rattle.k42_board.specs.Views.{hears}
+use Rattle.k42_board.specs.Views.{hears, stalled}
 use Rattle.k42_board.specs.Words.{exits_word, role_word}
 use Rattle.k42_board.specs.declared.view.PassView.{PassView}
 use Rattle.k42_quiesce.specs.declared.steps.GraceStep.{GraceStep}
@@ -36,14 +36,19 @@ abbrev pub with_role : {P : Type 0} → Option ℕ → PassView P → PassView P
 with_role None v = role_view 0 v
 with_role (Some holder) v = v
 
--- By steps of its grace alone the one view has become the other; a swap that drains is drained as the grace is quiet.
+-- the pass after tries that have found the role with others
+abbrev pub has_tried : {P : Type 0} → ℕ → List ℕ → PassView P → PassView P
+has_tried heard stalls v = record v { heard = heard; stalls = stalls }
+
+-- By steps of its grace alone the one view has become the other; a swap that drains is drained as the grace is quiet. Which
+-- words have held the pass up is told by the answer.
 pub record GoesOn {P : Type 0} (v w : PassView P) : Type 0 where
   pub turn :
       w.turn ≡ record v.turn { grace = w.turn.grace; coming = w.turn.coming; waits = w.turn.waits }
   pub procs : length w.turn.waits ≡ length v.turn.waits
   pub visitor : w.visitor ≡ record v.visitor { swap = drained_at w.turn.grace v.visitor.swap }
   pub base : is_some v.base ≡ true → w.base ≡ v.base
-  pub rest : w ≡ record v { turn = w.turn; visitor = w.visitor; base = w.base; heard = w.heard }
+  pub rest : w ≡ record v { turn = w.turn; visitor = w.visitor; base = w.base; heard = w.heard; stalls = w.stalls }
 
 -- the last look found fewer exits on the processor than the entries that the grace noted there, by so many
 pub record IsLeft {P : Type 0} (proc left : ℕ) (v : PassView P) : Type 0 where
@@ -62,11 +67,11 @@ has_role Quiet = true
 has_role (Again (Left proc left)) = true
 has_role (Again (RoleHeld holder)) = false
 
--- the word of the role was found to be that of another caller, and nothing else is known
+-- the word of the role was found to be that of another caller, which holds the pass up, and nothing else is known
 pub record IsRoleHeld {P : Type 0} (holder : ℕ) (v w : PassView P) : Type 0 where
   pub another : holder ≢ v.number
   pub caller : holder < CALLERS
-  pub knows : w ≡ hears (holder + 1) v
+  pub knows : w ≡ hears (holder + 1) (stalled (holder + 1) v)
 
 module _ {S L P : Type 0} (F : Layouts S L P) (declared : List L) where
   -- the last step of the pass was a look at the processor's exits of the generation that its grace has ended

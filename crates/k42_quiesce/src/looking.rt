@@ -1,5 +1,5 @@
 //! A grace waits until all activities of the former generation have left.
-ghost use Rattle.std.specs.Prelude.{◌≡◌, ◌<◌, Some, None, true, is_some, length};
+ghost use Rattle.std.specs.Prelude.{◌≡◌, ◌<◌, ◌∷◌, Some, None, true, is_some, length};
 ghost use Rattle.gen_core.specs.Events.{is_looking, after_look};
 ghost use Rattle.gen_core.specs.declared.state.GraceAt.TheVariants.{Looking, Quiet};
 ghost use Rattle.k42_board.specs.Plan.{layouts_on};
@@ -25,6 +25,8 @@ fn look_back<L: Layout>(sys: &Sys<L>, pass: &mut Pass<L>, proc: u32) -> u32
         (layouts_on L.object L.tag_of L.ways L.whole L.serves L.admitted L.act_of sys.now.procs sys.now.callers)
         sys.now.layouts pass.new.seat proc pass.new.view }
     ensures passed { result ≡ 0 → pass.new.view.turn.grace ≡ after_look proc (length pass.old.view.turn.waits) }
+    ensures free { result ≡ 0 → pass.new.view.stalls ≡ pass.old.view.stalls }
+    ensures stalled { 0 < result → pass.new.view.stalls ≡ pass.new.view.heard ∷ pass.old.view.stalls }
 {
     let base = pass.base().unwrap_or(0);
     let waits = pass.waits(proc);
@@ -45,6 +47,8 @@ pub(crate) fn look_on<L: Layout>(sys: &Sys<L>, pass: &mut Pass<L>) -> Option<Hel
     ensures looked { (held : Held) → result ≡ Some held → HasLookedOf
         (layouts_on L.object L.tag_of L.ways L.whole L.serves L.admitted L.act_of sys.now.procs sys.now.callers)
         sys.now.layouts pass.new.seat held pass.new.view }
+    ensures free { result ≡ None → pass.new.view.stalls ≡ pass.old.view.stalls }
+    ensures stalled { (held : Held) → result ≡ Some held → pass.new.view.stalls ≡ pass.new.view.heard ∷ pass.old.view.stalls }
 {
     while let GraceAt::Looking(proc) = pass.grace() {
         let left = look_back(sys, pass, proc);

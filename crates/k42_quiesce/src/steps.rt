@@ -1,5 +1,5 @@
 //! Grace periods.
-ghost use Rattle.std.specs.Prelude.{◌≡◌, ℕ, ◌+◌, true, Some, None};
+ghost use Rattle.std.specs.Prelude.{◌≡◌, ℕ, ◌+◌, ◌∷◌, true, Some, None};
 ghost use Rattle.gen_core.specs.Events.{is_looking};
 ghost use Rattle.k42_board.specs.Gracing.{MayTakeRole, role_view};
 ghost use Rattle.k42_board.specs.Plan.{layouts_on};
@@ -57,6 +57,7 @@ fn begin<L: Layout>(sys: &Sys<L>, pass: &mut Pass<L>) -> Option<u32>
         (layouts_on L.object L.tag_of L.ways L.whole L.serves L.admitted L.act_of sys.now.procs sys.now.callers)
         sys.now.layouts pass.old.seat pass.old.view (holder + 1) }
     ensures goes { result ≡ None → GoesOn (role_view 0 pass.old.view) pass.new.view × (is_looking pass.new.view.turn.grace ≡ true) }
+    ensures free { result ≡ None → pass.new.view.stalls ≡ pass.old.view.stalls }
     ensures takes { result ≡ None → TakesRole
         (layouts_on L.object L.tag_of L.ways L.whole L.serves L.admitted L.act_of sys.now.procs sys.now.callers)
         sys.now.layouts pass.old.seat pass.old.view }
@@ -91,6 +92,8 @@ impl Grace {
         ensures looked { (proc left : ℕ) → result ≡ GraceStep.Again (Held.Left proc left) → HasLooked
             (layouts_on L.object L.tag_of L.ways L.whole L.serves L.admitted L.act_of sys.now.procs sys.now.callers)
             sys.now.layouts pass.new.seat proc pass.new.view }
+        ensures stalled { (proc left : ℕ) → result ≡ GraceStep.Again (Held.Left proc left) → pass.new.view.stalls ≡ pass.new.view.heard ∷ pass.old.view.stalls }
+        ensures free { result ≡ GraceStep.Quiet → pass.new.view.stalls ≡ pass.old.view.stalls }
         ensures role_held { (holder : ℕ) → result ≡ GraceStep.Again (Held.RoleHeld holder)
             → IsRoleHeld holder pass.old.view pass.new.view × (self.old ≡ None) × (self.new ≡ None) }
         ensures tries { (holder : ℕ) → result ≡ GraceStep.Again (Held.RoleHeld holder) → TriesRole

@@ -1,10 +1,9 @@
 //! Waiting for a grace.
-ghost use Rattle.std.specs.Prelude.{◌≡◌, ℕ};
+ghost use Rattle.std.specs.Prelude.{◌≡◌, ℕ, List};
 ghost use Rattle.k42_board.specs.Gracing.{MayTakeRole, role_view};
 ghost use Rattle.k42_board.specs.Plan.{layouts_on};
 ghost use Rattle.k42_board.specs.Seen.{IsPassOf, IsSamePass};
-ghost use Rattle.k42_board.specs.Views.{hears};
-ghost use Rattle.k42_quiesce.specs.Gracing.{GoesOn, TakesRole};
+ghost use Rattle.k42_quiesce.specs.Gracing.{GoesOn, TakesRole, has_tried};
 ghost use Rattle.k42_quiesce.specs.Quiet.{IsQuiet};
 
 use crate::steps::{Grace, GraceStep};
@@ -22,9 +21,9 @@ pub fn grace<L: Layout, R: Wait>(rt: &R, sys: &Sys<L>, pass: &mut Pass<L>)
     ensures quiet { IsQuiet
         (layouts_on L.object L.tag_of L.ways L.whole L.serves L.admitted L.act_of sys.now.procs sys.now.callers)
         sys.now.layouts pass.new.seat pass.new.view }
-    ensures takes { (heard : ℕ) × TakesRole
+    ensures takes { (heard : ℕ) × (stalls : List ℕ) × TakesRole
         (layouts_on L.object L.tag_of L.ways L.whole L.serves L.admitted L.act_of sys.now.procs sys.now.callers)
-        sys.now.layouts pass.old.seat (hears heard pass.old.view) }
+        sys.now.layouts pass.old.seat (has_tried heard stalls pass.old.view) }
     ensures goes { GoesOn (role_view 0 pass.old.view) pass.new.view }
 {
     let mut grace = Grace::new();

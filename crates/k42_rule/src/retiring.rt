@@ -1,6 +1,6 @@
 //! Rows are handed on and taken in.
 ghost use Rattle.std.specs.Prelude.{◌≡◌, ◌<◌, ◌≤◌, true, false, length, OnOk, OnErr};
-ghost use Rattle.k42_board.specs.Queueing.{MOST_ROWS, HasPushed, HasPopped, WasEmpty};
+ghost use Rattle.k42_board.specs.Queueing.{MOST_ROWS, HasPushed, HasPopped};
 ghost use Rattle.k42_board.specs.Seen.{IsPassOf, IsSamePass};
 
 use crate::pass::Pass;
@@ -34,13 +34,13 @@ pub fn push_row<L: Layout, R: Wait>(rt: &R, sys: &Sys<L>, pass: &mut Pass<L>) ->
     Err(Memory)
 }
 
-/// Takes in the row at the front of the queue, and answers false where the queue was empty.
+/// Takes in the row at the front of the queue, and answers false where the queue was empty; no clause says that it was.
 pub fn pop_row<L: Layout, R: Wait>(rt: &R, sys: &Sys<L>, pass: &mut Pass<L>) -> bool
     requires ours { IsPassOf sys.now pass.old }
     requires room { 2 ≤ pass.old.row_room }
     ensures popped { result ≡ true → HasPopped pass.old pass.new }
     ensures few { result ≡ true → length pass.new.view.rows ≤ MOST_ROWS }
-    ensures empty { result ≡ false → IsSamePass pass.old pass.new × (pass.new.view ≡ pass.old.view) × WasEmpty L.Part }
+    ensures empty { result ≡ false → IsSamePass pass.old pass.new × (pass.new.view ≡ pass.old.view) }
 {
     let Some(slip) = sys.lane.line.pop_as::<Pop, R>(rt, &mut pass.post) else {
         return false;

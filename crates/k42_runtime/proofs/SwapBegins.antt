@@ -16,7 +16,7 @@ use Rattle.k42_runtime.specs.declared.swaps.Stage.TheVariants.{New, Waiting, Mar
 use Rattle.k42_runtime.specs.declared.swaps.Swapped.TheVariants as ends
 use Rattle.k42_runtime.specs.declared.swaps.To.{To}
 use Rattle.k42_runtime.proofs.SwapEnds.{refused}
-use Rattle.k42_runtime.proofs.SwapSteps.{swapped_before}
+use Rattle.k42_runtime.proofs.SwapSteps.{IsUnstalled, swapped_before}
 
 -- a pass whose swap was refused
 pub record IsRefused {P : Type 0} (o number : ℕ) (to : To) (old new : PassSeen P) : Type 0 where
@@ -49,6 +49,16 @@ module _ {P : Type 0} (o : ℕ) (old roomy new : PassSeen P) (room : IsRoomier o
 
   begun_object : object_begun new.view.last ≡ o
   begun_object = ap (λ (u : PassView P). object_begun u.last) since
+
+  -- nothing has held it up yet
+  pub marks_free : IsUnstalled old.view new.view
+  marks_free = record { refused = ap (λ (u : PassView P). u.refused) since; stalls = ap (λ (u : PassView P). u.stalls) since }
+
+  pub waits_free : (led : PassSeen P) → led.view ≡ hears led.view.heard (interposed_view new.view) → IsUnstalled old.view led.view
+  waits_free led leads = record {
+    refused = ap (λ (u : PassView P). u.refused) leads ∙ marks_free.refused;
+    stalls = ap (λ (u : PassView P). u.stalls) leads ∙ marks_free.stalls;
+  }
 
   -- the object is over
   pub marks_on : (s m : SwapSeen) → s.stage ≡ New → m.stage ≡ Marking → m.object ≡ s.object → m.to ≡ s.to → HasGoneOn s m old new

@@ -1,5 +1,5 @@
 -- A step of the grace that a swap waits for.
-use Rattle.std.proofs.Common.{◌≡◌, ℕ, ◌+◌, ◌<◌, ◌≤◌, Bool, true, false, ◌&&◌, List, Option, Some, None, refl, sym, ap, ◌∙◌, subst, arith}
+use Rattle.std.proofs.Common.{◌≡◌, ℕ, ◌+◌, ◌<◌, ◌≤◌, Bool, true, false, ◌&&◌, List, ◌∷◌, Option, Some, None, refl, sym, ap, ◌∙◌, subst, arith}
 use Rattle.std.specs.Prelude.{is_none, length}
 use Rattle.gen_core.specs.Events.{is_idle, is_looking}
 use Rattle.gen_core.specs.Plain.{Caller}
@@ -11,7 +11,7 @@ use Rattle.turn_core.specs.Plain as turns
 use Rattle.k42_stamp.specs.Layouts.{Layouts}
 use Rattle.k42_board.specs.Generations.{MOST}
 use Rattle.k42_board.specs.Seen.{PassSeen, IsSamePass}
-use Rattle.k42_board.specs.Views.{hears, word_begun}
+use Rattle.k42_board.specs.Views.{hears, stalled, word_begun}
 use Rattle.k42_board.specs.declared.view.PassView.{PassView}
 use Rattle.k42_quiesce.specs.Gracing.{IsLeft, IsRoleHeld, GoesOn, HasLooked, TriesRole, has_role, with_role}
 use Rattle.k42_quiesce.specs.declared.steps.GraceStep.{GraceStep}
@@ -20,7 +20,7 @@ use Rattle.k42_quiesce.specs.declared.steps.Held.{Held}
 use Rattle.k42_quiesce.specs.declared.steps.Held.TheVariants.{Left, RoleHeld}
 use Rattle.k42_mediator.specs.Answers.{begun_in}
 use Rattle.k42_runtime.specs.Phases.{cause_in}
-use Rattle.k42_runtime.specs.Swaps.{SwapSeen, IsUnderWay, IsWaiting, HasFoundFree, IsAtStage, IsSameCaller, IsHeldUpBy, MayHoldUp, IsStepBy, graces_due}
+use Rattle.k42_runtime.specs.Swaps.{SwapSeen, IsUnderWay, IsWaiting, HasFoundFree, IsAtStage, IsSameCaller, IsHeldUpBy, IsNewlyFound, MayHoldUp, IsStepBy, graces_due}
 use Rattle.k42_runtime.specs.declared.swaps.Cause.{Cause}
 use Rattle.k42_runtime.specs.declared.swaps.Cause.TheVariants as causes
 use Rattle.k42_runtime.specs.declared.swaps.Stage.TheVariants.{Waiting}
@@ -43,6 +43,7 @@ module _ {P : Type 0} (object : ℕ) where
     pub last : w.last ≡ v.last
     pub place : w.visitor.place ≡ v.visitor.place
     pub notes : w.notes ≡ v.notes
+    pub refused : w.refused ≡ v.refused
 
   pub has_role_now : (holder : Option ℕ) (v w : PassView P) → IsWaiting object holder v → GoesOn (with_role holder v) w → HasRole holder v w
   has_role_now None v w is goes = record {
@@ -60,6 +61,7 @@ module _ {P : Type 0} (object : ℕ) where
     last = ap (λ (x : PassView P). x.last) goes.rest;
     place = ap (λ (x : Visitor). x.place) goes.visitor;
     notes = ap (λ (x : PassView P). x.notes) goes.rest;
+    refused = ap (λ (x : PassView P). x.refused) goes.rest;
   }
   has_role_now (Some holder) v w is goes = record {
     swap = ap (λ (x : Visitor). x.swap) goes.visitor ∙ ap (drained_at w.turn.grace) is.0;
@@ -74,6 +76,7 @@ module _ {P : Type 0} (object : ℕ) where
     last = ap (λ (x : PassView P). x.last) goes.rest;
     place = ap (λ (x : Visitor). x.place) goes.visitor;
     notes = ap (λ (x : PassView P). x.notes) goes.rest;
+    refused = ap (λ (x : PassView P). x.refused) goes.rest;
   } where
     more : (n : ℕ) → n ≡ n + 0
     more n = omega arith
@@ -89,6 +92,7 @@ pub record IsHeldUp
   pub place : new.view.visitor.place ≡ old.view.visitor.place
   pub notes : new.view.notes ≡ old.view.notes
   pub told : IsStepBy (word_begun new.view.last) (steps.Again (cause_in held))
+  pub newly : IsNewlyFound (cause_in held) old.view new.view
   pub found : IsHeldUpBy F declared old.seat (cause_in held) new.view
 
 module _ {P : Type 0} (objects : ℕ) (s t : SwapSeen) (old new : PassSeen P) (same : IsSamePass old new)
@@ -120,11 +124,12 @@ module _ {P : Type 0} (objects : ℕ) (s t : SwapSeen) (old new : PassSeen P) (s
   pub held_up : {S L : Type 0} (F : Layouts S L P) (declared : List L) (answer : GraceStep) (held : Held) → answer ≡ Again held
       → ((proc left : ℕ) → answer ≡ Again (Left proc left) → IsLeft proc left new.view)
       → ((proc left : ℕ) → answer ≡ Again (Left proc left) → HasLooked F declared new.seat proc new.view)
+      → ((proc left : ℕ) → answer ≡ Again (Left proc left) → new.view.stalls ≡ new.view.heard ∷ old.view.stalls)
       → ((holder : ℕ) → answer ≡ Again (RoleHeld holder) → IsRoleHeld holder old.view new.view × (s.holder ≡ None) × (t.holder ≡ None))
       → ((holder : ℕ) → answer ≡ Again (RoleHeld holder) → TriesRole F declared old.seat old.view (holder + 1))
       → (has_role answer ≡ true → GoesOn (with_role s.holder old.view) new.view × (t.holder ≡ Some new.view.number))
       → IsHeldUp F declared objects s t held old new
-  held_up F declared answer (Left proc left) e looks looked holds tries goes =
+  held_up F declared answer (Left proc left) e looks looked stalls holds tries goes =
       let is = looks proc left e in
       let went = goes (ap has_role e) in
       let has = has_role_now s.object s.holder old.view new.view waits went.0 in
@@ -140,11 +145,12 @@ module _ {P : Type 0} (objects : ℕ) (s t : SwapSeen) (old new : PassSeen P) (s
         place = has.place;
         notes = has.notes;
         told = told_free (word_begun new.view.last) (causes.Left proc left) (ap (λ last. begun_in (word_begun last)) has.last ∙ free) tt;
+        newly = stalls proc left e;
         found = (is, subst (λ (id : ℕ). HasLooked F declared id proc new.view) same.seat (looked proc left e));
       }
-  held_up F declared answer (RoleHeld holder) e looks looked holds tries goes =
+  held_up F declared answer (RoleHeld holder) e looks looked stalls holds tries goes =
       let is = holds holder e in
-      let knows : new.view ≡ hears (holder + 1) old.view = is.0.knows in
+      let knows : new.view ≡ hears (holder + 1) (stalled (holder + 1) old.view) = is.0.knows in
       let was : IsWaiting s.object None old.view = subst (λ h. IsWaiting s.object h old.view) is.1 waits in
       let now : IsWaiting t.object None new.view =
       subst (λ (x : ℕ × PassView P). IsWaiting x.0 None x.1) (λ j. (sym object j, sym knows j))
@@ -165,6 +171,7 @@ module _ {P : Type 0} (objects : ℕ) (s t : SwapSeen) (old new : PassSeen P) (s
         told =
             told_free (word_begun new.view.last) (causes.RoleHeld holder)
             (ap (λ (v : PassView P). begun_in (word_begun v.last)) knows ∙ free) tt;
+        newly = ap (λ (v : PassView P). v.stalls) knows;
         found = record {
           before = old.view;
           may = record { free = was.1.free; swap = was.1.swap; few = was.1.few };

@@ -9,12 +9,11 @@ use Rattle.k42_stamp.specs.Layouts.{Layouts}
 use Rattle.co_any.specs.declared.part.AnyPart.{AnyPart}
 use Rattle.k42_board.specs.Gracing.{role_view}
 use Rattle.k42_board.specs.Noting.{notes_due}
-use Rattle.k42_board.specs.Queueing.{WasEmpty}
 use Rattle.k42_board.specs.Seen.{PassSeen}
 use Rattle.k42_board.specs.Views.{word_begun}
 use Rattle.k42_board.specs.declared.view.PassView.{PassView}
 use Rattle.k42_board.specs.declared.view.Row.{Row}
-use Rattle.k42_quiesce.specs.Collecting.{HasCollected, HasHandedOver, CollectsAll}
+use Rattle.k42_quiesce.specs.Collecting.{HasCollected, HasHandedOver}
 use Rattle.k42_quiesce.specs.Gracing.{GoesOn}
 use Rattle.k42_runtime.specs.Phases.{last_step}
 use Rattle.k42_runtime.specs.Reclaims.{with_rows}
@@ -177,6 +176,3 @@ module _ {P : Type 0} (old mid : PassSeen P) (more : List Row) (w : PassView P) 
 
   pub none_listed : w.freed ≡ []
   none_listed = ap (λ (v : PassView P). v.freed) goes.rest
-
-  pub collects_all : CollectsAll P mid.row_room → WasEmpty P ⊎ (old.row_room ≤ length more + 1)
-  collects_all = ⊎_elim (λ (empty : WasEmpty P). inl empty) (λ (few : mid.row_room ≤ 1). let room = is.row_room in inr (omega (arith, few, room)))

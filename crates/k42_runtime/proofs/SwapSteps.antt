@@ -1,5 +1,5 @@
 -- A swap that is stepped on: what its steps bring, seen from a step before.
-use Rattle.std.proofs.Common.{◌≡◌, ⊎_elim, inl, inr, ℕ, ◌+◌, ◌<◌, ◌≤◌, List, [], ◌∷◌, ◌++◌, None, length, ap, ◌∙◌, subst, arith}
+use Rattle.std.proofs.Common.{◌≡◌, ⊎_elim, inl, inr, ℕ, ◌+◌, ◌<◌, ◌≤◌, true, List, [], ◌∷◌, ◌++◌, None, length, refl, ap, ◌∙◌, subst, arith}
 use Rattle.k42_kinds.specs.declared.entry.Act.{Act}
 use Rattle.k42_kinds.specs.declared.entry.Answer.{Answer}
 use Rattle.k42_kinds.specs.declared.entry.Entry.{Entry}
@@ -10,8 +10,10 @@ use Rattle.k42_board.specs.Seen.{PassSeen}
 use Rattle.k42_board.specs.declared.view.PassView.{PassView}
 use Rattle.k42_mediator.specs.Entries.{IsNext}
 use Rattle.k42_runtime.specs.Phases.{HasGoneOn}
-use Rattle.k42_runtime.specs.Swaps.{SwapSeen, IsSameCaller, IsHeldUpBy, HasSwapped, HasAbandoned, HasBrought, HasStepped, graces_due}
+use Rattle.k42_runtime.specs.Swaps.{SwapSeen, IsSameCaller, IsHeldUpBy, IsNewlyFound, HasSwapped, HasAbandoned, HasBrought, HasStepped, is_last, graces_due}
 use Rattle.k42_runtime.specs.Systems.{SystemSeen, layouts_in}
+use Rattle.k42_runtime.specs.declared.swaps.Cause.{Cause}
+use Rattle.k42_runtime.specs.declared.swaps.Cause.TheVariants as causes
 use Rattle.k42_runtime.specs.declared.swaps.Stage.TheVariants.{New}
 use Rattle.k42_runtime.specs.declared.swaps.Step.{Step}
 use Rattle.k42_runtime.specs.declared.swaps.Step.TheVariants.{Again, Ended, Memory}
@@ -68,16 +70,40 @@ module _ {P : Type 0} (u v w : PassView P) (same : IsSameCaller u v) (drawn : v.
     opened = is.opened;
   }
 
+-- nothing has held the pass up
+pub record IsUnstalled {P : Type 0} (old new : PassView P) : Type 0 where
+  pub refused : new.refused ≡ old.refused
+  pub stalls : new.stalls ≡ old.stalls
+
+newly_before : {P : Type 0} (cause : Cause) (old mid new : PassView P) → IsUnstalled old mid → IsNewlyFound cause mid new → IsNewlyFound cause old new
+newly_before (causes.Left proc left) old mid new free is = is ∙ ap (λ words. new.heard ∷ words) free.stalls
+newly_before (causes.RoleHeld holder) old mid new free is = is ∙ ap (λ words. (holder + 1) ∷ words) free.stalls
+newly_before (causes.InFlight count) old mid new free is = is ∙ ap (λ words. new.heard ∷ words) free.stalls
+newly_before (causes.CellHeld holder) old mid new free is = is ∙ ap (λ words. (holder + 1) ∷ words) free.refused
+
+pub fewer : (a b c : ℕ) → b ≤ a → c ≤ b → c ≤ a
+fewer a b c first second = omega (arith, first, second)
+
+-- a step that ends its swap has not been held up
+pub not_held : (result : Step) (cause : Cause) → is_last result ≡ true → result ≡ Again cause → ⊥
+not_held (Again held) cause last is = cc
+not_held (Ended end) cause last is = cc
+not_held Memory cause last is = cc
+
 module _ (system : SystemSeen) (s m t : SwapSeen) (old mid new : PassSeen AnyPart) (goes : HasGoneOn s m old mid) where
-  brought_before : (result : Step) → HasBrought system result m mid new → HasBrought system result s old new
-  brought_before (Ended end) is =
+  brought_before : (result : Step) → ((cause : Cause) → result ≡ Again cause → IsUnstalled old.view mid.view) → HasBrought system result m mid new
+      → HasBrought system result s old new
+  brought_before (Ended end) free is =
       subst (λ (x : ℕ × To). HasSwapped x.0 x.1 end old.view new.view) (λ j. (goes.object j, goes.to j))
       (swapped_before old.view mid.view new.view goes.caller goes.drawn m.object m.to end is)
-  brought_before (Again cause) is = (
+  brought_before (Again cause) free is = (
     is.0 ∙ goes.drawn,
-    subst (λ (id : ℕ). IsHeldUpBy (layouts_in system) system.sys.layouts id cause new.view) goes.seat is.1,
+    (
+      newly_before cause old.view mid.view new.view (free cause refl) is.1,
+      subst (λ (id : ℕ). IsHeldUpBy (layouts_in system) system.sys.layouts id cause new.view) goes.seat is.2,
+    ),
   )
-  brought_before Memory is =
+  brought_before Memory free is =
       ⊎_elim (λ (is : (m.stage ≡ New) × (new.view ≡ mid.view)). let was = goes.waits is.0 in inl (was.0, is.1 ∙ was.1))
       (λ (is : HasAbandoned (layouts_in system) system.sys.layouts mid.seat m.object m.to mid.view new.view). inr (
       subst (λ (x : ℕ × ℕ × To). HasAbandoned (layouts_in system) system.sys.layouts x.0 x.1 x.2 old.view new.view)
@@ -85,8 +111,9 @@ module _ (system : SystemSeen) (s m t : SwapSeen) (old mid new : PassSeen AnyPar
       (abandoned_before old.view mid.view new.view goes.caller goes.drawn (layouts_in system) system.sys.layouts mid.seat m.object m.to is)))
       is
 
-  pub stepped_before : (result : Step) → HasStepped system result m t mid new → HasStepped system result s t old new
-  stepped_before result is = record {
+  pub stepped_before : (result : Step) → ((cause : Cause) → result ≡ Again cause → IsUnstalled old.view mid.view) → HasStepped system result m t mid new
+      → HasStepped system result s t old new
+  stepped_before result free is = record {
     here = is.here;
     stage = is.stage;
     begun = is.begun;
@@ -100,7 +127,5 @@ module _ (system : SystemSeen) (s m t : SwapSeen) (old mid new : PassSeen AnyPar
         fewer (old.view.graces + graces_due s.stage s.holder) (mid.view.graces + graces_due m.stage m.holder)
         (new.view.graces + graces_due t.stage t.holder) first second;
     told = is.told;
-    brought = brought_before result is.brought;
-  } where
-    fewer : (a b c : ℕ) → b ≤ a → c ≤ b → c ≤ a
-    fewer a b c first second = omega (arith, first, second)
+    brought = brought_before result free is.brought;
+  }

@@ -1,16 +1,16 @@
 -- A swap that is stepped until it is over.
-use Rattle.std.proofs.Common.{◌≡◌, ℕ, true, false, None, length, refl, arith}
+use Rattle.std.proofs.Common.{◌≡◌, ℕ, ◌+◌, true, false, None, length, refl, ◌∙◌, arith}
 use Rattle.co_any.specs.declared.part.AnyPart.{AnyPart}
 use Rattle.k42_board.specs.Seen.{PassSeen}
 use Rattle.k42_runtime.specs.Phases.{HasGoneOn}
-use Rattle.k42_runtime.specs.Swaps.{SwapSeen, IsAtStage, HasStepped, is_over}
+use Rattle.k42_runtime.specs.Swaps.{SwapSeen, IsAtStage, HasStepped, is_over, graces_due}
 use Rattle.k42_runtime.specs.Systems.{SystemSeen, IsPassHere, IsAtRest}
 use Rattle.k42_runtime.specs.declared.swaps.Cause.{Cause}
 use Rattle.k42_runtime.specs.declared.swaps.Stage.{Stage}
 use Rattle.k42_runtime.specs.declared.swaps.Stage.TheVariants as stages
 use Rattle.k42_runtime.specs.declared.swaps.Step.TheVariants.{Again}
 use Rattle.k42_runtime.specs.declared.swaps.To.{To}
-use Rattle.k42_runtime.proofs.SwapSteps.{stepped_before}
+use Rattle.k42_runtime.proofs.SwapSteps.{same_caller, fewer}
 
 -- it has been stepped some times, and is not over
 pub record IsStepped (system : SystemSeen) (s t : SwapSeen) (old new : PassSeen AnyPart) : Type 0 where
@@ -39,19 +39,21 @@ not_stepped system s new here stage going = record {
 pub stepped_again : (system : SystemSeen) (s m t : SwapSeen) (old mid new : PassSeen AnyPart) (cause : Cause) → IsStepped system s m old mid
     → HasStepped system (Again cause) m t mid new → IsStepped system s t old new
 stepped_again system s m t old mid new cause is step =
-    let all = stepped_before system s m t old mid new is.goes (Again cause) step in
     record {
-      here = all.here;
-      stage = all.stage;
-      going = all.over;
+      here = step.here;
+      stage = step.stage;
+      going = step.over;
       goes = record {
-        object = all.object;
-        to = all.to;
-        seat = all.seat;
-        caller = all.caller;
-        drawn = all.brought.0;
-        graces = all.graces;
-        waits = λ e. absurd (all.begun e);
+        object = step.object ∙ is.goes.object;
+        to = step.to ∙ is.goes.to;
+        seat = step.seat ∙ is.goes.seat;
+        caller = same_caller old.view mid.view new.view is.goes.caller step.caller;
+        drawn = step.brought.0 ∙ is.goes.drawn;
+        graces =
+            let first = is.goes.graces in let second = step.graces in
+            fewer (old.view.graces + graces_due s.stage s.holder) (mid.view.graces + graces_due m.stage m.holder)
+            (new.view.graces + graces_due t.stage t.holder) first second;
+        waits = λ e. absurd (step.begun e);
       };
     }
 

@@ -88,13 +88,13 @@ module _ {S L P : Type 0} (F : Layouts S L P) (declared : List L) (id : ℕ) whe
     pub place : ℕ
     pub held : WasHeldAt (cell_of object incarnation place) holder
 
-  -- What this step of the call found that holds it up. The word of its knock, or the one lock word by which it was refused,
-  -- stands in front of those that the pass listed before.
+  -- What this step of the call found that holds it up. The word of its knock, the word that its install found in the entry,
+  -- or the one lock word by which it was refused, stands in front of those that the pass listed before.
   abbrev pub HoldsUp : CallCause → ℕ → PassView P → PassView P → Type 0
   HoldsUp causes.Blocked object old new =
       (before : PassView P) × (before.knocked ≡ old.knocked) × IsKnock F declared id object before new Blocked
   HoldsUp (causes.Elsewhere word) object old new =
-      (before : PassView P) × HasFilled F declared id object before new (Elsewhere word)
+      (new.stalls ≡ word ∷ old.stalls) × (before : PassView P) × HasFilled F declared id object before new (Elsewhere word)
   HoldsUp (causes.CellHeld holder) object old new =
       (new.refused ≡ (holder + 1) ∷ old.refused) × WasHeld object holder
 

@@ -1,8 +1,7 @@
 -- Rows that are freed.
-use Rattle.std.specs.Prelude.{◌≡◌, ◌⊎◌, ℕ, ◌+◌, ◌≤◌, ◌++◌, List, [], length}
+use Rattle.std.specs.Prelude.{◌≡◌, ℕ, ◌+◌, ◌≤◌, ◌++◌, List, [], length}
 use Rattle.k42_stamp.specs.Layouts.{Layouts}
 use Rattle.k42_board.specs.Noting.{notes_due}
-use Rattle.k42_board.specs.Queueing.{WasEmpty}
 use Rattle.k42_board.specs.Seen.{PassSeen}
 use Rattle.k42_board.specs.Steps.{Always}
 use Rattle.k42_board.specs.declared.view.PassView.{PassView}
@@ -13,13 +12,12 @@ use Rattle.k42_quiesce.specs.Reclaiming.{Reclaims, AreRowsFreed}
 abbrev pub with_rows : {P : Type 0} → List Row → PassView P → PassView P
 with_rows rows v = record v { rows = v.rows ++ rows }
 
--- The pass has collected all rows that others had handed over, as far as it had room, and the grace that began then has
+-- The pass has collected rows that others had handed over, and the grace that began then has
 -- freed so many rows, which the pass lists; those that it held are free.
 pub record HasReclaimed {S L P : Type 0} (F : Layouts S L P) (declared : List L) (count : ℕ) (old new : PassSeen P) : Type 0 where
   pub collected : List Row
   pub popped : new.popped ≡ old.popped ++ collected
   pub pushed : new.pushed ≡ old.pushed
-  pub all : WasEmpty P ⊎ (old.row_room ≤ length collected + 1)
   pub freed : Reclaims F declared old.seat (notes_due (with_rows collected old.view)) [] new.view.freed count
   pub counted : count ≡ length new.view.freed
   pub rows : Always F declared old.seat new.view (AreRowsFreed (old.view.rows ++ collected))

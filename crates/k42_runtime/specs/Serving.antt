@@ -103,7 +103,7 @@ pub record HasDrawn {P : Type 0} (op : Op) (reply : Reply) (old new : PassView P
   pub knows : new ≡ hears new.heard (record old { taker = caller_drawn entry old.taker; found = None })
 
 module _ {S L P : Type 0} (F : Layouts S L P) (declared : List L) where
-  -- how it has come out that sought its row: it is there, and found no lock held, or knows what held it up
+  -- how it has come out that sought its row: it is there, and nothing held it up, or it knows what did
   abbrev pub GoesIn : ℕ → Option CallCause → ℕ → PassView P → PassView P → Type 0
   GoesIn id None object old new = IsServing object new × (new.refused ≡ old.refused)
   GoesIn id (Some cause) object old new =

@@ -184,6 +184,13 @@ with_last heard rows granted v = record v { heard = heard; rows = rows; granted 
 abbrev pub HasNotBegun : {P : Type 0} → PassView P → PassView P → Type 0
 HasNotBegun old new = new ≡ record old { rows = new.rows; granted = new.granted }
 
+-- What this step has found is the one that stands in front of what had held the pass up before.
+abbrev pub IsNewlyFound : {P : Type 0} → Cause → PassView P → PassView P → Type 0
+IsNewlyFound (causes.Left proc left) old new = new.stalls ≡ new.heard ∷ old.stalls
+IsNewlyFound (causes.RoleHeld holder) old new = new.stalls ≡ (holder + 1) ∷ old.stalls
+IsNewlyFound (causes.InFlight count) old new = new.stalls ≡ new.heard ∷ old.stalls
+IsNewlyFound (causes.CellHeld holder) old new = new.refused ≡ (holder + 1) ∷ old.refused
+
 module _ {S L P : Type 0} (F : Layouts S L P) (declared : List L) (id : ℕ) where
   -- its last step has found the role with another caller
   pub record HasFoundRole (holder : ℕ) (v : PassView P) : Type 0 where
@@ -252,7 +259,7 @@ module _ {S L P : Type 0} (F : Layouts S L P) (declared : List L) (id : ℕ) whe
 abbrev pub HasBrought : SystemSeen → Step → SwapSeen → PassSeen AnyPart → PassSeen AnyPart → Type 0
 HasBrought system (steps.Ended end) swap old new = HasSwapped swap.object swap.to end old.view new.view
 HasBrought system (steps.Again cause) swap old new =
-    (new.view.taker.mine ≡ old.view.taker.mine)
+    (new.view.taker.mine ≡ old.view.taker.mine) × IsNewlyFound cause old.view new.view
     × IsHeldUpBy (layouts_in system) system.sys.layouts old.seat cause new.view
 HasBrought system steps.Memory swap old new =
     StepsWithoutMemory (layouts_in system) system.sys.layouts old.seat swap.stage swap.object swap.to old.view new.view

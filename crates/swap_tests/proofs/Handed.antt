@@ -4,7 +4,7 @@ use Rattle.phase_core.specs.Stages.{is_moved}
 use Rattle.phase_core.specs.declared.caller.SwapAt.{SwapAt}
 use Rattle.k42_board.specs.Swapping.{FitsSwap, object_swapped, at_swap, moved_view, blocked_word}
 use Rattle.phase_core.specs.declared.caller.SwapAt.TheVariants.{Moved}
-use Rattle.k42_board.specs.Views.{hears}
+use Rattle.k42_board.specs.Views.{hears, stalled}
 use Rattle.k42_board.specs.declared.view.LastBegin.{LastBegin}
 use Rattle.k42_board.specs.declared.view.PassView.{PassView}
 
@@ -21,4 +21,4 @@ either false v w handed first second = second
 pub still_unhanded : {P : Type 0} (found : ℕ) (v w : PassView P) → w ≡ moved_view found v → v.handed ≡ None → w.handed ≡ None
 still_unhanded {P} found v w is none =
     ap (λ (x : PassView P). x.handed) is
-    ∙ either (found == blocked_word v) (at_swap found v (Moved (object_swapped v))) (hears found v) None none none
+    ∙ either (found == blocked_word v) (at_swap found v (Moved (object_swapped v))) (hears found (stalled found v)) None none none

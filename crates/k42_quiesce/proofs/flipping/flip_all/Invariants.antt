@@ -8,4 +8,5 @@ use Rattle.k42_quiesce.proofs.flipping.flip_all.Given as goal
 abbrev pub invariant-loop-proc : goal.invariant-loop-proc
 invariant-loop-proc g l =
     IsSamePass l.initial.pass l.pass × GoesOn l.initial.pass.view l.pass.view × (is_some l.pass.view.base ≡ true)
+    × (l.pass.view.stalls ≡ l.initial.pass.view.stalls)
     × (l.pass.view.turn.grace ≡ (if nat_lt l.proc l.sys.procs then Flipping l.proc else Looking 0))

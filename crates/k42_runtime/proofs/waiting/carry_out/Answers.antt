@@ -1,7 +1,7 @@
-use Rattle.std.proofs.Common.{subst}
+use Rattle.std.proofs.Common.{refl, subst}
 use Rattle.k42_runtime.specs.Swaps.{HasStepped}
 use Rattle.k42_runtime.specs.declared.swaps.Step.TheVariants.{Ended, Memory}
-use Rattle.k42_runtime.proofs.SwapSteps.{stepped_before}
+use Rattle.k42_runtime.proofs.SwapSteps.{not_held, stepped_before}
 use Rattle.k42_runtime.proofs.SwapWaits.{not_stepped, stepped_again}
 use Rattle.k42_runtime.proofs.waiting.carry_out.Goals as goal
 
@@ -16,9 +16,11 @@ loop-preserved g c =
 pub returns-in-Ended : goal.returns-in-Ended
 returns-in-Ended g c =
     stepped_before c.args.system.now c.args.swap.now c.loop.swap c.step.new.self c.args.pass.now c.loop.pass c.step.new.pass c.loop.invariant.goes (Ended c.in-Ended.end)
+    (λ cause is. absurd (not_held (Ended c.in-Ended.end) cause refl is))
     (subst (λ answer. HasStepped c.args.system.now answer c.loop.swap c.step.new.self c.loop.pass c.step.new.pass) c.in-Ended.is c.step.ensures)
 
 pub returns-in-Memory : goal.returns-in-Memory
 returns-in-Memory g c =
     stepped_before c.args.system.now c.args.swap.now c.loop.swap c.step.new.self c.args.pass.now c.loop.pass c.step.new.pass c.loop.invariant.goes Memory
+    (λ cause is. absurd (not_held Memory cause refl is))
     (subst (λ answer. HasStepped c.args.system.now answer c.loop.swap c.step.new.self c.loop.pass c.step.new.pass) c.in-Memory.is c.step.ensures)

@@ -4,7 +4,7 @@ use Rattle.k42_kinds.specs.declared.entry.Answer.TheVariants as answers
 use Rattle.k42_runtime.specs.Swaps.{SwapSeen, HasStepped, act_asked, graces_due}
 use Rattle.k42_runtime.specs.Systems.{IsPassHere, IsAtRest}
 use Rattle.k42_runtime.specs.declared.swaps.Stage.TheVariants.{New, Waiting, Marking, Over}
-use Rattle.k42_runtime.proofs.SwapBegins.{marks_on, waits_on, refused_by}
+use Rattle.k42_runtime.proofs.SwapBegins.{marks_on, marks_free, waits_on, waits_free, refused_by}
 use Rattle.k42_runtime.proofs.SwapEnds.{few}
 use Rattle.k42_runtime.proofs.SwapSteps.{stepped_before}
 use Rattle.k42_runtime.proofs.swaps.Swap.begin.Goals as goal
@@ -20,7 +20,9 @@ returns-in-Begun c =
     (stepped_before c.args.system.now s m c.wait.new.self old c.interpose.new.pass c.wait.new.pass
     (waits_on s.object old c.reserve.new.self c.begin.new.pass c.reserve.ensures.same c.begin.ensures.same c.begin.ensures.knows s m c.interpose.new.pass
     first refl (ap (λ (x : SwapSeen). x.holder) is ∙ c.requires.new.0) refl refl c.interpose.ensures.same c.interpose.ensures.knows)
-    c.wait.result c.wait.ensures)
+    c.wait.result
+    (λ cause e. waits_free s.object old c.reserve.new.self c.begin.new.pass c.reserve.ensures.same c.begin.ensures.same c.begin.ensures.knows c.interpose.new.pass c.interpose.ensures.knows)
+    c.wait.ensures)
 
 pub returns-in-Busy : goal.returns-in-Busy
 returns-in-Busy c =
@@ -60,4 +62,6 @@ returns-in-Spent c =
     subst (λ s. HasStepped c.args.system.now c.mark.result s c.mark.new.self old c.mark.new.pass) is
     (stepped_before c.args.system.now s m c.mark.new.self old c.begin.new.pass c.mark.new.pass
     (marks_on s.object old c.reserve.new.self c.begin.new.pass c.reserve.ensures.same c.begin.ensures.same c.begin.ensures.knows s m first refl refl refl)
-    c.mark.result c.mark.ensures)
+    c.mark.result
+    (λ cause e. marks_free s.object old c.reserve.new.self c.begin.new.pass c.reserve.ensures.same c.begin.ensures.same c.begin.ensures.knows)
+    c.mark.ensures)

@@ -1,5 +1,6 @@
 use Rattle.std.proofs.Common.{rules, ◌≡◌, ℕ, refl, sym, ap, ◌∙◌, subst}
 use Rattle.k42_board.specs.Views.{word_begun}
+use Rattle.k42_board.specs.declared.view.PassView.{PassView}
 use Rattle.k42_mediator.specs.Marks.{IsMark, IsHeldBy, HasMarked}
 use Rattle.k42_runtime.specs.Swaps.{act_asked, HasFoundCell, HasStepped, graces_due, IsEndBy}
 use Rattle.k42_runtime.specs.Systems.{SystemSeen, IsPassHere, IsAtRest, layouts_in}
@@ -58,6 +59,7 @@ returns-in-Held c =
       told = search rules;
       brought = (
         search rules,
+        (ap (λ (v : PassView _). v.refused) held.knows,
         subst (λ (z : SystemSeen). HasFoundCell (layouts_in z) z.sys.layouts old.seat c.in-Held.holder new.view) c.system.view_is
             (record {
               before = old.view;
@@ -65,6 +67,6 @@ returns-in-Held c =
               knows = held.knows;
               another = held.another;
               step = held.event;
-            }),
+            })),
       );
     }

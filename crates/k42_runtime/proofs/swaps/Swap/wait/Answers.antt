@@ -27,7 +27,7 @@ returns-in-Again c =
     let same = c.step.ensures.same in let F = layouts_in (record { sys = c.system.inside.sys; plan = c.system.inside.plan }) in
     let up =
     held_up objects s t old new same first refl refl waits.0 waits.1 waits.2 F c.system.inside.sys.layouts c.step.result c.in-Again.held c.in-Again.is
-    c.step.ensures.left c.step.ensures.looked c.step.ensures.role_held c.step.ensures.tries c.step.ensures.goes in
+    c.step.ensures.left c.step.ensures.looked c.step.ensures.stalled c.step.ensures.role_held c.step.ensures.tries c.step.ensures.goes in
     subst (λ s. HasStepped c.args.system.now (Again c.cause_of.result) s t old new) is
     (subst (λ cause. HasStepped c.args.system.now (Again cause) s t old new) (sym c.cause_of.ensures)
     (record {
@@ -48,7 +48,8 @@ returns-in-Again c =
       told = up.told;
       brought = (
         ap (λ (x : turns.Caller). x.mine) up.taker,
-        subst (λ (z : SystemSeen). IsHeldUpBy (layouts_in z) z.sys.layouts old.seat (cause_in c.in-Again.held) new.view) c.system.view_is up.found,
+        (up.newly,
+        subst (λ (z : SystemSeen). IsHeldUpBy (layouts_in z) z.sys.layouts old.seat (cause_in c.in-Again.held) new.view) c.system.view_is up.found),
       );
     }))
 
@@ -82,4 +83,9 @@ returns-in-Quiet c =
           subst (λ stage. mid.view.graces + 0 ≤ old.view.graces + graces_due stage s.holder) (sym first) (omega (arith, n));
       waits = λ e. absurd (cc);
     })
-    c.shut.result c.shut.ensures)
+    c.shut.result
+    (λ cause e. record {
+      refused = ap (λ (v : PassView _). v.refused) blocked ∙ ap (λ (v : PassView _). v.refused) reclaimed ∙ has.refused;
+      stalls = ap (λ (v : PassView _). v.stalls) blocked ∙ ap (λ (v : PassView _). v.stalls) reclaimed ∙ c.step.ensures.free c.in-Quiet.is;
+    })
+    c.shut.ensures)

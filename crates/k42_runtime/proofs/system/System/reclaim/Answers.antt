@@ -5,7 +5,7 @@ use Rattle.k42_board.specs.declared.view.Row.{Row}
 use Rattle.k42_quiesce.specs.Reclaiming.{Reclaims, AreRowsFreed}
 use Rattle.k42_runtime.specs.Reclaims.{with_rows}
 use Rattle.k42_runtime.specs.Systems.{SystemSeen, layouts_in}
-use Rattle.k42_runtime.proofs.SwapRows.{serves_all, notes_all, none_listed, collects_all}
+use Rattle.k42_runtime.proofs.SwapRows.{serves_all, notes_all, none_listed}
 use Rattle.k42_runtime.proofs.system.System.reclaim.Goals as goal
 
 pub returns-clause-reclaimed : goal.returns-clause-reclaimed
@@ -23,7 +23,6 @@ returns-clause-reclaimed g c =
       collected = more;
       popped = c.reclaim.ensures.same.popped ∙ c.grace.ensures.same.popped ∙ collected.popped;
       pushed = c.reclaim.ensures.same.pushed ∙ c.grace.ensures.same.pushed ∙ collected.pushed;
-      all = collects_all old mid more w collected goes c.collect.ensures.all;
       freed =
           subst (λ (x : SystemSeen). Reclaims (layouts_in x) x.sys.layouts old.seat (notes_due (with_rows more old.view)) [] new.view.freed c.reclaim.result) c.self.view_is
           freed;
