@@ -12,3 +12,4 @@ pub mod Swaps
 pub mod Boxes
 pub mod Faults
 pub mod Picture
+pub mod Blanks

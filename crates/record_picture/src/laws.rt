@@ -1,11 +1,15 @@
 ghost use Rattle.std.specs.Prelude.{◌≡◌, ℕ, List, [], ◌∷◌, ◌++◌, length, true};
 ghost use Rattle.std.specs.List.{list_all};
+ghost use Rattle.record_picture.specs.Blanks.{blank_record, blank_script};
 ghost use Rattle.record_picture.specs.Boxes.{boxes as boxes_of, box_text};
-ghost use Rattle.record_picture.specs.Harmless.{is_inert, names_entities};
+ghost use Rattle.record_picture.specs.Harmless.{is_inert, markup, names_entities};
+ghost use Rattle.record_picture.specs.Picture.{picture};
 ghost use Rattle.record_picture.specs.Pieces.{escaped};
 ghost use Rattle.record_picture.specs.Swaps.{swap_lines, swap_text};
 
-use record_text::RecordLine;
+use crate::verdict::Verdict;
+use crate::window::Window;
+use record_text::{Record, RecordLine};
 use script_text::Script;
 
 /// One more entry has one more box, in the column of its place.
@@ -31,4 +35,18 @@ pub fn no_byte_breaks_out()
 /// Each `&` of a name or a text, as it is written, begins the name of a byte.
 pub fn escapes_are_entities()
     ensures { (bytes : List ℕ) → names_entities (escaped bytes) ≡ true }
+{}
+
+/// No name and no text of the script or of the record is markup: a picture has just the bytes
+/// `<`, `>`, `'` and `"`, in their order, that it has where each name and each text is left out.
+pub fn no_name_or_text_is_markup()
+    ensures { (script : Script) (written : Record) (verdict : Verdict) (window : Window) →
+        markup (picture script written verdict window)
+        ≡ markup (picture (blank_script script) (blank_record written) verdict window) }
+{}
+
+/// Each `&` of a picture begins the name of a byte.
+pub fn each_ampersand_names_a_byte()
+    ensures { (script : Script) (written : Record) (verdict : Verdict) (window : Window) →
+        names_entities (picture script written verdict window) ≡ true }
 {}

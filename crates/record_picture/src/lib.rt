@@ -19,7 +19,8 @@ mod window;
 
 pub use drawing::draw;
 pub use laws::{
-    each_entry_has_one_box, each_swap_has_one_line, escapes_are_entities, no_byte_breaks_out,
+    each_ampersand_names_a_byte, each_entry_has_one_box, each_swap_has_one_line,
+    escapes_are_entities, no_byte_breaks_out, no_name_or_text_is_markup,
 };
 pub use verdict::Verdict;
 pub use window::{COLUMNS, Window};
