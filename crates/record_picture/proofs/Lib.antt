@@ -8,3 +8,5 @@ pub mod BlankPictures
 pub mod NamedBytes
 pub mod NamedPieces
 pub mod NamedPictures
+pub mod PlacedPieces
+mod PiecesByExample

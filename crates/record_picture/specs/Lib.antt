@@ -12,4 +12,5 @@ pub mod Swaps
 pub mod Boxes
 pub mod Faults
 pub mod Picture
+pub mod Placed
 pub mod Blanks

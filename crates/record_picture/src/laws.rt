@@ -1,11 +1,15 @@
-ghost use Rattle.std.specs.Prelude.{◌≡◌, ℕ, List, [], ◌∷◌, ◌++◌, length, true};
+ghost use Rattle.std.specs.Prelude.{◌≡◌, ℕ, List, [], ◌∷◌, ◌++◌, ◌+◌, ◌<◌, ◌≤◌, ◌≢◌, length, slice_get, Some, true};
 ghost use Rattle.std.specs.List.{list_all};
 ghost use Rattle.record_picture.specs.Blanks.{blank_record, blank_script};
+ghost use Rattle.k42_kinds.specs.declared.entry.Answer.TheVariants.{Swapped};
 ghost use Rattle.record_picture.specs.Boxes.{boxes as boxes_of, box_text};
 ghost use Rattle.record_picture.specs.Harmless.{is_inert, markup, names_entities};
+ghost use Rattle.record_picture.specs.Measures.{column_left, lane_top};
 ghost use Rattle.record_picture.specs.Picture.{picture};
 ghost use Rattle.record_picture.specs.Pieces.{escaped};
+ghost use Rattle.record_picture.specs.Placed.{IsGroupAt, IsLineDown, StandsIn};
 ghost use Rattle.record_picture.specs.Swaps.{swap_lines, swap_text};
+ghost use Rattle.record_picture.specs.Windows.{shown};
 
 use crate::verdict::Verdict;
 use crate::window::Window;
@@ -49,4 +53,49 @@ pub fn no_name_or_text_is_markup()
 pub fn each_ampersand_names_a_byte()
     ensures { (script : Script) (written : Record) (verdict : Verdict) (window : Window) →
         names_entities (picture script written verdict window) ≡ true }
+{}
+
+/// The box of an entry is a group at the left edge of its column and in the lane of its worker.
+pub fn a_box_stands_in_its_column_and_lane()
+    ensures { (script : Script) (before column : ℕ) (line : RecordLine) →
+        IsGroupAt line.object (column_left column) (lane_top line.worker + 7)
+        (box_text script before column line) }
+{}
+
+/// Each entry that is shown has its box in the picture, in the column of its place.
+pub fn each_entry_shown_has_its_box()
+    ensures { (script : Script) (written : Record) (verdict : Verdict) (window : Window)
+        (place : ℕ) (line : RecordLine) →
+        slice_get (shown window written.lines) place ≡ Some line →
+        StandsIn (box_text script window.before place line)
+        (picture script written verdict window) }
+{}
+
+/// No two boxes meet, unless they stand in one column and in one lane: a box is 146 wide and 46 high.
+pub fn no_two_boxes_meet()
+    ensures columns { (column later : ℕ) → column < later →
+        column_left column + 146 < column_left later }
+    ensures lanes { (lane later : ℕ) → lane < later →
+        (lane_top lane + 7) + 46 < lane_top later + 7 }
+{}
+
+/// The line of a swap or destroy that was carried out stands in the middle of its entry's column,
+/// and goes through each lane from above the first to below the last. Another entry has none.
+pub fn a_swap_has_a_line_through_all_lanes()
+    ensures placed { (script : Script) (column : ℕ) (line : RecordLine) (number : ℕ) →
+        line.answer ≡ Swapped number →
+        IsLineDown line.object (column_left column + 73) (lane_top (length script.workers))
+        (swap_text script column line) }
+    ensures through { (script : Script) (lane : ℕ) → lane < length script.workers →
+        (56 < lane_top lane) × (lane_top lane + 72 ≤ lane_top (length script.workers)) }
+    ensures none { (script : Script) (column : ℕ) (line : RecordLine) →
+        ((number : ℕ) → line.answer ≢ Swapped number) → swap_text script column line ≡ [] }
+{}
+
+/// The line of each swap or destroy that is shown and was carried out is in the picture.
+pub fn each_swap_shown_has_its_line()
+    ensures { (script : Script) (written : Record) (verdict : Verdict) (window : Window)
+        (place : ℕ) (line : RecordLine) →
+        slice_get (shown window written.lines) place ≡ Some line →
+        StandsIn (swap_text script place line) (picture script written verdict window) }
 {}
