@@ -5,8 +5,9 @@ pub mod Drawings
 pub mod Markups
 pub mod BlankPieces
 pub mod BlankPictures
-pub mod NamedBytes
-pub mod NamedPieces
+pub mod Skips
+pub mod SkippedPieces
 pub mod NamedPictures
+pub mod CountedPictures
 pub mod PlacedPieces
 mod PiecesByExample

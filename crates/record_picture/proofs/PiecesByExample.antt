@@ -1,4 +1,4 @@
--- Where a box stands and what a text becomes, as the check computes it: accepted and refused.
+-- Where a box stands, what a text becomes and what is counted, as the check computes it: accepted and refused.
 use Rattle.std.proofs.Common.{◌≡◌, ℕ, List, [], get_or, false, refl, ap, arith}
 use Rattle.std.specs.Prelude.{codes}
 use Rattle.std.specs.Fmt.{digits}
@@ -8,6 +8,7 @@ use Rattle.k42_kinds.specs.declared.operation.Reply.TheVariants.{Done}
 use Rattle.k42_kinds.specs.declared.entry.Act.TheVariants.{Call}
 use Rattle.k42_kinds.specs.declared.entry.Answer.TheVariants.{Replied}
 use Rattle.record_picture.specs.Boxes.{box_words}
+use Rattle.record_picture.specs.Counts.{count_of}
 use Rattle.record_picture.specs.Harmless.{markup, names_entities}
 use Rattle.record_picture.specs.Pieces.{worded}
 use Rattle.record_picture.specs.Placed.{IsGroupAt, IsLineDown}
@@ -52,3 +53,11 @@ no_empty_box object left top is = cc is.spelled
 
 no_empty_line : (object left bottom : ℕ) → IsLineDown object left bottom [] → ⊥
 no_empty_line object left bottom is = cc is.spelled
+
+-- ---- counts
+
+two_boxes : count_of (codes "<use href='#box'/>") (codes "<g><use href='#box'/></g><g><use href='#box'/></g>") ≡ 2
+two_boxes = refl
+
+no_box : count_of (codes "<use href='#box'/>") (codes "<g><use href='#busy'/></g>") ≡ 0
+no_box = refl

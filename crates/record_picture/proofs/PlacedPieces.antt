@@ -52,6 +52,19 @@ tooltip-spelled : (script : Script) (line : RecordLine) → box_tooltip script l
 unfolding box_tooltip box_title worded
 tooltip-spelled script line = refl
 
+title-joined : (place start begin words end box back : List ℕ) → (place ++ (start ++ ((begin ++ words) ++ (end ++ box)))) ++ back ≡ (place ++ start) ++ (begin ++ words ++ end) ++ (box ++ back)
+title-joined place start begin words end box back = simp append_assoc refl
+
+pub title-stands : (script : Script) (before column : ℕ) (line : RecordLine) → StandsIn (codes "<title>" ++ escaped (spaced (line_tokens script line)) ++ codes "</title>") (box_text script before column line)
+unfolding box_front box_title
+title-stands script before column line = record {
+  front = box_place line.object column line.worker ++ codes ")'>";
+  back = codes "<use href='#box'/>" ++ box_back script (before + column + 1) line;
+  spelled = rw (tooltip-spelled script line)
+      (title-joined (box_place line.object column line.worker) (codes ")'>") (codes "<title>") (escaped (spaced (line_tokens script line))) (codes "</title>") (codes "<use href='#box'/>")
+      (box_back script (before + column + 1) line));
+}
+
 pub box-placed : (script : Script) (before column : ℕ) (line : RecordLine) → IsGroupAt line.object (column_left column) (lane_top line.worker + 7) (box_text script before column line)
 unfolding box_front box_back box_marks group_front
 box-placed script before column line = record {

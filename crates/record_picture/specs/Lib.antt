@@ -14,3 +14,4 @@ pub mod Faults
 pub mod Picture
 pub mod Placed
 pub mod Blanks
+pub mod Counts

@@ -1,8 +1,11 @@
-ghost use Rattle.std.specs.Prelude.{◌≡◌, ℕ, List, [], ◌∷◌, ◌++◌, ◌+◌, ◌<◌, ◌≤◌, ◌≢◌, length, slice_get, Some, true};
+ghost use Rattle.std.specs.Prelude.{◌≡◌, ℕ, List, [], ◌∷◌, ◌++◌, ◌+◌, ◌<◌, ◌≤◌, ◌≢◌, length, codes, count_by, slice_get, Some, true};
 ghost use Rattle.std.specs.List.{list_all};
-ghost use Rattle.record_picture.specs.Blanks.{blank_record, blank_script};
 ghost use Rattle.k42_kinds.specs.declared.entry.Answer.TheVariants.{Swapped};
+ghost use Rattle.record_text.specs.Texts.{line_tokens};
+ghost use Rattle.record_text.specs.Tokens.{spaced};
+ghost use Rattle.record_picture.specs.Blanks.{blank_record, blank_script};
 ghost use Rattle.record_picture.specs.Boxes.{boxes as boxes_of, box_text};
+ghost use Rattle.record_picture.specs.Counts.{count_of, is_carried_out};
 ghost use Rattle.record_picture.specs.Harmless.{is_inert, markup, names_entities};
 ghost use Rattle.record_picture.specs.Measures.{column_left, lane_top};
 ghost use Rattle.record_picture.specs.Picture.{picture};
@@ -62,6 +65,14 @@ pub fn a_box_stands_in_its_column_and_lane()
         (box_text script before column line) }
 {}
 
+/// A box tells the whole line of its entry, escaped, as its title.
+pub fn a_box_tells_its_line()
+    ensures { (script : Script) (before column : ℕ) (line : RecordLine) →
+        StandsIn
+        (codes "<title>" ++ escaped (spaced (line_tokens script line)) ++ codes "</title>")
+        (box_text script before column line) }
+{}
+
 /// Each entry that is shown has its box in the picture, in the column of its place.
 pub fn each_entry_shown_has_its_box()
     ensures { (script : Script) (written : Record) (verdict : Verdict) (window : Window)
@@ -98,4 +109,15 @@ pub fn each_swap_shown_has_its_line()
         (place : ℕ) (line : RecordLine) →
         slice_get (shown window written.lines) place ≡ Some line →
         StandsIn (swap_text script place line) (picture script written verdict window) }
+{}
+
+/// A picture has as many boxes as entries are shown, and as many lines of swaps as were carried out
+/// among them.
+pub fn no_other_box_and_no_other_line()
+    ensures boxes { (script : Script) (written : Record) (verdict : Verdict) (window : Window) →
+        count_of (codes "<use href='#box'/>") (picture script written verdict window)
+        ≡ length (shown window written.lines) }
+    ensures lines { (script : Script) (written : Record) (verdict : Verdict) (window : Window) →
+        count_of (codes "<path class='s'") (picture script written verdict window)
+        ≡ count_by is_carried_out (shown window written.lines) }
 {}
