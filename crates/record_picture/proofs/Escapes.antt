@@ -29,7 +29,7 @@ pub escaped-inert : (bytes : List ℕ) → list_all is_inert (escaped bytes) ≡
 escaped-inert [] = refl
 escaped-inert (byte ∷ bytes) = rw (list_all-append is_inert (escape byte) (escaped bytes), escape-inert byte, escaped-inert bytes) refl
 
-names-escape : (byte : ℕ) (text : List ℕ) → names_entities (escape byte ++ text) ≡ names_entities text
+pub names-escape : (byte : ℕ) (text : List ℕ) → names_entities (escape byte ++ text) ≡ names_entities text
 names-escape byte text = elim (cases_Bool (byte == 38)) [
   | inl is ↦ rw is refl
   | inr not_and ↦ elim (cases_Bool (byte == 60)) [

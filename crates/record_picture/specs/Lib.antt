@@ -12,3 +12,6 @@ pub mod Swaps
 pub mod Boxes
 pub mod Faults
 pub mod Picture
+pub mod Placed
+pub mod Blanks
+pub mod Counts

@@ -19,7 +19,10 @@ mod window;
 
 pub use drawing::draw;
 pub use laws::{
-    each_entry_has_one_box, each_swap_has_one_line, escapes_are_entities, no_byte_breaks_out,
+    a_box_stands_in_its_column_and_lane, a_box_tells_its_line, a_swap_has_a_line_through_all_lanes,
+    each_ampersand_names_a_byte, each_entry_has_one_box, each_entry_shown_has_its_box,
+    each_swap_has_one_line, each_swap_shown_has_its_line, escapes_are_entities, no_byte_breaks_out,
+    no_name_or_text_is_markup, no_other_box_and_no_other_line, no_two_boxes_meet,
 };
 pub use verdict::Verdict;
 pub use window::{COLUMNS, Window};
