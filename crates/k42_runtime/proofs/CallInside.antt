@@ -42,11 +42,11 @@ module _ {S L P : Type 0} (F : Layouts S L P) (declared : List L) (id o : ℕ) (
   pub led_elsewhere : (answer : tries.Tried) (filled : filleds.Filled) (word : ℕ) → answer ≡ tried.Filled filled → filled ≡ Elsewhere word
       → IfFilled answer (HasFilled F declared id o old new) → IfFilled answer (λ given. EndsAt given o new.visitor.place)
       → (is_out new.visitor.place ≡ true)
-      × ((new.stalls ≡ word ∷ old.stalls) × ((before : PassView P) × HasFilled F declared id o before new (Elsewhere word)))
+      × ((new.stalls ≡ word ∷ old.stalls) × (before : PassView P) × HasFilled F declared id o before new (Elsewhere word))
   led_elsewhere answer filled word is is' has ends =
       let whole : answer ≡ tried.Filled (Elsewhere word) = is ∙ ap tried.Filled is' in
       let filled : HasFilled F declared id o old new (Elsewhere word) = subst (λ a. IfFilled a (HasFilled F declared id o old new)) whole has in
-      (subst (λ a. IfFilled a (λ given. EndsAt given o new.visitor.place)) whole ends, (stalled_elsewhere word filled, (old, filled)))
+      (subst (λ a. IfFilled a (λ given. EndsAt given o new.visitor.place)) whole ends, (stalled_elsewhere word filled, old, filled))
 
   pub found_held : (answer : tries.Tried) (holder : ℕ) → answer ≡ tried.Held holder → IfHeld answer (HasFoundHeld F declared id o old new)
       → (is_out new.visitor.place ≡ true) × ((new.refused ≡ (holder + 1) ∷ old.refused) × WasHeld F declared id o holder)

@@ -98,10 +98,8 @@ module _ (system : SystemSeen) (s m t : SwapSeen) (old mid new : PassSeen AnyPar
       (swapped_before old.view mid.view new.view goes.caller goes.drawn m.object m.to end is)
   brought_before (Again cause) free is = (
     is.0 ∙ goes.drawn,
-    (
-      newly_before cause old.view mid.view new.view (free cause refl) is.1,
-      subst (λ (id : ℕ). IsHeldUpBy (layouts_in system) system.sys.layouts id cause new.view) goes.seat is.2,
-    ),
+    newly_before cause old.view mid.view new.view (free cause refl) is.1,
+    subst (λ (id : ℕ). IsHeldUpBy (layouts_in system) system.sys.layouts id cause new.view) goes.seat is.2,
   )
   brought_before Memory free is =
       ⊎_elim (λ (is : (m.stage ≡ New) × (new.view ≡ mid.view)). let was = goes.waits is.0 in inl (was.0, is.1 ∙ was.1))

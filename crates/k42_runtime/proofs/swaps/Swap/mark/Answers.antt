@@ -59,7 +59,7 @@ returns-in-Held c =
       told = search rules;
       brought = (
         search rules,
-        (ap (λ (v : PassView _). v.refused) held.knows,
+        ap (λ (v : PassView _). v.refused) held.knows,
         subst (λ (z : SystemSeen). HasFoundCell (layouts_in z) z.sys.layouts old.seat c.in-Held.holder new.view) c.system.view_is
             (record {
               before = old.view;
@@ -67,6 +67,6 @@ returns-in-Held c =
               knows = held.knows;
               another = held.another;
               step = held.event;
-            })),
+            }),
       );
     }

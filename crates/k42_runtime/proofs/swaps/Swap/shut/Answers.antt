@@ -37,7 +37,7 @@ returns-in-InFlight c =
       told = search rules;
       brought = (
         search rules,
-        (ap (λ (v : PassView _). v.stalls) knows,
+        ap (λ (v : PassView _). v.stalls) knows,
         subst (λ (z : SystemSeen). HasFoundCounted (layouts_in z) z.sys.layouts old.seat c.in-InFlight.count new.view) c.system.view_is
             (record {
               before = old.view;
@@ -46,6 +46,6 @@ returns-in-InFlight c =
               count_is = counted.0;
               some = is.in_flight c.in-InFlight.count c.in-InFlight.is;
               step = is.event;
-            })),
+            }),
       );
     }

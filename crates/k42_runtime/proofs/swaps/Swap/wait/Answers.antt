@@ -48,8 +48,8 @@ returns-in-Again c =
       told = up.told;
       brought = (
         ap (λ (x : turns.Caller). x.mine) up.taker,
-        (up.newly,
-        subst (λ (z : SystemSeen). IsHeldUpBy (layouts_in z) z.sys.layouts old.seat (cause_in c.in-Again.held) new.view) c.system.view_is up.found),
+        up.newly,
+        subst (λ (z : SystemSeen). IsHeldUpBy (layouts_in z) z.sys.layouts old.seat (cause_in c.in-Again.held) new.view) c.system.view_is up.found,
       );
     }))
 
