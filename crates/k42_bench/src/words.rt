@@ -37,8 +37,20 @@ fn ops_of(word: &str) -> Option<Ops> {
     }
 }
 
-/// A number below the limit.
+/// Whether the word begins as a number does: with a digit, which is no zero where more stands behind it.
+fn begins_as_number(word: &str) -> bool {
+    match word.as_bytes() {
+        [] => false,
+        [digit] => digit.is_ascii_digit(),
+        [first, ..] => *first != b'0' && first.is_ascii_digit(),
+    }
+}
+
+/// A number below the limit, in decimal, without a sign and without a leading zero.
 fn number_of(word: &str) -> Option<u32> {
+    if !begins_as_number(word) {
+        return None;
+    }
     word.parse::<u32>().ok().filter(|number| *number < LIMIT)
 }
 

@@ -34,10 +34,10 @@ module _ {S L P : Type 0} (F : Layouts S L P) (declared : List L) (id o : ℕ) (
   stalled_elsewhere : (word : ℕ) → HasFilled F declared id o old new (Elsewhere word) → new.stalls ≡ word ∷ old.stalls
   stalled_elsewhere word is =
       ap (λ (v : PassView P). v.stalls) is.view ∙ go (eqb new.heard (empty_before is.before)) is.answered ∙ ap (λ (v : PassView P). word ∷ v.stalls) is.rooted.there where
-    go : (b : Bool) → Elsewhere word ≡ cond b (Installed (place_named is.before)) (Elsewhere new.heard)
-        → (cond b (direct_view o new.heard is.before) (stalled new.heard (went new.heard is.before (at_place is.before.visitor Out) None))).stalls ≡ word ∷ is.before.stalls
-    go true e = absurd (cc)
-    go false e = let same : word ≡ new.heard = cc in ap (λ n. n ∷ is.before.stalls) (sym same)
+        go : (b : Bool) → Elsewhere word ≡ cond b (Installed (place_named is.before)) (Elsewhere new.heard)
+            → (cond b (direct_view o new.heard is.before) (stalled new.heard (went new.heard is.before (at_place is.before.visitor Out) None))).stalls ≡ word ∷ is.before.stalls
+        go true e = absurd (cc)
+        go false e = let same : word ≡ new.heard = cc in ap (λ n. n ∷ is.before.stalls) (sym same)
 
   pub led_elsewhere : (answer : tries.Tried) (filled : filleds.Filled) (word : ℕ) → answer ≡ tried.Filled filled → filled ≡ Elsewhere word
       → IfFilled answer (HasFilled F declared id o old new) → IfFilled answer (λ given. EndsAt given o new.visitor.place)
