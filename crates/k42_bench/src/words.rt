@@ -72,3 +72,6 @@ pub fn load_of(words: &[String]) -> Option<Load> {
         swaps: number_of(swaps.as_str())?,
     })
 }
+
+#[cfg(test)]
+mod tests;
