@@ -13,7 +13,8 @@ use Rattle.script_text.specs.declared.script.Script.{Script}
 use Rattle.record_text.specs.declared.record.Record.{Record}
 use Rattle.record_text.specs.declared.record.RecordLine.{RecordLine}
 use Rattle.record_picture.specs.Boxes.{box_text, boxes}
-use Rattle.record_picture.specs.Counts.{begins, count_of, is_carried_out, is_done}
+use Rattle.k42_kinds.specs.Histories as histories
+use Rattle.record_picture.specs.Counts.{begins, count_of, is_carried_out}
 use Rattle.record_picture.specs.Faults.{fault}
 use Rattle.record_picture.specs.Harmless.{is_inert}
 use Rattle.record_picture.specs.Picture.{ground, entries, picture}
@@ -163,7 +164,7 @@ no_line : (text : List ℕ) → count_lines (codes "<use href='#box'/>" ++ text)
 unfolding count_lines
 no_line text = missed (codes "<path class='s'") (codes "<use href='#box'/>") text refl
 
-swap-counted : (script : Script) (column : ℕ) (line : RecordLine) (answer : Answer) (rest : List ℕ) → count_lines (swap_answered script column line answer ++ rest) ≡ cond (is_done answer) 1 0 + count_lines rest
+swap-counted : (script : Script) (column : ℕ) (line : RecordLine) (answer : Answer) (rest : List ℕ) → count_lines (swap_answered script column line answer ++ rest) ≡ cond (histories.is_carried_out answer) 1 0 + count_lines rest
 swap-counted script column line (Replied reply) rest = omega arith
 swap-counted script column line (Swapped number) rest = swap_line-skipped lines-skip script column line number rest (λ n. 1 + n) one_line
 swap-counted script column line (Busy number) rest = omega arith

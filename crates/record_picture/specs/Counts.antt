@@ -1,7 +1,6 @@
 -- How often a mark stands in a text, and how many lines of swaps a picture owes.
 use Rattle.std.specs.Prelude.{ℕ, ◌+◌, Bool, true, false, ◌&&◌, ◌==◌, if◌then◌else◌, List, [], ◌∷◌}
-use Rattle.k42_kinds.specs.declared.entry.Answer.{Answer}
-use Rattle.k42_kinds.specs.declared.entry.Answer.TheVariants.{Swapped}
+use Rattle.k42_kinds.specs.Histories as histories
 use Rattle.record_text.specs.declared.record.RecordLine.{RecordLine}
 
 -- the text begins with the mark
@@ -15,10 +14,6 @@ count_of mark [] = 0
 count_of mark (byte ∷ text) =
     (if begins mark (byte ∷ text) then 1 else 0) + count_of mark text
 
-abbrev pub is_done : Answer → Bool
-is_done (Swapped number) = true
-is_done _ = false
-
 -- the entry is a swap or destroy that was carried out
 abbrev pub is_carried_out : RecordLine → Bool
-is_carried_out line = is_done line.answer
+is_carried_out line = histories.is_carried_out line.answer
