@@ -1,0 +1,68 @@
+//! Two threads count hits, and a third has the counter gathered in one place meanwhile.
+#![tactic(auto)]
+
+use k42_crews::{Work, close, may_call, may_swap, start, work_all};
+use k42_kinds::{KindName, LayoutName, Op};
+use k42_memory::Memory;
+use k42_runtime::{ObjectPlan, Pass, Plan, System};
+use std::alloc::Global;
+use std::process::ExitCode;
+use std::sync::Wait;
+use std::thread::Threads;
+
+/// The number of the only object.
+const HITS: u32 = 0;
+
+struct Hits;
+
+impl Work for Hits {
+    /// The first pass swaps, and each other calls.
+    fn work<R: Wait>(
+        &self,
+        rt: &R,
+        alloc: Global,
+        system: &System,
+        pass: &mut Pass,
+    ) -> Result<(), Memory> {
+        let add = Op::Add(1);
+        if pass.caller() == 0 {
+            if may_swap(pass) && HITS < system.objects() {
+                system.swap(rt, alloc, pass, HITS, LayoutName::Shared)?;
+            }
+        } else if may_call(pass) && system.takes(HITS, &add) {
+            system.enter(pass);
+            let reply = system.call(rt, alloc, pass, HITS, add);
+            system.leave(pass);
+            reply?;
+        }
+        Ok(())
+    }
+}
+
+/// How many entries the history of three passes over one counter has.
+fn run<R: Threads + Wait + Sync>(rt: &R, alloc: Global) -> Result<usize, Memory> {
+    let objects = vec![in alloc;
+        ObjectPlan {
+            kind: KindName::Counter,
+            layout: LayoutName::Spread
+        },
+    ]?;
+    let processors = vec![in alloc; 0u32, 0u32, 1u32]?;
+    let Ok(plan) = Plan::new(2, objects, processors) else {
+        return Ok(0);
+    };
+    let (system, mut passes) = start(alloc, plan)?;
+    work_all(rt, alloc, &system, &Hits, passes.as_mut_slice())?;
+    let history = close(alloc, system, passes)?;
+    Ok(history.map_or(0, |history| history.entries().len()))
+}
+
+fn main(rt: HostRuntime) -> ExitCode {
+    match run(&rt, rt.alloc()) {
+        Ok(entries) => {
+            let printed = println!(rt; "entries {entries}");
+            ExitCode::from(u8::from(printed.is_err()))
+        }
+        Err(Memory) => ExitCode::from(6),
+    }
+}
