@@ -84,6 +84,9 @@ mod tests {
     use super::*;
     use std::test::Fail;
 
+    // All entries are kept until a system is closed.
+    const _: () = prove!(size_of::<Entry>() == 144);
+
     #[test]
     fn an_entry_stands_behind_the_others(rt: HostRuntime) -> Result<(), Fail> {
         let mut entries = Vec::new(rt.alloc());
