@@ -1,3 +1,4 @@
+//! What holds of a system while its passes are at work.
 ghost use Rattle.std.specs.Prelude.{◌≡◌, ℕ, true, List};
 ghost use Rattle.atomic_table.specs.Table.{State};
 ghost use Rattle.k42_board.specs.Cells.{Slot};
