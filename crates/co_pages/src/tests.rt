@@ -72,8 +72,8 @@ fn brought_back<L: Layout>(
     requires served { L.serves layout.now state.now }
     ensures { IfOk result (λ same. same ≡ state.now) }
 {
-    let row = layout.import(alloc, state, procs)?;
-    layout.export(alloc, &row)
+    let mut row = layout.import(alloc, state, procs)?;
+    layout.export(alloc, &mut row)
 }
 
 #[test]

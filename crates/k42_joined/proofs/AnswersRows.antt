@@ -7,7 +7,7 @@ use Rattle.std.proofs.lemmas.Option.{same_Some}
 use Rattle.k42_kinds.specs.Histories.{is_call}
 use Rattle.k42_kinds.specs.OneThread.{OneThread}
 use Rattle.k42_kinds.specs.declared.entry.Act.{Act}
-use Rattle.k42_kinds.specs.declared.entry.Act.TheVariants.{Call, Swap, Destroy}
+use Rattle.k42_kinds.specs.declared.entry.Act.TheVariants.{Call, Swap}
 use Rattle.k42_kinds.specs.declared.entry.Answer.{Answer}
 use Rattle.k42_kinds.specs.declared.entry.Answer.TheVariants.{Replied, Swapped}
 use Rattle.k42_kinds.specs.declared.entry.Entry.{Entry}
@@ -36,13 +36,11 @@ not_served : {S : Type 0} (one : OneThread S) (tag number n : ℕ) (act : Act) (
     → IsCallOrMark one tag number act answer → ⊥
 not_served one tag number n (Call op) answer is call served = cc
 not_served one tag number n (Swap to) (Swapped k) is call served = served
-not_served one tag number n Destroy (Swapped k) is call served = served
 not_served one tag number n act answer is call served = cc
 
 drawn_swap : (act : Act) (n : ℕ) → is_drawn act (Swapped n) ≡ true
 drawn_swap (Call op) n = refl
 drawn_swap (Swap to) n = refl
-drawn_swap Destroy n = refl
 
 -- the stamp is at most that of the entry with which the row after these began
 abbrev pub IsUpTo : {L P : Type 0} → List (Turn L P) → Entry → Type 0

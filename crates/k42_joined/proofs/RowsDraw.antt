@@ -9,7 +9,7 @@ use Rattle.std.proofs.lemmas.Option.{same_Some, slice_get_within}
 use Rattle.k42_kinds.specs.OneThread.{OneThread}
 use Rattle.k42_kinds.specs.Rows.{IsWithin}
 use Rattle.k42_kinds.specs.declared.entry.Act.{Act}
-use Rattle.k42_kinds.specs.declared.entry.Act.TheVariants.{Call, Swap, Destroy}
+use Rattle.k42_kinds.specs.declared.entry.Act.TheVariants.{Call, Swap}
 use Rattle.k42_kinds.specs.declared.entry.Answer.{Answer}
 use Rattle.k42_kinds.specs.declared.entry.Answer.TheVariants.{Spent, Gone}
 use Rattle.k42_kinds.specs.declared.entry.Entry.{Entry}
@@ -69,8 +69,6 @@ served_drawn : {S : Type 0} (object : OneThread S) (tag number : ℕ) (act : Act
 served_drawn object tag number (Call op) answer served = refl
 served_drawn object tag number (Swap to) Spent served = refl
 served_drawn object tag number (Swap to) Gone served = refl
-served_drawn object tag number Destroy Spent served = refl
-served_drawn object tag number Destroy Gone served = refl
 served_drawn object tag number act answer served = absurd served
 
 in_told : (f e : Entry) (h : List Entry) (b : Bool) → In f (cond b (h ++ e ∷ []) h) → (f ≡ e) ⊎ In f h

@@ -3,42 +3,44 @@ use Rattle.std.proofs.Common.{◌≡◌, List, [], ◌∷◌, refl}
 use Rattle.k42_kinds.specs.declared.operation.LayoutName.TheVariants.{Shared, Spread}
 use Rattle.k42_kinds.specs.declared.operation.Op.TheVariants.{Get}
 use Rattle.k42_kinds.specs.declared.operation.Reply.TheVariants as replies
-use Rattle.k42_kinds.specs.declared.entry.Act.TheVariants.{Call, Swap, Destroy}
+use Rattle.k42_kinds.specs.declared.entry.Act.TheVariants.{Call, Swap}
+use Rattle.k42_kinds.specs.declared.entry.To.{To}
+use Rattle.k42_kinds.specs.declared.entry.To.TheVariants.{Layout, Dead}
 use Rattle.k42_kinds.specs.declared.entry.Answer.TheVariants.{Replied, Swapped, Busy, Spent, Gone, Abandoned}
 use Rattle.k42_kinds.specs.declared.entry.Entry.{Entry}
-use Rattle.k42_kinds.specs.Histories.{Implementation, Live, Dead, implementation_of}
+use Rattle.k42_kinds.specs.Histories.{implementation_of}
 use Rattle.k42_kinds.proofs.ExampleLines.{line, on}
 
 -- the object 0 is kept so after this history
-record IsKept (history : List Entry) (implementation : Implementation) : Type 0 where
+record IsKept (history : List Entry) (implementation : To) : Type 0 where
   kept : implementation_of Shared 0 history ≡ implementation
 
-as_declared : IsKept [] (Live Shared)
+as_declared : IsKept [] (Layout Shared)
 as_declared = record { kept = refl }
 
 abbrev swapped : Entry
-swapped = line 1 0 0 0 (Swap Spread) (Swapped 1)
+swapped = line 1 0 0 0 (Swap (Layout Spread)) (Swapped 1)
 
-as_swapped : IsKept (swapped ∷ line 2 0 1 1 (Call Get) (Replied (replies.Number 0)) ∷ []) (Live Spread)
+as_swapped : IsKept (swapped ∷ line 2 0 1 1 (Call Get) (Replied (replies.Number 0)) ∷ []) (Layout Spread)
 as_swapped = record { kept = refl }
 
-as_last_swapped : IsKept (swapped ∷ line 2 0 1 1 (Swap Shared) (Swapped 2) ∷ []) (Live Shared)
+as_last_swapped : IsKept (swapped ∷ line 2 0 1 1 (Swap (Layout Shared)) (Swapped 2) ∷ []) (Layout Shared)
 as_last_swapped = record { kept = refl }
 
 -- a swap that was refused, given up or spent leaves the implementation
-refused : IsKept (line 1 0 0 0 (Swap Spread) (Busy 1) ∷ []) (Live Shared)
+refused : IsKept (line 1 0 0 0 (Swap (Layout Spread)) (Busy 1) ∷ []) (Layout Shared)
 refused = record { kept = refl }
 
-abandoned : IsKept (swapped ∷ line 2 0 1 1 (Swap Shared) (Abandoned 2) ∷ line 3 1 0 1 Destroy (Busy 2) ∷ []) (Live Spread)
+abandoned : IsKept (swapped ∷ line 2 0 1 1 (Swap (Layout Shared)) (Abandoned 2) ∷ line 3 1 0 1 (Swap Dead) (Busy 2) ∷ []) (Layout Spread)
 abandoned = record { kept = refl }
 
-spent : IsKept (swapped ∷ line 2 0 1 1 (Swap Shared) Spent ∷ []) (Live Spread)
+spent : IsKept (swapped ∷ line 2 0 1 1 (Swap (Layout Shared)) Spent ∷ []) (Layout Spread)
 spent = record { kept = refl }
 
 -- and so does another object's
-swapped_elsewhere : IsKept (swapped ∷ on 1 (line 2 0 1 0 Destroy (Swapped 1)) ∷ []) (Live Spread)
+swapped_elsewhere : IsKept (swapped ∷ on 1 (line 2 0 1 0 (Swap Dead) (Swapped 1)) ∷ []) (Layout Spread)
 swapped_elsewhere = record { kept = refl }
 
 -- a destroy that was carried out leaves no live one
-destroyed : IsKept (swapped ∷ line 2 0 1 1 Destroy (Swapped 2) ∷ line 3 0 2 2 (Swap Shared) Gone ∷ []) Dead
+destroyed : IsKept (swapped ∷ line 2 0 1 1 (Swap Dead) (Swapped 2) ∷ line 3 0 2 2 (Swap (Layout Shared)) Gone ∷ []) Dead
 destroyed = record { kept = refl }

@@ -4,9 +4,9 @@ use Rattle.std.proofs.lemmas.List.{append_assoc}
 use Rattle.std.proofs.lemmas.List.Elements.{All-push}
 use Rattle.std.proofs.lemmas.Option.{same_Some}
 use Rattle.k42_kinds.specs.declared.operation.KindName.{KindName}
-use Rattle.k42_kinds.specs.declared.operation.LayoutName.{LayoutName}
 use Rattle.k42_kinds.specs.declared.entry.Act.{Act}
-use Rattle.k42_kinds.specs.declared.entry.Act.TheVariants.{Call, Swap, Destroy}
+use Rattle.k42_kinds.specs.declared.entry.Act.TheVariants.{Call, Swap}
+use Rattle.k42_kinds.specs.declared.entry.To.{To}
 use Rattle.k42_kinds.specs.declared.entry.Answer.{Answer}
 use Rattle.k42_kinds.specs.declared.entry.Answer.TheVariants.{Replied, Swapped, Busy, Spent, Gone, Abandoned}
 use Rattle.k42_kinds.specs.declared.entry.Entry.{Entry}
@@ -62,8 +62,7 @@ module _ (kind : KindName) (before : List Entry) (entry : Entry) (after : List E
 
   act-push : (act : Act) → AllowsLater last entry → IsLegalAct kind before entry after act → IsLegalAct kind before entry (after ++ last ∷ []) act
   act-push (Call op) allowed legal = legal
-  act-push (Swap layout) allowed legal = end-push entry.answer allowed legal
-  act-push Destroy allowed legal = end-push entry.answer allowed legal
+  act-push (Swap to) allowed legal = end-push entry.answer allowed legal
 
 -- A legal history and one more entry that is legal behind it are a legal history, if the entry has the next stamp
 -- and no earlier refusal forbids it.
@@ -84,6 +83,6 @@ pub illegal_at : (kinds : List KindName) (kind : KindName) (before : List Entry)
 illegal_at kinds kind before entry after declared illegal history = illegal (legal_at_kind kinds kind before entry after declared (history.legal before entry after refl))
 
 -- what a refused swap has, seen from its entry
-pub refusal_of_swap : (kind : KindName) (before : List Entry) (entry : Entry) (after : List Entry) (layout : LayoutName) (number : ℕ) → entry.act ≡ Swap layout → entry.answer ≡ Busy number → IsLegal kind before entry after → IsLegalRefusal before entry after number
-refusal_of_swap kind before entry after layout number act answer legal =
+pub refusal_of_swap : (kind : KindName) (before : List Entry) (entry : Entry) (after : List Entry) (to : To) (number : ℕ) → entry.act ≡ Swap to → entry.answer ≡ Busy number → IsLegal kind before entry after → IsLegalRefusal before entry after number
+refusal_of_swap kind before entry after to number act answer legal =
     subst (λ (a : Answer). IsLegalAnswer kind before entry after a) answer (subst (λ (a : Act). IsLegalAct kind before entry after a) act legal)

@@ -1,12 +1,13 @@
 -- A legal history is legal so far, and so is one in which the swap for whose sake another was refused is still to come.
-use Rattle.std.proofs.Common.{◌≡◌, ℕ, ◌+◌, List, [], ◌∷◌, length, Option, Some, refl, arith}
+use Rattle.std.proofs.Common.{◌≡◌, ◌+◌, List, [], ◌∷◌, length, Option, Some, refl, arith}
 use Rattle.k42_kinds.specs.declared.operation.KindName.{KindName}
 use Rattle.k42_kinds.specs.declared.operation.KindName.TheVariants as kinds
 use Rattle.k42_kinds.specs.declared.operation.LayoutName.TheVariants.{Spread}
 use Rattle.k42_kinds.specs.declared.operation.Op.TheVariants.{Add, Get}
 use Rattle.k42_kinds.specs.declared.operation.Reply.TheVariants as replies
 use Rattle.k42_kinds.specs.declared.entry.Act.{Act}
-use Rattle.k42_kinds.specs.declared.entry.Act.TheVariants.{Call, Swap, Destroy}
+use Rattle.k42_kinds.specs.declared.entry.Act.TheVariants.{Call, Swap}
+use Rattle.k42_kinds.specs.declared.entry.To.TheVariants.{Layout}
 use Rattle.k42_kinds.specs.declared.entry.Answer.{Answer}
 use Rattle.k42_kinds.specs.declared.entry.Answer.TheVariants.{Replied, Swapped, Busy, Spent, Gone, Abandoned}
 use Rattle.k42_kinds.specs.declared.entry.Entry.{Entry}
@@ -27,8 +28,7 @@ module _ {S : Type 0} (object : OneThread S) (before : List Entry) (entry : Entr
 
   pub act_so_far : (act : Act) → IsLegalActOf object before entry after act → IsActSoFar object before entry act
   act_so_far (Call op) legal = legal
-  act_so_far (Swap layout) legal = answer_so_far entry.answer legal
-  act_so_far Destroy legal = answer_so_far entry.answer legal
+  act_so_far (Swap to) legal = answer_so_far entry.answer legal
 
 pub legal_so_far : {K S : Type 0} (object_of : K → OneThread S) (declarations : List K) (history : List Entry) → IsLegalHistoryOf object_of declarations history → IsLegalSoFar object_of declarations history
 legal_so_far object_of declarations history legal = record {
@@ -44,7 +44,7 @@ legal_so_far object_of declarations history legal = record {
 
 -- the swap that refuses stands nowhere yet
 abbrev refused : List Entry
-refused = line 1 0 0 0 (Call (Add 5)) (Replied replies.Done) ∷ line 2 0 1 0 (Swap Spread) (Busy 1) ∷ []
+refused = line 1 0 0 0 (Call (Add 5)) (Replied replies.Done) ∷ line 2 0 1 0 (Swap (Layout Spread)) (Busy 1) ∷ []
 
 refused_so_far : IsLegalSoFar plain_object (kinds.Counter ∷ []) refused
 refused_so_far = record {

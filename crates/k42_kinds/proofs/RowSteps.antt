@@ -1,5 +1,5 @@
 -- An operation at one cell of a row, and at all cells, as the object of one thread sees it.
-use Rattle.std.proofs.Common.{◌≡◌, ℕ, zero, suc, ◌+◌, ◌<◌, List, [], ◌∷◌, ◌++◌, length, Option, Some, None, option_map, refl, sym, ap, ◌∙◌, subst, arith}
+use Rattle.std.proofs.Common.{◌≡◌, ℕ, zero, suc, ◌+◌, ◌<◌, List, [], ◌∷◌, ◌++◌, length, Some, option_map, refl, sym, ap, ◌∙◌, subst, arith}
 use Rattle.std.specs.Prelude.{slice_set, slice_index_or, IfOk, OnOk, OnErr}
 use Rattle.std.specs.declared.result.Result.{Result}
 use Rattle.std.specs.declared.result.Result.TheVariants.{Ok, Err}
@@ -11,7 +11,7 @@ use Rattle.k42_kinds.specs.declared.entry.Reach.{Reach}
 use Rattle.k42_kinds.specs.declared.entry.Reach.TheVariants.{One, All}
 use Rattle.k42_kinds.specs.OneThread.{OneThread}
 use Rattle.k42_kinds.specs.Steps.{Steps}
-use Rattle.k42_kinds.specs.Rows.{Ways, cells_of, made_from, part_at, changed_at, IsWithin}
+use Rattle.k42_kinds.specs.Rows.{Ways, made_from, part_at, changed_at, IsWithin}
 use Rattle.k42_kinds.specs.LayoutLaws.{StepsRow}
 
 pub cell_there : {P : Type 0} (cells cell : ℕ) (reach : Reach) (parts : List P) → IsWithin cells reach → reach ≡ One cell → length parts ≡ cells → cell < length parts

@@ -2,17 +2,17 @@
 use Rattle.std.specs.Prelude.{◌≡◌, ℕ, ◌+◌, ◌-◌, Bool, true, false, ◌&&◌, ◌==◌, if◌then◌else◌, List, ◌∷◌, ◌++◌, length, filter, map, fold, count_by, Option, Some, None, slice_index_or}
 use Rattle.std.specs.List.{filter_map}
 use Rattle.k42_kinds.specs.declared.operation.KindName.{KindName}
-use Rattle.k42_kinds.specs.declared.operation.Op.{Op}
 use Rattle.k42_kinds.specs.declared.operation.LayoutName.{LayoutName}
 use Rattle.k42_kinds.specs.declared.states.AnyState.{AnyState}
-use Rattle.k42_kinds.specs.declared.states.AnyState.TheVariants as states
 use Rattle.k42_kinds.specs.declared.entry.Act.{Act}
-use Rattle.k42_kinds.specs.declared.entry.Act.TheVariants.{Call, Swap, Destroy}
+use Rattle.k42_kinds.specs.declared.entry.Act.TheVariants.{Call, Swap}
+use Rattle.k42_kinds.specs.declared.entry.To.{To}
+use Rattle.k42_kinds.specs.declared.entry.To.TheVariants.{Layout}
 use Rattle.k42_kinds.specs.declared.entry.Answer.{Answer}
 use Rattle.k42_kinds.specs.declared.entry.Answer.TheVariants.{Swapped}
 use Rattle.k42_kinds.specs.declared.entry.Entry.{Entry}
 use Rattle.k42_kinds.specs.OneThread.{OneThread}
-use Rattle.k42_kinds.specs.Objects.{state_after, plain_object}
+use Rattle.k42_kinds.specs.Objects.{plain_object}
 
 -- what is said of an entry, the entries before it and those after it holds at each place of the
 -- list
@@ -29,69 +29,61 @@ IsNumbered history = AtEachPlace (λ before entry after. entry.stamp ≡ length 
 -- whether the act is a call; every other one asks for another implementation
 abbrev pub is_call : Act → Bool
 is_call (Call op) = true
-is_call _ = false
+is_call (Swap to) = false
 
--- whether the swap or destroy was carried out
+-- whether the swap was carried out
 abbrev pub is_carried_out : Answer → Bool
 is_carried_out (Swapped number) = true
 is_carried_out _ = false
 
--- The state of an object after one of its entries: a call steps it, a destroy that was carried
--- out ends it, and everything else leaves it.
-abbrev pub state_moved : {S : Type 0} → (S → Op → S) → S → S → Act → Answer → S
-state_moved after ended state (Call op) answer = after state op
-state_moved after ended state Destroy answer = if is_carried_out answer then ended else state
-state_moved after ended state _ answer = state
+-- The state of an object after one of its entries: a call steps it, a swap that was carried out
+-- leaves what the object says, and any other leaves the state.
+abbrev pub state_moved : {S : Type 0} → OneThread S → S → Act → Answer → S
+state_moved object state (Call op) answer = object.after state op
+state_moved object state (Swap to) answer = if is_carried_out answer then object.swapped state to else state
 
 -- an entry moves its own object alone
-abbrev pub state_moved_by : {S : Type 0} → (S → Op → S) → S → ℕ → S → Entry → S
-state_moved_by after ended number state entry =
-    if entry.object == number then state_moved after ended state entry.act entry.answer else state
+abbrev pub state_moved_by : {S : Type 0} → OneThread S → ℕ → S → Entry → S
+state_moved_by object number state entry =
+    if entry.object == number then state_moved object state entry.act entry.answer else state
 
 -- the state of an object of one thread, which has this number, after the history
 abbrev pub state_in : {S : Type 0} → OneThread S → ℕ → List Entry → S
-state_in object number history =
-    fold (state_moved_by object.after object.ended number) object.start history
+state_in object number history = fold (state_moved_by object number) object.start history
 
 -- the same of plain objects
-abbrev pub state_after_act : AnyState → Act → Answer → AnyState
-state_after_act = state_moved state_after states.Dead
+abbrev pub state_after_act : KindName → AnyState → Act → Answer → AnyState
+state_after_act kind = state_moved (plain_object kind)
 
-abbrev pub moved_by : ℕ → AnyState → Entry → AnyState
-moved_by = state_moved_by state_after states.Dead
+abbrev pub moved_by : KindName → ℕ → AnyState → Entry → AnyState
+moved_by kind = state_moved_by (plain_object kind)
 
 abbrev pub state_of : KindName → ℕ → List Entry → AnyState
 state_of kind = state_in (plain_object kind)
 
--- whether the entry is a swap or destroy of the object that was carried out
+-- whether the entry is a swap of the object that was carried out
 abbrev pub is_carried_out_on : ℕ → Entry → Bool
 is_carried_out_on object entry = (entry.object == object) && is_carried_out entry.answer
 
--- how many swaps and destroys of the object were carried out
+-- how many swaps of the object were carried out
 abbrev pub number_of : ℕ → List Entry → ℕ
 number_of object history = count_by (is_carried_out_on object) history
 
--- how an object is kept: in a live layout, or dead
-pub data Implementation : Type 0 where
-  Live : LayoutName → Implementation
-  Dead : Implementation
-
--- the implementation that an act asks for; a call asks for none
-abbrev pub asked_for : Act → Option Implementation
+-- how an act asks that the object be kept; a call asks for nothing
+abbrev pub asked_for : Act → Option To
 asked_for (Call op) = None
-asked_for (Swap layout) = Some (Live layout)
-asked_for Destroy = Some Dead
+asked_for (Swap to) = Some to
 
--- what the swaps and destroys of the object that were carried out asked for, in their order
-abbrev pub implementations_of : ℕ → List Entry → List Implementation
+-- what the swaps of the object that were carried out asked for, in their order
+abbrev pub implementations_of : ℕ → List Entry → List To
 implementations_of object history =
     filter_map (λ entry. asked_for entry.act) (filter (is_carried_out_on object) history)
 
 -- the object is kept as the last of them asked, and as it was declared where there is none
-abbrev pub implementation_of : LayoutName → ℕ → List Entry → Implementation
+abbrev pub implementation_of : LayoutName → ℕ → List Entry → To
 implementation_of declared object history =
     let all = implementations_of object history in
-    slice_index_or all (length all - 1) (Live declared)
+    slice_index_or all (length all - 1) (Layout declared)
 
 -- the entries of one caller, in their order
 abbrev pub entries_of : ℕ → List Entry → List Entry

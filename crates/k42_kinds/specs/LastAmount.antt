@@ -1,14 +1,13 @@
 -- An object that keeps the last amount that was added, in one part: the smallest layout.
-use Rattle.std.proofs.Common.{◌≡◌, ℕ, ◌+◌, ◌<◌, Bool, true, false, List, [], ◌∷◌, length, refl, arith}
+use Rattle.std.proofs.Common.{◌≡◌, ℕ, true, false, List, [], ◌∷◌, length, refl, arith}
 use Rattle.k42_kinds.specs.declared.operation.Op.{Op}
 use Rattle.k42_kinds.specs.declared.operation.Op.TheVariants.{Add, Get}
 use Rattle.k42_kinds.specs.declared.operation.Reply.{Reply}
 use Rattle.k42_kinds.specs.declared.operation.Reply.TheVariants.{Done, Number, Gone}
-use Rattle.k42_kinds.specs.declared.entry.Reach.{Reach}
 use Rattle.k42_kinds.specs.declared.entry.Reach.TheVariants.{One, All}
-use Rattle.k42_kinds.specs.OneThread.{OneThread}
+use Rattle.k42_kinds.specs.OneThread.{OneThread, ends_as}
 use Rattle.k42_kinds.specs.Rows.{Ways}
-use Rattle.k42_kinds.specs.LayoutLaws.{StepsRow, StandsFor}
+use Rattle.k42_kinds.specs.LayoutLaws.{StepsRow}
 
 abbrev pub amount_after : ℕ → Op → ℕ
 amount_after amount (Add more) = more
@@ -25,7 +24,7 @@ last_amount = record {
   takes = λ op. true;
   after = amount_after;
   reply = amount_reply;
-  ended = 0;
+  swapped = ends_as 0;
   is_ended = λ amount. false;
 }
 

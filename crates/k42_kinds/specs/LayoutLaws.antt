@@ -1,14 +1,13 @@
 -- What a layout owes the object of one thread.
-use Rattle.std.specs.Prelude.{◌≡◌, ℕ, ◌<◌, ◌≤◌, true, IsTrue, List, length, Option, Some}
+use Rattle.std.specs.Prelude.{◌≡◌, ℕ, ◌<◌, ◌≤◌, List, length, Some}
 use Rattle.k42_kinds.specs.declared.operation.Op.{Op}
-use Rattle.k42_kinds.specs.declared.operation.Reply.{Reply}
 use Rattle.k42_kinds.specs.declared.entry.Act.{Act}
 use Rattle.k42_kinds.specs.declared.entry.Answer.TheVariants.{Swapped}
 use Rattle.k42_kinds.specs.declared.entry.Reach.{Reach}
 use Rattle.k42_kinds.specs.declared.entry.Reach.TheVariants.{One}
 use Rattle.k42_kinds.specs.OneThread.{OneThread}
 use Rattle.k42_kinds.specs.Histories.{state_moved}
-use Rattle.k42_kinds.specs.Rows.{Ways, part_at, row_moved, row_replied, cells_of, empty_row, IsWithin}
+use Rattle.k42_kinds.specs.Rows.{Ways, part_at, row_moved, row_replied, cells_of, empty_row}
 
 -- an operation at these cells of the row is the step of the object, and leaves the row whole
 pub record StepsRow
@@ -44,7 +43,7 @@ pub record Imports
 -- what is admitted is what a carried-out swap to the layout makes of a state, whatever its number
 abbrev pub AdmitsAsSwapped : {S : Type 0} → OneThread S → Act → S → S → Type 0
 AdmitsAsSwapped object act state admitted =
-    (number : ℕ) → state_moved object.after object.ended state act (Swapped number) ≡ admitted
+    (number : ℕ) → state_moved object state act (Swapped number) ≡ admitted
 
 -- two layouts keep an object in one way
 pub record Agree

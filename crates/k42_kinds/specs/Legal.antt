@@ -5,7 +5,7 @@ use Rattle.k42_limits.specs.declared.TheConstants.{LAST_INCARNATION}
 use Rattle.k42_kinds.specs.declared.operation.KindName.{KindName}
 use Rattle.k42_kinds.specs.declared.operation.Op.{Op}
 use Rattle.k42_kinds.specs.declared.entry.Act.{Act}
-use Rattle.k42_kinds.specs.declared.entry.Act.TheVariants.{Call}
+use Rattle.k42_kinds.specs.declared.entry.Act.TheVariants.{Call, Swap}
 use Rattle.k42_kinds.specs.declared.entry.Answer.{Answer}
 use Rattle.k42_kinds.specs.declared.entry.Answer.TheVariants.{Replied, Swapped, Busy, Spent, Gone, Abandoned}
 use Rattle.k42_kinds.specs.declared.entry.Entry.{Entry}
@@ -27,7 +27,7 @@ pub record IsLegalCallOf
 abbrev pub is_ended_in : {S : Type 0} → OneThread S → ℕ → List Entry → Bool
 is_ended_in object number before = object.is_ended (state_in object number before)
 
--- a swap or destroy that is carried out is the next of its object, which is alive and has an
+-- a swap that is carried out is the next of its object, which is alive and has an
 -- incarnation left
 pub record IsLegalSwapOf
     {S : Type 0} (object : OneThread S) (before : List Entry) (entry : Entry) (number : ℕ)
@@ -88,7 +88,7 @@ pub record IsTimely
   pub earlier : All (λ other. IsOwn entry other → IsNotPast number other) before
   pub later : All (λ other. IsOwn entry other → number ≤ other.incarnation + 1) after
 
--- A swap or destroy is refused for another swap's sake where that swap stands anywhere in the
+-- A swap is refused for another swap's sake where that swap stands anywhere in the
 -- history, before or after.
 pub record IsLegalRefusal
     (before : List Entry) (entry : Entry) (after : List Entry) (number : ℕ)
@@ -105,10 +105,10 @@ IsLegalAnswerOf object before entry after (Busy number) = IsLegalRefusal before 
 IsLegalAnswerOf object before entry after (Abandoned number) = IsTimely before entry after number
 IsLegalAnswerOf object before entry after (Replied reply) = ⊥
 
--- how an act may be answered: a call by a reply, a swap or destroy by the rules above
+-- how an act may be answered: a call by a reply, a swap by the rules above
 abbrev pub IsLegalActOf : {S : Type 0} → OneThread S → List Entry → Entry → List Entry → Act → Type 0
 IsLegalActOf object before entry after (Call op) = IsLegalCallOf object before entry op
-IsLegalActOf object before entry after _ = IsLegalAnswerOf object before entry after entry.answer
+IsLegalActOf object before entry after (Swap to) = IsLegalAnswerOf object before entry after entry.answer
 
 -- the entry is of a declared object, and legal there; a list declares each object, by its kind or
 -- by its layout, and these tell its object of one thread
@@ -139,7 +139,7 @@ IsAnswerSoFar object before entry (Replied reply) = ⊥
 
 abbrev pub IsActSoFar : {S : Type 0} → OneThread S → List Entry → Entry → Act → Type 0
 IsActSoFar object before entry (Call op) = IsLegalCallOf object before entry op
-IsActSoFar object before entry _ = IsAnswerSoFar object before entry entry.answer
+IsActSoFar object before entry (Swap to) = IsAnswerSoFar object before entry entry.answer
 
 pub record IsSoFarAmongObjects
     {K S : Type 0} (object_of : K → OneThread S) (declarations : List K)

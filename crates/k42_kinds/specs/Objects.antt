@@ -5,7 +5,7 @@ use Rattle.std.specs.FinMap as finite
 use Rattle.std.specs.FinMap.{FinMap}
 use Rattle.std.specs.Ordering.{nat_cmp}
 use Rattle.std.specs.Cmp.Lexicographic.{slice_cmp}
-use Rattle.k42_kinds.specs.OneThread.{OneThread}
+use Rattle.k42_kinds.specs.OneThread.{OneThread, ends_as}
 use Rattle.k42_kinds.specs.Operations.{takes_operation}
 use Rattle.k42_kinds.specs.Pages.{written, all_cleaned, dirty_count}
 use Rattle.k42_kinds.specs.declared.page.Page.{Page}
@@ -125,7 +125,7 @@ plain_object kind = record {
   takes = takes_operation kind;
   after = state_after;
   reply = reply_of;
-  ended = states.Dead;
+  swapped = ends_as states.Dead;
   is_ended = is_dead;
 }
 
@@ -137,7 +137,7 @@ counter_object = record {
   takes = takes_operation kinds.Counter;
   after = counter_after;
   reply = counter_reply;
-  ended = 0;
+  swapped = ends_as 0;
   is_ended = λ value. false;
 }
 
@@ -147,7 +147,7 @@ directory_object = record {
   takes = takes_operation kinds.Directory;
   after = directory_after;
   reply = directory_reply;
-  ended = finite.empty;
+  swapped = ends_as finite.empty;
   is_ended = λ names. false;
 }
 
@@ -157,6 +157,6 @@ pages_object = record {
   takes = takes_operation kinds.Pages;
   after = pages_after;
   reply = pages_reply;
-  ended = finite.empty;
+  swapped = ends_as finite.empty;
   is_ended = λ pages. false;
 }

@@ -2,6 +2,8 @@
 use Rattle.std.specs.Prelude.{Bool}
 use Rattle.k42_kinds.specs.declared.operation.Op.{Op}
 use Rattle.k42_kinds.specs.declared.operation.Reply.{Reply}
+use Rattle.k42_kinds.specs.declared.entry.To.{To}
+use Rattle.k42_kinds.specs.declared.entry.To.TheVariants.{Layout, Dead}
 
 pub record OneThread (S : Type 0) : Type 0 where
   -- the state before the first operation
@@ -11,6 +13,11 @@ pub record OneThread (S : Type 0) : Type 0 where
   -- the state after an operation, and the reply
   pub after : S → Op → S
   pub reply : S → Op → Reply
-  -- the state that a destroy leaves, and whether the object is at its end
-  pub ended : S
+  -- the state that a swap leaves which was carried out, and whether the object is at its end
+  pub swapped : S → To → S
   pub is_ended : S → Bool
+
+-- A swap to a layout leaves the state, and a destroy leaves this one.
+abbrev pub ends_as : {S : Type 0} → S → S → To → S
+ends_as ended state (Layout layout) = state
+ends_as ended state Dead = ended

@@ -4,12 +4,18 @@ ghost use Rattle.std.specs.Prelude.{◌≡◌, [], ◌∷◌, ◌++◌, OnOk, On
 use crate::operation::{LayoutName, Op, Reply};
 use k42_memory::Memory;
 
-/// What a caller asked of an object: an operation, another implementation, or its end.
+/// What a caller asked of an object: an operation, or that it be kept in another way.
 #[derive(Clone, Copy, Debug, PartialEq, Eq)]
 pub enum Act {
     Call(Op),
-    Swap(LayoutName),
-    Destroy,
+    Swap(To),
+}
+
+/// How an object is to be kept: in a layout, or dead. A swap to `Dead` is a destroy.
+#[derive(Clone, Copy, Debug, PartialEq, Eq)]
+pub enum To {
+    Layout(LayoutName),
+    Dead,
 }
 
 /// How an act was answered. The number of `Swapped`, `Busy` and `Abandoned` counts the swaps and
@@ -79,6 +85,9 @@ mod tests {
     use super::*;
     use std::test::Fail;
 
+    // All entries are kept until a system is closed.
+    const _: () = prove!(size_of::<Entry>() == 144);
+
     #[test]
     fn an_entry_stands_behind_the_others(rt: HostRuntime) -> Result<(), Fail> {
         let mut entries = Vec::new(rt.alloc());
@@ -90,7 +99,7 @@ mod tests {
                 object: 0,
                 incarnation: 0,
                 cell: 0,
-                act: Act::Destroy,
+                act: Act::Swap(To::Dead),
                 answer: Answer::Gone,
                 proc: 0,
                 generation: None,

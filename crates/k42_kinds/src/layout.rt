@@ -77,11 +77,12 @@ pub trait Layout: Kind + Copy + Send + Sync {
         ensures moved { OnOk result (parts.new.items ≡ (ways self.now).row_after parts.old.items op.now) }
         ensures memory { OnErr result (parts.new.items ≡ parts.old.items) };
 
-    /// The state for which the parts stand.
-    fn export(&self, alloc: Global, parts: &Vec<Self::Part>) -> Result<Self::State, Memory>
+    /// The state for which the parts stand. It may take them apart, but puts them together again.
+    fn export(&self, alloc: Global, parts: &mut Vec<Self::Part>) -> Result<Self::State, Memory>
         requires known { tag_of self.now ≤ 2 }
-        requires whole { IsWholeRow (whole self.now) parts.now.items }
-        ensures { IfOk result (λ state. state ≡ (ways self.now).combine parts.now.items) };
+        requires whole { IsWholeRow (whole self.now) parts.old.items }
+        ensures state { IfOk result (λ state. state ≡ (ways self.now).combine parts.old.items) }
+        ensures kept { parts.new.items ≡ parts.old.items };
 
     /// Parts that stand for the state.
     fn import(

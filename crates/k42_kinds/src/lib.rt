@@ -17,7 +17,7 @@ mod text;
 
 pub use counter::step_counter;
 pub use directory::{DirectoryState, step_directory};
-pub use entry::{Act, Answer, Entry, Reach};
+pub use entry::{Act, Answer, Entry, Reach, To};
 pub use kind::Kind;
 pub use layout::Layout;
 pub use name::Name;

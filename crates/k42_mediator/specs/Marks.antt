@@ -1,4 +1,4 @@
--- The entry of a swap or destroy that found its object over.
+-- The entry of a swap that found its object over.
 use Rattle.std.specs.Prelude.{◌≡◌, ◌≢◌, ℕ, ◌+◌, ◌<◌, ◌==◌, if◌then◌else◌, true, false, List, ◌∷◌, Some, None, length}
 use Rattle.k42_kinds.specs.Histories.{is_call}
 use Rattle.k42_kinds.specs.declared.entry.Act.{Act}

@@ -1,4 +1,4 @@
-//! A swap or destroy that found its object over draws that.
+//! A swap that found its object over draws that.
 ghost use Rattle.std.specs.Prelude.{◌≡◌, ◌<◌, true, Some};
 ghost use Rattle.k42_board.specs.Plan.{layouts_on};
 ghost use Rattle.k42_board.specs.Seen.{IsPassOf};

@@ -6,7 +6,7 @@ use crate::tests::calls::{end, end_activity, find_busy, keep_out, let_in, look, 
 use crate::tests::crews::{finish, last, start};
 use crate::tests::phases::{close, give_up, move_now, send_to_mediator, try_early, wait_quiet};
 use co_any::AnyLayout;
-use k42_kinds::{Act, Answer, Entry, KindName, LayoutName};
+use k42_kinds::{Act, Answer, Entry, KindName, LayoutName, To};
 use k42_mediator::Phase;
 use k42_memory::Memory;
 use k42_rule::{Pass, Sys};
@@ -58,7 +58,7 @@ fn meet(
 fn is_given_up(entry: &Entry) -> bool {
     entry.object == 0
         && entry.incarnation == 0
-        && entry.act == Act::Swap(LayoutName::Spread)
+        && entry.act == Act::Swap(To::Layout(LayoutName::Spread))
         && entry.answer == Answer::Abandoned(1)
 }
 

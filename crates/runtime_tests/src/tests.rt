@@ -6,7 +6,7 @@ use crate::tests::holding::{
 };
 use crate::tests::steps::{call_to, swap_to};
 use crate::tests::waiting::{find, free_in_turn, swap_beside};
-use k42_kinds::{Act, Answer, Entry, KindName, LayoutName, Op, Reply};
+use k42_kinds::{Act, Answer, Entry, KindName, LayoutName, Op, Reply, To};
 use k42_runtime::{ObjectPlan, Plan, PlanFault};
 use std::test::Fail;
 
@@ -141,7 +141,7 @@ fn a_destroyed_object_is_gone(rt: HostRuntime) -> Result<(), Fail> {
     ];
     assert!(rt; are_answered(history.entries(), due.as_slice()));
     let second = history.entries().get(1).map(|entry| entry.act);
-    assert_eq!(rt; second, Some(Act::Destroy));
+    assert_eq!(rt; second, Some(Act::Swap(To::Dead)));
     Ok(())
 }
 

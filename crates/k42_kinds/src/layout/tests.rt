@@ -3,11 +3,13 @@ ghost use Rattle.std.specs.Prelude.{◌≡◌, ◌==◌, ◌<◌, ◌≤◌, ref
 ghost use Rattle.k42_limits.specs.declared.TheConstants.{PROCESSORS};
 ghost use Rattle.std.proofs.Common.{arith};
 ghost use Rattle.k42_kinds.specs.declared.entry.Act.TheVariants.{Swap};
+ghost use Rattle.k42_kinds.specs.declared.entry.To.TheVariants.{Layout as Kept};
 ghost use Rattle.k42_kinds.specs.declared.operation.LayoutName.TheVariants.{Shared};
 ghost use Rattle.k42_kinds.specs.LayoutLaws.{IsWholeRow};
 ghost use Rattle.k42_kinds.specs.LastAmount.{last_amount, one_part, IsOnePart, steps_one, steps_all};
 
 use super::*;
+use crate::entry::To;
 use crate::operation::LayoutName;
 use std::test::Fail;
 
@@ -51,7 +53,7 @@ impl Layout for LastAmount {
 
     ghost admitted = { λ _ state. state };
 
-    ghost act_of = { λ _. Swap Shared };
+    ghost act_of = { λ _. Swap (Kept Shared) };
 
     fn tag(&self) -> u32 {
         0
@@ -77,7 +79,7 @@ impl Layout for LastAmount {
         self.step(alloc, &mut parts[0], op)
     }
 
-    fn export(&self, _alloc: Global, parts: &Vec<u64>) -> Result<u64, Memory> {
+    fn export(&self, _alloc: Global, parts: &mut Vec<u64>) -> Result<u64, Memory> {
         Ok(parts[0])
     }
 
@@ -92,7 +94,7 @@ impl Layout for LastAmount {
     }
 
     fn act(&self) -> Act {
-        Act::Swap(LayoutName::Shared)
+        Act::Swap(To::Layout(LayoutName::Shared))
     }
 
     ghost steps = { λ _ procs proc parts op known in_range takes whole. steps_one procs parts op whole };
@@ -122,14 +124,15 @@ impl Layout for LastAmount {
 fn handed_on<L: Layout>(
     layout: &L,
     alloc: Global,
-    parts: &Vec<L::Part>,
+    parts: &mut Vec<L::Part>,
     procs: u32,
 ) -> Result<Vec<L::Part>, Memory>
     requires known { (L.tag_of layout.now ≤ 2) × (0 < procs) × (procs ≤ PROCESSORS) }
-    requires whole { L.whole layout.now procs parts.now.items }
+    requires whole { L.whole layout.now procs parts.old.items }
     ensures row { IfOk result (λ moved. IsWholeRow (L.whole layout.now) moved.items) }
     ensures same { IfOk result (λ moved.
-        (L.ways layout.now).combine moved.items ≡ (L.ways layout.now).combine parts.now.items) }
+        (L.ways layout.now).combine moved.items ≡ (L.ways layout.now).combine parts.old.items) }
+    ensures kept { parts.new.items ≡ parts.old.items }
 {
     let state = layout.export(alloc, parts)?;
     layout.import(alloc, &state, procs)
@@ -143,7 +146,7 @@ fn what_a_row_stands_for_is_handed_on(rt: HostRuntime) -> Result<(), Fail> {
         LastAmount.step_one(rt.alloc(), &mut parts[0], &Op::Add(7))?,
         Reply::Done
     );
-    let mut moved = handed_on(&LastAmount, rt.alloc(), &parts, 8)?;
+    let mut moved = handed_on(&LastAmount, rt.alloc(), &mut parts, 8)?;
     assert_eq!(rt;
         LastAmount.step_all(rt.alloc(), &mut moved, &Op::Get)?,
         Reply::Number(7)

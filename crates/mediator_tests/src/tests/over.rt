@@ -1,6 +1,7 @@
 //! A pass that finds an object over draws that at a cell, which a caller may hold.
 ghost use Rattle.std.specs.Prelude.{◌<◌, OnOk};
 ghost use Rattle.k42_kinds.specs.declared.entry.Act.TheVariants as Act;
+ghost use Rattle.k42_kinds.specs.declared.entry.To.TheVariants as To;
 ghost use Rattle.k42_mediator.specs.Marks.{MayMark};
 ghost use Rattle.mediator_tests.specs.Ready.{HoldsNoCell, IsHolding};
 
@@ -8,7 +9,7 @@ use crate::tests::calls::{end, end_activity, fill, hold, let_go, look_in_vain, s
 use crate::tests::crews::{finish, last, start};
 use crate::tests::phases::swap;
 use co_any::AnyLayout;
-use k42_kinds::{Act, Answer, Entry, KindName, Layout, LayoutName};
+use k42_kinds::{Act, Answer, Entry, KindName, Layout, LayoutName, To};
 use k42_mediator::{Begun, Marked, begin, mark};
 use k42_memory::Memory;
 use k42_rule::{Pass, Sys};
@@ -69,7 +70,7 @@ fn find_dead(
 ) -> Result<(), Memory>
     requires { HoldsNoCell sys.now pass.old }
     ensures free { OnOk result (HoldsNoCell sys.now pass.new) }
-    ensures may { OnOk result (MayMark Act.Destroy pass.new.view) }
+    ensures may { OnOk result (MayMark (Act.Swap To.Dead) pass.new.view) }
     ensures room { OnOk result (0 < pass.new.room) }
 {
     assert!(rt; pass.is_idle() && 0 < sys.objects());
@@ -82,24 +83,24 @@ fn find_dead(
 /// Tries to draw that at the cell, which that caller is to hold.
 fn find_held(rt: &impl Abort, sys: &Sys<AnyLayout>, pass: &mut Pass<AnyLayout>, holder: u32)
     requires free { HoldsNoCell sys.now pass.old }
-    requires may { MayMark Act.Destroy pass.old.view }
+    requires may { MayMark (Act.Swap To.Dead) pass.old.view }
     requires room { 0 < pass.old.room }
     ensures free { HoldsNoCell sys.now pass.new }
-    ensures may { MayMark Act.Destroy pass.new.view }
+    ensures may { MayMark (Act.Swap To.Dead) pass.new.view }
     ensures room { 0 < pass.new.room }
 {
-    let answer = mark(sys, pass, Act::Destroy);
+    let answer = mark(sys, pass, Act::Swap(To::Dead));
     assert!(rt; answer == Marked::Held { holder });
 }
 
 /// Draws it.
 fn draw(rt: &impl Abort, sys: &Sys<AnyLayout>, pass: &mut Pass<AnyLayout>)
     requires free { HoldsNoCell sys.now pass.old }
-    requires may { MayMark Act.Destroy pass.old.view }
+    requires may { MayMark (Act.Swap To.Dead) pass.old.view }
     requires room { 0 < pass.old.room }
     ensures { HoldsNoCell sys.now pass.new }
 {
-    let answer = mark(sys, pass, Act::Destroy);
+    let answer = mark(sys, pass, Act::Swap(To::Dead));
     assert!(rt; answer == Marked::Marked);
 }
 
@@ -112,7 +113,7 @@ fn destroyed(caller: u32, stamp: u64, incarnation: u32, answer: Answer) -> Entry
         object: 0,
         incarnation,
         cell: 8,
-        act: Act::Destroy,
+        act: Act::Swap(To::Dead),
         answer,
         proc: 0,
         generation: None,

@@ -10,7 +10,7 @@ use crate::tests::calls::{
 use crate::tests::crews::{finish, last, start};
 use crate::tests::phases::{give_up, hand_nothing_on, swap, take_over};
 use crate::tests::steps::step_at;
-use k42_kinds::{Act, Answer, Entry, KindName, Layout, LayoutName, Op, Reply, kind_of};
+use k42_kinds::{Act, Answer, Entry, KindName, Layout, LayoutName, Op, Reply, To, kind_of};
 use k42_mediator::Phase;
 use k42_memory::Memory;
 use k42_rule::{Pass, Sys};
@@ -113,7 +113,7 @@ fn swapped(stamp: u64, index: u32, cell: u32, answer: Answer) -> Entry {
         object: 0,
         incarnation: 0,
         cell,
-        act: Act::Swap(LayoutName::Shared),
+        act: Act::Swap(To::Layout(LayoutName::Shared)),
         answer,
         proc: 0,
         generation: None,

@@ -1,4 +1,4 @@
-use Rattle.std.proofs.Common.{◌≡◌, ◌≤◌, ℕ}
+use Rattle.std.proofs.Common.{◌≡◌, ◌≤◌}
 use Rattle.k42_kinds.specs.Rows.{made_from, cells_of}
 use Rattle.k42_kinds.proofs.row.empty_row.Given as goal
 

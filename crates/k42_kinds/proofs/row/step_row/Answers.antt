@@ -2,7 +2,7 @@ use Rattle.std.proofs.Common.{◌≡◌, ℕ, ◌<◌, ◌≤◌, IsTrue, List, 
 use Rattle.std.specs.Prelude.{slice_index_or}
 use Rattle.k42_kinds.specs.declared.operation.Op.{Op}
 use Rattle.k42_kinds.specs.declared.entry.Reach.{Reach}
-use Rattle.k42_kinds.specs.declared.entry.Reach.TheVariants.{One, All}
+use Rattle.k42_kinds.specs.declared.entry.Reach.TheVariants.{One}
 use Rattle.k42_kinds.specs.Rows.{cells_of, part_at}
 use Rattle.k42_kinds.specs.LayoutLaws.{StepsRow}
 use Rattle.k42_kinds.proofs.RowSteps.{cell_there, part_there, whole_after_one, steps_after_one, steps_after_all}
