@@ -1,9 +1,13 @@
+use crate::command_line::words_of;
 use crate::judging::{RecordFound, record_in};
 use crate::separation::{line_count, separate};
 use crate::status::Status;
 use k42_limits::INPUT_BYTES;
 use script_text::parse;
 use std::alloc::Global;
+use std::env::Args;
+use std::io;
+use std::io::ErrorKind;
 use std::test::Fail;
 
 #[test]
@@ -81,6 +85,35 @@ fn a_record_is_found_or_the_line_at_which_it_is_none(rt: HostRuntime) -> Result<
     ];
     for (input, found) in cases {
         assert_eq!(rt; record_of(rt.alloc(), input)?, found, "in {input:?}");
+    }
+    Ok(())
+}
+
+/// The words of a command line, as the system hands them over.
+fn handed_over(alloc: Global, line: &str) -> Result<Args, Fail> {
+    let mut words = Vec::new(alloc);
+    for word in line.split_whitespace() {
+        words.push(word.to_string(alloc)?)?;
+    }
+    Ok(words.into_iter())
+}
+
+#[test]
+fn words_are_told_where_there_is_memory(rt: HostRuntime) -> Result<(), Fail> {
+    let cases = [("k42 run 2", 2), ("k42 check", 1), ("k42", 0), ("", 0)];
+    for (line, count) in cases {
+        let words = words_of(rt.alloc(), Ok(handed_over(rt.alloc(), line)?))?;
+        assert_eq!(rt; words.len(), count, "of {line:?}");
+    }
+    Ok(())
+}
+
+#[test]
+fn words_that_are_not_to_be_had_are_one_empty_word(rt: HostRuntime) -> Result<(), Fail> {
+    for cause in [ErrorKind::InvalidData, ErrorKind::Other] {
+        let words = words_of(rt.alloc(), Err(io::Error::from(cause)))?;
+        assert_eq!(rt; words.len(), 1);
+        assert_eq!(rt; words[0].len(), 0);
     }
     Ok(())
 }
