@@ -16,6 +16,7 @@ mod gates;
 mod library;
 mod loads;
 mod side_by_side;
+mod statuses;
 
 const RUN: &str = "run";
 

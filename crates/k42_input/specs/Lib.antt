@@ -3,3 +3,4 @@ pub mod Verdicts
 pub mod Dues
 pub mod Ends
 pub mod Endings
+pub mod CommandLine

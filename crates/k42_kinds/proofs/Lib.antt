@@ -8,6 +8,7 @@ pub mod AcceptedHistories
 pub mod LegalSoFar
 pub mod RowSteps
 pub mod RefusedHistories
+mod RefusedAnswers
 pub mod Implementations
 pub mod SeenMaps
 pub mod FiniteMaps

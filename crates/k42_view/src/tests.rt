@@ -7,6 +7,7 @@ use k42_io::{Failed, MemSink, MemSource, QuietSink, QuietSource, Source};
 use std::alloc::Global;
 use std::test::Fail;
 
+mod statuses;
 mod windows;
 
 /// One worker over one counter, and a record of it.

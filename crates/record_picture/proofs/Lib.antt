@@ -10,4 +10,6 @@ pub mod SkippedPieces
 pub mod NamedPictures
 pub mod CountedPictures
 pub mod PlacedPieces
+pub mod MarkedFaults
 mod PiecesByExample
+mod MarksByExample

@@ -88,14 +88,14 @@ swap-placed script column line answer number swapped = rw swapped (swap_line-pla
 
 -- ---- what stands in a picture
 
-stands-before : {part whole : List ℕ} (back : List ℕ) → StandsIn part whole → StandsIn part (whole ++ back)
+pub stands-before : {part whole : List ℕ} (back : List ℕ) → StandsIn part whole → StandsIn part (whole ++ back)
 stands-before {part} back stands = record {
   front = stands.front;
   back = stands.back ++ back;
   spelled = rw stands.spelled (simp append_assoc refl);
 }
 
-stands-behind : {part whole : List ℕ} (front : List ℕ) → StandsIn part whole → StandsIn part (front ++ whole)
+pub stands-behind : {part whole : List ℕ} (front : List ℕ) → StandsIn part whole → StandsIn part (front ++ whole)
 stands-behind {part} front stands = record {
   front = front ++ stands.front;
   back = stands.back;

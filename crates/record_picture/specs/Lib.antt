@@ -15,3 +15,4 @@ pub mod Picture
 pub mod Placed
 pub mod Blanks
 pub mod Counts
+pub mod Marked

@@ -4,6 +4,7 @@
 mod activities;
 mod boxes;
 mod drawing;
+mod fault_laws;
 mod faults;
 mod frames;
 mod head;
@@ -18,6 +19,10 @@ mod verdict;
 mod window;
 
 pub use drawing::draw;
+pub use fault_laws::{
+    no_other_entry_is_marked, the_faulty_entry_is_framed, the_verdict_is_told_in_words,
+    what_stands_behind_the_faulty_entry_is_veiled,
+};
 pub use laws::{
     a_box_stands_in_its_column_and_lane, a_box_tells_its_line, a_swap_has_a_line_through_all_lanes,
     each_ampersand_names_a_byte, each_entry_has_one_box, each_entry_shown_has_its_box,

@@ -7,3 +7,4 @@ pub mod Reread
 pub mod OneHistory
 pub mod Openings
 pub mod GenerationExamples
+mod BrokenRules

@@ -25,5 +25,6 @@ pub mod GeneratedSteps
 pub mod SoundTrials
 pub mod FirstOffence
 pub mod LawfulHistories
+mod UnlawfulHistories
 mod AtTheBounds
 mod MatchedBlocks
