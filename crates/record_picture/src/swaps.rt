@@ -7,7 +7,7 @@ ghost use Rattle.record_picture.specs.declared.window.TheConstants.{COLUMNS};
 
 use crate::measures::{column_left, lane_top};
 use crate::pieces::{put_fixed, put_numbered, put_worded};
-use k42_kinds::{Act, Answer, LayoutName};
+use k42_kinds::{Act, Answer, LayoutName, To};
 use k42_memory::Memory;
 use record_text::RecordLine;
 use script_text::Script;
@@ -24,9 +24,9 @@ fn layout_after(act: &Act) -> &'static [u8]
 {
     match act {
         Act::Call(_) => b"",
-        Act::Swap(LayoutName::Shared) => b"shared",
-        Act::Swap(LayoutName::Spread) => b"spread",
-        Act::Destroy => b"dead",
+        Act::Swap(To::Layout(LayoutName::Shared)) => b"shared",
+        Act::Swap(To::Layout(LayoutName::Spread)) => b"spread",
+        Act::Swap(To::Dead) => b"dead",
     }
 }
 
@@ -82,7 +82,7 @@ fn put_swap_line(
     put_swap_path(out, column, script.workers.len() as u32)
 }
 
-/// Adds the line of an entry, where it is a swap or destroy that was carried out.
+/// Adds the line of an entry, where it is a swap that was carried out.
 fn put_swap(
     out: &mut Vec<u8>,
     script: &Script,
@@ -100,7 +100,7 @@ fn put_swap(
     }
 }
 
-/// Adds a line for each swap or destroy among these entries that was carried out.
+/// Adds a line for each swap among these entries that was carried out.
 pub fn put_swaps(out: &mut Vec<u8>, script: &Script, lines: &[RecordLine]) -> Result<(), Memory>
     requires workers { length script.now.workers ≤ CALLERS }
     requires spelled { All (HasSpelling script.now) lines.now }

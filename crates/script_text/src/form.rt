@@ -1,4 +1,4 @@
-use k42_kinds::{KindName, LayoutName, Name, Text};
+use k42_kinds::{KindName, LayoutName, Name, Text, To};
 
 /// What the first word of a line begins.
 #[derive(Clone, Copy, Debug, PartialEq, Eq)]
@@ -24,7 +24,7 @@ pub enum Form {
     Worker(Option<Name>, Option<u32>),
     Begin,
     End,
-    /// A call, swap or destroy line: the object of this name is asked for it.
+    /// A call or swap line: the object of this name is asked for it.
     Asks(Option<Name>, Request),
 }
 
@@ -32,8 +32,7 @@ pub enum Form {
 /// range.
 #[derive(Clone, Copy, Debug, PartialEq, Eq)]
 pub enum Request {
-    Swap(LayoutName),
-    Destroy,
+    Swap(To),
     Add(Option<u32>),
     Get,
     Drain,
