@@ -5,7 +5,8 @@ use Rattle.k42_kinds.specs.declared.operation.KindName.TheVariants as kinds
 use Rattle.k42_kinds.specs.declared.operation.LayoutName.TheVariants as layouts
 use Rattle.k42_kinds.specs.declared.operation.Op.TheVariants.{Add, Get, Drain, Read}
 use Rattle.k42_kinds.specs.declared.operation.Reply.TheVariants.{Number, Gone}
-use Rattle.k42_kinds.specs.declared.entry.Act.TheVariants.{Swap, Destroy}
+use Rattle.k42_kinds.specs.declared.entry.Act.TheVariants.{Swap}
+use Rattle.k42_kinds.specs.declared.entry.To.TheVariants as tos
 use Rattle.k42_kinds.specs.declared.entry.Reach.TheVariants.{One, All}
 use Rattle.k42_kinds.specs.declared.states.AnyState.TheVariants as states
 use Rattle.co_pages.specs.Places.{no_places}
@@ -94,5 +95,5 @@ live_at_the_dead_one served = cc served
 admitted : (admitted_of 1 (states.Counter 12) ≡ states.Counter 12) × (admitted_of 2 (states.Counter 12) ≡ states.Dead)
 admitted = (refl, refl)
 
-asked : (act_of (tag_named layouts.Shared) ≡ Swap layouts.Shared) × (act_of (tag_named layouts.Spread) ≡ Swap layouts.Spread) × (act_of 2 ≡ Destroy)
+asked : (act_of (tag_named layouts.Shared) ≡ Swap (tos.Layout layouts.Shared)) × (act_of (tag_named layouts.Spread) ≡ Swap (tos.Layout layouts.Spread)) × (act_of 2 ≡ Swap tos.Dead)
 asked = (refl, refl, refl)

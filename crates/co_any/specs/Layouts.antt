@@ -10,7 +10,8 @@ use Rattle.k42_kinds.specs.declared.operation.Reply.TheVariants.{Gone}
 use Rattle.k42_kinds.specs.declared.states.AnyState.{AnyState}
 use Rattle.k42_kinds.specs.declared.states.AnyState.TheVariants as states
 use Rattle.k42_kinds.specs.declared.entry.Act.{Act}
-use Rattle.k42_kinds.specs.declared.entry.Act.TheVariants.{Swap, Destroy}
+use Rattle.k42_kinds.specs.declared.entry.Act.TheVariants.{Swap}
+use Rattle.k42_kinds.specs.declared.entry.To.TheVariants as tos
 use Rattle.k42_kinds.specs.declared.entry.Reach.TheVariants.{One}
 use Rattle.k42_kinds.specs.Objects.{Directory, Pages}
 use Rattle.k42_kinds.specs.Rows.{Ways}
@@ -124,9 +125,9 @@ admitted_of (suc (suc more)) state = states.Dead
 admitted_of live state = state
 
 abbrev pub act_of : ℕ → Act
-act_of zero = Swap layouts.Shared
-act_of (suc zero) = Swap layouts.Spread
-act_of (suc (suc more)) = Destroy
+act_of zero = Swap (tos.Layout layouts.Shared)
+act_of (suc zero) = Swap (tos.Layout layouts.Spread)
+act_of (suc (suc more)) = Swap tos.Dead
 
 -- the tag of a live layout
 abbrev pub tag_named : LayoutName → ℕ

@@ -1,3 +1,4 @@
+//! All layouts as one type, with the dead one, so that one table can keep objects of every kind.
 ghost use Rattle.std.specs.Prelude.{◌≡◌, ◌≤◌, nat_le, IsTrue, IfOk};
 ghost use Rattle.k42_kinds.specs.Objects.{plain_object};
 ghost use Rattle.co_any.specs.Layouts.{ways_of, whole_of, serves_of, admitted_of, act_of, tag_named};
@@ -10,7 +11,7 @@ use co_counter::{SharedCounter, SpreadCounter};
 use co_directory::{SharedDirectory, SpreadDirectory};
 use co_pages::{SharedPages, SpreadPages};
 use k42_kinds::{
-    Act, AnyState, Kind, KindName, Layout, LayoutName, Op, Plain, Reach, Reply, step_counter,
+    Act, AnyState, Kind, KindName, Layout, LayoutName, Op, Plain, Reach, Reply, To, step_counter,
     step_directory, step_pages,
 };
 use k42_memory::Memory;
@@ -132,7 +133,7 @@ impl Layout for AnyLayout {
         }
     }
 
-    fn export(&self, alloc: Global, parts: &Vec<AnyPart>) -> Result<AnyState, Memory> {
+    fn export(&self, alloc: Global, parts: &mut Vec<AnyPart>) -> Result<AnyState, Memory> {
         match &parts[0] {
             AnyPart::Amount(_) => Ok(AnyState::Counter(total(parts))),
             AnyPart::Indexed(names) => Ok(AnyState::Directory(names.state(alloc)?)),
@@ -177,9 +178,9 @@ impl Layout for AnyLayout {
 
     fn act(&self) -> Act {
         match self.tag {
-            0 => Act::Swap(LayoutName::Shared),
-            1 => Act::Swap(LayoutName::Spread),
-            _ => Act::Destroy,
+            0 => Act::Swap(To::Layout(LayoutName::Shared)),
+            1 => Act::Swap(To::Layout(LayoutName::Spread)),
+            _ => Act::Swap(To::Dead),
         }
     }
 

@@ -1,3 +1,4 @@
+//! Each layout at one and at eight processors, and objects that move through all of them.
 ghost use Rattle.std.specs.Prelude.{◌≡◌, ◌<◌, ◌≤◌, IsTrue, IfOk};
 ghost use Rattle.k42_limits.specs.declared.TheConstants.{PROCESSORS};
 ghost use Rattle.k42_kinds.specs.Operations.{takes_operation};
@@ -5,7 +6,7 @@ ghost use Rattle.co_any.specs.Layouts.{whole_of};
 
 use crate::{AnyLayout, AnyPart, AnyState};
 use k42_kinds::{
-    Act, KindName, Layout, LayoutName, Name, Op, Reply, Text, empty_row, kind_of, step_row,
+    Act, KindName, Layout, LayoutName, Name, Op, Reply, Text, To, empty_row, kind_of, step_row,
 };
 use k42_memory::Memory;
 use k42_stamp::{draw_keeps, hand_begins, merged_is_legal};
@@ -97,9 +98,9 @@ fn a_dead_object_is_gone_for_all_processors(rt: HostRuntime) -> Result<(), Fail>
     let dead = AnyLayout::of(KindName::Counter, LayoutName::Spread).with_tag(2);
     let steps = [(Op::Add(1), Reply::Gone), (Op::Get, Reply::Gone)];
     follow(&rt, rt.alloc(), &dead, 8, &steps)?;
-    assert!(rt; dead.act() == Act::Destroy && dead.kind == KindName::Counter);
-    let row = dead.import(rt.alloc(), &AnyState::Dead, 8)?;
-    assert!(rt; matches!(dead.export(rt.alloc(), &row)?, AnyState::Dead));
+    assert!(rt; dead.act() == Act::Swap(To::Dead) && dead.kind == KindName::Counter);
+    let mut row = dead.import(rt.alloc(), &AnyState::Dead, 8)?;
+    assert!(rt; matches!(dead.export(rt.alloc(), &mut row)?, AnyState::Dead));
     Ok(())
 }
 
@@ -108,11 +109,11 @@ fn moved(
     alloc: Global,
     from: &AnyLayout,
     to: &AnyLayout,
-    parts: &Vec<AnyPart>,
+    parts: &mut Vec<AnyPart>,
 ) -> Result<Vec<AnyPart>, Memory>
     requires known { (from.now.tag ≤ 1) × (to.now.tag ≤ 2) }
     requires same { from.now.kind ≡ to.now.kind }
-    requires row { whole_of from.now.kind from.now.tag 8 parts.now.items }
+    requires row { whole_of from.now.kind from.now.tag 8 parts.old.items }
     ensures { IfOk result (λ next. whole_of to.now.kind to.now.tag 8 next.items) }
 {
     let state = from.export(alloc, parts)?;
@@ -137,11 +138,11 @@ fn follow_moves(
     let dead = AnyLayout { kind, tag: 2 };
     let mut row = empty_row(&shared, alloc, 8)?;
     step_row(&shared, alloc, &mut row, change, 7, 8)?;
-    let mut row = moved(alloc, &shared, &spread, &row)?;
+    let mut row = moved(alloc, &shared, &spread, &mut row)?;
     assert_eq!(rt; step_row(&spread, alloc, &mut row, read, 0, 8)?, *due);
-    let mut row = moved(alloc, &spread, &shared, &row)?;
+    let mut row = moved(alloc, &spread, &shared, &mut row)?;
     assert_eq!(rt; step_row(&shared, alloc, &mut row, read, 7, 8)?, *due);
-    let mut row = moved(alloc, &shared, &dead, &row)?;
+    let mut row = moved(alloc, &shared, &dead, &mut row)?;
     assert_eq!(rt; step_row(&dead, alloc, &mut row, read, 7, 8)?, Reply::Gone);
     Ok(())
 }

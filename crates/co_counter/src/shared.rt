@@ -1,12 +1,14 @@
+//! The layout of a counter that keeps one value for all.
 ghost use Rattle.std.specs.Prelude.{◌==◌, refl};
 ghost use Rattle.std.proofs.Common.{arith};
 ghost use Rattle.k42_kinds.specs.declared.entry.Act.TheVariants.{Swap};
+ghost use Rattle.k42_kinds.specs.declared.entry.To.TheVariants as tos;
 ghost use Rattle.k42_kinds.specs.declared.operation.LayoutName.TheVariants.{Shared};
 ghost use Rattle.k42_kinds.specs.Objects.{counter_object};
 ghost use Rattle.co_counter.specs.Counters.{IsValue, IsOneValue, shared};
 ghost use Rattle.co_counter.specs.SharedLaws.{shared_steps, shared_steps_all, shared_stands};
 
-use k42_kinds::{Act, Kind, Layout, LayoutName, Op, Reach, Reply, step_counter};
+use k42_kinds::{Act, Kind, Layout, LayoutName, Op, Reach, Reply, To, step_counter};
 use k42_memory::Memory;
 use std::alloc::Global;
 
@@ -43,7 +45,7 @@ impl Layout for SharedCounter {
 
     ghost admitted = { λ _ state. state };
 
-    ghost act_of = { λ _. Swap Shared };
+    ghost act_of = { λ _. Swap (tos.Layout Shared) };
 
     fn tag(&self) -> u32 {
         0
@@ -69,7 +71,7 @@ impl Layout for SharedCounter {
         Ok(step_counter(&mut parts[0], op))
     }
 
-    fn export(&self, _alloc: Global, parts: &Vec<u64>) -> Result<u64, Memory> {
+    fn export(&self, _alloc: Global, parts: &mut Vec<u64>) -> Result<u64, Memory> {
         Ok(parts[0])
     }
 
@@ -84,7 +86,7 @@ impl Layout for SharedCounter {
     }
 
     fn act(&self) -> Act {
-        Act::Swap(LayoutName::Shared)
+        Act::Swap(To::Layout(LayoutName::Shared))
     }
 
     ghost steps = { λ _ procs proc values op known there takes whole. shared_steps procs values op whole };

@@ -1,11 +1,13 @@
+//! The layout of a counter that keeps an amount for each processor.
 ghost use Rattle.std.specs.Prelude.{◌≡◌, ◌==◌, refl};
 ghost use Rattle.k42_kinds.specs.declared.entry.Act.TheVariants.{Swap};
+ghost use Rattle.k42_kinds.specs.declared.entry.To.TheVariants as tos;
 ghost use Rattle.k42_kinds.specs.declared.operation.LayoutName.TheVariants as layouts;
 ghost use Rattle.k42_kinds.specs.Objects.{counter_object};
 ghost use Rattle.co_counter.specs.Counters.{IsValue, HasAmounts, total_of, spread};
 ghost use Rattle.co_counter.specs.SpreadLaws.{spread_steps, spread_steps_all, spread_reaches, spread_stands, spread_begins, spread_imports};
 
-use k42_kinds::{Act, Kind, Layout, LayoutName, Op, Reach, Reply, step_counter};
+use k42_kinds::{Act, Kind, Layout, LayoutName, Op, Reach, Reply, To, step_counter};
 use k42_memory::Memory;
 use std::alloc::Global;
 
@@ -53,7 +55,7 @@ impl Layout for SpreadCounter {
 
     ghost admitted = { λ _ state. state };
 
-    ghost act_of = { λ _. Swap layouts.Spread };
+    ghost act_of = { λ _. Swap (tos.Layout layouts.Spread) };
 
     fn tag(&self) -> u32 {
         1
@@ -91,7 +93,7 @@ impl Layout for SpreadCounter {
         }
     }
 
-    fn export(&self, _alloc: Global, parts: &Vec<u64>) -> Result<u64, Memory> {
+    fn export(&self, _alloc: Global, parts: &mut Vec<u64>) -> Result<u64, Memory> {
         Ok(total(parts))
     }
 
@@ -107,7 +109,7 @@ impl Layout for SpreadCounter {
     }
 
     fn act(&self) -> Act {
-        Act::Swap(LayoutName::Spread)
+        Act::Swap(To::Layout(LayoutName::Spread))
     }
 
     ghost steps = { λ _ procs proc amounts op known there takes whole. spread_steps procs proc amounts op there takes whole };

@@ -1,3 +1,4 @@
+//! Both layouts at several processors, and a value that moves between them.
 ghost use Rattle.std.specs.Prelude.{◌≡◌, ◌<◌, ◌≤◌, IsTrue};
 ghost use Rattle.k42_limits.specs.declared.TheConstants.{PROCESSORS};
 ghost use Rattle.k42_kinds.specs.declared.operation.Op.{Op};
@@ -55,7 +56,7 @@ fn only_adding_to_a_spread_counter_keeps_to_its_processor(rt: HostRuntime) {
 fn the_value_moves_from_layout_to_layout(rt: HostRuntime) -> Result<(), Fail> {
     let mut row = SpreadCounter.import(rt.alloc(), &5, 8)?;
     step_row(&SpreadCounter, rt.alloc(), &mut row, &Op::Add(7), 7, 8)?;
-    let value = SpreadCounter.export(rt.alloc(), &row)?;
+    let value = SpreadCounter.export(rt.alloc(), &mut row)?;
     let mut row = SharedCounter.import(rt.alloc(), &value, 8)?;
     let read = step_row(&SharedCounter, rt.alloc(), &mut row, &Op::Get, 7, 8)?;
     assert_eq!(rt; read, Reply::Number(12));

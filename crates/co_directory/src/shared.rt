@@ -1,13 +1,15 @@
+//! The layout of a directory that keeps one map for all.
 ghost use Rattle.std.specs.Prelude.{◌==◌, refl};
 ghost use Rattle.std.proofs.Common.{arith};
 ghost use Rattle.k42_kinds.specs.declared.entry.Act.TheVariants.{Swap};
+ghost use Rattle.k42_kinds.specs.declared.entry.To.TheVariants as tos;
 ghost use Rattle.k42_kinds.specs.declared.operation.LayoutName.TheVariants.{Shared};
 ghost use Rattle.k42_kinds.specs.Objects.{directory_object};
 ghost use Rattle.co_directory.specs.Directories.{IsOneMap, shared};
 ghost use Rattle.co_directory.specs.SharedLaws.{shared_steps, shared_steps_all};
 
 use crate::indexed::{IndexedNames, step_indexed};
-use k42_kinds::{Act, DirectoryState, Kind, Layout, LayoutName, Op, Reach, Reply, step_directory};
+use k42_kinds::{Act, DirectoryState, Kind, Layout, LayoutName, Op, Reach, Reply, To, step_directory};
 use k42_memory::Memory;
 use std::alloc::Global;
 
@@ -44,7 +46,7 @@ impl Layout for SharedDirectory {
 
     ghost admitted = { λ _ state. state };
 
-    ghost act_of = { λ _. Swap Shared };
+    ghost act_of = { λ _. Swap (tos.Layout Shared) };
 
     fn tag(&self) -> u32 {
         0
@@ -75,7 +77,7 @@ impl Layout for SharedDirectory {
         step_indexed(&mut parts[0], op)
     }
 
-    fn export(&self, alloc: Global, parts: &Vec<IndexedNames>) -> Result<DirectoryState, Memory> {
+    fn export(&self, alloc: Global, parts: &mut Vec<IndexedNames>) -> Result<DirectoryState, Memory> {
         parts[0].state(alloc)
     }
 
@@ -95,7 +97,7 @@ impl Layout for SharedDirectory {
     }
 
     fn act(&self) -> Act {
-        Act::Swap(LayoutName::Shared)
+        Act::Swap(To::Layout(LayoutName::Shared))
     }
 
     ghost steps = { λ _ procs proc maps op known there takes whole. shared_steps procs maps op whole };

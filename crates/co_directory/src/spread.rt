@@ -1,5 +1,7 @@
+//! The layout of a directory that keeps a copy for each processor.
 ghost use Rattle.std.specs.Prelude.{◌==◌, refl};
 ghost use Rattle.k42_kinds.specs.declared.entry.Act.TheVariants.{Swap};
+ghost use Rattle.k42_kinds.specs.declared.entry.To.TheVariants as tos;
 ghost use Rattle.k42_kinds.specs.declared.operation.LayoutName.TheVariants as layouts;
 ghost use Rattle.k42_kinds.specs.Objects.{directory_object};
 ghost use Rattle.co_directory.specs.Directories.{AreCopies, spread};
@@ -7,7 +9,7 @@ ghost use Rattle.co_directory.specs.SpreadLaws.{spread_steps, spread_steps_all, 
 
 use crate::copies::{bind_in_all, copied, copies, unbind_in_all};
 use crate::indexed::reply_with;
-use k42_kinds::{Act, DirectoryState, Kind, Layout, LayoutName, Op, Reach, Reply, step_directory};
+use k42_kinds::{Act, DirectoryState, Kind, Layout, LayoutName, Op, Reach, Reply, To, step_directory};
 use k42_memory::Memory;
 use std::alloc::Global;
 
@@ -44,7 +46,7 @@ impl Layout for SpreadDirectory {
 
     ghost admitted = { λ _ state. state };
 
-    ghost act_of = { λ _. Swap layouts.Spread };
+    ghost act_of = { λ _. Swap (tos.Layout layouts.Spread) };
 
     fn tag(&self) -> u32 {
         1
@@ -99,7 +101,7 @@ impl Layout for SpreadDirectory {
         }
     }
 
-    fn export(&self, alloc: Global, parts: &Vec<DirectoryState>) -> Result<DirectoryState, Memory> {
+    fn export(&self, alloc: Global, parts: &mut Vec<DirectoryState>) -> Result<DirectoryState, Memory> {
         copied(alloc, &parts[0])
     }
 
@@ -117,7 +119,7 @@ impl Layout for SpreadDirectory {
     }
 
     fn act(&self) -> Act {
-        Act::Swap(LayoutName::Spread)
+        Act::Swap(To::Layout(LayoutName::Spread))
     }
 
     ghost steps = { λ _ procs proc copies op known there takes whole. spread_steps procs proc copies op there whole };

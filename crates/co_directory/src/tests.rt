@@ -1,3 +1,4 @@
+//! Both layouts at several processors, and a directory that moves between them.
 ghost use Rattle.std.specs.Prelude.{◌≡◌, ◌<◌, ◌≤◌, IsTrue};
 ghost use Rattle.k42_limits.specs.declared.TheConstants.{PROCESSORS};
 ghost use Rattle.k42_kinds.specs.declared.operation.Op.{Op};
@@ -80,11 +81,11 @@ fn the_names_move_from_layout_to_layout(rt: HostRuntime) -> Result<(), Fail> {
         0,
         8,
     )?;
-    let names = SharedDirectory.export(rt.alloc(), &row)?;
+    let names = SharedDirectory.export(rt.alloc(), &mut row)?;
     let mut row = SpreadDirectory.import(rt.alloc(), &names, 8)?;
     let found = step_row(&SpreadDirectory, rt.alloc(), &mut row, &Op::Find(x), 7, 8)?;
     assert_eq!(rt; found, Reply::Number(1));
-    let names = SpreadDirectory.export(rt.alloc(), &row)?;
+    let names = SpreadDirectory.export(rt.alloc(), &mut row)?;
     assert!(rt; names.get(&y) == Some(2) && names.size() == 2);
     Ok(())
 }

@@ -1,12 +1,14 @@
+//! The layout of pages that keeps one map for all.
 ghost use Rattle.std.specs.Prelude.{◌≡◌, ◌==◌, IfOk, refl};
 ghost use Rattle.std.proofs.Common.{arith};
 ghost use Rattle.k42_kinds.specs.declared.entry.Act.TheVariants.{Swap};
+ghost use Rattle.k42_kinds.specs.declared.entry.To.TheVariants as tos;
 ghost use Rattle.k42_kinds.specs.declared.operation.LayoutName.TheVariants.{Shared};
 ghost use Rattle.k42_kinds.specs.Objects.{pages_object};
 ghost use Rattle.co_pages.specs.OneMap.{IsAny, IsOneMap, shared};
 ghost use Rattle.co_pages.specs.SharedLaws.{shared_steps, shared_steps_all, shared_stands};
 
-use k42_kinds::{Act, Kind, Layout, LayoutName, Op, PagesState, Reach, Reply, step_pages};
+use k42_kinds::{Act, Kind, Layout, LayoutName, Op, PagesState, Reach, Reply, To, step_pages};
 use k42_memory::Memory;
 use std::alloc::Global;
 
@@ -55,7 +57,7 @@ impl Layout for SharedPages {
 
     ghost admitted = { λ _ state. state };
 
-    ghost act_of = { λ _. Swap Shared };
+    ghost act_of = { λ _. Swap (tos.Layout Shared) };
 
     fn tag(&self) -> u32 {
         0
@@ -86,7 +88,7 @@ impl Layout for SharedPages {
         step_pages(&mut parts[0], op)
     }
 
-    fn export(&self, alloc: Global, parts: &Vec<PagesState>) -> Result<PagesState, Memory> {
+    fn export(&self, alloc: Global, parts: &mut Vec<PagesState>) -> Result<PagesState, Memory> {
         copied(alloc, &parts[0])
     }
 
@@ -106,7 +108,7 @@ impl Layout for SharedPages {
     }
 
     fn act(&self) -> Act {
-        Act::Swap(LayoutName::Shared)
+        Act::Swap(To::Layout(LayoutName::Shared))
     }
 
     ghost steps = { λ _ procs proc row op known there takes whole. shared_steps procs row op whole };

@@ -1,5 +1,7 @@
+//! The layout of pages that keeps each page in the cell of its number.
 ghost use Rattle.std.specs.Prelude.{◌≡◌, ◌==◌, IfOk, OnOk, OnErr, refl, map};
 ghost use Rattle.k42_kinds.specs.declared.entry.Act.TheVariants.{Swap};
+ghost use Rattle.k42_kinds.specs.declared.entry.To.TheVariants as tos;
 ghost use Rattle.k42_kinds.specs.declared.operation.LayoutName.TheVariants as layouts;
 ghost use Rattle.k42_kinds.specs.Pages as kinds;
 ghost use Rattle.k42_kinds.specs.Objects.{pages_object, found_text};
@@ -12,7 +14,7 @@ ghost use Rattle.co_pages.specs.SpreadLaws.{spread_steps, spread_steps_all, spre
 
 use crate::places::Places;
 use k42_kinds::{
-    Act, Kind, Layout, LayoutName, Op, Page, PagesState, Reach, Reply, Text, step_pages,
+    Act, Kind, Layout, LayoutName, Op, Page, PagesState, Reach, Reply, Text, To, step_pages,
 };
 use k42_memory::Memory;
 use std::alloc::Global;
@@ -123,7 +125,7 @@ impl Layout for SpreadPages {
 
     ghost admitted = { λ _ state. state };
 
-    ghost act_of = { λ _. Swap layouts.Spread };
+    ghost act_of = { λ _. Swap (tos.Layout layouts.Spread) };
 
     fn tag(&self) -> u32 {
         1
@@ -173,9 +175,9 @@ impl Layout for SpreadPages {
         }
     }
 
-    fn export(&self, alloc: Global, parts: &Vec<Places>) -> Result<PagesState, Memory> {
+    fn export(&self, alloc: Global, parts: &mut Vec<Places>) -> Result<PagesState, Memory> {
         let mut pages = PagesState::new(alloc);
-        for part in parts {
+        for part in parts.iter() {
             pages = part.put_into(pages)?;
         }
         Ok(pages)
@@ -194,7 +196,7 @@ impl Layout for SpreadPages {
     }
 
     fn act(&self) -> Act {
-        Act::Swap(LayoutName::Spread)
+        Act::Swap(To::Layout(LayoutName::Spread))
     }
 
     ghost steps = { λ _ procs proc row op known there takes whole. spread_steps procs proc row op there takes whole };

@@ -1,3 +1,4 @@
+//! Both layouts at several processors, and pages that come back from the cells.
 ghost use Rattle.std.specs.Prelude.{◌≡◌, ◌<◌, ◌≤◌, IsTrue, IfOk};
 ghost use Rattle.k42_limits.specs.declared.TheConstants.{PROCESSORS};
 ghost use Rattle.k42_kinds.specs.declared.operation.Op.{Op};
@@ -71,8 +72,8 @@ fn brought_back<L: Layout>(
     requires served { L.serves layout.now state.now }
     ensures { IfOk result (λ same. same ≡ state.now) }
 {
-    let row = layout.import(alloc, state, procs)?;
-    layout.export(alloc, &row)
+    let mut row = layout.import(alloc, state, procs)?;
+    layout.export(alloc, &mut row)
 }
 
 #[test]

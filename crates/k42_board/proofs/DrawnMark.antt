@@ -1,4 +1,4 @@
--- A swap or destroy that found its object over is drawn: what the step owes to the rule.
+-- A swap that found its object over is drawn: what the step owes to the rule.
 use Rattle.std.proofs.Common.{◌≡◌, ℕ, ◌<◌, ◌||◌, Bool, true, false, cond, eqb, List, [], ◌∷◌, Option, Some, None, length, get_or, set, sym, refl, ap, ◌∙◌, subst, arith}
 use Rattle.std.proofs.lemmas.Bool.{eqb-true, eq-eqb}
 use mathlib.Core.Option.{some}
@@ -7,7 +7,7 @@ use Rattle.atomic_table.specs.Table.{State}
 use Rattle.k42_kinds.specs.Histories.{is_call}
 use Rattle.k42_kinds.specs.Rows.{Ways, part_at}
 use Rattle.k42_kinds.specs.declared.entry.Act.{Act}
-use Rattle.k42_kinds.specs.declared.entry.Act.TheVariants.{Call, Swap, Destroy}
+use Rattle.k42_kinds.specs.declared.entry.Act.TheVariants.{Call, Swap}
 use Rattle.k42_kinds.specs.declared.entry.Answer.{Answer}
 use Rattle.k42_kinds.specs.declared.entry.Answer.TheVariants.{Spent, Gone}
 use Rattle.k42_kinds.specs.declared.entry.Entry.{Entry}
@@ -59,7 +59,6 @@ over_unready k i answer over is ready = absurd (cc)
 no_moves : {S P : Type 0} (ways : Ways S P) (parts : List P) (act : Act) (reach : Reach) → is_call act ≡ false → act_moves ways parts act reach ≡ parts
 no_moves ways parts (Call op) reach e = absurd (cc)
 no_moves ways parts (Swap to) reach e = refl
-no_moves ways parts Destroy reach e = refl
 
 only_one : (n m : ℕ) → names (n ∷ []) m ≡ true → n ≡ m
 only_one n m e = go (eqb n m) refl e where
@@ -132,17 +131,7 @@ module _ {S L P : Type 0} (F : Layouts S L P) (laws : AreLaws F) (declared : Lis
 
   drawn_as : (told : Act) → is_call told ≡ false → IsDrawnAs F declared s c (n ∷ []) entry told
   drawn_as (Call op) e = absurd (cc)
-  drawn_as (Swap to) e = found_over where
-    found_over : FoundOver F declared s c (n ∷ []) entry
-    found_over = record {
-      begun = begun;
-      found = found;
-      over = may.over;
-      present = present;
-      first = ap (λ z. z ∷ []) may.named;
-      generation = ap (λ b. cond b v.turn.active None) may.act_is;
-    }
-  drawn_as Destroy e = record {
+  drawn_as (Swap to) e = record {
     begun = begun;
     found = found;
     over = may.over;

@@ -79,7 +79,7 @@ entry_next v cells object incarnation cell act answer = record {
   generation = if is_call act then v.turn.active else None;
 }
 
--- the entry of a call, of a swap or destroy that found its object over, of one that was refused or given up, and of a
+-- the entry of a call, of a swap that found its object over, of one that was refused or given up, and of a
 -- hand
 
 abbrev pub entry_call : {P : Type 0} → PassView P → List ℕ → Act → Answer → Entry

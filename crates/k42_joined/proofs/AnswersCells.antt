@@ -1,8 +1,8 @@
--- A swap or destroy that found its object over is drawn above all that swapped it.
+-- A swap that found its object over is drawn above all that swapped it.
 use Rattle.std.proofs.Common.{◌≡◌, ℕ, ◌/◌, ◌||◌, eqb, ◌<◌, ◌∙◌, true, false, List, [], ◌∷◌, length, refl, sym, ap, subst, inl, ⊎_elim, arith}
 use Rattle.std.proofs.lemmas.Bool.{lt-ltb, eq-eqb}
 use Rattle.k42_kinds.specs.declared.entry.Act.{Act}
-use Rattle.k42_kinds.specs.declared.entry.Act.TheVariants.{Call, Swap, Destroy}
+use Rattle.k42_kinds.specs.declared.entry.Act.TheVariants.{Call, Swap}
 use Rattle.k42_kinds.specs.declared.entry.Answer.TheVariants.{Swapped}
 use Rattle.k42_kinds.specs.declared.entry.Entry.{Entry}
 use Rattle.k42_kinds.specs.Histories.{is_call}
@@ -91,8 +91,6 @@ module _ {S L P : Type 0} (F : Layouts S L P) (laws : AreLaws F) (declared : Lis
   drawn_by (Call op) is call =
       call_answers s locked answered c there e cells op call.reply is call.answer drawn.named drawn.present
   drawn_by (Swap to) is mark =
-      mark_answers s locked answered c there e cells (ap is_call is) mark.over mark.begun mark.found drawn.present (mark_last (mark_named mark))
-  drawn_by Destroy is mark =
       mark_answers s locked answered c there e cells (ap is_call is) mark.over mark.begun mark.found drawn.present (mark_last (mark_named mark))
 
   pub draw_keeps_answers : MayDraw F declared s c cells e

@@ -9,6 +9,7 @@ use Rattle.k42_kinds.specs.declared.operation.Op.TheVariants.{Add, Get}
 use Rattle.k42_kinds.specs.declared.operation.Reply.{Reply}
 use Rattle.k42_kinds.specs.declared.operation.Reply.TheVariants.{Done, Number}
 use Rattle.k42_kinds.specs.declared.entry.Act.TheVariants.{Call, Swap}
+use Rattle.k42_kinds.specs.declared.entry.To.TheVariants.{Layout}
 use Rattle.k42_kinds.specs.declared.entry.Answer.TheVariants.{Replied, Swapped, Busy}
 use Rattle.k42_kinds.specs.declared.entry.Entry.{Entry}
 use Rattle.phase_core.specs.Event.{Turn, TakeRoleWith, LookUp, Install, Knock, Begin, Interpose, Block, Move, Unblock}
@@ -174,7 +175,7 @@ swap = record {
   object = 0;
   incarnation = 0;
   cell = 8;
-  act = Swap Shared;
+  act = Swap (Layout Shared);
   answer = Swapped 1;
   proc = 0;
   generation = None;
@@ -249,7 +250,7 @@ busy number = record {
   object = 0;
   incarnation = 0;
   cell = 0;
-  act = Swap Shared;
+  act = Swap (Layout Shared);
   answer = Busy number;
   proc = 1;
   generation = None;

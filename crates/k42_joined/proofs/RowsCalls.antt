@@ -1,4 +1,4 @@
--- A call, and a swap or destroy that found its object over, is an entry of the present row.
+-- A call, and a swap that found its object over, is an entry of the present row.
 use Rattle.std.proofs.Common.{◌≡◌, ◌≢◌, ℕ, zero, suc, ◌<◌, ◌≤◌, ◌∙◌, true, false, not, eqb, List, [], ◌∷◌, ◌++◌, length, refl, sym, ap, subst, arith}
 use Rattle.std.specs.List.{slice_get}
 use Rattle.std.specs.Prelude.{Some, None, IsTrue}
@@ -6,12 +6,12 @@ use Rattle.std.proofs.lemmas.Bool.{and_parts, eqb-true}
 use Rattle.std.proofs.lemmas.Option.{same_Some, slice_get_within}
 use Rattle.k42_kinds.specs.Rows.{IsWithin}
 use Rattle.k42_kinds.specs.declared.entry.Act.{Act}
-use Rattle.k42_kinds.specs.declared.entry.Act.TheVariants.{Call, Swap, Destroy}
+use Rattle.k42_kinds.specs.declared.entry.Act.TheVariants.{Call, Swap}
 use Rattle.k42_kinds.specs.declared.entry.Answer.{Answer}
 use Rattle.k42_kinds.specs.declared.entry.Answer.TheVariants.{Spent, Gone}
 use Rattle.k42_kinds.specs.declared.entry.Entry.{Entry}
 use Rattle.k42_kinds.specs.declared.entry.Reach.TheVariants.{One}
-use Rattle.k42_kinds.specs.declared.operation.LayoutName.{LayoutName}
+use Rattle.k42_kinds.specs.declared.entry.To.{To}
 use Rattle.k42_kinds.specs.declared.operation.Op.{Op}
 use Rattle.k42_kinds.specs.OneThread.{OneThread}
 use Rattle.phase_core.specs.Plain.{Object}
@@ -25,7 +25,7 @@ use Rattle.turn_core.specs.Sound as turns
 use Rattle.turn_core.specs.declared.event.TurnEvent.TheVariants.{Draw}
 use Rattle.turn_core.specs.Events as turn_events
 use Rattle.k42_stamp.specs.Chains.{Chain, parts_of}
-use Rattle.k42_stamp.specs.Fits.{IsMark as IsMarkOf, IsServed}
+use Rattle.k42_stamp.specs.Fits.{IsMark as IsMarkOf, IsCallOrMark}
 use Rattle.k42_stamp.specs.Laws.{AreLaws}
 use Rattle.k42_stamp.specs.Layouts.{Layouts}
 use Rattle.k42_stamp.specs.Parts.{reached as needs, reach_of, part_steps, act_replies, reply_in}
@@ -90,16 +90,12 @@ mark_of k tag number Gone over known same now is = same ∙ is.1
 mark_of k tag number answer over known same now is = absurd (cc)
 
 mark_served : {S : Type 0} (one : OneThread S) (k : Object) (tag number : ℕ) (act : Act) (answer : Answer) → ((op : Op) → act ≡ Call op → ⊥)
-    → IsMarkOf tag number answer → IsServed one tag number act answer
+    → IsMarkOf tag number answer → IsCallOrMark one tag number act answer
 mark_served one k tag number (Call op) answer not mark = absurd (not op refl)
 mark_served one k tag number (Swap to) answer not mark = mark
-mark_served one k tag number Destroy answer not mark = mark
 
-no_call_swap : (to : LayoutName) (op : Op) → Swap to ≡ Call op → ⊥
+no_call_swap : (to : To) (op : Op) → Swap to ≡ Call op → ⊥
 no_call_swap to op same = cc
-
-no_call_destroy : (op : Op) → Destroy ≡ Call op → ⊥
-no_call_destroy op same = cc
 
 no_reply : (answer : Answer) → tells_over answer ≡ true → reply_in answer ≡ None
 no_reply Spent over = refl
@@ -157,8 +153,8 @@ module _ {S L P : Type 0} (F : Layouts S L P) (laws : AreLaws F) (declared : Lis
     takes : IsTrue ((F.object_of x.row.layout).takes op)
     takes = subst (λ (one : OneThread S). IsTrue (one.takes op)) (sym has.rows.fits.row.kind) call.takes
 
-    served : (number : ℕ) → IsServed (F.object_of x.row.layout) (F.tag_of x.row.layout) number e.act e.answer
-    served number = subst (λ act. IsServed (F.object_of x.row.layout) (F.tag_of x.row.layout) number act e.answer) (sym act) takes
+    served : (number : ℕ) → IsCallOrMark (F.object_of x.row.layout) (F.tag_of x.row.layout) number e.act e.answer
+    served number = subst (λ act. IsCallOrMark (F.object_of x.row.layout) (F.tag_of x.row.layout) number act e.answer) (sym act) takes
 
     within : IsWithin F.procs (reach_of F x.row.layout e)
     within =
@@ -175,7 +171,7 @@ module _ {S L P : Type 0} (F : Layouts S L P) (laws : AreLaws F) (declared : Lis
         ap (λ act. act_replies (F.ways_of x.row.layout) (parts_of F x.row) act (reach_of F x.row.layout e)) act
         ∙ call.replied x has.rows ∙ ap reply_in (sym call.answer)
 
-  -- a swap or destroy that found its object over
+  -- a swap that found its object over
 
   mark_drawn : ((op : Op) → e.act ≡ Call op → ⊥) → FoundOver F declared s c cells e → IsDrawn F declared s c cells e
   mark_drawn not mark = record {
@@ -221,7 +217,6 @@ module _ {S L P : Type 0} (F : Layouts S L P) (laws : AreLaws F) (declared : Lis
     by_act : (act : Act) → e.act ≡ act → ((op : Op) → act ≡ Call op → ⊥) → reach_of F x.row.layout e ≡ One 0
     by_act (Call op) is not = absurd (not op refl)
     by_act (Swap to) is not = ap (λ act. needs (F.ways_of x.row.layout) F.procs act (F.proc_of e.caller)) is
-    by_act Destroy is not = ap (λ act. needs (F.ways_of x.row.layout) F.procs act (F.proc_of e.caller)) is
 
     first : reach_of F x.row.layout e ≡ One 0
     first = by_act e.act refl not
@@ -242,7 +237,7 @@ module _ {S L P : Type 0} (F : Layouts S L P) (laws : AreLaws F) (declared : Lis
         (ap (slice_get (layouts_of s e.object ++ declaration ∷ [])) (omega (arith, now))
         ∙ ap (λ layouts. slice_get layouts 0) (sym has.rows.layouts))
 
-    served : IsServed (F.object_of x.row.layout) (F.tag_of x.row.layout) (length x.past) e.act e.answer
+    served : IsCallOrMark (F.object_of x.row.layout) (F.tag_of x.row.layout) (length x.past) e.act e.answer
     served =
         mark_served (F.object_of x.row.layout) (object s e.object) (F.tag_of x.row.layout) (length x.past) e.act e.answer not
         (mark_of (object s e.object) (F.tag_of x.row.layout) (length x.past) e.answer mark.over has.rows.fits.row.known tagged
@@ -253,7 +248,6 @@ module _ {S L P : Type 0} (F : Layouts S L P) (laws : AreLaws F) (declared : Lis
         → act_replies (F.ways_of x.row.layout) (parts_of F x.row) act (reach_of F x.row.layout e) ≡ None
     silent (Call op) not = absurd (not op refl)
     silent (Swap to) not = refl
-    silent Destroy not = refl
 
     replied : (part_steps F x.row.layout).answers (parts_of F x.row) e ≡ (part_steps F x.row.layout).tells e
     replied = silent e.act not ∙ sym (no_reply e.answer mark.over)
@@ -261,7 +255,6 @@ module _ {S L P : Type 0} (F : Layouts S L P) (laws : AreLaws F) (declared : Lis
   drawn_by : (act : Act) → e.act ≡ act → IsDrawnAs F declared s c cells e act → IsDrawn F declared s c cells e
   drawn_by (Call op) is call = call_drawn op is call
   drawn_by (Swap to) is mark = mark_drawn (λ op call. no_call_swap to op (sym is ∙ call)) mark
-  drawn_by Destroy is mark = mark_drawn (λ op call. no_call_destroy op (sym is ∙ call)) mark
 
   pub draw_drawn : MayDraw F declared s c cells e → IsDrawn F declared s c cells e
   draw_drawn may = drawn_by e.act refl may.act

@@ -4,7 +4,7 @@ use Rattle.std.specs.List.{slice_get}
 use Rattle.std.proofs.Math.Nat.{le_refl}
 use Rattle.k42_kinds.specs.Histories.{is_call}
 use Rattle.k42_kinds.specs.declared.entry.Act.{Act}
-use Rattle.k42_kinds.specs.declared.entry.Act.TheVariants.{Call, Swap, Destroy}
+use Rattle.k42_kinds.specs.declared.entry.Act.TheVariants.{Call, Swap}
 use Rattle.k42_kinds.specs.declared.entry.Answer.{Answer}
 use Rattle.k42_kinds.specs.declared.entry.Answer.TheVariants.{Busy, Abandoned}
 use Rattle.k42_kinds.specs.declared.entry.Entry.{Entry}
@@ -121,8 +121,6 @@ module _ {S L P : Type 0} (F : Layouts S L P) (declared : List L) (s : Joined L)
   not_drawn (Call op) answer c e not is drawn = cc
   not_drawn (Swap to) (Busy number) c e not is drawn = cc
   not_drawn (Swap to) (Abandoned number) c e not is drawn = cc
-  not_drawn Destroy (Busy number) c e not is drawn = cc
-  not_drawn Destroy (Abandoned number) c e not is drawn = cc
   not_drawn act answer c e not is drawn = absurd is
 
   same_grows : (e : Entry) → Grows F.procs (history_in s) (history_in s) rows.chains rows.chains e

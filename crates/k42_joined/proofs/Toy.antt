@@ -3,10 +3,11 @@ use Rattle.std.proofs.Common.{◌≡◌, ℕ, zero, suc, ◌+◌, ◌<◌, Bool,
 use Rattle.std.specs.Prelude.{Some, IsTrue, option_map, ⊤}
 use Rattle.k42_kinds.specs.Histories.{is_call}
 use Rattle.k42_kinds.specs.LayoutLaws.{StepsRow, Begins, Imports, AdmitsAsSwapped}
-use Rattle.k42_kinds.specs.OneThread.{OneThread}
+use Rattle.k42_kinds.specs.OneThread.{OneThread, ends_as}
 use Rattle.k42_kinds.specs.Rows.{Ways, made_from, cells_of, part_at, changed_at, IsWithin}
 use Rattle.k42_kinds.specs.declared.entry.Act.{Act}
 use Rattle.k42_kinds.specs.declared.entry.Act.TheVariants.{Swap}
+use Rattle.k42_kinds.specs.declared.entry.To.TheVariants.{Layout}
 use Rattle.k42_kinds.specs.declared.entry.Reach.{Reach}
 use Rattle.k42_kinds.specs.declared.entry.Reach.TheVariants.{One, All}
 use Rattle.k42_kinds.specs.declared.operation.LayoutName.TheVariants.{Shared, Spread}
@@ -36,7 +37,7 @@ reply value Get = Number value
 reply value _ = Gone
 
 abbrev pub counter : OneThread ℕ
-counter = record { start = 0; takes = takes; after = after; reply = reply; ended = 0; is_ended = λ value. false }
+counter = record { start = 0; takes = takes; after = after; reply = reply; swapped = ends_as 0; is_ended = λ value. false }
 
 -- the parts together
 abbrev pub total : List ℕ → ℕ
@@ -74,8 +75,8 @@ tag one_part = 0
 tag spread = 1
 
 abbrev pub act : Toy → Act
-act one_part = Swap Shared
-act spread = Swap Spread
+act one_part = Swap (Layout Shared)
+act spread = Swap (Layout Spread)
 
 -- two processors; each caller is on that of its number, and the others on the first
 abbrev pub proc_of : ℕ → ℕ

@@ -1,6 +1,6 @@
 -- What all callers drew, in order, is legal so far.
 use Rattle.std.proofs.Common.{List, refl}
-use Rattle.k42_kinds.specs.declared.entry.Act.TheVariants.{Call, Swap, Destroy}
+use Rattle.k42_kinds.specs.declared.entry.Act.TheVariants.{Call, Swap}
 use Rattle.k42_kinds.specs.declared.entry.Answer.TheVariants.{Swapped}
 use Rattle.k42_kinds.specs.declared.entry.Entry.{Entry}
 use Rattle.k42_stamp.specs.Laws.{AreLaws}
@@ -15,7 +15,6 @@ use Rattle.k42_joined.specs.Rows.{history_in}
 steps_drawn : LetsSteps is_drawn
 steps_drawn (Call op) answer step = refl
 steps_drawn (Swap to) (Swapped n) step = refl
-steps_drawn Destroy (Swapped n) step = refl
 steps_drawn act answer step = absurd (cc)
 
 pub trace_legal : {S L P : Type 0} (F : Layouts S L P) → AreLaws F → (declared : List L) (s : Joined L) → Fitting F declared s

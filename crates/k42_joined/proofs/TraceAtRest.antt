@@ -8,7 +8,7 @@ use Rattle.k42_kinds.specs.Histories.{AtEachPlace, entries_of, unstamped}
 use Rattle.k42_kinds.specs.Legal.{IsLegalAnswerOf, IsLegalActOf, IsAnswerSoFar, IsActSoFar, IsLegalAmongObjects}
 use Rattle.k42_kinds.specs.OneThread.{OneThread}
 use Rattle.k42_kinds.specs.declared.entry.Act.{Act}
-use Rattle.k42_kinds.specs.declared.entry.Act.TheVariants.{Call, Swap, Destroy}
+use Rattle.k42_kinds.specs.declared.entry.Act.TheVariants.{Call, Swap}
 use Rattle.k42_kinds.specs.declared.entry.Answer.{Answer}
 use Rattle.k42_kinds.specs.declared.entry.Answer.TheVariants.{Replied, Swapped, Busy, Spent, Gone, Abandoned}
 use Rattle.k42_kinds.specs.declared.entry.Entry.{Entry}
@@ -61,7 +61,6 @@ legal_act : {S : Type 0} (one : OneThread S) (before : List Entry) (e : Entry) (
     → IsLegalActOf one before e after act
 legal_act one before e after (Call op) so_far held = so_far refl
 legal_act one before e after (Swap to) so_far held = legal_answer one before e after e.answer refl so_far held
-legal_act one before e after Destroy so_far held = legal_answer one before e after e.answer refl so_far held
 
 -- the lists of numbered entries of one caller
 unstamped_numbered : (first c : ℕ) (es : List Entry) → map unstamped (entries_of c (numbered_from first es)) ≡ map unstamped (entries_of c es)

@@ -1,8 +1,8 @@
--- Where a call, and a swap or destroy that found its object over, is drawn.
+-- Where a call, and a swap that found its object over, is drawn.
 use Rattle.std.specs.Prelude.{◌≡◌, ℕ, true, IsTrue, List, [], ◌∷◌, Some, None, slice_get}
 use Rattle.gen_core.specs.State.{caller_at}
 use Rattle.k42_kinds.specs.declared.entry.Act.{Act}
-use Rattle.k42_kinds.specs.declared.entry.Act.TheVariants.{Call}
+use Rattle.k42_kinds.specs.declared.entry.Act.TheVariants.{Call, Swap}
 use Rattle.k42_kinds.specs.declared.entry.Answer.TheVariants.{Replied}
 use Rattle.k42_kinds.specs.declared.entry.Entry.{Entry}
 use Rattle.k42_kinds.specs.declared.operation.Op.{Op}
@@ -55,8 +55,8 @@ module _ {S L P : Type 0} (F : Layouts S L P) (declared : List L) (s : Joined L)
         → row_replied (F.ways_of chain.row.layout) (parts_of F chain.row) op (reach_of F chain.row.layout entry)
         ≡ Some reply
 
-  -- A swap or destroy whose caller found the object dead or at its last incarnation is drawn, with that
-  -- answer, at the first cell of the present row.
+  -- A swap whose caller found the object dead or at its last incarnation is drawn, with that answer, at
+  -- the first cell of the present row.
   pub record FoundOver (c : ℕ) (cells : List ℕ) (entry : Entry) : Type 0 where
     pub begun : (kept_of s c).begun ≡ Some entry.object
     pub found : (kept_of s c).found ≡ Some entry.answer
@@ -68,7 +68,7 @@ module _ {S L P : Type 0} (F : Layouts S L P) (declared : List L) (s : Joined L)
   -- by the entry's act
   abbrev pub IsDrawnAs : ℕ → List ℕ → Entry → Act → Type 0
   IsDrawnAs c cells entry (Call op) = IsCall c cells entry op
-  IsDrawnAs c cells entry _ = FoundOver c cells entry
+  IsDrawnAs c cells entry (Swap to) = FoundOver c cells entry
 
   pub record MayDraw (c : ℕ) (cells : List ℕ) (entry : Entry) : Type 0 where
     pub bears : Bears s c cells entry

@@ -1,4 +1,4 @@
--- Where a swap or destroy that was refused, or given up, is drawn at no cell.
+-- Where a swap that was refused, or given up, is drawn at no cell.
 use Rattle.std.specs.Prelude.{◌≡◌, ℕ, ◌+◌, Bool, true, false, not, ◌&&◌, ◌==◌, Some, None, []}
 use Rattle.k42_kinds.specs.Histories.{is_call}
 use Rattle.k42_kinds.specs.declared.entry.Answer.{Answer}

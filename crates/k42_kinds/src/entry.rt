@@ -1,3 +1,4 @@
+//! The lines of a history: who asked what of which object, and the answer.
 ghost use Rattle.std.specs.Prelude.{◌≡◌, [], ◌∷◌, ◌++◌, OnOk, OnErr};
 
 use crate::operation::{LayoutName, Op, Reply};
@@ -83,6 +84,9 @@ pub enum Reach {
 mod tests {
     use super::*;
     use std::test::Fail;
+
+    // All entries are kept until a system is closed.
+    const _: () = prove!(size_of::<Entry>() == 144);
 
     #[test]
     fn an_entry_stands_behind_the_others(rt: HostRuntime) -> Result<(), Fail> {

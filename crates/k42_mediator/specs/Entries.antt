@@ -6,7 +6,7 @@ use Rattle.k42_kinds.specs.declared.entry.Entry.{Entry}
 use Rattle.turn_core.specs.Stamps.{last_stamp}
 use Rattle.k42_board.specs.declared.view.PassView.{PassView}
 
--- the next entry of a pass, of a swap or destroy, later than all that it has drawn
+-- the next entry of a pass, of a swap, later than all that it has drawn
 pub record IsNext
     {P : Type 0} (v : PassView P) (object incarnation cell : ℕ) (act : Act) (answer : Answer) (entry : Entry)
     : Type 0 where

@@ -30,7 +30,7 @@ fn number_in(answer: &Answer) -> u32
     }
 }
 
-/// Draws, at no cell, that a swap or destroy was refused by another, or given up.
+/// Draws, at no cell, that a swap was refused by another, or given up.
 pub fn draw_alone<L: Layout>(sys: &Sys<L>, pass: &mut Pass<L>, act: Act, answer: Answer) -> u64
     requires ours { IsOf sys.now pass.old }
     requires room { 0 < pass.old.room }
@@ -63,7 +63,7 @@ pub fn draw_alone<L: Layout>(sys: &Sys<L>, pass: &mut Pass<L>, act: Act, answer:
     stamp
 }
 
-/// Draws, at the first cell of the present row, that a swap or destroy found its object over.
+/// Draws, at the first cell of the present row, that a swap found its object over.
 pub fn draw_mark<L: Layout>(
     sys: &Sys<L>,
     pass: &mut Pass<L>,

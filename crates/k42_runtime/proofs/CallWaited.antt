@@ -8,13 +8,11 @@ use Rattle.k42_kinds.specs.declared.entry.Answer.TheVariants.{Replied}
 use Rattle.k42_kinds.specs.declared.operation.Op.{Op}
 use Rattle.k42_kinds.specs.declared.operation.Reply.{Reply}
 use Rattle.turn_core.specs.Stamps.{last_stamp}
-use Rattle.co_any.specs.declared.part.AnyPart.{AnyPart}
 use Rattle.k42_board.specs.Seen.{PassSeen, Own}
 use Rattle.k42_board.specs.declared.view.PassView.{PassView}
 use Rattle.k42_runtime.specs.Calls.{CallSeen, IsAsked, HasCalled, HasNotCalled}
-use Rattle.k42_runtime.specs.Plans.{layout_of}
 use Rattle.k42_runtime.specs.Serving.{IsAskedOf}
-use Rattle.k42_runtime.specs.Systems.{SystemSeen, IsPlanned, IsPassHere, IsAtWork, KeepsElse}
+use Rattle.k42_runtime.specs.Systems.{SystemSeen, IsPlanned, IsPassHere, IsAtWork, KeepsElse, layout_of, SystemPass}
 
 -- what the plan declares the table does
 pub asked_of : (system : SystemSeen) → IsPlanned system → (object : ℕ) (op : Op) → IsAsked system.plan object op → IsAskedOf system.sys.layouts object op
@@ -26,7 +24,7 @@ asked_of system planned object op asked = record {
 }
 
 -- it is the same call, of a pass that has drawn nothing yet
-pub record IsCalling (system : SystemSeen) (object : ℕ) (op : Op) (first now : PassSeen AnyPart) (call : CallSeen) : Type 0 where
+pub record IsCalling (system : SystemSeen) (object : ℕ) (op : Op) (first now : SystemPass) (call : CallSeen) : Type 0 where
   pub same : call ≡ record { object = object; op = op; ended = false }
   pub here : IsPassHere system now
   pub works : IsAtWork now.view

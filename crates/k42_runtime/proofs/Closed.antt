@@ -11,8 +11,6 @@ use Rattle.k42_stamp.specs.Orders.{In}
 use Rattle.k42_stamp.proofs.Elements.{all_at}
 use Rattle.k42_board.specs.Seen.{SysSeen, PassSeen}
 use Rattle.k42_rule.specs.Finishing.{AreAtRest, AreLastLists, IsPassAtRest, IsResting}
-use Rattle.co_any.specs.declared.layout.AnyLayout.{AnyLayout}
-use Rattle.co_any.specs.declared.part.AnyPart.{AnyPart}
 use Rattle.k42_kinds.specs.Histories.{IsInOrder}
 use Rattle.k42_kinds.specs.Legal.{IsLegalHistoryOf}
 use Rattle.k42_kinds.specs.Objects.{plain_object}
@@ -28,7 +26,7 @@ use Rattle.turn_core.specs.Plain.{Caller}
 use Rattle.turn_core.specs.State.{fresh_caller}
 use Rattle.k42_runtime.specs.Closing.{AreNumbered, AreListsFrom}
 use Rattle.k42_runtime.specs.Histories.{IsClosed, MayClose}
-use Rattle.k42_runtime.specs.Systems.{SystemSeen, IsPlanned, any_with, layouts_in}
+use Rattle.k42_runtime.specs.Systems.{SystemSeen, IsPlanned, any_with, layouts_in, SystemLayout, SystemPass}
 use Rattle.k42_runtime.proofs.Traces.{legal, all_placed}
 
 -- the passes at rest are numbered in order
@@ -97,11 +95,11 @@ mine_at (x ∷ callers) (suc c) list at = mine_at callers c list at
 abbrev pub TraceLaw : ℕ → Type 0
 TraceLaw procs =
     (proc_of : ℕ → ℕ) → ((caller : ℕ) → proc_of caller < procs)
-    → (declared : List AnyLayout) (s : Joined AnyLayout) (merged : List Entry)
+    → (declared : List SystemLayout) (s : Joined SystemLayout) (merged : List Entry)
     → IsSound (any_with procs proc_of) declared s → IsAtRest s → IsMerged (lists_of s) merged → IsHistoryOf (any_with procs proc_of) declared s merged
 
 -- the table asks it of its own callers, which are the plan's
-pub at_rest : (system : SystemSeen) (passes : List (PassSeen AnyPart)) → IsPlanned system → MayClose system passes → AreAtRest system.sys passes
+pub at_rest : (system : SystemSeen) (passes : List SystemPass) → IsPlanned system → MayClose system passes → AreAtRest system.sys passes
 at_rest system passes planned may = record { many = may.many ∙ ap length (sym planned.callers); each = may.each }
 
 pub closed : (system : SystemSeen) → IsPlanned system → TraceLaw system.sys.procs → (lists : List (List Entry)) (merged : List Entry)
@@ -110,14 +108,14 @@ pub closed : (system : SystemSeen) → IsPlanned system → TraceLaw system.sys.
 closed system planned law lists merged from last is = record {
   plan_is = refl;
   merged = is;
-  legal = legal system.plan merged (subst (λ declared. IsLegalHistoryOf (λ (layout : AnyLayout). plain_object layout.kind) declared merged) planned.layouts history.legal);
+  legal = legal system.plan merged (subst (λ declared. IsLegalHistoryOf (λ (layout : SystemLayout). plain_object layout.kind) declared merged) planned.layouts history.legal);
   in_order = λ c list at. in_order c list at;
   no_stranger =
       subst (λ n. All (λ (entry : Entry). entry.caller < n) merged)
       (many ∙ ap length planned.callers)
       (no_stranger lists merged (listed lists from) is);
 } where
-  s : Joined AnyLayout
+  s : Joined SystemLayout
   s = last.state
 
   history : IsHistoryOf (layouts_in system) system.sys.layouts s merged

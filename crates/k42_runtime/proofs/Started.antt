@@ -3,8 +3,6 @@ use Rattle.std.proofs.Common.{zero, suc, ◌≤◌, List, [], ◌∷◌, map, sl
 use Rattle.std.proofs.lemmas.List.{length-map}
 use Rattle.std.proofs.lemmas.Option.{same_Some}
 use Rattle.co_any.specs.Layouts.{tag_named}
-use Rattle.co_any.specs.declared.layout.AnyLayout.{AnyLayout}
-use Rattle.co_any.specs.declared.part.AnyPart.{AnyPart}
 use Rattle.k42_kinds.specs.declared.operation.LayoutName.{LayoutName}
 use Rattle.k42_kinds.specs.declared.operation.LayoutName.TheVariants.{Shared, Spread}
 use Rattle.k42_places.specs.Places.{EachPlace}
@@ -14,20 +12,20 @@ use Rattle.k42_board.specs.Starting.{IsStart, IsStarted}
 use Rattle.k42_board.specs.Views.{new_pass}
 use Rattle.k42_board.specs.declared.view.PassView.{PassView}
 use Rattle.k42_rule.specs.Opened.{IsOpened}
-use Rattle.k42_runtime.specs.Plans.{PlanSeen, IsSoundPlan, layout_of, layouts_of}
-use Rattle.k42_runtime.specs.Systems.{IsPlanned, IsFirst, HasStarted, any_layouts}
+use Rattle.k42_runtime.specs.Plans.{PlanSeen, IsSoundPlan}
+use Rattle.k42_runtime.specs.Systems.{IsPlanned, IsFirst, HasStarted, any_layouts, layout_of, layouts_of, SystemPart, SystemLayout, SystemPass}
 use Rattle.k42_runtime.specs.declared.plan.ObjectPlan.{ObjectPlan}
 
 low : (layout : LayoutName) → tag_named layout ≤ 1
 low Shared = omega arith
 low Spread = omega arith
 
-live : (objects : List ObjectPlan) → EachPlace (λ o (layout : AnyLayout). layout.tag ≤ 1) (map layout_of objects)
+live : (objects : List ObjectPlan) → EachPlace (λ o (layout : SystemLayout). layout.tag ≤ 1) (map layout_of objects)
 live [] o layout at = absurd (cc)
-live (object ∷ objects) zero layout at = subst (λ (l : AnyLayout). l.tag ≤ 1) (same_Some (layout_of object) layout at) (low object.layout)
+live (object ∷ objects) zero layout at = subst (λ (l : SystemLayout). l.tag ≤ 1) (same_Some (layout_of object) layout at) (low object.layout)
 live (object ∷ objects) (suc o) layout at = live objects o layout at
 
-pub is_start : (plan : PlanSeen) → IsSoundPlan plan → IsStart (λ (layout : AnyLayout). layout.tag) (layouts_of plan) plan.procs plan.callers
+pub is_start : (plan : PlanSeen) → IsSoundPlan plan → IsStart (λ (layout : SystemLayout). layout.tag) (layouts_of plan) plan.procs plan.callers
 is_start plan sound = record {
   turns = sound.turns;
   some_objects = let some = sound.some_objects in let same = length-map plan.objects layout_of in omega (arith, some, same);
@@ -36,12 +34,12 @@ is_start plan sound = record {
 }
 
 -- the table is the plan's
-pub planned : (plan : PlanSeen) (sys : SysSeen AnyLayout) (passes : List (PassSeen AnyPart)) → IsSoundPlan plan → IsStarted (layouts_of plan) plan.procs plan.callers sys passes
+pub planned : (plan : PlanSeen) (sys : SysSeen SystemLayout) (passes : List SystemPass) → IsSoundPlan plan → IsStarted (layouts_of plan) plan.procs plan.callers sys passes
     → IsPlanned (record { sys = sys; plan = plan })
 planned plan sys passes sound is = record { sound = sound; procs = is.procs_are; layouts = is.layouts_are; callers = is.callers_are }
 
 -- a system that was started so
-pub started : (plan : PlanSeen) (sys : SysSeen AnyLayout) (passes : List (PassSeen AnyPart)) → IsSoundPlan plan → IsStarted (layouts_of plan) plan.procs plan.callers sys passes
+pub started : (plan : PlanSeen) (sys : SysSeen SystemLayout) (passes : List SystemPass) → IsSoundPlan plan → IsStarted (layouts_of plan) plan.procs plan.callers sys passes
     → IsOpened (any_layouts plan.procs plan.callers) (layouts_of plan) plan.callers
     → HasStarted plan (record { sys = sys; plan = plan }) passes
 started plan sys passes sound is opened = record {
@@ -56,9 +54,9 @@ started plan sys passes sound is opened = record {
       let dealt = is.dealt.each c pass at in record {
         here = record {
           ours = is.passes_are c pass at;
-          out = ap (λ (v : PassView AnyPart). is_out v.visitor.place) dealt.new;
-          held = ap (λ (v : PassView AnyPart). v.taker.held) dealt.new;
-          notes = ap (λ (v : PassView AnyPart). v.notes) dealt.new;
+          out = ap (λ (v : PassView SystemPart). is_out v.visitor.place) dealt.new;
+          held = ap (λ (v : PassView SystemPart). v.taker.held) dealt.new;
+          notes = ap (λ (v : PassView SystemPart). v.notes) dealt.new;
         };
         new = dealt.new ∙ ap (λ n. new_pass plan.procs n c (slice_index plan.callers c)) (length-map plan.objects layout_of);
         rows = dealt.rows;

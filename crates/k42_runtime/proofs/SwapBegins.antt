@@ -1,5 +1,6 @@
 -- A swap that has tried to begin.
 use Rattle.std.proofs.Common.{◌≡◌, ℕ, ◌+◌, ◌≤◌, None, refl, sym, ap, ◌∙◌, subst, arith}
+use Rattle.k42_kinds.specs.declared.entry.Act.TheVariants.{Swap}
 use Rattle.k42_kinds.specs.declared.entry.Answer.TheVariants as answers
 use Rattle.k42_board.specs.Drawing.{IsDrawer, entry_alone, alone_view}
 use Rattle.k42_board.specs.Seen.{PassSeen, IsRoomier, IsSamePass}
@@ -11,10 +12,10 @@ use Rattle.k42_mediator.specs.declared.answers.Begun.{Begun}
 use Rattle.k42_mediator.specs.declared.answers.Begun.TheVariants as begins
 use Rattle.k42_mediator.specs.declared.answers.Phase.{Phase}
 use Rattle.k42_runtime.specs.Phases.{HasGoneOn}
-use Rattle.k42_runtime.specs.Swaps.{SwapSeen, IsSameCaller, HasSwapped, IsEndTo, IsEndBy, act_asked, graces_due}
+use Rattle.k42_runtime.specs.Swaps.{SwapSeen, IsSameCaller, HasSwapped, IsEndTo, IsEndBy, graces_due}
 use Rattle.k42_runtime.specs.declared.swaps.Stage.TheVariants.{New, Waiting, Marking}
 use Rattle.k42_runtime.specs.declared.swaps.Swapped.TheVariants as ends
-use Rattle.k42_runtime.specs.declared.swaps.To.{To}
+use Rattle.k42_kinds.specs.declared.entry.To.{To}
 use Rattle.k42_runtime.proofs.SwapEnds.{refused}
 use Rattle.k42_runtime.proofs.SwapSteps.{IsUnstalled, swapped_before}
 
@@ -97,7 +98,7 @@ module _ {P : Type 0} (o : ℕ) (old roomy new : PassSeen P) (room : IsRoomier o
 
   -- another swap is under way
   module _ (drawn : PassSeen P) (to : To) (number : ℕ) (draws : IsDrawer new drawn)
-      (is : drawn.view ≡ alone_view (entry_alone new.view (act_asked to) (answers.Busy number)) new.view) where
+      (is : drawn.view ≡ alone_view (entry_alone new.view (Swap to) (answers.Busy number)) new.view) where
     pub refused_by : (answer : Begun) (phase : Phase) → answer ≡ begun_in (word_begun new.view.last) → answer ≡ begins.Busy number phase
         → IsRefused o number to old drawn
     refused_by answer phase found busy = record {

@@ -3,6 +3,7 @@ use Rattle.std.proofs.Common.{◌≡◌, ℕ, ◌+◌, ◌-◌, ◌≤◌, Bool,
 use Rattle.std.specs.Result.{OnErr, is_err}
 use Rattle.std.proofs.lemmas.Option.{same_Some}
 use Rattle.k42_limits.specs.declared.TheConstants.{LAST_INCARNATION}
+use Rattle.k42_kinds.specs.declared.entry.Act.TheVariants.{Swap}
 use Rattle.k42_kinds.specs.Histories.{is_call}
 use Rattle.k42_kinds.specs.declared.entry.Act.{Act}
 use Rattle.k42_kinds.specs.declared.entry.Answer.{Answer}
@@ -29,18 +30,13 @@ use Rattle.k42_mediator.specs.Swaps.{staged, given_up_view, abandoned_view}
 use Rattle.k42_mediator.proofs.AfterMark.{later_stamp}
 use Rattle.k42_mediator.proofs.LeftOpen.{leaves_open}
 use Rattle.k42_runtime.specs.Phases.{end_in}
-use Rattle.k42_runtime.specs.Swaps.{HasFoundFree, IsSameCaller, HasSwapped, HasAbandoned, IsEndBy, act_asked, answer_told, incarnation_told, cell_told, with_last}
+use Rattle.k42_runtime.specs.Swaps.{HasFoundFree, IsSameCaller, HasSwapped, HasAbandoned, IsEndBy, answer_told, incarnation_told, cell_told, with_last}
 use Rattle.k42_runtime.specs.declared.swaps.Swapped.TheVariants as ends
-use Rattle.k42_runtime.specs.declared.swaps.To.{To}
-use Rattle.k42_runtime.specs.declared.swaps.To.TheVariants as tos
+use Rattle.k42_kinds.specs.declared.entry.To.{To}
 
 pub on_error : {A E X : Type 0} (result : Result A E) → is_err result ≡ true → OnErr result X → X
 on_error (Err error) failed is = is
 on_error (Ok value) failed is = absurd (cc)
-
-no_call : (to : To) → is_call (act_asked to) ≡ false
-no_call (tos.Layout layout) = refl
-no_call tos.Dead = refl
 
 -- an entry that is drawn at no cell
 alone_next : {P : Type 0} (v : PassView P) (act : Act) (answer : Answer) (object incarnation : ℕ) → is_call act ≡ false
@@ -64,27 +60,27 @@ alone_next v act answer object incarnation act_is o i = record {
 
 -- the swap was given up
 pub gave_up : {S L P : Type 0} (F : Layouts S L P) (declared : List L) (id object : ℕ) (to : To) (v w x : PassView P) → w ≡ hears w.heard v
-    → x ≡ hears x.heard (abandoned_view (act_asked to) w) → object_begun v.last ≡ object → HasFoundFree v → v.turned ≡ false
+    → x ≡ hears x.heard (abandoned_view (Swap to) w) → object_begun v.last ≡ object → HasFoundFree v → v.turned ≡ false
     → object_swapped w ≡ object
-    → StepIs F declared (AtPhases (Clear w.number)) (object_word (object_swapped w)) (clears (Opened (object_swapped w))) id (given_up_view (act_asked to) w) x.heard x
+    → StepIs F declared (AtPhases (Clear w.number)) (object_word (object_swapped w)) (clears (Opened (object_swapped w))) id (given_up_view (Swap to) w) x.heard x
     → HasAbandoned F declared id object to v x
 gave_up F declared id object to v w x kept knows begun free unturned swapped step =
-    let is : x ≡ hears x.heard (abandoned_view (act_asked to) v) = knows ∙ ap (λ (u : PassView _). hears x.heard (abandoned_view (act_asked to) u)) kept in
+    let is : x ≡ hears x.heard (abandoned_view (Swap to) v) = knows ∙ ap (λ (u : PassView _). hears x.heard (abandoned_view (Swap to) u)) kept in
     let last : x.last ≡ v.last = ap (λ (u : PassView _). u.last) is in
     let k : ℕ = incarnation_in (word_begun v.last) in
-    let entry = entry_alone v (act_asked to) (Abandoned (k + 1)) in
+    let entry = entry_alone v (Swap to) (Abandoned (k + 1)) in
     let number : w.number ≡ x.number = sym (ap (λ (u : PassView _). u.number) knows) in
-    let before : given_up_view (act_asked to) w ≡ staged (Opened object) (with_last entry.stamp x.rows x.granted x) =
-    (λ j. record (given_up_view (act_asked to) w) { visitor = at_stage w.visitor (Opened (swapped j)) })
-    ∙ ap (λ (u : PassView _). hears (entry_alone w (act_asked to) (Abandoned (incarnation_in (word_begun w.last) + 1))).stamp (staged (Opened object) u)) (sym knows)
-    ∙ ap (λ (u : PassView _). hears (entry_alone u (act_asked to) (Abandoned (incarnation_in (word_begun u.last) + 1))).stamp (staged (Opened object) x)) kept in
+    let before : given_up_view (Swap to) w ≡ staged (Opened object) (with_last entry.stamp x.rows x.granted x) =
+    (λ j. record (given_up_view (Swap to) w) { visitor = at_stage w.visitor (Opened (swapped j)) })
+    ∙ ap (λ (u : PassView _). hears (entry_alone w (Swap to) (Abandoned (incarnation_in (word_begun w.last) + 1))).stamp (staged (Opened object) u)) (sym knows)
+    ∙ ap (λ (u : PassView _). hears (entry_alone u (Swap to) (Abandoned (incarnation_in (word_begun u.last) + 1))).stamp (staged (Opened object) x)) kept in
     record {
       begun = ap object_begun last ∙ begun;
       free = ap (λ l. begun_in (word_begun l)) last ∙ free;
       entry = entry;
       next =
-          subst (λ l. IsNext v object (incarnation_in (word_begun l)) 0 (act_asked to) (Abandoned (incarnation_in (word_begun l) + 1)) entry) (sym last)
-          (alone_next v (act_asked to) (Abandoned (k + 1)) object k (no_call to) begun (less k));
+          subst (λ l. IsNext v object (incarnation_in (word_begun l)) 0 (Swap to) (Abandoned (incarnation_in (word_begun l) + 1)) entry) (sym last)
+          (alone_next v (Swap to) (Abandoned (k + 1)) object k refl begun (less k));
       drawn = ap (λ (u : PassView _). u.taker.mine) is;
       word = x.heard;
       rows = x.rows;
@@ -100,11 +96,11 @@ gave_up F declared id object to v w x kept knows begun free unturned swapped ste
 
 -- another swap was under way
 pub refused : {P : Type 0} (object number : ℕ) (to : To) (w x : PassView P) → object_begun w.last ≡ object
-    → x ≡ alone_view (entry_alone w (act_asked to) (Busy number)) w → HasSwapped object to (ends.Busy number) w x
+    → x ≡ alone_view (entry_alone w (Swap to) (Busy number)) w → HasSwapped object to (ends.Busy number) w x
 refused object number to w x begun knows = record {
   begun = ap (λ (u : PassView _). object_begun u.last) knows ∙ begun;
-  entry = entry_alone w (act_asked to) (Busy number);
-  next = alone_next w (act_asked to) (Busy number) object (number - 1) (no_call to) begun refl;
+  entry = entry_alone w (Swap to) (Busy number);
+  next = alone_next w (Swap to) (Busy number) object (number - 1) refl begun refl;
   drawn = ap (λ (u : PassView _). u.taker.mine) knows;
 }
 
@@ -134,7 +130,7 @@ over_ends word answer over told = go (eqb (layout_in word) 2) (eqb (incarnation_
 
 -- it was told so
 pub marked : {P : Type 0} (object : ℕ) (to : To) (old new : PassSeen P) → object_begun old.view.last ≡ object
-    → is_over_in (word_begun old.view.last) ≡ true → HasMarked (act_asked to) old new
+    → is_over_in (word_begun old.view.last) ≡ true → HasMarked (Swap to) old new
     → HasSwapped object to (end_in (word_begun old.view.last)) old.view new.view
 marked object to old new begun over has =
     let word : ℕ = word_begun old.view.last in
@@ -144,9 +140,9 @@ marked object to old new begun over has =
       begun = ap object_begun last ∙ begun;
       entry = has.entry;
       next =
-          subst (λ l. IsNext old.view object (incarnation_told (end_in word) (word_begun l)) (cell_told object (end_in word) (word_begun l)) (act_asked to) (answer_told (end_in word)) has.entry)
+          subst (λ l. IsNext old.view object (incarnation_told (end_in word) (word_begun l)) (cell_told object (end_in word) (word_begun l)) (Swap to) (answer_told (end_in word)) has.entry)
           (sym last)
-          (subst (λ (x : ℕ × ℕ × ℕ × Answer). IsNext old.view x.0 x.1 x.2 (act_asked to) x.3 has.entry)
+          (subst (λ (x : ℕ × ℕ × ℕ × Answer). IsNext old.view x.0 x.1 x.2 (Swap to) x.3 has.entry)
           (λ j. (begun j, sym (is.incarnation word) j, ((λ k. cell_of (begun k) (incarnation_in word) 0) ∙ sym (is.cell object word)) j, is.told j))
           has.next);
       drawn = ap (λ (u : PassView _). u.taker.mine) has.knows;

@@ -6,7 +6,6 @@ use Rattle.std.proofs.Math.Seq.{take-length}
 use Rattle.phase_core.specs.Plain.{Visitor}
 use Rattle.phase_core.specs.Stages.{is_out}
 use Rattle.k42_stamp.specs.Layouts.{Layouts}
-use Rattle.co_any.specs.declared.part.AnyPart.{AnyPart}
 use Rattle.k42_board.specs.Gracing.{role_view}
 use Rattle.k42_board.specs.Noting.{notes_due}
 use Rattle.k42_board.specs.Seen.{PassSeen}
@@ -18,10 +17,10 @@ use Rattle.k42_quiesce.specs.Gracing.{GoesOn}
 use Rattle.k42_runtime.specs.Phases.{last_step}
 use Rattle.k42_runtime.specs.Reclaims.{with_rows}
 use Rattle.k42_runtime.specs.Swaps.{SwapSeen, IsSameCaller, IsEndBy, HasSwapped, HasNotBegun, HasAbandoned, HasStepped, HasEnded, StepsWithoutMemory, EndsWithoutMemory, graces_due}
-use Rattle.k42_runtime.specs.Systems.{SystemSeen, IsPassHere, IsAtRest, layouts_in}
+use Rattle.k42_runtime.specs.Systems.{SystemSeen, IsPassHere, IsAtRest, layouts_in, SystemPart, SystemPass}
 use Rattle.k42_runtime.specs.declared.swaps.Stage.TheVariants.{New}
 use Rattle.k42_runtime.specs.declared.swaps.Swapped.{Swapped}
-use Rattle.k42_runtime.specs.declared.swaps.To.{To}
+use Rattle.k42_kinds.specs.declared.entry.To.{To}
 use Rattle.k42_runtime.proofs.SwapSteps.{same_caller, swapped_before, abandoned_before}
 use Rattle.k42_runtime.proofs.SwapWaits.{new_swap, rests_over}
 
@@ -43,19 +42,19 @@ handed_some (Err error) old new ok err = (err.0, err.2)
 pub has_handed : {P : Type 0} (count : ℕ) (old new : PassSeen P) → HasHandedOver count old new → HasRows old new
 has_handed count old new is = record { seat = is.seat; rows = _; granted = _; knows = is.knows }
 
-pub handed_here : (system : SystemSeen) (count : ℕ) (mid new : PassSeen AnyPart) → HasHandedOver count mid new → IsPassHere system mid → IsPassHere system new
+pub handed_here : (system : SystemSeen) (count : ℕ) (mid new : SystemPass) → HasHandedOver count mid new → IsPassHere system mid → IsPassHere system new
 handed_here system count mid new handed here = record {
   ours = record {
     table = handed.table ∙ here.ours.table;
-    proc = subst (λ (v : PassView AnyPart). v.turn.proc < system.sys.procs) (sym handed.knows) here.ours.proc;
-    waits = ap (λ (v : PassView AnyPart). length v.turn.waits) handed.knows ∙ here.ours.waits;
-    objects = ap (λ (v : PassView AnyPart). length v.visitor.noted) handed.knows ∙ here.ours.objects;
-    spans = ap (λ (v : PassView AnyPart). length v.visitor.freeing) handed.knows ∙ here.ours.spans;
+    proc = subst (λ (v : PassView SystemPart). v.turn.proc < system.sys.procs) (sym handed.knows) here.ours.proc;
+    waits = ap (λ (v : PassView SystemPart). length v.turn.waits) handed.knows ∙ here.ours.waits;
+    objects = ap (λ (v : PassView SystemPart). length v.visitor.noted) handed.knows ∙ here.ours.objects;
+    spans = ap (λ (v : PassView SystemPart). length v.visitor.freeing) handed.knows ∙ here.ours.spans;
     queue = handed.queue ∙ here.ours.queue;
   };
-  out = ap (λ (v : PassView AnyPart). is_out v.visitor.place) handed.knows ∙ here.out;
-  held = ap (λ (v : PassView AnyPart). v.taker.held) handed.knows ∙ here.held;
-  notes = ap (λ (v : PassView AnyPart). v.notes) handed.knows ∙ here.notes;
+  out = ap (λ (v : PassView SystemPart). is_out v.visitor.place) handed.knows ∙ here.out;
+  held = ap (λ (v : PassView SystemPart). v.taker.held) handed.knows ∙ here.held;
+  notes = ap (λ (v : PassView SystemPart). v.notes) handed.knows ∙ here.notes;
 }
 
 not_begun : {P : Type 0} (v w : PassView P) (rows : List Row) (granted : ℕ) → w ≡ record v { rows = rows; granted = granted } → HasNotBegun v w
@@ -63,7 +62,7 @@ not_begun v w rows granted e =
     e ∙ (λ j. record v { rows = sym (ap (λ (u : PassView _). u.rows) e) j; granted = sym (ap (λ (u : PassView _). u.granted) e) j })
 
 -- the last step of a swap
-module _ (system : SystemSeen) (object : ℕ) (to : To) (t : SwapSeen) (old new : PassSeen AnyPart) where
+module _ (system : SystemSeen) (object : ℕ) (to : To) (t : SwapSeen) (old new : SystemPass) where
   one_grace : (new due old : ℕ) → new + due ≤ old + 1 → new ≤ old + 1
   one_grace new due old le = omega (arith, le)
 
@@ -140,7 +139,7 @@ module _ {P : Type 0} (p0 p1 p2 p3 : PassSeen P) (first : HasRows p0 p1) (last :
       (subst (HasAbandoned F declared p1.seat object to p0.view) (sym last.knows)
       (record { begun = is.begun; free = is.free; entry = is.entry; next = is.next; drawn = is.drawn; word = is.word; rows = is.rows; granted = is.granted; cleared = is.cleared; opened = is.opened }))))
 
-pub ended_still : {E : Type 0} (system : SystemSeen) (object : ℕ) (to : To) (result : Result Swapped E) (p0 p1 p2 p3 : PassSeen AnyPart) → HasRows p0 p1
+pub ended_still : {E : Type 0} (system : SystemSeen) (object : ℕ) (to : To) (result : Result Swapped E) (p0 p1 p2 p3 : SystemPass) → HasRows p0 p1
     → HasRows p2 p3 → IsPassHere system p3 → HasEnded system object to result p1 p2 → HasEnded system object to result p0 p3
 ended_still system object to (Ok end) p0 p1 p2 p3 first last here is = record {
   here = here;

@@ -5,20 +5,19 @@ use Rattle.k42_kinds.specs.declared.entry.Answer.{Answer}
 use Rattle.k42_kinds.specs.declared.entry.Entry.{Entry}
 use Rattle.turn_core.specs.Stamps.{last_stamp}
 use Rattle.k42_stamp.specs.Layouts.{Layouts}
-use Rattle.co_any.specs.declared.part.AnyPart.{AnyPart}
 use Rattle.k42_board.specs.Seen.{PassSeen}
 use Rattle.k42_board.specs.declared.view.PassView.{PassView}
 use Rattle.k42_mediator.specs.Entries.{IsNext}
 use Rattle.k42_runtime.specs.Phases.{HasGoneOn}
 use Rattle.k42_runtime.specs.Swaps.{SwapSeen, IsSameCaller, IsHeldUpBy, IsNewlyFound, HasSwapped, HasAbandoned, HasBrought, HasStepped, is_last, graces_due}
-use Rattle.k42_runtime.specs.Systems.{SystemSeen, layouts_in}
+use Rattle.k42_runtime.specs.Systems.{SystemSeen, layouts_in, SystemPass}
 use Rattle.k42_runtime.specs.declared.swaps.Cause.{Cause}
 use Rattle.k42_runtime.specs.declared.swaps.Cause.TheVariants as causes
 use Rattle.k42_runtime.specs.declared.swaps.Stage.TheVariants.{New}
 use Rattle.k42_runtime.specs.declared.swaps.Step.{Step}
 use Rattle.k42_runtime.specs.declared.swaps.Step.TheVariants.{Again, Ended, Memory}
 use Rattle.k42_runtime.specs.declared.swaps.Swapped.{Swapped}
-use Rattle.k42_runtime.specs.declared.swaps.To.{To}
+use Rattle.k42_kinds.specs.declared.entry.To.{To}
 
 pub same_caller : {P : Type 0} (u v w : PassView P) → IsSameCaller u v → IsSameCaller v w → IsSameCaller u w
 same_caller u v w first second = record {
@@ -90,7 +89,7 @@ not_held (Again held) cause last is = cc
 not_held (Ended end) cause last is = cc
 not_held Memory cause last is = cc
 
-module _ (system : SystemSeen) (s m t : SwapSeen) (old mid new : PassSeen AnyPart) (goes : HasGoneOn s m old mid) where
+module _ (system : SystemSeen) (s m t : SwapSeen) (old mid new : SystemPass) (goes : HasGoneOn s m old mid) where
   brought_before : (result : Step) → ((cause : Cause) → result ≡ Again cause → IsUnstalled old.view mid.view) → HasBrought system result m mid new
       → HasBrought system result s old new
   brought_before (Ended end) free is =

@@ -1,25 +1,24 @@
 -- A swap that is stepped until it is over.
 use Rattle.std.proofs.Common.{◌≡◌, ℕ, ◌+◌, true, false, None, length, refl, ◌∙◌, arith}
-use Rattle.co_any.specs.declared.part.AnyPart.{AnyPart}
 use Rattle.k42_board.specs.Seen.{PassSeen}
 use Rattle.k42_runtime.specs.Phases.{HasGoneOn}
 use Rattle.k42_runtime.specs.Swaps.{SwapSeen, IsAtStage, HasStepped, is_over, graces_due}
-use Rattle.k42_runtime.specs.Systems.{SystemSeen, IsPassHere, IsAtRest}
+use Rattle.k42_runtime.specs.Systems.{SystemSeen, IsPassHere, IsAtRest, SystemPass}
 use Rattle.k42_runtime.specs.declared.swaps.Cause.{Cause}
 use Rattle.k42_runtime.specs.declared.swaps.Stage.{Stage}
 use Rattle.k42_runtime.specs.declared.swaps.Stage.TheVariants as stages
 use Rattle.k42_runtime.specs.declared.swaps.Step.TheVariants.{Again}
-use Rattle.k42_runtime.specs.declared.swaps.To.{To}
+use Rattle.k42_kinds.specs.declared.entry.To.{To}
 use Rattle.k42_runtime.proofs.SwapSteps.{same_caller, fewer}
 
 -- it has been stepped some times, and is not over
-pub record IsStepped (system : SystemSeen) (s t : SwapSeen) (old new : PassSeen AnyPart) : Type 0 where
+pub record IsStepped (system : SystemSeen) (s t : SwapSeen) (old new : SystemPass) : Type 0 where
   pub here : IsPassHere system new
   pub stage : IsAtStage t.stage (length system.plan.objects) t new
   pub going : is_over t.stage ≡ false
   pub goes : HasGoneOn s t old new
 
-pub not_stepped : (system : SystemSeen) (s : SwapSeen) (new : PassSeen AnyPart) → IsPassHere system new
+pub not_stepped : (system : SystemSeen) (s : SwapSeen) (new : SystemPass) → IsPassHere system new
     → IsAtStage s.stage (length system.plan.objects) s new → is_over s.stage ≡ false → IsStepped system s s new new
 not_stepped system s new here stage going = record {
   here = here;
@@ -36,7 +35,7 @@ not_stepped system s new here stage going = record {
   };
 }
 
-pub stepped_again : (system : SystemSeen) (s m t : SwapSeen) (old mid new : PassSeen AnyPart) (cause : Cause) → IsStepped system s m old mid
+pub stepped_again : (system : SystemSeen) (s m t : SwapSeen) (old mid new : SystemPass) (cause : Cause) → IsStepped system s m old mid
     → HasStepped system (Again cause) m t mid new → IsStepped system s t old new
 stepped_again system s m t old mid new cause is step =
     record {

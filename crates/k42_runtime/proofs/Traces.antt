@@ -3,14 +3,12 @@ use Rattle.std.proofs.Common.{◌≡◌, ℕ, zero, suc, ◌<◌, true, List, []
 use Rattle.std.specs.List.{slice_get}
 use Rattle.std.specs.Option.{option_map}
 use Rattle.std.proofs.lemmas.Option.{slice_get-map}
-use Rattle.co_any.specs.declared.layout.AnyLayout.{AnyLayout}
 use Rattle.k42_kinds.specs.Histories.{AtEachPlace}
 use Rattle.k42_kinds.specs.Legal.{IsSoFarAmongObjects, IsLegalAmongObjects, IsLegalHistoryOf, IsLegalHistory}
 use Rattle.k42_kinds.specs.Objects.{plain_object}
 use Rattle.k42_kinds.specs.declared.entry.Entry.{Entry}
 use Rattle.k42_kinds.specs.declared.operation.KindName.{KindName}
 use Rattle.atomic_table.specs.Table.{State}
-use Rattle.co_any.specs.declared.part.AnyPart.{AnyPart}
 use Rattle.gen_core.specs.State as gens
 use Rattle.k42_places.specs.Places.{EachPlace}
 use Rattle.k42_stamp.specs.Lists.{IsMerged, AreLegal, is_drawn}
@@ -20,11 +18,11 @@ use Rattle.k42_joined.specs.Sound.{IsSound}
 use Rattle.k42_board.specs.Cells.{Slot}
 use Rattle.k42_board.specs.Rule.{Rule}
 use Rattle.k42_board.specs.declared.view.View.{View}
-use Rattle.k42_runtime.specs.Systems.{SystemSeen, IsPlanned, any_with, layouts_in}
-use Rattle.k42_runtime.specs.Plans.{PlanSeen, kinds_of, layout_of, layouts_of}
+use Rattle.k42_runtime.specs.Systems.{SystemSeen, IsPlanned, any_with, layouts_in, layout_of, layouts_of, SystemPart, SystemLayout}
+use Rattle.k42_runtime.specs.Plans.{PlanSeen, kinds_of}
 use Rattle.k42_runtime.specs.declared.plan.ObjectPlan.{ObjectPlan}
 
-abbrev kind_in : AnyLayout → KindName
+abbrev kind_in : SystemLayout → KindName
 kind_in layout = layout.kind
 
 kinds_in : (objects : List ObjectPlan) → map (λ (object : ObjectPlan). object.kind) objects ≡ map kind_in (map layout_of objects)
@@ -32,13 +30,13 @@ kinds_in [] = refl
 kinds_in (object ∷ objects) = ap (λ kinds. object.kind ∷ kinds) (kinds_in objects)
 
 -- the kind of the object that a layout declares
-pub kind_at : (plan : PlanSeen) (o : ℕ) (layout : AnyLayout) → slice_get (layouts_of plan) o ≡ Some layout → slice_get (kinds_of plan) o ≡ Some layout.kind
+pub kind_at : (plan : PlanSeen) (o : ℕ) (layout : SystemLayout) → slice_get (layouts_of plan) o ≡ Some layout → slice_get (kinds_of plan) o ≡ Some layout.kind
 kind_at plan o layout is =
     ap (λ kinds. slice_get kinds o) (kinds_in plan.objects) ∙ slice_get-map kind_in (layouts_of plan) o ∙ ap (option_map kind_in) is
 
 module _ (plan : PlanSeen) where
   pub so_far : (before : List Entry) (entry : Entry) (after : List Entry)
-      → IsSoFarAmongObjects (λ (layout : AnyLayout). plain_object layout.kind) (layouts_of plan) before entry after
+      → IsSoFarAmongObjects (λ (layout : SystemLayout). plain_object layout.kind) (layouts_of plan) before entry after
       → IsSoFarAmongObjects plain_object (kinds_of plan) before entry after
   so_far before entry after is = record {
     kind = is.kind.kind;
@@ -47,7 +45,7 @@ module _ (plan : PlanSeen) where
   }
 
   among : (before : List Entry) (entry : Entry) (after : List Entry)
-      → IsLegalAmongObjects (λ (layout : AnyLayout). plain_object layout.kind) (layouts_of plan) before entry after
+      → IsLegalAmongObjects (λ (layout : SystemLayout). plain_object layout.kind) (layouts_of plan) before entry after
       → IsLegalAmongObjects plain_object (kinds_of plan) before entry after
   among before entry after is = record {
     kind = is.kind.kind;
@@ -55,7 +53,7 @@ module _ (plan : PlanSeen) where
     legal = is.legal;
   }
 
-  pub legal : (history : List Entry) → IsLegalHistoryOf (λ (layout : AnyLayout). plain_object layout.kind) (layouts_of plan) history → IsLegalHistory (kinds_of plan) history
+  pub legal : (history : List Entry) → IsLegalHistoryOf (λ (layout : SystemLayout). plain_object layout.kind) (layouts_of plan) history → IsLegalHistory (kinds_of plan) history
   legal history is = record {
     numbered = is.numbered;
     legal = λ before entry after parts. among before entry after (is.legal before entry after parts);
@@ -63,7 +61,7 @@ module _ (plan : PlanSeen) where
 
   pub each_so_far : (merged : List Entry)
       → AtEachPlace (λ before entry after. is_drawn entry.act entry.answer ≡ true
-      → IsSoFarAmongObjects (λ (layout : AnyLayout). plain_object layout.kind) (layouts_of plan) before entry after) merged
+      → IsSoFarAmongObjects (λ (layout : SystemLayout). plain_object layout.kind) (layouts_of plan) before entry after) merged
       → AtEachPlace (λ before entry after. is_drawn entry.act entry.answer ≡ true → IsSoFarAmongObjects plain_object (kinds_of plan) before entry after) merged
   each_so_far merged is before entry after parts passes = so_far before entry after (is before entry after parts passes)
 
@@ -71,7 +69,7 @@ module _ (plan : PlanSeen) where
 abbrev pub LegalLaw : ℕ → Type 0
 LegalLaw procs =
     (proc_of : ℕ → ℕ) → ((caller : ℕ) → proc_of caller < procs)
-    → (declared : List AnyLayout) (s : Joined AnyLayout) (merged : List Entry)
+    → (declared : List SystemLayout) (s : Joined SystemLayout) (merged : List Entry)
     → IsSound (any_with procs proc_of) declared s → IsMerged (lists_of s) merged → AreLegal (any_with procs proc_of) declared is_drawn merged
 
 homes : (procs : ℕ) (callers : List ℕ) → 0 < procs → EachPlace (λ c p. p < procs) callers → (c : ℕ) → slice_index_or callers c 0 < procs
@@ -87,7 +85,7 @@ all_placed system planned =
       turns_are = subst (λ (z : ℕ × List ℕ). gens.IsPlan z.0 z.1) (λ k. (sym planned.procs k, sym planned.callers k)) planned.sound.turns
 
 pub shown : (system : SystemSeen) → IsPlanned system → LegalLaw system.sys.procs
-    → (table : State (Slot AnyPart) (View AnyPart)) (rule : Rule (layouts_in system) system.sys.layouts table)
+    → (table : State (Slot SystemPart) (View SystemPart)) (rule : Rule (layouts_in system) system.sys.layouts table)
     → (merged : List Entry) → IsMerged (lists_of rule.state) merged
     → AtEachPlace (λ before entry after. is_drawn entry.act entry.answer ≡ true → IsSoFarAmongObjects plain_object (kinds_of system.plan) before entry after) merged
 shown system planned law table rule merged is =

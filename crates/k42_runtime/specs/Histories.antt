@@ -5,11 +5,10 @@ use Rattle.k42_kinds.specs.Legal.{IsLegalHistory}
 use Rattle.k42_kinds.specs.declared.entry.Entry.{Entry}
 use Rattle.k42_places.specs.Places.{EachPlace}
 use Rattle.k42_stamp.specs.Lists.{IsMerged}
-use Rattle.co_any.specs.declared.part.AnyPart.{AnyPart}
 use Rattle.k42_board.specs.Seen.{PassSeen}
 use Rattle.k42_rule.specs.Finishing.{IsPassAtRest}
 use Rattle.k42_runtime.specs.Plans.{PlanSeen, kinds_of}
-use Rattle.k42_runtime.specs.Systems.{SystemSeen}
+use Rattle.k42_runtime.specs.Systems.{SystemSeen, SystemPass}
 
 -- its entries, in order, and the plan of its system
 pub record HistorySeen : Type 0 where
@@ -26,6 +25,6 @@ pub record IsClosed (plan : PlanSeen) (lists : List (List Entry)) (history : His
   pub no_stranger : All (λ entry. entry.caller < length plan.callers) history.entries
 
 -- all passes of the system, in order, each with nothing under way
-pub record MayClose (system : SystemSeen) (passes : List (PassSeen AnyPart)) : Type 0 where
+pub record MayClose (system : SystemSeen) (passes : List SystemPass) : Type 0 where
   pub many : length passes ≡ length system.plan.callers
   pub each : EachPlace (IsPassAtRest system.sys) passes

@@ -3,8 +3,6 @@ use Rattle.std.specs.Prelude.{ℕ, ◌+◌, ◌<◌, ◌≤◌, Bool, ◌&&◌, 
 use Rattle.k42_limits.specs.declared.TheConstants.{PROCESSORS, OBJECTS, CALLERS}
 use Rattle.k42_kinds.specs.declared.operation.KindName.{KindName}
 use Rattle.gen_core.specs.State as gens
-use Rattle.co_any.specs.Layouts.{tag_named}
-use Rattle.co_any.specs.declared.layout.AnyLayout.{AnyLayout}
 use Rattle.k42_runtime.specs.declared.plan.ObjectPlan.{ObjectPlan}
 use Rattle.k42_runtime.specs.declared.plan.PlanFault.{PlanFault}
 use Rattle.k42_runtime.specs.declared.plan.PlanFault.TheVariants as faults
@@ -44,9 +42,3 @@ pub record IsSoundPlan (plan : PlanSeen) : Type 0 where
 
 abbrev pub kinds_of : PlanSeen → List KindName
 kinds_of plan = map (λ object. object.kind) plan.objects
-
-abbrev pub layout_of : ObjectPlan → AnyLayout
-layout_of object = record { kind = object.kind; tag = tag_named object.layout }
-
-abbrev pub layouts_of : PlanSeen → List AnyLayout
-layouts_of plan = map layout_of plan.objects

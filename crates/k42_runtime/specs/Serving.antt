@@ -13,7 +13,6 @@ use Rattle.turn_core.specs.Events.{caller_drawn}
 use Rattle.turn_core.specs.Stamps.{last_stamp}
 use Rattle.k42_stamp.specs.Layouts.{Layouts}
 use Rattle.k42_joined.specs.Rows.{cells_reached}
-use Rattle.co_any.specs.declared.layout.AnyLayout.{AnyLayout}
 use Rattle.k42_board.specs.Drawing.{numbers_of}
 use Rattle.k42_board.specs.Phases.{is_served}
 use Rattle.k42_board.specs.Seen.{PassSeen}
@@ -24,7 +23,7 @@ use Rattle.k42_board.specs.declared.view.PassView.{PassView}
 use Rattle.k42_mediator.specs.Taken.{released, AreTaken}
 use Rattle.k42_runtime.specs.Calls.{WasHeld, HasCalled, HoldsUp}
 use Rattle.k42_runtime.specs.Reaching.{refused_view}
-use Rattle.k42_runtime.specs.Systems.{KeepsElse}
+use Rattle.k42_runtime.specs.Systems.{KeepsElse, SystemLayout}
 use Rattle.k42_runtime.specs.declared.calls.CallCause.{CallCause}
 use Rattle.k42_runtime.specs.declared.calls.CallCause.TheVariants as causes
 use Rattle.k42_runtime.specs.declared.calls.CallStep.{CallStep}
@@ -50,8 +49,8 @@ pub record GoesBy {P : Type 0} (old new : PassView P) : Type 0 where
   pub notes : new.notes ≡ old.notes
 
 -- the object takes the operation
-pub record IsAskedOf (layouts : List AnyLayout) (object : ℕ) (op : Op) : Type 0 where
-  pub declaration : AnyLayout
+pub record IsAskedOf (layouts : List SystemLayout) (object : ℕ) (op : Op) : Type 0 where
+  pub declaration : SystemLayout
   pub declares : slice_get layouts object ≡ Some declaration
   pub takes : IsTrue (takes_operation declaration.kind op)
 

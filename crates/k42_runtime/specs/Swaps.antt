@@ -1,8 +1,9 @@
--- Swaps and destroys, which are swaps to the dead layout: their stages, their answers, and what holds one up.
+-- Swaps, of which some are to the dead layout: their stages, their answers, and what holds one up.
 use Rattle.std.specs.Prelude.{◌≡◌, ◌≢◌, ◌⊎◌, ℕ, ◌+◌, ◌-◌, ◌<◌, ◌≤◌, ◌==◌, if◌then◌else◌, Bool, true, false, ⊤, List, [], ◌∷◌, ◌++◌, length, Option, Some, None, Result, IfOk, OnErr}
 use Rattle.gen_core.specs.Events as graces
 use Rattle.k42_kinds.specs.declared.entry.Act.{Act}
 use Rattle.k42_kinds.specs.declared.entry.Act.TheVariants as acts
+use Rattle.k42_kinds.specs.declared.entry.To.{To}
 use Rattle.k42_kinds.specs.declared.entry.Answer.{Answer}
 use Rattle.k42_kinds.specs.declared.entry.Answer.TheVariants as answers
 use Rattle.k42_kinds.specs.declared.entry.Entry.{Entry}
@@ -12,7 +13,6 @@ use Rattle.turn_core.specs.declared.event.TurnEvent.TheVariants.{Lock}
 use Rattle.k42_stamp.specs.Layouts.{Layouts}
 use Rattle.k42_joined.specs.Event.{AtCells, AtPhases}
 use Rattle.k42_joined.specs.Numbers.{cell_of}
-use Rattle.co_any.specs.declared.part.AnyPart.{AnyPart}
 use Rattle.k42_board.specs.Generations.{MOST}
 use Rattle.k42_board.specs.Gracing.{MayTakeRole}
 use Rattle.k42_board.specs.Seen.{PassSeen}
@@ -31,7 +31,7 @@ use Rattle.k42_mediator.specs.Swaps.{staged, LeavesOpen}
 use Rattle.k42_mediator.specs.declared.answers.Begun.{Begun}
 use Rattle.k42_mediator.specs.declared.answers.Begun.TheVariants as begins
 use Rattle.k42_quiesce.specs.Gracing.{MayStep, IsLeft, IsRoleHeld, HasLooked, TriesRole}
-use Rattle.k42_runtime.specs.Systems.{SystemSeen, IsPassHere, IsAtRest, layouts_in}
+use Rattle.k42_runtime.specs.Systems.{SystemSeen, IsPassHere, IsAtRest, layouts_in, SystemPass}
 use Rattle.k42_runtime.specs.declared.swaps.Cause.{Cause}
 use Rattle.k42_runtime.specs.declared.swaps.Cause.TheVariants as causes
 use Rattle.k42_runtime.specs.declared.swaps.Stage.{Stage}
@@ -40,8 +40,6 @@ use Rattle.k42_runtime.specs.declared.swaps.Step.{Step}
 use Rattle.k42_runtime.specs.declared.swaps.Step.TheVariants as steps
 use Rattle.k42_runtime.specs.declared.swaps.Swapped.{Swapped}
 use Rattle.k42_runtime.specs.declared.swaps.Swapped.TheVariants as ends
-use Rattle.k42_runtime.specs.declared.swaps.To.{To}
-use Rattle.k42_runtime.specs.declared.swaps.To.TheVariants as tos
 
 -- a swap: of which object, to what, how far it is, and the caller that has the role for its grace
 pub record SwapSeen : Type 0 where
@@ -49,11 +47,6 @@ pub record SwapSeen : Type 0 where
   pub to : To
   pub stage : Stage
   pub holder : Option ℕ
-
--- what the entry of the swap asks for
-abbrev pub act_asked : To → Act
-act_asked (tos.Layout layout) = acts.Swap layout
-act_asked tos.Dead = acts.Destroy
 
 -- the answer in the entry
 abbrev pub answer_told : Swapped → Answer
@@ -106,7 +99,7 @@ IsAtStage stages.Waiting objects swap pass =
 IsAtStage stages.Shut objects swap pass =
     IsUnderWay objects swap.object pass × HasFoundFree pass.view × IsShut swap.object pass.view
 IsAtStage stages.Marking objects swap pass =
-    IsUnderWay objects swap.object pass × IsToMark swap.object (act_asked swap.to) pass.view
+    IsUnderWay objects swap.object pass × IsToMark swap.object (acts.Swap swap.to) pass.view
 IsAtStage stages.Over objects swap pass = IsAtRest pass.view
 
 abbrev pub is_over : Stage → Bool
@@ -173,7 +166,7 @@ pub record HasSwapped {P : Type 0} (object : ℕ) (to : To) (end : Swapped) (old
   pub entry : Entry
   pub next :
       IsNext old object (incarnation_told end (word_begun new.last)) (cell_told object end (word_begun new.last))
-      (act_asked to) (answer_told end) entry
+      (acts.Swap to) (answer_told end) entry
   pub drawn : new.taker.mine ≡ old.taker.mine ++ entry ∷ []
 
 -- the pass when it had found this word last, and held these rows
@@ -233,7 +226,7 @@ module _ {S L P : Type 0} (F : Layouts S L P) (declared : List L) (id : ℕ) whe
     pub free : HasFoundFree new
     pub entry : Entry
     pub next :
-        IsNext old object (incarnation_in (word_begun new.last)) 0 (act_asked to)
+        IsNext old object (incarnation_in (word_begun new.last)) 0 (acts.Swap to)
         (answers.Abandoned (incarnation_in (word_begun new.last) + 1)) entry
     pub drawn : new.taker.mine ≡ old.taker.mine ++ entry ∷ []
     -- The last step of the swap found this word of the object. The pass held these rows then, had opened all entries, and
@@ -256,7 +249,7 @@ module _ {S L P : Type 0} (F : Layouts S L P) (declared : List L) (id : ℕ) whe
   EndsWithoutMemory object to old new = HasNotBegun old new ⊎ HasAbandoned object to old new
 
 -- what a step of a swap brings, by its answer
-abbrev pub HasBrought : SystemSeen → Step → SwapSeen → PassSeen AnyPart → PassSeen AnyPart → Type 0
+abbrev pub HasBrought : SystemSeen → Step → SwapSeen → SystemPass → SystemPass → Type 0
 HasBrought system (steps.Ended end) swap old new = HasSwapped swap.object swap.to end old.view new.view
 HasBrought system (steps.Again cause) swap old new =
     (new.view.taker.mine ≡ old.view.taker.mine) × IsNewlyFound cause old.view new.view
@@ -265,7 +258,7 @@ HasBrought system steps.Memory swap old new =
     StepsWithoutMemory (layouts_in system) system.sys.layouts old.seat swap.stage swap.object swap.to old.view new.view
 
 -- The swap and its pass, once a step has answered so, are where the next one goes on, unless it was the last.
-pub record HasStepped (system : SystemSeen) (result : Step) (s t : SwapSeen) (old new : PassSeen AnyPart) : Type 0 where
+pub record HasStepped (system : SystemSeen) (result : Step) (s t : SwapSeen) (old new : SystemPass) : Type 0 where
   pub here : IsPassHere system new
   pub stage : IsAtStage t.stage (length system.plan.objects) t new
   pub begun : t.stage ≢ stages.New
@@ -280,7 +273,7 @@ pub record HasStepped (system : SystemSeen) (result : Step) (s t : SwapSeen) (ol
   pub brought : HasBrought system result s old new
 
 -- the pass once a swap has ended that was waited for
-pub record HasEnded {E : Type 0} (system : SystemSeen) (object : ℕ) (to : To) (result : Result Swapped E) (old new : PassSeen AnyPart)
+pub record HasEnded {E : Type 0} (system : SystemSeen) (object : ℕ) (to : To) (result : Result Swapped E) (old new : SystemPass)
     : Type 0 where
   pub here : IsPassHere system new
   pub rests : IsAtRest new.view

@@ -11,8 +11,7 @@ ghost use Rattle.k42_runtime.specs.declared.calls.CallCause.{CallCause};
 ghost use Rattle.k42_runtime.specs.declared.calls.CallStep.TheVariants as CallStep;
 
 use crate::serving::{go_inside, serve};
-use crate::system::{Pass, System};
-use co_any::AnyLayout;
+use crate::system::{Pass, System, SystemLayout};
 use crossbeam_utils::Backoff;
 use k42_kinds::{Op, Reply};
 use k42_memory::Memory;
@@ -61,7 +60,13 @@ impl Model for Call {
 }
 
 /// One try of a call.
-fn try_once(alloc: Global, sys: &Sys<AnyLayout>, pass: &mut Pass, object: u32, op: &Op) -> CallStep
+fn try_once(
+    alloc: Global,
+    sys: &Sys<SystemLayout>,
+    pass: &mut Pass,
+    object: u32,
+    op: &Op,
+) -> CallStep
     requires ours { IsPassOf sys.now pass.old }
     requires may { MayLookUp (length sys.now.layouts) object pass.old.view }
     requires asked { IsAskedOf sys.now.layouts object op.now }

@@ -7,14 +7,14 @@ ghost use Rattle.k42_joined.specs.Rows.{cells_reached};
 ghost use Rattle.k42_board.specs.Drawing.{numbers_of};
 ghost use Rattle.k42_board.specs.Seen.{IsOf, IsSamePass};
 ghost use Rattle.k42_board.specs.Taking.{TouchesInside};
-ghost use Rattle.k42_mediator.specs.Taken.{released, AreTaken, IsReady};
+ghost use Rattle.k42_mediator.specs.Taken.{released, AreTaken, MayPutBack};
 ghost use Rattle.k42_runtime.specs.Reaching.{IsThere, TakesNext, Takes, MayGiveBack};
 ghost use Rattle.k42_runtime.specs.Stepping.{many_reached};
 ghost use Rattle.k42_runtime.specs.Systems.{any_layouts};
 
-use co_any::AnyLayout;
+use crate::system::{Pass, SystemLayout};
 use k42_kinds::Reach;
-use k42_rule::{Cell, Inside, Pass, Sys, layouts_are_lawful, lock, put, take, unlock};
+use k42_rule::{Cell, Inside, Sys, layouts_are_lawful, lock, put, take, unlock};
 
 fn cell_number(object: u32, row: u32, place: u32) -> u32
     requires { (object < 16) × (place < 8) }
@@ -26,10 +26,10 @@ fn cell_number(object: u32, row: u32, place: u32) -> u32
 
 /// Takes a cell, or answers which caller has it.
 fn take_next(
-    sys: &Sys<AnyLayout>,
-    pass: &mut Pass<AnyLayout>,
+    sys: &Sys<SystemLayout>,
+    pass: &mut Pass,
     number: u32,
-    cells: &mut Vec<Cell<AnyLayout>>,
+    cells: &mut Vec<Cell<SystemLayout>>,
 ) -> Option<u32>
     requires ours { IsOf sys.now pass.old }
     requires few { number < 256 }
@@ -55,11 +55,11 @@ fn take_next(
 /// Takes all cells of a row, in rising order. Where another caller has one of them, it answers which caller, and those
 /// before it are taken.
 fn take_row(
-    sys: &Sys<AnyLayout>,
-    pass: &mut Pass<AnyLayout>,
+    sys: &Sys<SystemLayout>,
+    pass: &mut Pass,
     object: u32,
     row: u32,
-    cells: &mut Vec<Cell<AnyLayout>>,
+    cells: &mut Vec<Cell<SystemLayout>>,
 ) -> Option<u32>
     requires ours { IsOf sys.now pass.old }
     requires some { 0 < sys.now.procs }
@@ -85,12 +85,12 @@ fn take_row(
 
 /// Takes the one cell.
 fn take_one(
-    sys: &Sys<AnyLayout>,
-    pass: &mut Pass<AnyLayout>,
+    sys: &Sys<SystemLayout>,
+    pass: &mut Pass,
     object: u32,
     row: u32,
     place: u32,
-    cells: &mut Vec<Cell<AnyLayout>>,
+    cells: &mut Vec<Cell<SystemLayout>>,
 ) -> Option<u32>
     requires ours { IsOf sys.now pass.old }
     requires there { place < sys.now.procs }
@@ -112,11 +112,11 @@ fn take_one(
 /// Takes the cells that a call needs. Where another caller has one of them, it answers which caller, and those before
 /// it are taken.
 pub(crate) fn take_cells(
-    sys: &Sys<AnyLayout>,
-    pass: &mut Pass<AnyLayout>,
+    sys: &Sys<SystemLayout>,
+    pass: &mut Pass,
     inside: &Inside,
     reach: &Reach,
-    cells: &mut Vec<Cell<AnyLayout>>,
+    cells: &mut Vec<Cell<SystemLayout>>,
 ) -> Option<u32>
     requires ours { IsOf sys.now pass.old }
     requires there { IsThere sys.now.procs reach.now }
@@ -137,9 +137,9 @@ pub(crate) fn take_cells(
 }
 
 /// Puts one cell back, and leaves its lock.
-fn give_next(sys: &Sys<AnyLayout>, pass: &mut Pass<AnyLayout>, cell: Cell<AnyLayout>)
+fn give_next(sys: &Sys<SystemLayout>, pass: &mut Pass, cell: Cell<SystemLayout>)
     requires ours { IsOf sys.now pass.old }
-    requires ready { IsReady (any_layouts sys.now.procs sys.now.callers) sys.now.layouts pass.old.seat pass.old.view cell }
+    requires ready { MayPutBack (any_layouts sys.now.procs sys.now.callers) sys.now.layouts pass.old.seat pass.old.view cell }
     ensures same { IsSamePass pass.old pass.new }
     ensures released { pass.new.view ≡ released (cell.number ∷ []) pass.old.view }
 {
@@ -150,9 +150,9 @@ fn give_next(sys: &Sys<AnyLayout>, pass: &mut Pass<AnyLayout>, cell: Cell<AnyLay
 
 /// Gives all cells back.
 pub(crate) fn give_back(
-    sys: &Sys<AnyLayout>,
-    pass: &mut Pass<AnyLayout>,
-    mut cells: Vec<Cell<AnyLayout>>,
+    sys: &Sys<SystemLayout>,
+    pass: &mut Pass,
+    mut cells: Vec<Cell<SystemLayout>>,
 )
     requires ours { IsOf sys.now pass.old }
     requires may { MayGiveBack (any_layouts sys.now.procs sys.now.callers) sys.now.layouts pass.old.seat pass.old.view cells.items }

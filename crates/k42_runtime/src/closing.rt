@@ -7,8 +7,7 @@ ghost use Rattle.k42_runtime.specs.Closing.{AreNumbered, AreListsFrom};
 ghost use Rattle.k42_runtime.specs.Histories.{IsClosed, MayClose};
 
 use crate::history::{History, Unclosed};
-use crate::system::{Pass, System};
-use co_any::AnyLayout;
+use crate::system::{Pass, System, SystemLayout};
 use k42_joined::trace_at_rest_is_a_history;
 use k42_memory::Memory;
 use k42_rule::{Unfinished, layouts_are_lawful};
@@ -49,7 +48,7 @@ impl System {
         ensures err { IfErr result (λ back. (back.system ≡ self) × (back.passes.items ≡ passes.items)) }
     {
         layouts_are_lawful(&self.sys);
-        trace_at_rest_is_a_history::<AnyLayout>(self.sys.procs());
+        trace_at_rest_is_a_history::<SystemLayout>(self.sys.procs());
         let Ok(room) = room_for(alloc, passes.as_slice()) else {
             return Err(Unclosed {
                 system: self,

@@ -1,21 +1,21 @@
 //! The phases of a swap, each as far as it can go without waiting.
 ghost use Rattle.std.specs.Prelude.{◌≡◌, ◌<◌, ◌≤◌, ◌+◌, true, length};
 ghost use Rattle.k42_limits.specs.declared.TheConstants.{LAST_INCARNATION};
+ghost use Rattle.k42_kinds.specs.declared.entry.Act.TheVariants as Act;
 ghost use Rattle.k42_kinds.specs.Objects.{plain_object};
 ghost use Rattle.co_any.specs.Layouts.{act_of};
 ghost use Rattle.k42_board.specs.Values.{incarnation_in};
 ghost use Rattle.k42_board.specs.Views.{word_begun};
 ghost use Rattle.k42_mediator.specs.Transfers.{IsOfKind};
 ghost use Rattle.k42_runtime.specs.Phases.{IsMoving, cause_in, end_in};
-ghost use Rattle.k42_runtime.specs.Swaps.{IsAtStage, IsUnderWay, HasFoundFree, HasStepped, act_asked};
-ghost use Rattle.k42_runtime.specs.Systems.{IsPassHere};
+ghost use Rattle.k42_runtime.specs.Swaps.{IsAtStage, IsUnderWay, HasFoundFree, HasStepped};
+ghost use Rattle.k42_runtime.specs.Systems.{SystemLayout, IsPassHere};
 ghost use Rattle.k42_runtime.specs.declared.swaps.Stage.TheVariants as Stage;
 ghost use Rattle.k42_runtime.specs.declared.swaps.Step.TheVariants as Step;
 
-use crate::swaps::{Cause, Stage, Step, Swap, Swapped, To};
-use crate::system::{Pass, System};
-use co_any::AnyLayout;
-use k42_kinds::{Answer, Layout, LayoutName};
+use crate::swaps::{Cause, Stage, Step, Swap, Swapped};
+use crate::system::{Pass, System, SystemLayout};
+use k42_kinds::{Answer, Layout, LayoutName, To};
 use k42_mediator::{
     Begun, Marked, Moving, abandon, begin, block, end, interpose, mark, open_entries, transfer,
     try_move,
@@ -26,7 +26,7 @@ use std::alloc::Global;
 
 /// The tag of what an object is swapped to.
 fn tag_to(to: To) -> u32
-    ensures is { act_of result ≡ act_asked to }
+    ensures is { act_of result ≡ Act.Swap to }
     ensures known { result ≤ 2 }
 {
     match to {
@@ -75,10 +75,10 @@ fn cause_of(held: Held) -> Cause
 }
 
 impl Swap {
-    fn layout(&self, system: &System) -> AnyLayout
+    fn layout(&self, system: &System) -> SystemLayout
         requires there { self.now.object < length system.now.plan.objects }
-        ensures kind { IsOfKind (λ (layout : AnyLayout). plain_object layout.kind) system.now.sys.layouts self.now.object result }
-        ensures act { act_of result.tag ≡ act_asked self.now.to }
+        ensures kind { IsOfKind (λ (layout : SystemLayout). plain_object layout.kind) system.now.sys.layouts self.now.object result }
+        ensures act { act_of result.tag ≡ Act.Swap self.now.to }
         ensures known { result.tag ≤ 2 }
     {
         system.sys.declared(self.object).with_tag(tag_to(self.to))
@@ -150,12 +150,12 @@ impl Swap {
         let _swap = pass.swap();
         match try_move(&system.sys, pass) {
             Moving::InFlight { count } => Step::Again(Cause::InFlight { count }),
-            Moving::Moved => self.hand_on(alloc, system, pass),
+            Moving::Moved => self.transfer_or_abandon(alloc, system, pass),
         }
     }
 
     /// Hands the state on, and opens the new row; for want of memory it opens the old one.
-    fn hand_on(&mut self, alloc: Global, system: &System, pass: &mut Pass) -> Step
+    fn transfer_or_abandon(&mut self, alloc: Global, system: &System, pass: &mut Pass) -> Step
         requires ours { IsPassHere system.now pass.old }
         requires way { IsUnderWay (length system.now.plan.objects) self.old.object pass.old }
         requires found { HasFoundFree pass.old.view }

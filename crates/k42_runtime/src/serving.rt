@@ -14,8 +14,7 @@ ghost use Rattle.k42_runtime.specs.Systems.{any_layouts};
 use crate::calls::{CallCause, CallStep};
 use crate::cells::{give_back, take_cells};
 use crate::stepping::step_cells;
-use crate::system::Pass;
-use co_any::AnyLayout;
+use crate::system::{Pass, SystemLayout};
 use k42_kinds::{Act, Answer, Layout, Op, Reach};
 use k42_mediator::{Knocked, knock};
 use k42_memory::Memory;
@@ -26,7 +25,7 @@ use std::alloc::Global;
 /// Has the miss handled.
 fn fill(
     alloc: Global,
-    sys: &Sys<AnyLayout>,
+    sys: &Sys<SystemLayout>,
     pass: &mut Pass,
     object: u32,
 ) -> Result<Option<CallCause>, Memory>
@@ -47,7 +46,7 @@ fn fill(
 }
 
 /// Asks the mediator to be let in.
-fn ask(sys: &Sys<AnyLayout>, pass: &mut Pass, object: u32) -> Option<CallCause>
+fn ask(sys: &Sys<SystemLayout>, pass: &mut Pass, object: u32) -> Option<CallCause>
     requires ours { IsPassOf sys.now pass.old }
     requires sent { is_at_mediator pass.old.view.visitor.place object ≡ true }
     requires there { object < length sys.now.layouts }
@@ -65,7 +64,7 @@ fn ask(sys: &Sys<AnyLayout>, pass: &mut Pass, object: u32) -> Option<CallCause>
 /// Gets inside the row that serves the pass, or answers what kept it out.
 pub(crate) fn go_inside(
     alloc: Global,
-    sys: &Sys<AnyLayout>,
+    sys: &Sys<SystemLayout>,
     pass: &mut Pass,
     object: u32,
 ) -> Result<Option<CallCause>, Memory>
@@ -97,12 +96,12 @@ fn many_reached(reach: &Reach, procs: u32) -> usize
 /// Makes the operation at the cells that it needs, and draws that.
 fn make(
     alloc: Global,
-    sys: &Sys<AnyLayout>,
+    sys: &Sys<SystemLayout>,
     pass: &mut Pass,
-    layout: &AnyLayout,
+    layout: &SystemLayout,
     reach: &Reach,
     op: &Op,
-    cells: &mut Vec<Cell<AnyLayout>>,
+    cells: &mut Vec<Cell<SystemLayout>>,
 ) -> CallStep
     requires ours { IsOf sys.now pass.old }
     requires room { 0 < pass.old.room }
@@ -124,7 +123,7 @@ fn make(
 }
 
 /// Takes the cells that the operation needs, makes it, and gives them back.
-pub(crate) fn serve(alloc: Global, sys: &Sys<AnyLayout>, pass: &mut Pass, op: &Op) -> CallStep
+pub(crate) fn serve(alloc: Global, sys: &Sys<SystemLayout>, pass: &mut Pass, op: &Op) -> CallStep
     requires ours { IsPassOf sys.now pass.old }
     requires serving { IsServing (object_inside pass.old.view) pass.old.view }
     requires asked { IsAskedOf sys.now.layouts (object_inside pass.old.view) op.now }

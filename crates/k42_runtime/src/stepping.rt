@@ -8,7 +8,7 @@ ghost use Rattle.co_any.specs.Layouts.{ways_of, whole_of};
 ghost use Rattle.k42_mediator.specs.Parts.{parts_from, filled};
 ghost use Rattle.k42_runtime.specs.Stepping.{due_in, stepped_at, row_behind, MayStepRow, MayStepCells, HasSteppedCells};
 
-use co_any::{AnyLayout, AnyPart};
+use crate::system::{SystemLayout, SystemPart};
 use k42_kinds::{Layout, Op, Reach, Reply};
 use k42_memory::Memory;
 use k42_rule::Cell;
@@ -17,11 +17,11 @@ use std::alloc::Global;
 /// Makes the operation on the part of the one cell that it needs.
 fn step_part(
     alloc: Global,
-    layout: &AnyLayout,
+    layout: &SystemLayout,
     procs: u32,
     place: u32,
     op: &Op,
-    cell: &mut Cell<AnyLayout>,
+    cell: &mut Cell<SystemLayout>,
 ) -> Result<Reply, Memory>
     requires known { (layout.now.tag ≤ 2) × (place < procs) × (procs ≤ PROCESSORS) }
     requires takes { IsTrue (takes_operation layout.now.kind op.now) }
@@ -46,11 +46,11 @@ fn step_part(
 /// The same where the cell stands alone.
 fn step_first(
     alloc: Global,
-    layout: &AnyLayout,
+    layout: &SystemLayout,
     procs: u32,
     place: u32,
     op: &Op,
-    cells: &mut [Cell<AnyLayout>],
+    cells: &mut [Cell<SystemLayout>],
 ) -> Result<Reply, Memory>
     requires known { (layout.now.tag ≤ 2) × (procs ≤ PROCESSORS) }
     requires takes { IsTrue (takes_operation layout.now.kind op.now) }
@@ -67,17 +67,17 @@ fn step_first(
 
 /// The part of a cell, or the empty one that is due there, and whether it is the cell's own.
 struct Lifted {
-    part: AnyPart,
+    part: SystemPart,
     own: bool,
 }
 
 /// Takes the part out of a cell. Where there is none, an empty one is made.
 fn lift_part(
     alloc: Global,
-    layout: &AnyLayout,
+    layout: &SystemLayout,
     procs: u32,
     place: u32,
-    cell: &mut Cell<AnyLayout>,
+    cell: &mut Cell<SystemLayout>,
 ) -> Result<Lifted, Memory>
     requires known { (layout.now.tag ≤ 2) × (place < procs) × (procs ≤ PROCESSORS) }
     ensures part { IfOk result (λ lifted. lifted.part ≡ due_in (ways_of layout.now.kind layout.now.tag) procs place cell.old) }
@@ -96,8 +96,8 @@ fn lift_part(
 
 /// Puts a part into a cell again. Where the operation was not made, only its own.
 fn settle(
-    cell: &mut Cell<AnyLayout>,
-    part: Option<AnyPart>,
+    cell: &mut Cell<SystemLayout>,
+    part: Option<SystemPart>,
     own: bool,
     reply: &Result<Reply, Memory>,
 )
@@ -116,11 +116,11 @@ fn settle(
 /// afterwards; without memory it is as it was.
 fn step_behind(
     alloc: Global,
-    layout: &AnyLayout,
+    layout: &SystemLayout,
     procs: u32,
     op: &Op,
-    cells: &mut [Cell<AnyLayout>],
-    parts: &mut Vec<AnyPart>,
+    cells: &mut [Cell<SystemLayout>],
+    parts: &mut Vec<SystemPart>,
 ) -> Result<Reply, Memory>
     requires known { (layout.now.tag ≤ 2) × (procs ≤ PROCESSORS) }
     requires takes { IsTrue (takes_operation layout.now.kind op.now) }
@@ -151,10 +151,10 @@ fn step_behind(
 /// Makes the operation on the parts of a whole row.
 fn step_row(
     alloc: Global,
-    layout: &AnyLayout,
+    layout: &SystemLayout,
     procs: u32,
     op: &Op,
-    cells: &mut [Cell<AnyLayout>],
+    cells: &mut [Cell<SystemLayout>],
 ) -> Result<Reply, Memory>
     requires known { (layout.now.tag ≤ 2) × (procs ≤ PROCESSORS) }
     requires takes { IsTrue (takes_operation layout.now.kind op.now) }
@@ -174,11 +174,11 @@ fn step_row(
 /// Makes the operation on the parts of the cells that it needs. Without memory they are as they were.
 pub(crate) fn step_cells(
     alloc: Global,
-    layout: &AnyLayout,
+    layout: &SystemLayout,
     procs: u32,
     reach: &Reach,
     op: &Op,
-    cells: &mut [Cell<AnyLayout>],
+    cells: &mut [Cell<SystemLayout>],
 ) -> Result<Reply, Memory>
     requires known { (layout.now.tag ≤ 2) × (procs ≤ PROCESSORS) }
     requires takes { IsTrue (takes_operation layout.now.kind op.now) }

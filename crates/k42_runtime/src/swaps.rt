@@ -5,18 +5,10 @@ ghost use Rattle.k42_runtime.specs.Systems.{IsPassHere};
 ghost use Rattle.k42_runtime.specs.declared.swaps.Stage.TheVariants as Stage;
 
 use crate::system::{Pass, System};
-use k42_kinds::LayoutName;
+use k42_kinds::To;
 use k42_quiesce::Grace;
 use std::alloc::Global;
 use std::marker::Model;
-
-/// What an object is swapped to.
-#[derive(Clone, Copy, Debug, PartialEq, Eq)]
-pub enum To {
-    Layout(LayoutName),
-    /// It is destroyed.
-    Dead,
-}
 
 /// How a swap ended. The numbers count the object's swaps from 1.
 #[derive(Clone, Copy, Debug, PartialEq, Eq)]

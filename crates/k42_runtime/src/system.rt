@@ -5,24 +5,30 @@ ghost use Rattle.k42_board.specs.Generations.{MOST};
 ghost use Rattle.k42_board.specs.Seen.{IsSamePass};
 ghost use Rattle.k42_quiesce.specs.Activities.{HasEntered};
 ghost use Rattle.k42_runtime.specs.Calls.{IsAsked};
-ghost use Rattle.k42_runtime.specs.Plans.{kinds_of, layout_of};
-ghost use Rattle.k42_runtime.specs.Systems.{IsPassHere, IsAtWork, IsAtRest, HasStarted};
+ghost use Rattle.k42_runtime.specs.Plans.{kinds_of};
+ghost use Rattle.k42_runtime.specs.Systems.{layout_of, IsPassHere, IsAtWork, IsAtRest, HasStarted};
 
 use crate::plan::{ObjectPlan, Plan};
-use co_any::AnyLayout;
+use co_any::{AnyLayout, AnyPart};
 use k42_kinds::{KindName, Op, kind_of};
 use k42_memory::Memory;
 use k42_rule::Sys;
 use std::alloc::Global;
 use std::marker::Model;
 
+/// The layouts in which a system keeps its objects.
+pub(crate) type SystemLayout = AnyLayout;
+
+/// The parts of their rows.
+pub(crate) type SystemPart = AnyPart;
+
 /// What one caller steps with.
-pub type Pass = k42_rule::Pass<AnyLayout>;
+pub type Pass = k42_rule::Pass<SystemLayout>;
 
 /// Clustered objects, each under calls and swaps of any passes.
 #[derive(Drop)]
 pub struct System {
-    pub(crate) sys: Sys<AnyLayout>,
+    pub(crate) sys: Sys<SystemLayout>,
     pub(crate) plan: Plan,
 }
 
@@ -37,12 +43,12 @@ impl Model for System {
 }
 
 /// The layouts in which the objects start.
-fn layouts_for(alloc: Global, objects: &[ObjectPlan]) -> Result<Vec<AnyLayout>, Memory>
+fn layouts_for(alloc: Global, objects: &[ObjectPlan]) -> Result<Vec<SystemLayout>, Memory>
     ensures { IfOk result (λ layouts. layouts.items ≡ map layout_of objects.now) }
 {
     let mut layouts = Vec::new(alloc);
     for object in objects {
-        layouts.push(AnyLayout::of(object.kind, object.layout))?;
+        layouts.push(SystemLayout::of(object.kind, object.layout))?;
     }
     Ok(layouts)
 }
@@ -76,7 +82,7 @@ impl System {
     }
 
     /// Its table, for whoever takes the phases of a swap one by one.
-    pub fn table(&self) -> &Sys<AnyLayout>
+    pub fn table(&self) -> &Sys<SystemLayout>
         ensures { result.now ≡ self.now.sys }
     {
         &self.sys

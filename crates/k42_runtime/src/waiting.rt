@@ -5,12 +5,12 @@ ghost use Rattle.k42_runtime.specs.Phases.{last_step};
 ghost use Rattle.k42_runtime.specs.Reclaims.{HasReclaimed};
 ghost use Rattle.k42_runtime.specs.Swaps.{MayStart, IsAtStage, IsSameCaller, HasStepped, HasEnded, is_over};
 ghost use Rattle.k42_runtime.specs.Systems.{IsPassHere, IsAtRest, layouts_in};
-ghost use Rattle.k42_runtime.specs.declared.swaps.To.TheVariants as To;
+ghost use Rattle.k42_kinds.specs.declared.entry.To.TheVariants as To;
 
-use crate::swaps::{Step, Swap, Swapped, To};
+use crate::swaps::{Step, Swap, Swapped};
 use crate::system::{Pass, System};
 use crossbeam_utils::Backoff;
-use k42_kinds::LayoutName;
+use k42_kinds::{LayoutName, To};
 use k42_memory::Memory;
 use k42_quiesce::{collect, grace, hand_over, reclaim};
 use std::alloc::Global;

@@ -7,6 +7,7 @@ use Rattle.k42_kinds.specs.declared.operation.LayoutName.TheVariants.{Spread}
 use Rattle.k42_kinds.specs.declared.operation.Reply.{Reply}
 use Rattle.k42_kinds.specs.declared.operation.Reply.TheVariants.{Done, Number}
 use Rattle.k42_kinds.specs.declared.entry.Act.TheVariants.{Call, Swap}
+use Rattle.k42_kinds.specs.declared.entry.To.TheVariants.{Layout}
 use Rattle.k42_kinds.specs.declared.entry.Answer.TheVariants.{Replied, Swapped}
 use Rattle.k42_kinds.specs.declared.entry.Entry.{Entry}
 use Rattle.k42_kinds.specs.declared.entry.Reach.{Reach}
@@ -45,7 +46,7 @@ two = record {
   Whole = λ _ procs parts. length parts ≡ procs;
   Serves = λ _ value. value < 2 ^ 64;
   admitted = λ _ value. value;
-  act_of = λ _. Swap Spread;
+  act_of = λ _. Swap (Layout Spread);
   procs = 2;
   proc_of = λ caller. caller % 2;
 }
@@ -150,7 +151,7 @@ read_once fits = cc (fits.left 1 (omega arith))
 
 -- the row is handed on with what it holds
 abbrev swap : Entry
-swap = record { stamp = 3; caller = 1; index = 0; object = 0; incarnation = 0; cell = 8; act = Swap Spread; answer = Swapped 1; proc = 1; generation = None }
+swap = record { stamp = 3; caller = 1; index = 0; object = 0; incarnation = 0; cell = 8; act = Swap (Layout Spread); answer = Swapped 1; proc = 1; generation = None }
 
 after_all : (cell : ℕ) → cell < 2 → AllByRecursion (IsLater swap) (histories 0 cell)
 after_all zero lt = (omega arith, (omega arith, tt))

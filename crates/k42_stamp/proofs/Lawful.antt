@@ -4,7 +4,7 @@ use Rattle.std.proofs.lemmas.Bool.{ne_eqb}
 use Rattle.std.proofs.lemmas.List.{append-nil}
 use Rattle.k42_limits.specs.declared.TheConstants.{LAST_INCARNATION}
 use Rattle.k42_kinds.specs.declared.entry.Act.{Act}
-use Rattle.k42_kinds.specs.declared.entry.Act.TheVariants.{Call, Swap, Destroy}
+use Rattle.k42_kinds.specs.declared.entry.Act.TheVariants.{Call, Swap}
 use Rattle.k42_kinds.specs.declared.entry.Answer.{Answer}
 use Rattle.k42_kinds.specs.declared.entry.Answer.TheVariants.{Swapped}
 use Rattle.k42_kinds.specs.declared.entry.Entry.{Entry}
@@ -26,7 +26,6 @@ behind-append P any front (x ∷ xs) ys h g = (any front x xs (xs ++ ys) h.0, be
 by_answer : {S : Type 0} (object : OneThread S) (before : List Entry) (e : Entry) (act : Act) → is_call act ≡ false → IsAnswerSoFar object before e e.answer → IsActSoFar object before e act
 by_answer object before e (Call op) other legal = cc other
 by_answer object before e (Swap to) other legal = legal
-by_answer object before e Destroy other legal = legal
 
 module _ {S L P : Type 0} (F : Layouts S L P) (laws : AreLaws F) (declared : L) (o : ℕ) where
   abbrev thread : OneThread S
@@ -67,11 +66,11 @@ module _ {S L P : Type 0} (F : Layouts S L P) (laws : AreLaws F) (declared : L) 
       let old = state_of F turn.row in
       let serves = laws.admits row.layout turn.row.layout old next.known is.live (is.row.kind ∙ sym next.kind) (laws.stands turn.row.layout (parts_of F turn.row) is.row.known s.whole).served in
       let imported = laws.imports row.layout (F.admitted row.layout old) next.known serves in
-      let moved = subst (λ (object : OneThread S). state_moved object.after object.ended old (F.act_of row.layout) (Swapped (suc (length past))) ≡ F.admitted row.layout old) next.kind (laws.swaps row.layout old next.known (suc (length past))) in
+      let moved = subst (λ (object : OneThread S). state_moved object old (F.act_of row.layout) (Swapped (suc (length past))) ≡ F.admitted row.layout old) next.kind (laws.swaps row.layout old next.known (suc (length past))) in
       record {
         whole = subst (F.Whole row.layout F.procs) (sym next.started) imported.whole;
-        state = state_after_own thread o front e next.begun.object ∙ (ap (λ state. state_moved thread.after thread.ended state e.act e.answer) s.state
-            ∙ (ap (λ act. state_moved thread.after thread.ended old act e.answer) next.begun.act ∙ (ap (λ answer. state_moved thread.after thread.ended old (F.act_of row.layout) answer) next.begun.answer
+        state = state_after_own thread o front e next.begun.object ∙ (ap (λ state. state_moved thread state e.act e.answer) s.state
+            ∙ (ap (λ act. state_moved thread old act e.answer) next.begun.act ∙ (ap (λ answer. state_moved thread old (F.act_of row.layout) answer) next.begun.answer
             ∙ (moved ∙ (sym imported.back ∙ ap (F.ways_of row.layout).combine (sym next.started))))));
         counted = number_after_own o front e true next.begun.object (ap is_carried_out next.begun.answer) ∙ omega (arith, s.counted);
       }

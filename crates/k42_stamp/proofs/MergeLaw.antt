@@ -6,9 +6,8 @@ use Rattle.std.proofs.lemmas.Bool.{eq-eqb}
 use Rattle.std.proofs.lemmas.Bool.Decides.{nat_tests}
 use Rattle.std.proofs.lemmas.Option.{same_Some}
 use Rattle.std.proofs.lemmas.List.Elements.{filter-append}
-use Rattle.k42_kinds.specs.declared.operation.Op.{Op}
 use Rattle.k42_kinds.specs.declared.entry.Act.{Act}
-use Rattle.k42_kinds.specs.declared.entry.Act.TheVariants.{Call, Swap, Destroy}
+use Rattle.k42_kinds.specs.declared.entry.Act.TheVariants.{Call, Swap}
 use Rattle.k42_kinds.specs.declared.entry.Answer.{Answer}
 use Rattle.k42_kinds.specs.declared.entry.Answer.TheVariants.{Replied, Swapped, Busy, Spent, Gone, Abandoned}
 use Rattle.k42_kinds.specs.declared.entry.Entry.{Entry}
@@ -35,7 +34,7 @@ fold-numbered f same a n [] = refl
 fold-numbered f same a n (e ∷ es) = ap (λ b. fold f b (numbered_from (suc n) es)) (same a e n) ∙ fold-numbered f same (f a e) (suc n) es
 
 state_in-numbered : {S : Type 0} (object : OneThread S) (o n : ℕ) (es : List Entry) → state_in object o (numbered_from n es) ≡ state_in object o es
-state_in-numbered object o n es = fold-numbered (state_moved_by object.after object.ended o) (λ a e n. refl) object.start n es
+state_in-numbered object o n es = fold-numbered (state_moved_by object o) (λ a e n. refl) object.start n es
 
 number_of-numbered : (o n : ℕ) (es : List Entry) → number_of o (numbered_from n es) ≡ number_of o es
 number_of-numbered o n es = fold-numbered (λ a e. a + cond (is_carried_out_on o e) 1 0) (λ a e n. refl) 0 n es
@@ -90,19 +89,17 @@ no_step : (passes : Act → Answer → Bool) → LetsSteps passes → (act : Act
 no_step passes lets act answer true is fails = let yes = lets act answer is in cc
 no_step passes lets act answer false is fails = is
 
-still_state : {S : Type 0} (after : S → Op → S) (ended state : S) (act : Act) (answer : Answer) → is_step act answer ≡ false → state_moved after ended state act answer ≡ state
-still_state after ended state (Call op) answer still = cc still
-still_state after ended state (Swap to) answer still = refl
-still_state after ended state Destroy answer still = rw still refl
+still_state : {S : Type 0} (object : OneThread S) (state : S) (act : Act) (answer : Answer) → is_step act answer ≡ false → state_moved object state act answer ≡ state
+still_state object state (Call op) answer still = cc still
+still_state object state (Swap to) answer still = rw still refl
 
 not_out : (act : Act) (answer : Answer) → is_step act answer ≡ false → is_carried_out answer ≡ false
 not_out (Call op) answer still = cc still
 not_out (Swap to) answer still = still
-not_out Destroy answer still = still
 
 module _ (passes : Act → Answer → Bool) (lets : LetsSteps passes) (o : ℕ) where
-  state_moved-other : {S : Type 0} (object : OneThread S) (state : S) (e : Entry) (b : Bool) → eqb e.object o ≡ b → b && passes e.act e.answer ≡ false → state_moved_by object.after object.ended o state e ≡ state
-  state_moved-other object state e true is fails = rw is (still_state object.after object.ended state e.act e.answer (no_step passes lets e.act e.answer (is_step e.act e.answer) refl fails))
+  state_moved-other : {S : Type 0} (object : OneThread S) (state : S) (e : Entry) (b : Bool) → eqb e.object o ≡ b → b && passes e.act e.answer ≡ false → state_moved_by object o state e ≡ state
+  state_moved-other object state e true is fails = rw is (still_state object state e.act e.answer (no_step passes lets e.act e.answer (is_step e.act e.answer) refl fails))
   state_moved-other object state e false is fails = rw is refl
 
   number-other : (n : ℕ) (e : Entry) (b : Bool) → eqb e.object o ≡ b → b && passes e.act e.answer ≡ false → n + cond (is_carried_out_on o e) 1 0 ≡ n
@@ -110,7 +107,7 @@ module _ (passes : Act → Answer → Bool) (lets : LetsSteps passes) (o : ℕ) 
   number-other n e false is fails = rw is (omega arith)
 
   pub state_in-filter : {S : Type 0} (object : OneThread S) (es : List Entry) → state_in object o es ≡ state_in object o (filter (passes_of passes o) es)
-  state_in-filter object es = fold-filter (state_moved_by object.after object.ended o) (passes_of passes o) (λ a e fails. state_moved-other object a e (eqb e.object o) refl fails) object.start es
+  state_in-filter object es = fold-filter (state_moved_by object o) (passes_of passes o) (λ a e fails. state_moved-other object a e (eqb e.object o) refl fails) object.start es
 
   pub number_of-filter : (es : List Entry) → number_of o es ≡ number_of o (filter (passes_of passes o) es)
   number_of-filter es = fold-filter (λ a e. a + cond (is_carried_out_on o e) 1 0) (passes_of passes o) (λ a e fails. number-other a e (eqb e.object o) refl fails) 0 es
@@ -157,7 +154,6 @@ module _ {S : Type 0} (object : OneThread S) (these those : List Entry) (e : Ent
   pub so_far_same : (act : Act) → IsActSoFar object those e act → IsActSoFar object these stamped act
   so_far_same (Call op) legal = record { own_kind = legal.own_kind; replied = legal.replied ∙ ap (λ s. Replied (object.reply s op)) (sym state); incarnation = legal.incarnation ∙ sym number }
   so_far_same (Swap to) legal = answer_same e.answer legal
-  so_far_same Destroy legal = answer_same e.answer legal
 
 -- where a list has an element, a list of the same length has one
 there_too : {A B : Type 0} (xs : List A) (ys : List B) (i : ℕ) (x : A) → length xs ≡ length ys → slice_get xs i ≡ Some x → (y : B) × (slice_get ys i ≡ Some y)

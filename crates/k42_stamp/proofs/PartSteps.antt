@@ -2,7 +2,7 @@
 use Rattle.std.proofs.Common.{◌≡◌, ◌≢◌, ℕ, zero, suc, option_map, List, [], ◌∷◌, refl, sym, ap}
 use Rattle.k42_kinds.specs.declared.operation.Op.{Op}
 use Rattle.k42_kinds.specs.declared.entry.Act.{Act}
-use Rattle.k42_kinds.specs.declared.entry.Act.TheVariants.{Call, Swap, Destroy}
+use Rattle.k42_kinds.specs.declared.entry.Act.TheVariants.{Call, Swap}
 use Rattle.k42_kinds.specs.declared.entry.Reach.{Reach}
 use Rattle.k42_kinds.specs.declared.entry.Reach.TheVariants.{One, All}
 use Rattle.k42_kinds.specs.Rows.{Ways, part_at, changed_at, row_moved, row_replied}
@@ -56,23 +56,17 @@ module _ {S P : Type 0} (w : Ways S P) where
   acts-swap : (parts : List P) (a b : Act) (r s : Reach) → AreDisjoint r s → act_moves w (act_moves w parts a r) b s ≡ act_moves w (act_moves w parts b s) a r
   acts-swap parts (Call o) (Call p) r s n = rows-swap parts o p r s n
   acts-swap parts (Call o) (Swap to) r s n = refl
-  acts-swap parts (Call o) Destroy r s n = refl
   acts-swap parts (Swap to) b r s n = refl
-  acts-swap parts Destroy b r s n = refl
 
   acts-first : (parts : List P) (a b : Act) (r s : Reach) → AreDisjoint r s → act_replies w (act_moves w parts b s) a r ≡ act_replies w parts a r
   acts-first parts (Call o) (Call p) r s n = rows-first parts o p r s n
   acts-first parts (Call o) (Swap to) r s n = refl
-  acts-first parts (Call o) Destroy r s n = refl
   acts-first parts (Swap to) b r s n = refl
-  acts-first parts Destroy b r s n = refl
 
   acts-second : (parts : List P) (a b : Act) (r s : Reach) → AreDisjoint r s → act_replies w (act_moves w parts a r) b s ≡ act_replies w parts b s
   acts-second parts (Call o) (Call p) r s n = rows-second parts o p r s n
   acts-second parts (Call o) (Swap to) r s n = refl
-  acts-second parts (Call o) Destroy r s n = refl
   acts-second parts (Swap to) b r s n = refl
-  acts-second parts Destroy b r s n = refl
 
 -- entries that need no cell both
 pub parts_apart : {S L P : Type 0} (F : Layouts S L P) (layout : L) → AreApart (part_steps F layout) (λ e f. AreDisjoint (reach_of F layout e) (reach_of F layout f))

@@ -2,7 +2,7 @@
 use Rattle.std.proofs.Common.{◌≡◌, ◌≢◌, ℕ, zero, suc, ◌+◌, ◌<◌, ◌≤◌, false, List, [], ◌∷◌, length, Some, None, option_map, refl, ap, ◌∙◌, arith}
 use Rattle.k42_kinds.specs.declared.operation.Op.{Op}
 use Rattle.k42_kinds.specs.declared.entry.Act.{Act}
-use Rattle.k42_kinds.specs.declared.entry.Act.TheVariants.{Call, Swap, Destroy}
+use Rattle.k42_kinds.specs.declared.entry.Act.TheVariants.{Call, Swap}
 use Rattle.k42_kinds.specs.declared.entry.Entry.{Entry}
 use Rattle.k42_kinds.specs.declared.entry.Reach.{Reach}
 use Rattle.k42_kinds.specs.declared.entry.Reach.TheVariants.{One, All}
@@ -19,12 +19,10 @@ use Rattle.k42_stamp.proofs.Lawful.{begun, row_runs, chain_stands}
 act_else : {S P : Type 0} (w : Ways S P) (parts : List P) (act : Act) (c d : ℕ) → c ≢ d → part_at (act_moves w parts act (One c)) d ≡ part_at parts d
 act_else w parts (Call op) c d other = part_at-else (λ part. w.part_after part op) parts c d other
 act_else w parts (Swap to) c d other = refl
-act_else w parts Destroy c d other = refl
 
 act_none : {S P : Type 0} (w : Ways S P) (parts : List P) (act : Act) (r : Reach) → is_call act ≡ false → act_moves w parts act r ≡ parts
 act_none w parts (Call op) r other = cc other
 act_none w parts (Swap to) r other = refl
-act_none w parts Destroy r other = refl
 
 module _ {S L P : Type 0} (F : Layouts S L P) (layout : L) (parts : List P) (e : Entry) where
   -- a call at one cell moves its part

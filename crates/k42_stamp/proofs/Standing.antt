@@ -7,7 +7,8 @@ use Rattle.std.proofs.lemmas.Option.{same_Some}
 use Rattle.k42_kinds.specs.declared.operation.Op.{Op}
 use Rattle.k42_kinds.specs.declared.operation.Reply.{Reply}
 use Rattle.k42_kinds.specs.declared.entry.Act.{Act}
-use Rattle.k42_kinds.specs.declared.entry.Act.TheVariants.{Call, Swap, Destroy}
+use Rattle.k42_kinds.specs.declared.entry.Act.TheVariants.{Call, Swap}
+use Rattle.k42_kinds.specs.declared.entry.To.{To}
 use Rattle.k42_kinds.specs.declared.entry.Answer.{Answer}
 use Rattle.k42_kinds.specs.declared.entry.Answer.TheVariants.{Replied, Swapped, Busy, Spent, Gone, Abandoned}
 use Rattle.k42_kinds.specs.declared.entry.Entry.{Entry}
@@ -20,7 +21,7 @@ use Rattle.k42_kinds.proofs.Splits.{EachBehind}
 use Rattle.k42_stamp.specs.Replays.{replayed, Answered}
 use Rattle.k42_stamp.specs.Layouts.{Layouts}
 use Rattle.k42_stamp.specs.Parts.{reached, reach_of, act_moves, act_replies, reply_in, part_steps}
-use Rattle.k42_stamp.specs.Fits.{IsMark, IsServed, IsEntryOf}
+use Rattle.k42_stamp.specs.Fits.{IsMark, IsCallOrMark, IsEntryOf}
 use Rattle.k42_stamp.specs.Laws.{AreLaws}
 
 -- an entry that is legal by those before it
@@ -37,7 +38,7 @@ replied_from Gone reply is = cc is
 replied_from (Abandoned number) reply is = cc is
 
 -- entries of the object move it, and only what was carried out is counted
-pub state_after_own : {S : Type 0} (object : OneThread S) (o : ℕ) (front : List Entry) (e : Entry) → e.object ≡ o → state_in object o (front ++ e ∷ []) ≡ state_moved object.after object.ended (state_in object o front) e.act e.answer
+pub state_after_own : {S : Type 0} (object : OneThread S) (o : ℕ) (front : List Entry) (e : Entry) → e.object ≡ o → state_in object o (front ++ e ∷ []) ≡ state_moved object (state_in object o front) e.act e.answer
 state_after_own object o front e own = state_in-push object o front e ∙ rw (eq-eqb e.object o own) refl
 
 pub number_after_own : (o : ℕ) (front : List Entry) (e : Entry) (b : Bool) → e.object ≡ o → is_carried_out e.answer ≡ b → number_of o (front ++ e ∷ []) ≡ number_of o front + cond b 1 0
@@ -81,8 +82,8 @@ module _ {S L P : Type 0} (F : Layouts S L P) (laws : AreLaws F) (layout : L) (k
           });
           stands = record {
             whole = subst (λ (act : Act). F.Whole layout F.procs (act_moves (F.ways_of layout) parts act (reach_of F layout e))) (sym is) steps.whole;
-            state = state_after_own here o front e own ∙ (ap (λ state. state_moved here.after here.ended state e.act e.answer) s.state
-                ∙ (ap (λ act. state_moved here.after here.ended ((F.ways_of layout).combine parts) act e.answer) is
+            state = state_after_own here o front e own ∙ (ap (λ state. state_moved here state e.act e.answer) s.state
+                ∙ (ap (λ act. state_moved here ((F.ways_of layout).combine parts) act e.answer) is
                 ∙ (sym steps.moved ∙ ap (λ act. (F.ways_of layout).combine (act_moves (F.ways_of layout) parts act (reach_of F layout e))) (sym is))));
             counted = number_after_own o front e false own still ∙ omega (arith, s.counted);
           };
@@ -109,30 +110,21 @@ module _ {S L P : Type 0} (F : Layouts S L P) (laws : AreLaws F) (layout : L) (k
       ap is_carried_out is,
     )
 
-    stays : (act : Act) → e.act ≡ act → is_call act ≡ false → is_carried_out e.answer ≡ false → StandsBehind here (front ++ e ∷ []) ((part_steps F layout).moves parts e)
-    stays (Call op) is other still = cc other
-    stays (Swap to) is other still = record {
-      whole = subst (λ (act : Act). F.Whole layout F.procs (act_moves (F.ways_of layout) parts act (reach_of F layout e))) (sym is) s.whole;
-      state = state_after_own here o front e own ∙ rw is s.state;
-      counted = number_after_own o front e false own still ∙ omega (arith, s.counted);
-    }
-    stays Destroy is other still = record {
+    stays : (to : To) → e.act ≡ Swap to → is_carried_out e.answer ≡ false → StandsBehind here (front ++ e ∷ []) ((part_steps F layout).moves parts e)
+    stays to is still = record {
       whole = subst (λ (act : Act). F.Whole layout F.procs (act_moves (F.ways_of layout) parts act (reach_of F layout e))) (sym is) s.whole;
       state = state_after_own here o front e own ∙ rw (is, still) s.state;
       counted = number_after_own o front e false own still ∙ omega (arith, s.counted);
     }
 
-    act_step : (act : Act) → e.act ≡ act → IsServed here (F.tag_of layout) number act e.answer
+    act_step : (act : Act) → e.act ≡ act → IsCallOrMark here (F.tag_of layout) number act e.answer
         → act_replies (F.ways_of layout) parts act (reach_of F layout e) ≡ reply_in e.answer → StepsOn front e parts
     act_step (Call op) is takes told =
         call_step op is takes (subst (λ (act : Act). StepsRow here (F.ways_of layout) (F.Whole layout F.procs) parts op (reached (F.ways_of layout) F.procs act (F.proc_of e.caller))) (sym is)
         (laws.steps layout (F.proc_of e.caller) parts op known (laws.on_one e.caller) takes s.whole)) told
     act_step (Swap to) is mark told =
         let told = mark_answer e.answer refl mark in
-        record { legal = subst (λ (act : Act). IsActSoFar here front e act) (sym is) told.0; stands = stays (Swap to) is refl told.1 }
-    act_step Destroy is mark told =
-        let told = mark_answer e.answer refl mark in
-        record { legal = subst (λ (act : Act). IsActSoFar here front e act) (sym is) told.0; stands = stays Destroy is refl told.1 }
+        record { legal = subst (λ (act : Act). IsActSoFar here front e act) (sym is) told.0; stands = stays to is told.1 }
 
   pub entry_step : (front : List Entry) (e : Entry) (parts : List P) → StandsBehind here front parts → IsEntryOf F layout o number e
       → (part_steps F layout).answers parts e ≡ (part_steps F layout).tells e → StepsOn front e parts

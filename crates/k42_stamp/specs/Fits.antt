@@ -3,7 +3,7 @@ use Rattle.std.specs.Prelude.{◌≡◌, ℕ, suc, ◌<◌, ◌≤◌, IsTrue, L
 use Rattle.std.specs.List.{AllByRecursion}
 use Rattle.k42_limits.specs.declared.TheConstants.{LAST_INCARNATION}
 use Rattle.k42_kinds.specs.declared.entry.Act.{Act}
-use Rattle.k42_kinds.specs.declared.entry.Act.TheVariants.{Call}
+use Rattle.k42_kinds.specs.declared.entry.Act.TheVariants.{Call, Swap}
 use Rattle.k42_kinds.specs.declared.entry.Answer.{Answer}
 use Rattle.k42_kinds.specs.declared.entry.Answer.TheVariants.{Swapped, Spent, Gone}
 use Rattle.k42_kinds.specs.declared.entry.Entry.{Entry}
@@ -14,22 +14,22 @@ use Rattle.k42_stamp.specs.Layouts.{Layouts}
 use Rattle.k42_stamp.specs.Parts.{those_at, part_steps}
 use Rattle.k42_stamp.specs.Chains.{Row, Turn, Chain, start_of, first_of}
 
--- A swap or destroy is told in a row only where it found the object at its last incarnation, or dead.
+-- A swap is told in a row only where it found the object at its last incarnation, or dead.
 abbrev pub IsMark : ℕ → ℕ → Answer → Type 0
 IsMark tag number Spent = (tag ≤ 1) × (number ≡ LAST_INCARNATION)
 IsMark tag number Gone = tag ≡ 2
 IsMark tag number _ = ⊥
 
 -- a call of the object's kind, or such a mark
-abbrev pub IsServed : {S : Type 0} → OneThread S → ℕ → ℕ → Act → Answer → Type 0
-IsServed object tag number (Call op) answer = IsTrue (object.takes op)
-IsServed object tag number _ answer = IsMark tag number answer
+abbrev pub IsCallOrMark : {S : Type 0} → OneThread S → ℕ → ℕ → Act → Answer → Type 0
+IsCallOrMark object tag number (Call op) answer = IsTrue (object.takes op)
+IsCallOrMark object tag number (Swap to) answer = IsMark tag number answer
 
 -- an entry of row number so many of the object, but for the one with which the row begins
 pub record IsEntryOf {S L P : Type 0} (F : Layouts S L P) (layout : L) (o number : ℕ) (entry : Entry) : Type 0 where
   pub object : entry.object ≡ o
   pub incarnation : entry.incarnation ≡ number
-  pub served : IsServed (F.object_of layout) (F.tag_of layout) number entry.act entry.answer
+  pub served : IsCallOrMark (F.object_of layout) (F.tag_of layout) number entry.act entry.answer
 
 -- the entry with which row number so many begins: it tells of the swap by its layout's act
 pub record IsHandOf (asked : Act) (o number : ℕ) (entry : Entry) : Type 0 where

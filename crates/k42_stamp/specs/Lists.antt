@@ -3,7 +3,7 @@ use Rattle.std.specs.Prelude.{◌≡◌, ℕ, suc, ◌<◌, ◌≤◌, Bool, tru
 use Rattle.std.specs.List.{AllByRecursion}
 use Rattle.k42_places.specs.Places.{EachPlace, EachPair}
 use Rattle.k42_kinds.specs.declared.entry.Act.{Act}
-use Rattle.k42_kinds.specs.declared.entry.Act.TheVariants.{Call}
+use Rattle.k42_kinds.specs.declared.entry.Act.TheVariants.{Call, Swap}
 use Rattle.k42_kinds.specs.declared.entry.Answer.{Answer}
 use Rattle.k42_kinds.specs.declared.entry.Answer.TheVariants.{Busy, Abandoned}
 use Rattle.k42_kinds.specs.declared.entry.Entry.{Entry}
@@ -48,10 +48,10 @@ pub record IsMerged (lists : List (List Entry)) (merged : List Entry) : Type 0 w
   pub just : IsTrace lists trace
   pub numbered : merged ≡ numbered_from 1 trace
 
--- whether an entry moved its object: a call, or a swap or destroy that was carried out
+-- whether an entry moved its object: a call, or a swap that was carried out
 abbrev pub is_step : Act → Answer → Bool
 is_step (Call op) answer = true
-is_step _ answer = is_carried_out answer
+is_step (Swap to) answer = is_carried_out answer
 
 -- a test that lets pass whatever moved an object
 abbrev pub LetsSteps : (Act → Answer → Bool) → Type 0
@@ -66,7 +66,7 @@ is_answer_drawn _ = true
 
 abbrev pub is_drawn : Act → Answer → Bool
 is_drawn (Call op) answer = true
-is_drawn _ answer = is_answer_drawn answer
+is_drawn (Swap to) answer = is_answer_drawn answer
 
 -- the entry stands in a history of a cell of one of the rows up to this one
 abbrev pub InRows : ℕ → ℕ → (ℕ → ℕ → List Entry) → Entry → Type 0

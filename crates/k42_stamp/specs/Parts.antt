@@ -2,7 +2,7 @@
 use Rattle.std.specs.Prelude.{ℕ, Bool, true, ◌==◌, List, filter, Option, Some, None}
 use Rattle.k42_kinds.specs.declared.operation.Reply.{Reply}
 use Rattle.k42_kinds.specs.declared.entry.Act.{Act}
-use Rattle.k42_kinds.specs.declared.entry.Act.TheVariants.{Call}
+use Rattle.k42_kinds.specs.declared.entry.Act.TheVariants.{Call, Swap}
 use Rattle.k42_kinds.specs.declared.entry.Answer.{Answer}
 use Rattle.k42_kinds.specs.declared.entry.Answer.TheVariants.{Replied}
 use Rattle.k42_kinds.specs.declared.entry.Entry.{Entry}
@@ -15,7 +15,7 @@ use Rattle.k42_stamp.specs.Layouts.{Layouts}
 -- a call needs the cells that the layout names; what is no call is told at the first cell
 abbrev pub reached : {S P : Type 0} → Ways S P → ℕ → Act → ℕ → Reach
 reached ways procs (Call op) proc = ways.reach procs op proc
-reached ways procs _ proc = One 0
+reached ways procs (Swap to) proc = One 0
 
 -- what an entry needs, for the processor of its caller
 abbrev pub reach_of : {S L P : Type 0} → Layouts S L P → L → Entry → Reach
@@ -33,12 +33,12 @@ those_at F layout cell entries = filter (λ entry. touches (reach_of F layout en
 -- only a call changes parts
 abbrev pub act_moves : {S P : Type 0} → Ways S P → List P → Act → Reach → List P
 act_moves ways parts (Call op) reach = row_moved ways parts op reach
-act_moves ways parts _ reach = parts
+act_moves ways parts (Swap to) reach = parts
 
 -- and only a call has a reply
 abbrev pub act_replies : {S P : Type 0} → Ways S P → List P → Act → Reach → Option Reply
 act_replies ways parts (Call op) reach = row_replied ways parts op reach
-act_replies ways parts _ reach = None
+act_replies ways parts (Swap to) reach = None
 
 -- the reply that an answer tells
 abbrev pub reply_in : Answer → Option Reply

@@ -1,11 +1,12 @@
+//! A caller that meets a mediator while an object is swapped and the swap is given up.
 ghost use Rattle.std.specs.Prelude.{OnOk};
-ghost use Rattle.mediator_tests.specs.Ready.{IsFree};
+ghost use Rattle.mediator_tests.specs.Ready.{HoldsNoCell};
 
 use crate::tests::calls::{end, end_activity, find_busy, keep_out, let_in, look, start_activity};
 use crate::tests::crews::{finish, last, start};
 use crate::tests::phases::{close, give_up, move_now, send_to_mediator, try_early, wait_quiet};
 use co_any::AnyLayout;
-use k42_kinds::{Act, Answer, Entry, KindName, LayoutName};
+use k42_kinds::{Act, Answer, Entry, KindName, LayoutName, To};
 use k42_mediator::Phase;
 use k42_memory::Memory;
 use k42_rule::{Pass, Sys};
@@ -27,10 +28,10 @@ fn meet(
     caller: &mut Pass<AnyLayout>,
     swapper: &mut Pass<AnyLayout>,
 ) -> Result<(), Memory>
-    requires caller { IsFree sys.now caller.old }
-    requires swapper { IsFree sys.now swapper.old }
-    ensures caller { OnOk result (IsFree sys.now caller.new) }
-    ensures swapper { OnOk result (IsFree sys.now swapper.new) }
+    requires caller { HoldsNoCell sys.now caller.old }
+    requires swapper { HoldsNoCell sys.now swapper.old }
+    ensures caller { OnOk result (HoldsNoCell sys.now caller.new) }
+    ensures swapper { OnOk result (HoldsNoCell sys.now swapper.new) }
 {
     send_to_mediator(rt, sys, swapper);
     find_busy(rt, sys, caller, Phase::Forward);
@@ -57,7 +58,7 @@ fn meet(
 fn is_given_up(entry: &Entry) -> bool {
     entry.object == 0
         && entry.incarnation == 0
-        && entry.act == Act::Swap(LayoutName::Spread)
+        && entry.act == Act::Swap(To::Layout(LayoutName::Spread))
         && entry.answer == Answer::Abandoned(1)
 }
 

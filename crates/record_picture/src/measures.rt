@@ -1,3 +1,4 @@
+//! Where columns and lanes lie, in units of the picture.
 ghost use Rattle.std.specs.Prelude.{◌≡◌, ◌≤◌};
 ghost use Rattle.k42_limits.specs.declared.TheConstants.{CALLERS};
 ghost use Rattle.record_picture.specs.declared.window.TheConstants.{COLUMNS};

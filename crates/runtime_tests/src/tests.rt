@@ -1,3 +1,4 @@
+//! Plans that are refused, and calls, swaps and destroys that meet on one thread.
 use crate::tests::crews::{Three, closed, counters};
 use crate::tests::ending::{destroy_once, find_gone, free_once, swap_once, swap_twice};
 use crate::tests::holding::{
@@ -5,7 +6,7 @@ use crate::tests::holding::{
 };
 use crate::tests::steps::{call_to, swap_to};
 use crate::tests::waiting::{find, free_in_turn, swap_beside};
-use k42_kinds::{Act, Answer, Entry, KindName, LayoutName, Op, Reply};
+use k42_kinds::{Act, Answer, Entry, KindName, LayoutName, Op, Reply, To};
 use k42_runtime::{ObjectPlan, Plan, PlanFault};
 use std::test::Fail;
 
@@ -140,7 +141,7 @@ fn a_destroyed_object_is_gone(rt: HostRuntime) -> Result<(), Fail> {
     ];
     assert!(rt; are_answered(history.entries(), due.as_slice()));
     let second = history.entries().get(1).map(|entry| entry.act);
-    assert_eq!(rt; second, Some(Act::Destroy));
+    assert_eq!(rt; second, Some(Act::Swap(To::Dead)));
     Ok(())
 }
 

@@ -1,3 +1,4 @@
+//! By what a form offends on its own, whatever was declared before it.
 ghost use Rattle.std.specs.Prelude.{◌≡◌, ◌==◌, is_none, not};
 ghost use Rattle.k42_kinds.specs.Operations.{same_kind};
 ghost use Rattle.script_text.specs.Offences as offences;

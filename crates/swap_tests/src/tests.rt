@@ -1,9 +1,10 @@
+//! Two swaps of one object, with the entries that each caller has drawn.
 ghost use Rattle.std.specs.Prelude.{◌<◌};
 
 use crate::tests::calls::call;
 use crate::tests::crews::{finish, last, start};
 use crate::tests::phases::swap;
-use k42_kinds::{Act, Answer, Entry, LayoutName, Op, Reply};
+use k42_kinds::{Act, Answer, Entry, LayoutName, Op, Reply, To};
 use k42_rule::Row;
 use std::test::Fail;
 
@@ -43,7 +44,7 @@ fn swapped(caller: u32, stamp: u64, index: u32, incarnation: u32, to: LayoutName
         object: 0,
         incarnation,
         cell: (incarnation + 1) % 2 * 8,
-        act: Act::Swap(to),
+        act: Act::Swap(To::Layout(to)),
         answer: Answer::Swapped(incarnation + 1),
         proc: 0,
         generation: None,

@@ -88,7 +88,7 @@ impl Layout for Balky {
         self.counter().step_all(alloc, parts, op)
     }
 
-    fn export(&self, alloc: Global, parts: &Vec<AnyPart>) -> Result<AnyState, Memory> {
+    fn export(&self, alloc: Global, parts: &mut Vec<AnyPart>) -> Result<AnyState, Memory> {
         self.counter().export(alloc, parts)
     }
 

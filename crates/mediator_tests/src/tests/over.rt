@@ -1,14 +1,15 @@
 //! A pass that finds an object over draws that at a cell, which a caller may hold.
 ghost use Rattle.std.specs.Prelude.{◌<◌, OnOk};
 ghost use Rattle.k42_kinds.specs.declared.entry.Act.TheVariants as Act;
+ghost use Rattle.k42_kinds.specs.declared.entry.To.TheVariants as To;
 ghost use Rattle.k42_mediator.specs.Marks.{MayMark};
-ghost use Rattle.mediator_tests.specs.Ready.{IsFree, IsHolding};
+ghost use Rattle.mediator_tests.specs.Ready.{HoldsNoCell, IsHolding};
 
 use crate::tests::calls::{end, end_activity, fill, hold, let_go, look_in_vain, start_activity};
 use crate::tests::crews::{finish, last, start};
 use crate::tests::phases::swap;
 use co_any::AnyLayout;
-use k42_kinds::{Act, Answer, Entry, KindName, Layout, LayoutName};
+use k42_kinds::{Act, Answer, Entry, KindName, Layout, LayoutName, To};
 use k42_mediator::{Begun, Marked, begin, mark};
 use k42_memory::Memory;
 use k42_rule::{Pass, Sys};
@@ -24,8 +25,8 @@ fn destroy(
     sys: &Sys<AnyLayout>,
     pass: &mut Pass<AnyLayout>,
 ) -> Result<(), Memory>
-    requires { IsFree sys.now pass.old }
-    ensures { OnOk result (IsFree sys.now pass.new) }
+    requires { HoldsNoCell sys.now pass.old }
+    ensures { OnOk result (HoldsNoCell sys.now pass.new) }
 {
     assert!(rt; 0 < sys.objects());
     let dead = sys.declared(0).with_tag(2);
@@ -40,7 +41,7 @@ fn come_in<R: Abort + Wait>(
     pass: &mut Pass<AnyLayout>,
     cell: u32,
 ) -> Result<(), Memory>
-    requires { IsFree sys.now pass.old }
+    requires { HoldsNoCell sys.now pass.old }
     ensures { OnOk result (IsHolding cell sys.now pass.new) }
 {
     start_activity(rt, sys, pass);
@@ -54,7 +55,7 @@ fn come_in<R: Abort + Wait>(
 fn go_out(sys: &Sys<AnyLayout>, pass: &mut Pass<AnyLayout>, cell: u32)
     requires few { cell < 256 }
     requires holding { IsHolding cell sys.now pass.old }
-    ensures { IsFree sys.now pass.new }
+    ensures { HoldsNoCell sys.now pass.new }
 {
     let_go(sys, pass, cell);
     end(sys, pass);
@@ -67,9 +68,9 @@ fn find_dead(
     sys: &Sys<AnyLayout>,
     pass: &mut Pass<AnyLayout>,
 ) -> Result<(), Memory>
-    requires { IsFree sys.now pass.old }
-    ensures free { OnOk result (IsFree sys.now pass.new) }
-    ensures may { OnOk result (MayMark Act.Destroy pass.new.view) }
+    requires { HoldsNoCell sys.now pass.old }
+    ensures free { OnOk result (HoldsNoCell sys.now pass.new) }
+    ensures may { OnOk result (MayMark (Act.Swap To.Dead) pass.new.view) }
     ensures room { OnOk result (0 < pass.new.room) }
 {
     assert!(rt; pass.is_idle() && 0 < sys.objects());
@@ -81,25 +82,25 @@ fn find_dead(
 
 /// Tries to draw that at the cell, which that caller is to hold.
 fn find_held(rt: &impl Abort, sys: &Sys<AnyLayout>, pass: &mut Pass<AnyLayout>, holder: u32)
-    requires free { IsFree sys.now pass.old }
-    requires may { MayMark Act.Destroy pass.old.view }
+    requires free { HoldsNoCell sys.now pass.old }
+    requires may { MayMark (Act.Swap To.Dead) pass.old.view }
     requires room { 0 < pass.old.room }
-    ensures free { IsFree sys.now pass.new }
-    ensures may { MayMark Act.Destroy pass.new.view }
+    ensures free { HoldsNoCell sys.now pass.new }
+    ensures may { MayMark (Act.Swap To.Dead) pass.new.view }
     ensures room { 0 < pass.new.room }
 {
-    let answer = mark(sys, pass, Act::Destroy);
+    let answer = mark(sys, pass, Act::Swap(To::Dead));
     assert!(rt; answer == Marked::Held { holder });
 }
 
 /// Draws it.
 fn draw(rt: &impl Abort, sys: &Sys<AnyLayout>, pass: &mut Pass<AnyLayout>)
-    requires free { IsFree sys.now pass.old }
-    requires may { MayMark Act.Destroy pass.old.view }
+    requires free { HoldsNoCell sys.now pass.old }
+    requires may { MayMark (Act.Swap To.Dead) pass.old.view }
     requires room { 0 < pass.old.room }
-    ensures { IsFree sys.now pass.new }
+    ensures { HoldsNoCell sys.now pass.new }
 {
-    let answer = mark(sys, pass, Act::Destroy);
+    let answer = mark(sys, pass, Act::Swap(To::Dead));
     assert!(rt; answer == Marked::Marked);
 }
 
@@ -112,7 +113,7 @@ fn destroyed(caller: u32, stamp: u64, incarnation: u32, answer: Answer) -> Entry
         object: 0,
         incarnation,
         cell: 8,
-        act: Act::Destroy,
+        act: Act::Swap(To::Dead),
         answer,
         proc: 0,
         generation: None,

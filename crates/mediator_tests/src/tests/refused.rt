@@ -1,7 +1,7 @@
 //! A swap whose transfer finds no memory is given up, and the object is as it was.
 ghost use Rattle.std.specs.Prelude.{OnOk};
 ghost use Rattle.k42_mediator.specs.Swaps.{HasMoved};
-ghost use Rattle.mediator_tests.specs.Ready.{IsFree, IsBusy, IsServing};
+ghost use Rattle.mediator_tests.specs.Ready.{HoldsNoCell, IsBusy, IsServing};
 
 use crate::tests::balky::Balky;
 use crate::tests::calls::{
@@ -10,7 +10,7 @@ use crate::tests::calls::{
 use crate::tests::crews::{finish, last, start};
 use crate::tests::phases::{give_up, hand_nothing_on, swap, take_over};
 use crate::tests::steps::step_at;
-use k42_kinds::{Act, Answer, Entry, KindName, Layout, LayoutName, Op, Reply, kind_of};
+use k42_kinds::{Act, Answer, Entry, KindName, Layout, LayoutName, Op, Reply, To, kind_of};
 use k42_mediator::Phase;
 use k42_memory::Memory;
 use k42_rule::{Pass, Sys};
@@ -45,8 +45,8 @@ fn call(
     pass: &mut Pass<Balky>,
     op: &Op,
 ) -> Result<Option<u64>, Memory>
-    requires { IsFree sys.now pass.old }
-    ensures { OnOk result (IsFree sys.now pass.new) }
+    requires { HoldsNoCell sys.now pass.old }
+    ensures { OnOk result (HoldsNoCell sys.now pass.new) }
 {
     start_activity(rt, sys, pass);
     look_in_vain(rt, sys, pass);
@@ -64,9 +64,9 @@ fn go_back(
     sys: &Sys<Balky>,
     pass: &mut Pass<Balky>,
 ) -> Result<(), Memory>
-    requires free { IsFree sys.now pass.old }
+    requires free { HoldsNoCell sys.now pass.old }
     requires moved { HasMoved pass.old.view }
-    ensures { OnOk result (IsFree sys.now pass.new) }
+    ensures { OnOk result (HoldsNoCell sys.now pass.new) }
 {
     assert!(rt; 0 < sys.objects());
     let to = Balky {
@@ -79,8 +79,8 @@ fn go_back(
 
 /// Finds the entry of the object empty, and its word without any bit of a swap.
 fn find_open(rt: &impl Abort, sys: &Sys<Balky>, pass: &mut Pass<Balky>)
-    requires { IsFree sys.now pass.old }
-    ensures { IsFree sys.now pass.new }
+    requires { HoldsNoCell sys.now pass.old }
+    ensures { HoldsNoCell sys.now pass.new }
 {
     start_activity(rt, sys, pass);
     look_in_vain(rt, sys, pass);
@@ -96,8 +96,8 @@ fn go_on(
     sys: &Sys<Balky>,
     pass: &mut Pass<Balky>,
 ) -> Result<(), Memory>
-    requires { IsFree sys.now pass.old }
-    ensures { OnOk result (IsFree sys.now pass.new) }
+    requires { HoldsNoCell sys.now pass.old }
+    ensures { OnOk result (HoldsNoCell sys.now pass.new) }
 {
     assert!(rt; 0 < sys.objects());
     let to = sys.declared(0).with_tag(0);
@@ -113,7 +113,7 @@ fn swapped(stamp: u64, index: u32, cell: u32, answer: Answer) -> Entry {
         object: 0,
         incarnation: 0,
         cell,
-        act: Act::Swap(LayoutName::Shared),
+        act: Act::Swap(To::Layout(LayoutName::Shared)),
         answer,
         proc: 0,
         generation: None,

@@ -1,7 +1,8 @@
 use Rattle.std.proofs.Common.{rules, ◌≡◌, ℕ, refl, sym, ap, ◌∙◌, subst}
 use Rattle.k42_board.specs.Drawing.{entry_alone, alone_view}
+use Rattle.k42_kinds.specs.declared.entry.Act.TheVariants.{Swap}
 use Rattle.k42_kinds.specs.declared.entry.Answer.TheVariants as answers
-use Rattle.k42_runtime.specs.Swaps.{SwapSeen, HasStepped, act_asked, graces_due}
+use Rattle.k42_runtime.specs.Swaps.{SwapSeen, HasStepped, graces_due}
 use Rattle.k42_runtime.specs.Systems.{IsPassHere, IsAtRest}
 use Rattle.k42_runtime.specs.declared.swaps.Stage.TheVariants.{New, Waiting, Marking, Over}
 use Rattle.k42_runtime.proofs.SwapBegins.{marks_on, marks_free, waits_on, waits_free, refused_by}
@@ -29,7 +30,7 @@ returns-in-Busy c =
     let old = c.args.pass.now in let new = c.draw_alone.new.pass in let number : ℕ = c.in-Busy.number in
     let s : SwapSeen = record { object = c.self.inside.object; to = c.self.inside.to; stage = c.self.inside.stage; holder = c.self.inside.grace } in
     let is : s ≡ c.args.self.now = c.self.view_is in
-    let drawn : new.view ≡ alone_view (entry_alone c.begin.new.pass.view (act_asked s.to) (answers.Busy number)) c.begin.new.pass.view = search rules in
+    let drawn : new.view ≡ alone_view (entry_alone c.begin.new.pass.view (Swap s.to) (answers.Busy number)) c.begin.new.pass.view = search rules in
     let here : IsPassHere c.args.system.now new = search rules in
     let rests : IsAtRest new.view = search rules in
     let told =

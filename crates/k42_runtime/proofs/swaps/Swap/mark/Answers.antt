@@ -1,8 +1,9 @@
 use Rattle.std.proofs.Common.{rules, ◌≡◌, ℕ, refl, sym, ap, ◌∙◌, subst}
+use Rattle.k42_kinds.specs.declared.entry.Act.TheVariants.{Swap}
 use Rattle.k42_board.specs.Views.{word_begun}
 use Rattle.k42_board.specs.declared.view.PassView.{PassView}
-use Rattle.k42_mediator.specs.Marks.{IsMark, IsHeldBy, HasMarked}
-use Rattle.k42_runtime.specs.Swaps.{act_asked, HasFoundCell, HasStepped, graces_due, IsEndBy}
+use Rattle.k42_mediator.specs.Marks.{IsMarkAnswer, IsHeldBy, HasMarked}
+use Rattle.k42_runtime.specs.Swaps.{HasFoundCell, HasStepped, graces_due, IsEndBy}
 use Rattle.k42_runtime.specs.Systems.{SystemSeen, IsPassHere, IsAtRest, layouts_in}
 use Rattle.k42_runtime.specs.Phases.{end_in}
 use Rattle.k42_runtime.specs.declared.swaps.Stage.TheVariants.{New, Marking, Over}
@@ -14,8 +15,8 @@ pub returns-in-Marked : goal.returns-in-Marked
 returns-in-Marked c =
     let old = c.args.pass.now in let new = c.mark.new.pass in let s = c.args.self.now in
     let stage = c.requires.marking in
-    let has : HasMarked (act_asked s.to) old new = search rules in
-    let last : new.view.last ≡ old.view.last = marked_last (act_asked s.to) old new has in
+    let has : HasMarked (Swap s.to) old new = search rules in
+    let last : new.view.last ≡ old.view.last = marked_last (Swap s.to) old new has in
     let word : ℕ = word_begun old.view.last in
     let is = over_ends word has.answer stage.1.may.over has.told in
     let end : c.end_over.result ≡ end_in word = c.end_over.ensures ∙ ap (λ l. end_in (word_begun l)) last in
@@ -31,8 +32,8 @@ returns-in-Marked c =
       to = refl;
       over = refl;
       seat = has.drawer.seat;
-      caller = marked_caller (act_asked s.to) old new has;
-      graces = few new.view.graces old.view.graces (graces_due s.stage s.holder) (marked_graces (act_asked s.to) old new has);
+      caller = marked_caller (Swap s.to) old new has;
+      graces = few new.view.graces old.view.graces (graces_due s.stage s.holder) (marked_graces (Swap s.to) old new has);
       told = subst (λ (l : ℕ). IsEndBy l (end_in word)) (sym (ap word_begun last)) is.ends;
       brought = marked s.object s.to old new stage.1.begun stage.1.may.over has;
     }))
@@ -45,7 +46,7 @@ returns-in-Held c =
     let old = c.args.pass.now in let new = c.mark.new.pass in
     let F = layouts_in (record { sys = c.system.inside.sys; plan = c.system.inside.plan }) in
     let held : IsHeldBy F c.system.inside.sys.layouts c.in-Held.holder old new =
-    subst (λ answer. IsMark F c.system.inside.sys.layouts answer c.act-act.result old new) c.in-Held.is c.mark.ensures in
+    subst (λ answer. IsMarkAnswer F c.system.inside.sys.layouts answer c.act-act.result old new) c.in-Held.is c.mark.ensures in
     record {
       here = search rules;
       stage = search rules;
