@@ -74,7 +74,7 @@ layout_takes name word to e =
       ]
     ]
 
--- What is read behind an object's name says what it is swapped to by the act of this word.
+-- behind this word and an object's name, these tokens are a swap to what is read of them
 abbrev Says : List ℕ → (List (List ℕ) → Found To) → Type 0
 Says word to_at =
     (name : List ℕ) (tokens : List (List ℕ)) (to : To) (rest : List (List ℕ)) → to_at tokens ≡ Some (to, rest) → word ∷ name ∷ tokens ≡ act_tokens name (Swap to) ++ rest
