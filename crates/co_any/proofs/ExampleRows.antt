@@ -7,8 +7,12 @@ use Rattle.k42_kinds.specs.declared.operation.Op.TheVariants.{Add, Get, Drain, R
 use Rattle.k42_kinds.specs.declared.operation.Reply.TheVariants.{Number, Gone}
 use Rattle.k42_kinds.specs.declared.entry.Act.TheVariants.{Swap}
 use Rattle.k42_kinds.specs.declared.entry.To.TheVariants as tos
+use Rattle.k42_kinds.specs.declared.entry.Answer.TheVariants.{Busy}
 use Rattle.k42_kinds.specs.declared.entry.Reach.TheVariants.{One, All}
 use Rattle.k42_kinds.specs.declared.states.AnyState.TheVariants as states
+use Rattle.k42_kinds.specs.Histories.{state_moved}
+use Rattle.k42_kinds.specs.LayoutLaws.{AdmitsAsSwapped}
+use Rattle.k42_kinds.specs.Objects.{plain_object}
 use Rattle.co_pages.specs.Places.{no_places}
 use Rattle.co_any.specs.declared.part.AnyPart.{AnyPart}
 use Rattle.co_any.specs.declared.part.AnyPart.TheVariants as parts
@@ -97,3 +101,16 @@ admitted = (refl, refl)
 
 asked : (act_of (tag_named layouts.Shared) ≡ Swap (tos.Layout layouts.Shared)) × (act_of (tag_named layouts.Spread) ≡ Swap (tos.Layout layouts.Spread)) × (act_of 2 ≡ Swap tos.Dead)
 asked = (refl, refl, refl)
+
+-- a swap that was carried out leaves what its layout admits, and one that was refused leaves the state
+swapped : AdmitsAsSwapped (plain_object kinds.Counter) (act_of 1) (states.Counter 12) (states.Counter 12)
+swapped number = refl
+
+destroyed : AdmitsAsSwapped (plain_object kinds.Counter) (act_of 2) (states.Counter 12) states.Dead
+destroyed number = refl
+
+alive_when_destroyed : AdmitsAsSwapped (plain_object kinds.Counter) (act_of 2) (states.Counter 12) (states.Counter 12) → ⊥
+alive_when_destroyed admits = let left = admits 1 in cc left
+
+refused : state_moved (plain_object kinds.Counter) (states.Counter 12) (Swap tos.Dead) (Busy 1) ≡ states.Counter 12
+refused = refl
