@@ -10,7 +10,7 @@ use Rattle.k42_kinds.specs.Histories.{entries_of}
 use Rattle.k42_kinds.specs.Legal.{IsLegalAct, IsLegalAnswer}
 use Rattle.k42_kinds.specs.declared.operation.KindName.{KindName}
 use Rattle.k42_kinds.specs.declared.entry.Act.{Act}
-use Rattle.k42_kinds.specs.declared.entry.Act.TheVariants.{Call, Swap, Destroy}
+use Rattle.k42_kinds.specs.declared.entry.Act.TheVariants.{Call, Swap}
 use Rattle.k42_kinds.specs.declared.entry.Answer.{Answer}
 use Rattle.k42_kinds.specs.declared.entry.Answer.TheVariants.{Replied, Swapped, Busy, Spent, Gone, Abandoned}
 use Rattle.k42_kinds.specs.declared.entry.Entry.{Entry}
@@ -84,8 +84,7 @@ ends_swap kind before entry after (Replied reply) kept legal = legal
 
 ends_act : (kind : KindName) (before : List Entry) (entry : Entry) (after : List Entry) (act : Act) → IsNotGivenUp entry.answer → IsLegalAct kind before entry after act → Ends act entry.answer
 ends_act kind before entry after (Call op) kept legal = subst EndsCall (sym legal.replied) tt
-ends_act kind before entry after (Swap layout) kept legal = ends_swap kind before entry after entry.answer kept legal
-ends_act kind before entry after Destroy kept legal = ends_swap kind before entry after entry.answer kept legal
+ends_act kind before entry after (Swap to) kept legal = ends_swap kind before entry after entry.answer kept legal
 
 -- the line that an entry answers
 record Answers (script : Script) (entry : Entry) : Type 0 where

@@ -8,25 +8,23 @@ use Rattle.std.proofs.lemmas.Option.{same_Some}
 use Rattle.k42_places.proofs.Rests.{drop_at}
 use Rattle.gen_core.specs.Events as graces
 use Rattle.phase_core.specs.Stages as swaps
-use Rattle.co_any.specs.declared.part.AnyPart.{AnyPart}
 use Rattle.k42_kinds.specs.declared.entry.Act.{Act}
-use Rattle.k42_kinds.specs.declared.entry.Act.TheVariants.{Call, Swap, Destroy}
+use Rattle.k42_kinds.specs.declared.entry.Act.TheVariants.{Call, Swap}
 use Rattle.script_text.specs.Lawful.{call_lines, deed_of, deeds_from}
 use Rattle.script_text.specs.Sound.{IsCall}
 use Rattle.script_text.specs.declared.script.CallLine.{CallLine}
 use Rattle.script_text.specs.declared.script.Item.{Item}
 use Rattle.script_text.specs.declared.script.Item.TheVariants.{Begin, End, Line}
 use Rattle.script_text.specs.declared.script.WorkerLines.{WorkerLines}
-use Rattle.k42_board.specs.Seen.{PassSeen}
 use Rattle.k42_board.specs.declared.view.PassView.{PassView}
-use Rattle.k42_runtime.specs.Systems.{SystemSeen, IsPassHere, IsAtRest}
+use Rattle.k42_runtime.specs.Systems.{SystemPart, SystemPass, SystemSeen, IsPassHere, IsAtRest}
 use Rattle.k42_workers.specs.Lines.{Follows}
 use Rattle.k42_workers.specs.Passes.{MayAskLine, IsReady, standing_of, IsBetween, RestsFor, MayFollow, GoesOnBy, IsFresh, HasWorked, MayWork}
 use Rattle.k42_workers.proofs.Halved.{pair_front, pair_back}
 use Rattle.k42_workers.proofs.Working.{IsUnderWay, under_way_at_start, under_way_on, done_at_end, idle_at_end}
 
 -- So many items are behind the pass.
-pub record IsAt (system : SystemSeen) (number : ℕ) (worker : WorkerLines) (place : ℕ) (inside : Bool) (pass : PassSeen AnyPart) : Type 0 where
+pub record IsAt (system : SystemSeen) (number : ℕ) (worker : WorkerLines) (place : ℕ) (inside : Bool) (pass : SystemPass) : Type 0 where
   pub here : IsPassHere system pass
   pub between : IsBetween pass.view
   pub caller : pass.view.number ≡ number
@@ -45,7 +43,7 @@ none_there : (o : Option ℕ) → is_none o ≡ true → o ≡ None
 none_there None e = refl
 none_there (Some a) e = cc
 
-rests_with : (v : PassView AnyPart) → IsBetween v → v.turn.active ≡ None → IsAtRest v
+rests_with : (v : PassView SystemPart) → IsBetween v → v.turn.active ≡ None → IsAtRest v
 rests_with v between idle = rw (idle, between.grace, between.swap) refl
 
 length-deeds_from : (n : ℕ) (lines : List CallLine) → length (deeds_from n lines) ≡ length lines
@@ -69,7 +67,7 @@ line_at P (Line own ∷ items) zero line each there = subst P (ap (λ item. line
 line_at P (Line own ∷ items) (suc place) line each there = line_at P items place line each.1 there
 
 module _ (system : SystemSeen) (number : ℕ) (worker : WorkerLines) where
-  pub at_start : (pass : PassSeen AnyPart) → IsFresh system number worker pass → IsReady system.plan worker → IsAt system number worker 0 false pass
+  pub at_start : (pass : SystemPass) → IsFresh system number worker pass → IsReady system.plan worker → IsAt system number worker 0 false pass
   at_start pass fresh ready =
       let parts = all_three (is_none pass.view.turn.active) (graces.is_idle pass.view.turn.grace) (swaps.is_idle pass.view.visitor.swap) fresh.rests in
       record {
@@ -82,7 +80,7 @@ module _ (system : SystemSeen) (number : ℕ) (worker : WorkerLines) where
         way = under_way_at_start worker ready.matches (standing_of pass.view) fresh.entries (none_there pass.view.turn.active parts.0);
       }
 
-  pub worked : (place : ℕ) (inside : Bool) (pass : PassSeen AnyPart) → length worker.items ≤ place → IsAt system number worker place inside pass → HasWorked system number worker pass
+  pub worked : (place : ℕ) (inside : Bool) (pass : SystemPass) → length worker.items ≤ place → IsAt system number worker place inside pass → HasWorked system number worker pass
   worked place inside pass past at = record {
     here = at.here;
     rests = rests_with pass.view at.between (idle_at_end worker place inside (standing_of pass.view) past at.way);
@@ -90,7 +88,7 @@ module _ (system : SystemSeen) (number : ℕ) (worker : WorkerLines) where
     done = done_at_end worker place inside (standing_of pass.view) past at.way;
   }
 
-  module _ (place : ℕ) (inside : Bool) (pass : PassSeen AnyPart) (at : IsAt system number worker place inside pass) where
+  module _ (place : ℕ) (inside : Bool) (pass : SystemPass) (at : IsAt system number worker place inside pass) where
     next_is : (item : Item) → slice_get worker.items place ≡ Some item → drop place worker.items ≡ item ∷ drop (suc place) worker.items
     next_is item found = let next : place + 1 ≡ suc place = omega arith in drop_at worker.items place item found ∙ ap (λ n. item ∷ drop n worker.items) next
 
@@ -102,14 +100,9 @@ module _ (system : SystemSeen) (number : ℕ) (worker : WorkerLines) where
 
     rests_for : (line : CallLine) (act : Act) → line.act ≡ act → drop place worker.items ≡ Line line ∷ drop (suc place) worker.items → RestsFor act pass.view
     rests_for line (Call op) is here = tt
-    rests_for line (Swap layout) is here = rests_with pass.view at.between (at.way.outside (outside inside refl (rw (here, is) at at.way.matches).0)).1
+    rests_for line (Swap to) is here = rests_with pass.view at.between (at.way.outside (outside inside refl (rw (here, is) at at.way.matches).0)).1
       where
-        outside : (b : Bool) → inside ≡ b → (inside ≡ true → IsCall (Swap layout)) → inside ≡ false
-        outside true e call = absurd (call e)
-        outside false e call = e
-    rests_for line Destroy is here = rests_with pass.view at.between (at.way.outside (outside inside refl (rw (here, is) at at.way.matches).0)).1
-      where
-        outside : (b : Bool) → inside ≡ b → (inside ≡ true → IsCall Destroy) → inside ≡ false
+        outside : (b : Bool) → inside ≡ b → (inside ≡ true → IsCall (Swap to)) → inside ≡ false
         outside true e call = absurd (call e)
         outside false e call = e
 
@@ -129,18 +122,18 @@ module _ (system : SystemSeen) (number : ℕ) (worker : WorkerLines) where
           };
         }
 
-    record IsCounted (item : Item) (new : PassSeen AnyPart) : Type 0 where
+    record IsCounted (item : Item) (new : SystemPass) : Type 0 where
       caller : new.view.number ≡ pass.view.number
       proc : new.view.turn.proc ≡ pass.view.turn.proc
       activities : new.view.activities + length (call_lines (drop (suc place) worker.items)) ≤ length (call_lines worker.items)
       graces : new.view.graces + length (call_lines (drop (suc place) worker.items)) ≤ length (call_lines worker.items)
 
-    counted : (item : Item) (new : PassSeen AnyPart) → drop place worker.items ≡ item ∷ drop (suc place) worker.items → GoesOnBy item pass.view new.view → IsCounted item new
+    counted : (item : Item) (new : SystemPass) → drop place worker.items ≡ item ∷ drop (suc place) worker.items → GoesOnBy item pass.view new.view → IsCounted item new
     counted Begin new here on = record { caller = on.number; proc = on.proc; activities = omega (arith, at.activities, on.activities, ap (λ items. length (call_lines items)) here); graces = omega (arith, at.graces, on.graces, ap (λ items. length (call_lines items)) here) }
     counted End new here on = record { caller = on.number; proc = on.proc; activities = omega (arith, at.activities, on.activities, ap (λ items. length (call_lines items)) here); graces = omega (arith, at.graces, on.graces, ap (λ items. length (call_lines items)) here) }
     counted (Line line) new here on = record { caller = on.number; proc = on.proc; activities = omega (arith, at.activities, on.activities, ap (λ items. length (call_lines items)) here); graces = omega (arith, at.graces, on.graces, ap (λ items. length (call_lines items)) here) }
 
-    pub at_next : (item : Item) (after : Bool) (new : PassSeen AnyPart) → slice_get worker.items place ≡ Some item → IsPassHere system new → IsBetween new.view → GoesOnBy item pass.view new.view
+    pub at_next : (item : Item) (after : Bool) (new : SystemPass) → slice_get worker.items place ≡ Some item → IsPassHere system new → IsBetween new.view → GoesOnBy item pass.view new.view
         → Follows item pass.view.turn.proc inside after (standing_of pass.view) (standing_of new.view) → IsAt system number worker (suc place) after new
     at_next item after new found here between on follows =
         let counts = counted item new (next_is item found) on in
@@ -156,7 +149,7 @@ module _ (system : SystemSeen) (number : ℕ) (worker : WorkerLines) where
         }
 
 -- both halves may work
-pub front_may : (system : SystemSeen) (first n : ℕ) (workers : List WorkerLines) (passes : List (PassSeen AnyPart)) → n ≤ length workers → MayWork system first workers passes → MayWork system first (take n workers) (take n passes)
+pub front_may : (system : SystemSeen) (first n : ℕ) (workers : List WorkerLines) (passes : List SystemPass) → n ≤ length workers → MayWork system first workers passes → MayWork system first (take n workers) (take n passes)
 front_may system first n workers passes within may =
     let left = length-take-le n workers within in
     let front = length-take-le n passes (omega (arith, may.many, within)) in
@@ -167,7 +160,7 @@ front_may system first n workers passes within may =
       fresh = pair_front (IsFresh system) first n workers passes may.fresh;
     }
 
-pub back_may : (system : SystemSeen) (first n : ℕ) (workers : List WorkerLines) (passes : List (PassSeen AnyPart)) → n ≤ length workers → MayWork system first workers passes → MayWork system (first + n) (drop n workers) (drop n passes)
+pub back_may : (system : SystemSeen) (first n : ℕ) (workers : List WorkerLines) (passes : List SystemPass) → n ≤ length workers → MayWork system first workers passes → MayWork system (first + n) (drop n workers) (drop n passes)
 back_may system first n workers passes within may =
     let right = length-drop n workers in
     let back = length-drop n passes in

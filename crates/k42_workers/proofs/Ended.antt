@@ -8,7 +8,6 @@ use Rattle.std.proofs.lemmas.List.{length-map, append-nil, take_all}
 use Rattle.std.proofs.lemmas.List.Elements.{All-nil}
 use Rattle.std.proofs.lemmas.Option.{slice_get-map, slice_get_within, get_or_from_slice_get, none-some}
 use Rattle.std.proofs.Math.ListN.{drop_of_length-le}
-use Rattle.co_any.specs.declared.part.AnyPart.{AnyPart}
 use Rattle.k42_kinds.specs.Histories.{entries_of, unstamped}
 use Rattle.k42_kinds.specs.Legal.{IsLegalHistory}
 use Rattle.k42_kinds.specs.declared.entry.Entry.{Entry}
@@ -17,12 +16,12 @@ use Rattle.script_text.specs.Lawful.{call_lines}
 use Rattle.script_text.specs.Sound.{IsSound}
 use Rattle.script_text.specs.declared.script.Script.{Script}
 use Rattle.script_text.specs.declared.script.WorkerLines.{WorkerLines}
-use Rattle.k42_board.specs.Seen.{PassSeen, is_at_rest}
+use Rattle.k42_board.specs.Seen.{is_at_rest}
 use Rattle.k42_board.specs.declared.view.PassView.{PassView}
 use Rattle.k42_rule.specs.Finishing.{lists_in}
 use Rattle.k42_runtime.specs.Histories.{HistorySeen, IsClosed, MayClose}
 use Rattle.k42_runtime.specs.Plans as plans
-use Rattle.k42_runtime.specs.Systems.{SystemSeen, HasStarted}
+use Rattle.k42_runtime.specs.Systems.{SystemPart, SystemPass, SystemSeen, HasStarted}
 use Rattle.k42_workers.specs.Passes.{IsReady, AreFresh, HaveWorked, MayWork}
 use Rattle.k42_workers.specs.Plans.{plan_of, idle_plan, asks}
 use Rattle.k42_workers.specs.Workers.{IsMadeBy, IsRunOf}
@@ -31,7 +30,7 @@ use Rattle.k42_workers.proofs.Planned.{kinds_planned, all_ready, has_none, none_
 
 module _ (script : Script) (system : SystemSeen) where
   -- the passes of a started system are fresh
-  pub fresh : (passes : List (PassSeen AnyPart)) → HasStarted (plan_of script) system passes → AreFresh system 0 script.workers passes
+  pub fresh : (passes : List SystemPass) → HasStarted (plan_of script) system passes → AreFresh system 0 script.workers passes
   fresh passes started number worker pass found there =
       let first = started.each number pass there in
       let plain : number ≡ 0 + number = omega arith in
@@ -39,16 +38,16 @@ module _ (script : Script) (system : SystemSeen) where
       let home : slice_index homes number ≡ worker.proc = get_or_from_slice_get homes number worker.proc _ (slice_get-map (λ (w : WorkerLines). w.proc) script.workers number ∙ ap (option_map (λ (w : WorkerLines). w.proc)) found) in
       record {
         here = first.here;
-        rests = ap (λ (v : PassView AnyPart). is_at_rest v) first.new;
-        caller = ap (λ (v : PassView AnyPart). v.number) first.new ∙ plain;
-        proc = ap (λ (v : PassView AnyPart). v.turn.proc) first.new ∙ home;
-        entries = ap (λ (v : PassView AnyPart). v.taker.mine) first.new;
-        activities = ap (λ (v : PassView AnyPart). v.activities) first.new;
-        graces = ap (λ (v : PassView AnyPart). v.graces) first.new;
+        rests = ap (λ (v : PassView SystemPart). is_at_rest v) first.new;
+        caller = ap (λ (v : PassView SystemPart). v.number) first.new ∙ plain;
+        proc = ap (λ (v : PassView SystemPart). v.turn.proc) first.new ∙ home;
+        entries = ap (λ (v : PassView SystemPart). v.taker.mine) first.new;
+        activities = ap (λ (v : PassView SystemPart). v.activities) first.new;
+        graces = ap (λ (v : PassView SystemPart). v.graces) first.new;
       }
 
   -- and so they may begin
-  pub may_work : (passes : List (PassSeen AnyPart)) → IsSound script → HasStarted (plan_of script) system passes → MayWork system 0 script.workers passes
+  pub may_work : (passes : List SystemPass) → IsSound script → HasStarted (plan_of script) system passes → MayWork system 0 script.workers passes
   may_work passes sound started = record {
     many = started.many ∙ length-map script.workers (λ (w : WorkerLines). w.proc);
     few = omega (arith, sound.callers);
@@ -57,7 +56,7 @@ module _ (script : Script) (system : SystemSeen) where
   }
 
   -- and when they have worked the system may be closed
-  pub worked_out : (passes : List (PassSeen AnyPart)) → system.plan ≡ plan_of script → length passes ≡ length script.workers → HaveWorked system 0 script.workers passes → MayClose system passes
+  pub worked_out : (passes : List SystemPass) → system.plan ≡ plan_of script → length passes ≡ length script.workers → HaveWorked system 0 script.workers passes → MayClose system passes
   worked_out passes planned crew worked = record {
     many = omega (arith, crew, ap (λ (plan : plans.PlanSeen). length plan.callers) planned, length-map script.workers (λ (w : WorkerLines). w.proc));
     each = λ number pass there.
@@ -68,7 +67,7 @@ module _ (script : Script) (system : SystemSeen) where
   }
 
   -- the closed history is that of a run
-  pub run_closed : (passes : List (PassSeen AnyPart)) (history : HistorySeen) → system.plan ≡ plan_of script → IsSound script → length passes ≡ length script.workers → HaveWorked system 0 script.workers passes → IsClosed system.plan (lists_in passes) history → IsRunOf script history.entries
+  pub run_closed : (passes : List SystemPass) (history : HistorySeen) → system.plan ≡ plan_of script → IsSound script → length passes ≡ length script.workers → HaveWorked system 0 script.workers passes → IsClosed system.plan (lists_in passes) history → IsRunOf script history.entries
   run_closed passes history planned sound crew worked closed = record {
     legal = subst (λ kinds. IsLegalHistory kinds history.entries) (ap plans.kinds_of planned ∙ kinds_planned script sound) closed.legal;
     each = λ number worker found.
@@ -76,7 +75,7 @@ module _ (script : Script) (system : SystemSeen) where
         let done = worked number worker pass.0 found pass.1 in
         record {
           entries = pass.0.view.taker.mine;
-          in_order = closed.in_order number pass.0.view.taker.mine (slice_get-map (λ (p : PassSeen AnyPart). p.view.taker.mine) passes number ∙ ap (option_map (λ (p : PassSeen AnyPart). p.view.taker.mine)) pass.1);
+          in_order = closed.in_order number pass.0.view.taker.mine (slice_get-map (λ (p : SystemPass). p.view.taker.mine) passes number ∙ ap (option_map (λ (p : SystemPass). p.view.taker.mine)) pass.1);
           done = done.done;
         };
     no_stranger = λ k d less.
@@ -120,24 +119,24 @@ whole new items n many as_before =
     rw (none, append-nil new) (take_all n new (omega (arith, many)))
 
 -- passes that have just started may be closed
-pub started_at_rest : (plan : plans.PlanSeen) (system : SystemSeen) (passes : List (PassSeen AnyPart)) → HasStarted plan system passes → MayClose system passes
+pub started_at_rest : (plan : plans.PlanSeen) (system : SystemSeen) (passes : List SystemPass) → HasStarted plan system passes → MayClose system passes
 started_at_rest plan system passes started = record {
   many = started.many ∙ ap (λ (p : plans.PlanSeen). length p.callers) (sym started.plan_is);
   each = λ number pass there.
       let first = started.each number pass there in
       record {
         ours = first.here.ours.table;
-        number = ap (λ (v : PassView AnyPart). v.number) first.new;
-        rests = ap (λ (v : PassView AnyPart). is_at_rest v) first.new;
+        number = ap (λ (v : PassView SystemPart). v.number) first.new;
+        rests = ap (λ (v : PassView SystemPart). is_at_rest v) first.new;
       };
 }
 
 -- and one caller that has just started leaves no entries
-pub idle_closed : (system : SystemSeen) (passes : List (PassSeen AnyPart)) (history : HistorySeen) → HasStarted idle_plan system passes → IsClosed system.plan (lists_in passes) history → history.entries ≡ []
+pub idle_closed : (system : SystemSeen) (passes : List SystemPass) (history : HistorySeen) → HasStarted idle_plan system passes → IsClosed system.plan (lists_in passes) history → history.entries ≡ []
 idle_closed system passes history started closed =
     let pass = found_at passes 0 (omega (arith, started.many)) in
-    let mine : pass.0.view.taker.mine ≡ [] = ap (λ (v : PassView AnyPart). v.taker.mine) (started.each 0 pass.0 pass.1).new in
-    let order = closed.in_order 0 pass.0.view.taker.mine (slice_get-map (λ (p : PassSeen AnyPart). p.view.taker.mine) passes 0 ∙ ap (option_map (λ (p : PassSeen AnyPart). p.view.taker.mine)) pass.1) in
+    let mine : pass.0.view.taker.mine ≡ [] = ap (λ (v : PassView SystemPart). v.taker.mine) (started.each 0 pass.0 pass.1).new in
+    let order = closed.in_order 0 pass.0.view.taker.mine (slice_get-map (λ (p : SystemPass). p.view.taker.mine) passes 0 ∙ ap (option_map (λ (p : SystemPass). p.view.taker.mine)) pass.1) in
     drawn_by_none history.entries
     (λ k d less. omega (arith, closed.no_stranger k d less, ap (λ (plan : plans.PlanSeen). length plan.callers) started.plan_is))
     (order.same ∙ ap (map unstamped) mine)

@@ -144,7 +144,7 @@ module _ (script : Script) (history : List Entry) (run : IsRunOf script history)
     none_given_up = each_all (λ entry. IsNotGivenUp entry.answer) history (λ before entry after e. (made before entry after e (among before entry after e)).kept);
   }
 
-  -- a call has a generation, a swap or destroy has none
+  -- a call has a generation, a swap has none
   pub generations : All (λ entry. HasGeneration entry.act entry.generation) history
   generations = each_all (λ entry. HasGeneration entry.act entry.generation) history (λ before entry after e. (made before entry after e (among before entry after e)).generation)
 

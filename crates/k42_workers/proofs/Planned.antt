@@ -11,7 +11,7 @@ use Rattle.std.proofs.lemmas.Simd.{map-map}
 use Rattle.k42_limits.specs.declared.TheConstants.{PROCESSORS, OBJECTS, CALLERS}
 use Rattle.k42_kinds.specs.Operations.{kind_of_op, same_kind}
 use Rattle.k42_kinds.specs.declared.entry.Act.{Act}
-use Rattle.k42_kinds.specs.declared.entry.Act.TheVariants.{Call, Swap, Destroy}
+use Rattle.k42_kinds.specs.declared.entry.Act.TheVariants.{Call, Swap}
 use Rattle.k42_kinds.specs.declared.operation.KindName.{KindName}
 use Rattle.k42_kinds.specs.declared.operation.KindName.TheVariants as kinds
 use Rattle.script_text.specs.Lawful as lawful
@@ -132,8 +132,7 @@ module _ (script : Script) (sound : IsSound script) where
     declares = is.there;
     takes = rw (is.of_kind, ← on.0) (taken_kind (kind_of_op op));
   }
-  may_ask object kind (Swap layout) is on = slice_get_within (plan_of script).objects object is.declaration is.there
-  may_ask object kind Destroy is on = slice_get_within (plan_of script).objects object is.declaration is.there
+  may_ask object kind (Swap to) is on = slice_get_within (plan_of script).objects object is.declaration is.there
 
   ready : (number : ℕ) (worker : WorkerLines) → slice_get script.workers number ≡ Some worker → IsReady (plan_of script) worker
   ready number worker found =

@@ -8,7 +8,7 @@ use Rattle.std.proofs.Math.ListN.{drop_of_length-le}
 use Rattle.std.proofs.Math.Seq.{get_or-append_seam}
 use Rattle.k42_places.proofs.Rests.{drop_at}
 use Rattle.k42_kinds.specs.declared.entry.Act.{Act}
-use Rattle.k42_kinds.specs.declared.entry.Act.TheVariants.{Call, Swap, Destroy}
+use Rattle.k42_kinds.specs.declared.entry.Act.TheVariants.{Call, Swap}
 use Rattle.k42_kinds.specs.declared.entry.Entry.{Entry}
 use Rattle.script_text.specs.Lawful.{Deed, call_lines, deed_of, deeds_from}
 use Rattle.script_text.specs.Sound.{IsCall, BlocksMatch}
@@ -208,8 +208,7 @@ module _ (worker : WorkerLines) where
 
     placed : (act : Act) (entry : Entry) (after : Option ℕ) → entry.act ≡ act → (inside ≡ true → IsCall act) → IsTimed act inside old entry.generation after → IsPlaced entry after
     placed (Call op) entry after is call timed = placed_call entry after (rw (is, timed.drawn_in) refl) timed
-    placed (Swap layout) entry after is call timed = placed_alone entry after (rw (is, timed.drawn_in) refl) call timed.drawn_in timed.left
-    placed Destroy entry after is call timed = placed_alone entry after (rw (is, timed.drawn_in) refl) call timed.drawn_in timed.left
+    placed (Swap to) entry after is call timed = placed_alone entry after (rw (is, timed.drawn_in) refl) call timed.drawn_in timed.left
 
     -- the block of the next line
     block_next : (line : CallLine) → drop place worker.items ≡ Line line ∷ drop (suc place) worker.items → block_at (length old.entries) ≡ way.block

@@ -2,7 +2,7 @@
 use Rattle.std.specs.Prelude.{◌≡◌, ℕ, ◌≤◌, Bool, true, false, if◌then◌else◌, List, [], ◌∷◌, ◌++◌, length, Option, Some, None}
 use Rattle.k42_places.specs.Places.{EachPlace}
 use Rattle.k42_kinds.specs.declared.entry.Act.{Act}
-use Rattle.k42_kinds.specs.declared.entry.Act.TheVariants.{Call, Swap, Destroy}
+use Rattle.k42_kinds.specs.declared.entry.Act.TheVariants.{Call, Swap}
 use Rattle.k42_kinds.specs.declared.entry.Entry.{Entry}
 use Rattle.script_text.specs.Lawful.{deed_of, IsNotGivenUp}
 use Rattle.script_text.specs.declared.script.CallLine.{CallLine}
@@ -34,15 +34,14 @@ pub record IsTimedCall (inside : Bool) (old : Standing) (drawn after : Option �
   pub goes_on : GoesOn old.active old.entries generation
   pub left : after ≡ left_open inside generation
 
--- a swap or destroy is made in no activity
+-- a swap is made in no activity
 pub record IsUntimed (drawn after : Option ℕ) : Type 0 where
   pub drawn_in : drawn ≡ None
   pub left : after ≡ None
 
 abbrev pub IsTimed : Act → Bool → Standing → Option ℕ → Option ℕ → Type 0
 IsTimed (Call op) inside old drawn after = IsTimedCall inside old drawn after
-IsTimed (Swap layout) inside old drawn after = IsUntimed drawn after
-IsTimed Destroy inside old drawn after = IsUntimed drawn after
+IsTimed (Swap to) inside old drawn after = IsUntimed drawn after
 
 -- there is one entry more, that of the line
 pub record AnswersLine (line : CallLine) (proc : ℕ) (inside : Bool) (old new : Standing) : Type 0 where

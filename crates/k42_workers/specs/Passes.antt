@@ -4,7 +4,7 @@ use Rattle.gen_core.specs.Events as graces
 use Rattle.k42_limits.specs.declared.TheConstants.{CALLERS, CALL_LINES}
 use Rattle.k42_places.specs.Places.{EachPair}
 use Rattle.k42_kinds.specs.declared.entry.Act.{Act}
-use Rattle.k42_kinds.specs.declared.entry.Act.TheVariants.{Call, Swap, Destroy}
+use Rattle.k42_kinds.specs.declared.entry.Act.TheVariants.{Call, Swap}
 use Rattle.phase_core.specs.Stages as swaps
 use Rattle.script_text.specs.Lawful.{call_lines}
 use Rattle.script_text.specs.Sound.{BlocksMatch}
@@ -12,21 +12,18 @@ use Rattle.script_text.specs.declared.script.CallLine.{CallLine}
 use Rattle.script_text.specs.declared.script.Item.{Item}
 use Rattle.script_text.specs.declared.script.Item.TheVariants.{Begin, End, Line}
 use Rattle.script_text.specs.declared.script.WorkerLines.{WorkerLines}
-use Rattle.co_any.specs.declared.part.AnyPart.{AnyPart}
 use Rattle.k42_board.specs.Generations.{MOST}
-use Rattle.k42_board.specs.Seen.{PassSeen}
 use Rattle.k42_board.specs.declared.view.PassView.{PassView}
 use Rattle.k42_runtime.specs.Calls.{IsAsked}
 use Rattle.k42_runtime.specs.Plans.{PlanSeen}
-use Rattle.k42_runtime.specs.Systems.{SystemSeen, IsPassHere, IsAtRest}
+use Rattle.k42_runtime.specs.Systems.{SystemPass, SystemSeen, IsPassHere, IsAtRest}
 use Rattle.k42_workers.specs.Lines.{Standing}
 use Rattle.k42_workers.specs.Workers.{HasDoneLines}
 
 -- the act may be asked of the object
 abbrev pub MayAsk : PlanSeen → ℕ → Act → Type 0
 MayAsk plan object (Call op) = IsAsked plan object op
-MayAsk plan object (Swap layout) = object < length plan.objects
-MayAsk plan object Destroy = object < length plan.objects
+MayAsk plan object (Swap to) = object < length plan.objects
 
 abbrev pub MayAskLine : PlanSeen → CallLine → Type 0
 MayAskLine plan line = MayAsk plan line.object line.act
@@ -65,11 +62,10 @@ pub record StaysAs {P : Type 0} (old new : PassView P) : Type 0 where
   pub activities : new.activities ≡ old.activities
   pub graces : new.graces ≡ old.graces
 
--- a swap or destroy is made between two activities
+-- a swap is made between two activities
 abbrev pub RestsFor : {P : Type 0} → Act → PassView P → Type 0
 RestsFor (Call op) v = ⊤
-RestsFor (Swap layout) v = IsAtRest v
-RestsFor Destroy v = IsAtRest v
+RestsFor (Swap to) v = IsAtRest v
 
 -- the line may be answered now
 pub record MayAnswer {P : Type 0} (plan : PlanSeen) (line : CallLine) (v : PassView P) : Type 0 where
@@ -89,7 +85,7 @@ GoesOnBy End old new = StaysAs old new
 GoesOnBy (Line line) old new = GoesOnAs old new
 
 -- the pass of this worker, which has not begun
-pub record IsFresh (system : SystemSeen) (number : ℕ) (worker : WorkerLines) (pass : PassSeen AnyPart) : Type 0 where
+pub record IsFresh (system : SystemSeen) (number : ℕ) (worker : WorkerLines) (pass : SystemPass) : Type 0 where
   pub here : IsPassHere system pass
   pub rests : IsAtRest pass.view
   pub caller : pass.view.number ≡ number
@@ -99,21 +95,21 @@ pub record IsFresh (system : SystemSeen) (number : ℕ) (worker : WorkerLines) (
   pub graces : pass.view.graces ≡ 0
 
 -- it rests, and its entries are those of the worker's lines
-pub record HasWorked (system : SystemSeen) (number : ℕ) (worker : WorkerLines) (pass : PassSeen AnyPart) : Type 0 where
+pub record HasWorked (system : SystemSeen) (number : ℕ) (worker : WorkerLines) (pass : SystemPass) : Type 0 where
   pub here : IsPassHere system pass
   pub rests : IsAtRest pass.view
   pub caller : pass.view.number ≡ number
   pub done : HasDoneLines worker pass.view.taker.mine
 
 -- the passes of workers whose numbers count on from a first one: before their first items, and behind their last
-abbrev pub AreFresh : SystemSeen → ℕ → List WorkerLines → List (PassSeen AnyPart) → Type 0
+abbrev pub AreFresh : SystemSeen → ℕ → List WorkerLines → List SystemPass → Type 0
 AreFresh system first workers passes = EachPair (λ i worker pass. IsFresh system (first + i) worker pass) workers passes
 
-abbrev pub HaveWorked : SystemSeen → ℕ → List WorkerLines → List (PassSeen AnyPart) → Type 0
+abbrev pub HaveWorked : SystemSeen → ℕ → List WorkerLines → List SystemPass → Type 0
 HaveWorked system first workers passes = EachPair (λ i worker pass. HasWorked system (first + i) worker pass) workers passes
 
 -- there is a pass for each worker, which has not begun, and each worker's lines may be asked
-pub record MayWork (system : SystemSeen) (first : ℕ) (workers : List WorkerLines) (passes : List (PassSeen AnyPart)) : Type 0 where
+pub record MayWork (system : SystemSeen) (first : ℕ) (workers : List WorkerLines) (passes : List SystemPass) : Type 0 where
   pub many : length passes ≡ length workers
   pub few : first + length workers ≤ CALLERS
   pub ready : All (IsReady system.plan) workers

@@ -9,7 +9,7 @@ use Rattle.script_text.specs.declared.script.WorkerLines.{WorkerLines}
 use Rattle.record_text.specs.Spelling.{HasGeneration}
 use Rattle.record_text.specs.Told.{blocks_of, AreInStep}
 
--- It was made on the worker's processor, and not given up. A call has a generation, a swap or destroy has none.
+-- It was made on the worker's processor, and not given up. A call has a generation, a swap has none.
 pub record IsMadeBy (worker : WorkerLines) (entry : Entry) : Type 0 where
   pub processor : entry.proc ≡ worker.proc
   pub kept : IsNotGivenUp entry.answer

@@ -8,7 +8,7 @@ ghost use Rattle.k42_workers.specs.Lines.{AnswersLine, IsOpened, IsMade, Follows
 ghost use Rattle.k42_workers.specs.Passes.{standing_of, IsBetween, HasFew, GoesOnAs, GoesOnBy, StaysAs, MayAnswer, MayFollow};
 
 use crate::gate::Gate;
-use k42_kinds::{Act, LayoutName, Op};
+use k42_kinds::{Act, Op, To};
 use k42_memory::Memory;
 use k42_runtime::{Pass, System};
 use script_text::{CallLine, Item};
@@ -108,14 +108,14 @@ fn call<R: Wait>(
     Ok(())
 }
 
-/// Replaces an implementation, between two activities.
+/// Replaces an implementation, or ends an object, between two activities.
 fn swap<R: Wait>(
     rt: &R,
     alloc: Global,
     system: &System,
     pass: &mut Pass,
     line: &CallLine,
-    to: LayoutName,
+    to: To,
 ) -> Result<(), Memory>
     requires here { IsPassHere system.now pass.old }
     requires rests { IsAtRest pass.old.view }
@@ -127,29 +127,10 @@ fn swap<R: Wait>(
     ensures caller { GoesOnAs pass.old.view pass.new.view }
     ensures answered { (inside : Bool) → OnOk result (AnswersLine line.now pass.old.view.turn.proc inside (standing_of pass.old.view) (standing_of pass.new.view)) }
 {
-    system.swap(rt, alloc, pass, line.object, to)?;
-    Ok(())
-}
-
-/// Ends an object, between two activities.
-fn destroy<R: Wait>(
-    rt: &R,
-    alloc: Global,
-    system: &System,
-    pass: &mut Pass,
-    line: &CallLine,
-) -> Result<(), Memory>
-    requires here { IsPassHere system.now pass.old }
-    requires rests { IsAtRest pass.old.view }
-    requires few { HasFew pass.old.view }
-    requires act { line.now.act ≡ acts.Destroy }
-    requires there { line.now.object < length system.now.plan.objects }
-    ensures here { IsPassHere system.now pass.new }
-    ensures rests { IsAtRest pass.new.view }
-    ensures caller { GoesOnAs pass.old.view pass.new.view }
-    ensures answered { (inside : Bool) → OnOk result (AnswersLine line.now pass.old.view.turn.proc inside (standing_of pass.old.view) (standing_of pass.new.view)) }
-{
-    system.destroy(rt, alloc, pass, line.object)?;
+    match to {
+        To::Layout(layout) => system.swap(rt, alloc, pass, line.object, layout)?,
+        To::Dead => system.destroy(rt, alloc, pass, line.object)?,
+    };
     Ok(())
 }
 
@@ -173,7 +154,6 @@ fn answer<R: Wait>(
     match line.act {
         Act::Call(op) => call(rt, alloc, system, pass, line, op, inside),
         Act::Swap(to) => swap(rt, alloc, system, pass, line, to),
-        Act::Destroy => destroy(rt, alloc, system, pass, line),
     }
 }
 

@@ -10,6 +10,7 @@ use Rattle.k42_limits.specs.declared.TheConstants.{PAGES}
 use Rattle.k42_kinds.specs.Histories.{entries_of}
 use Rattle.k42_kinds.specs.declared.entry.Act.{Act}
 use Rattle.k42_kinds.specs.declared.entry.Act.TheVariants.{Call, Swap}
+use Rattle.k42_kinds.specs.declared.entry.To.TheVariants.{Layout}
 use Rattle.k42_kinds.specs.declared.entry.Entry.{Entry}
 use Rattle.k42_kinds.specs.declared.operation.Op.TheVariants.{Add, Bind, Write}
 use Rattle.k42_kinds.proofs.Splits.{heads}
@@ -26,7 +27,7 @@ name_of number = codes "n" ++ decimal number
 -- what step k asks with this value, by whether it swaps, adds or binds
 abbrev pub asked : Bool → Bool → Bool → ℕ → ℕ → Act
 asked swaps adds binds k value =
-    if swaps then Swap (layout_at k)
+    if swaps then Swap (Layout (layout_at k))
     else if adds then Call (Add value)
     else if binds then Call (Bind (name_of (value % 100)) k)
     else Call (Write (value % PAGES) (codes "v" ++ decimal k))

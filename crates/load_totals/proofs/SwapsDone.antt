@@ -13,6 +13,7 @@ use Rattle.k42_kinds.specs.declared.entry.Act.{Act}
 use Rattle.k42_kinds.specs.declared.entry.Act.TheVariants.{Call, Swap}
 use Rattle.k42_kinds.specs.declared.entry.Answer.{Answer}
 use Rattle.k42_kinds.specs.declared.entry.Answer.TheVariants.{Replied, Swapped, Busy, Spent, Gone, Abandoned}
+use Rattle.k42_kinds.specs.declared.entry.To.TheVariants.{Layout}
 use Rattle.k42_kinds.specs.declared.entry.Entry.{Entry}
 use Rattle.k42_kinds.specs.declared.operation.KindName.{KindName}
 use Rattle.k42_kinds.specs.declared.operation.KindName.TheVariants.{Counter, Directory, Pages}
@@ -32,7 +33,7 @@ pub data Asks (worker : ℕ) (act : Act) : Type 0 where
   Adds : (amount : ℕ) → act ≡ Call (Add amount) → Asks worker act
   Binds : (name number : ℕ) → name < 100 → act ≡ Call (Bind (name_of name) number) → Asks worker act
   Writes : (page : ℕ) (text : List ℕ) → page < PAGES → act ≡ Call (Write page text) → Asks worker act
-  Swaps : (layout : LayoutName) → worker ≡ 0 → act ≡ Swap layout → Asks worker act
+  Swaps : (layout : LayoutName) → worker ≡ 0 → act ≡ Swap (Layout layout) → Asks worker act
 
 asks_by_turn : (worker k value : ℕ) (swaps adds binds : Bool) → (swaps ≡ true → worker ≡ 0) → Asks worker (asked swaps adds binds k value)
 asks_by_turn worker k value true adds binds first = Swaps (layout_at k) (first refl) refl
@@ -82,17 +83,17 @@ alive_after (states.Directory names) op alive = refl
 alive_after (states.Pages pages) op alive = refl
 alive_after states.Dead op alive = alive
 
-alive_moved : (state : AnyState) (worker : ℕ) (act : Act) (answer : Answer) → Asks worker act → is_dead state ≡ false → is_dead (state_after_act state act answer) ≡ false
-alive_moved state worker act answer (Adds amount is) alive = rw is (alive_after state (Add amount) alive)
-alive_moved state worker act answer (Binds name number less is) alive = rw is (alive_after state (Bind (name_of name) number) alive)
-alive_moved state worker act answer (Writes page text less is) alive = rw is (alive_after state (Write page text) alive)
-alive_moved state worker act answer (Swaps layout first is) alive = rw is alive
+alive_moved : (kind : KindName) (state : AnyState) (worker : ℕ) (act : Act) (answer : Answer) → Asks worker act → is_dead state ≡ false → is_dead (state_after_act kind state act answer) ≡ false
+alive_moved kind state worker act answer (Adds amount is) alive = rw is (alive_after state (Add amount) alive)
+alive_moved kind state worker act answer (Binds name number less is) alive = rw is (alive_after state (Bind (name_of name) number) alive)
+alive_moved kind state worker act answer (Writes page text less is) alive = rw is (alive_after state (Write page text) alive)
+alive_moved kind state worker act answer (Swaps layout first is) alive = rw is (cond_both (is_carried_out answer) state state (λ moved. is_dead moved ≡ false) (λ done. alive) (λ other. alive))
 
-alive_in : (object : ℕ) (state : AnyState) (entries : List Entry) → AllByRecursion (λ (entry : Entry). Asks entry.caller entry.act) entries → is_dead state ≡ false → is_dead (fold (moved_by object) state entries) ≡ false
-alive_in object state [] asks alive = alive
-alive_in object state (entry ∷ entries) asks alive =
-    alive_in object (moved_by object state entry) entries asks.1
-    (cond_both (entry.object == object) (state_after_act state entry.act entry.answer) state (λ moved. is_dead moved ≡ false) (λ own. alive_moved state entry.caller entry.act entry.answer asks.0 alive) (λ other. alive))
+alive_in : (kind : KindName) (object : ℕ) (state : AnyState) (entries : List Entry) → AllByRecursion (λ (entry : Entry). Asks entry.caller entry.act) entries → is_dead state ≡ false → is_dead (fold (moved_by kind object) state entries) ≡ false
+alive_in kind object state [] asks alive = alive
+alive_in kind object state (entry ∷ entries) asks alive =
+    alive_in kind object (moved_by kind object state entry) entries asks.1
+    (cond_both (entry.object == object) (state_after_act kind state entry.act entry.answer) state (λ moved. is_dead moved ≡ false) (λ own. alive_moved kind state entry.caller entry.act entry.answer asks.0 alive) (λ other. alive))
 
 starts_alive : (kind : KindName) → is_dead (empty_state kind) ≡ false
 starts_alive Counter = refl
@@ -122,7 +123,7 @@ carried_out kind before entry after (Busy number) legal kept alive few rivals = 
 carried_out kind before entry after (Abandoned number) legal kept alive few rivals = absurd kept
 carried_out kind before entry after (Replied reply) legal kept alive few rivals = absurd legal
 
--- whether the entry tells of a swap or destroy that was carried out
+-- whether the entry tells of a swap that was carried out
 abbrev pub is_done : Entry → Bool
 is_done entry = cond (is_call entry.act) false (is_carried_out entry.answer)
 
@@ -156,7 +157,7 @@ module _ (n : ℕ) (small : n ≤ 10000) (history : List Entry) (lawful : IsLawf
   done_by before entry after split kind legal (Swaps layout first is) =
       rw is (carried_out kind before entry after entry.answer (subst (IsLegalAct kind before entry after) is legal)
       (All-at_split (λ (other : Entry). IsNotGivenUp other.answer) history lawful.none_given_up before entry after split)
-      (alive_in entry.object (empty_state kind) before (front (λ (other : Entry). Asks other.caller other.act) before (entry ∷ after) (asks_in before entry after split)) (starts_alive kind))
+      (alive_in kind entry.object (empty_state kind) before (front (λ (other : Entry). Asks other.caller other.act) before (entry ∷ after) (asks_in before entry after split)) (starts_alive kind))
       (few_before entry.object before entry after split)
       (λ number. rivals number before entry after first split))
 

@@ -15,7 +15,8 @@ use Rattle.k42_kinds.specs.Objects.{Directory, Pages, counter_after, directory_a
 use Rattle.k42_kinds.specs.Operations.{kind_of_op}
 use Rattle.k42_kinds.specs.Pages.{dirty_count}
 use Rattle.k42_kinds.specs.declared.entry.Act.{Act}
-use Rattle.k42_kinds.specs.declared.entry.Act.TheVariants.{Call, Swap, Destroy}
+use Rattle.k42_kinds.specs.declared.entry.Act.TheVariants.{Call, Swap}
+use Rattle.k42_kinds.specs.declared.entry.To.{To}
 use Rattle.k42_kinds.specs.declared.entry.Answer.{Answer}
 use Rattle.k42_kinds.specs.declared.entry.Entry.{Entry}
 use Rattle.k42_kinds.specs.declared.operation.KindName.{KindName}
@@ -83,14 +84,13 @@ called_parts kinds.Counter tally op is = record { calls = refl; swaps = omega ar
 called_parts kinds.Directory tally op is = record { calls = refl; swaps = omega arith; hits = rw is refl; names = rw is refl; cache = rw is refl }
 called_parts kinds.Pages tally op is = record { calls = refl; swaps = omega arith; hits = rw is refl; names = rw is refl; cache = rw is refl }
 
-swapped_parts : (done : Bool) (tally : Tally) (act : Act) → is_call act ≡ false → hits_after tally.hits act ≡ tally.hits → names_after tally.names act ≡ tally.names → cache_after tally.cache act ≡ tally.cache → Parts tally (if done then record tally { swaps = tally.swaps + 1 } else tally) act done
-swapped_parts true tally act none hits names cache = record { calls = omega (arith, ap mark none); swaps = refl; hits = sym hits; names = sym names; cache = sym cache }
-swapped_parts false tally act none hits names cache = record { calls = omega (arith, ap mark none); swaps = omega arith; hits = sym hits; names = sym names; cache = sym cache }
+swapped_parts : (done : Bool) (tally : Tally) (to : To) → Parts tally (if done then record tally { swaps = tally.swaps + 1 } else tally) (Swap to) done
+swapped_parts true tally to = record { calls = omega arith; swaps = refl; hits = refl; names = refl; cache = refl }
+swapped_parts false tally to = record { calls = omega arith; swaps = omega arith; hits = refl; names = refl; cache = refl }
 
 parts : (tally : Tally) (act : Act) (answer : Answer) → Parts tally (tally_after tally act answer) act (cond (is_call act) false (is_carried_out answer))
 parts tally (Call op) answer = called_parts (kind_of_op op) tally op refl
-parts tally (Swap layout) answer = swapped_parts (is_carried_out answer) tally (Swap layout) refl refl refl refl
-parts tally Destroy answer = swapped_parts (is_carried_out answer) tally Destroy refl refl refl refl
+parts tally (Swap to) answer = swapped_parts (is_carried_out answer) tally to
 
 -- the counter
 hits_are : (worker hits sum : ℕ) (act : Act) → Asks worker act → hits ≡ sum % 2 ^ 64 → hits_after hits act ≡ (sum + amount_of act) % 2 ^ 64

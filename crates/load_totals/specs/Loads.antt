@@ -8,7 +8,7 @@ use Rattle.k42_kinds.specs.Objects.{counter_after, directory_after, pages_after}
 use Rattle.k42_kinds.specs.Operations.{kind_of_op}
 use Rattle.k42_kinds.specs.Pages.{dirty_count}
 use Rattle.k42_kinds.specs.declared.entry.Act.{Act}
-use Rattle.k42_kinds.specs.declared.entry.Act.TheVariants.{Call, Swap, Destroy}
+use Rattle.k42_kinds.specs.declared.entry.Act.TheVariants.{Call, Swap}
 use Rattle.k42_kinds.specs.declared.entry.Answer.{Answer}
 use Rattle.k42_kinds.specs.declared.entry.Entry.{Entry}
 use Rattle.k42_kinds.specs.declared.operation.KindName.{KindName}
@@ -63,8 +63,7 @@ called_by kinds.Pages tally op = record tally { cache = pages_after tally.cache 
 
 abbrev pub tally_after : Tally → Act → Answer → Tally
 tally_after tally (Call op) answer = called_by (kind_of_op op) tally op
-tally_after tally (Swap layout) answer = if is_carried_out answer then record tally { swaps = tally.swaps + 1 } else tally
-tally_after tally Destroy answer = if is_carried_out answer then record tally { swaps = tally.swaps + 1 } else tally
+tally_after tally (Swap to) answer = if is_carried_out answer then record tally { swaps = tally.swaps + 1 } else tally
 
 abbrev pub tally_with : Tally → Entry → Tally
 tally_with tally entry = tally_after tally entry.act entry.answer

@@ -64,7 +64,7 @@ impl Tally {
     {
         match &entry.act {
             Act::Call(op) => self.call(op),
-            Act::Swap(_) | Act::Destroy => {
+            Act::Swap(_) => {
                 if matches!(entry.answer, Answer::Swapped(_)) {
                     self.swaps += 1;
                 }

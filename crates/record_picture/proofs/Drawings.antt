@@ -6,6 +6,7 @@ use Rattle.k42_kinds.specs.declared.operation.Reply.TheVariants.{Number}
 use Rattle.k42_kinds.specs.declared.operation.LayoutName.TheVariants.{Spread}
 use Rattle.k42_kinds.specs.declared.entry.Act.{Act}
 use Rattle.k42_kinds.specs.declared.entry.Act.TheVariants.{Call, Swap}
+use Rattle.k42_kinds.specs.declared.entry.To.TheVariants.{Layout}
 use Rattle.k42_kinds.specs.declared.entry.Answer.{Answer}
 use Rattle.k42_kinds.specs.declared.entry.Answer.TheVariants.{Replied, Swapped, Busy}
 use Rattle.script_text.specs.declared.script.Item.{Item}
@@ -54,7 +55,7 @@ swapping answer = record {
   worker = 0;
   line = 4;
   object = 0;
-  act = Swap Spread;
+  act = Swap (Layout Spread);
   answer = answer;
   incarnation = 0;
   extra = None;

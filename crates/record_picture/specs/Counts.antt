@@ -14,6 +14,6 @@ count_of mark [] = 0
 count_of mark (byte ∷ text) =
     (if begins mark (byte ∷ text) then 1 else 0) + count_of mark text
 
--- the entry is a swap or destroy that was carried out
+-- the entry is a swap that was carried out
 abbrev pub is_carried_out : RecordLine → Bool
 is_carried_out line = histories.is_carried_out line.answer

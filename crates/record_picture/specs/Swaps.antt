@@ -1,7 +1,8 @@
--- The lines of swaps: one through all lanes for each swap or destroy that was carried out.
+-- The lines of swaps: one through all lanes for each swap that was carried out.
 use Rattle.std.specs.Prelude.{ℕ, ◌+◌, List, [], ◌++◌, length, codes}
 use Rattle.k42_kinds.specs.declared.entry.Act.{Act}
-use Rattle.k42_kinds.specs.declared.entry.Act.TheVariants.{Call, Swap, Destroy}
+use Rattle.k42_kinds.specs.declared.entry.Act.TheVariants.{Call, Swap}
+use Rattle.k42_kinds.specs.declared.entry.To.TheVariants.{Layout, Dead}
 use Rattle.k42_kinds.specs.declared.entry.Answer.{Answer}
 use Rattle.k42_kinds.specs.declared.entry.Answer.TheVariants.{Swapped}
 use Rattle.script_text.specs.Acts.{layout_word}
@@ -11,11 +12,11 @@ use Rattle.record_text.specs.Texts.{object_name}
 use Rattle.record_picture.specs.Measures.{column_left, lane_top}
 use Rattle.record_picture.specs.Pieces.{numbered, worded, placed_texts}
 
--- what an object is after a swap or a destroy
+-- what an object is after a swap
 abbrev pub layout_after : Act → List ℕ
 layout_after (Call op) = []
-layout_after (Swap layout) = layout_word layout
-layout_after Destroy = codes "dead"
+layout_after (Swap (Layout layout)) = layout_word layout
+layout_after (Swap Dead) = codes "dead"
 
 -- the object in whose colour the line is, and its name
 unfoldable pub swap_name : ℕ → ℕ → List ℕ → List ℕ
@@ -45,7 +46,7 @@ swap_line script column line number =
     ++ swap_number column number line.act
     ++ swap_path column (length script.workers)
 
--- An entry has a line where it is a swap or destroy that was carried out, and else none.
+-- An entry has a line where it is a swap that was carried out, and else none.
 abbrev pub swap_answered : Script → ℕ → RecordLine → Answer → List ℕ
 swap_answered script column line (Swapped number) = swap_line script column line number
 swap_answered script column line _ = []

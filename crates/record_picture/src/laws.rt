@@ -28,7 +28,7 @@ pub fn each_entry_has_one_box()
 {}
 
 /// One more entry has one more line through the lanes, in the column of its place, where it is a
-/// swap or destroy that was carried out, and else none.
+/// swap that was carried out, and else none.
 pub fn each_swap_has_one_line()
     ensures { (script : Script) (lines : List RecordLine) (line : RecordLine) →
         swap_lines script (lines ++ line ∷ [])
@@ -91,8 +91,8 @@ pub fn no_two_boxes_meet()
         (lane_top lane + 7) + 46 < lane_top later + 7 }
 {}
 
-/// The line of a swap or destroy that was carried out stands in the middle of its entry's column,
-/// and goes through each lane from above the first to below the last. Another entry has none.
+/// The line of a swap that was carried out stands in the middle of its entry's column, and goes
+/// through each lane from above the first to below the last. Another entry has none.
 pub fn a_swap_has_a_line_through_all_lanes()
     ensures placed { (script : Script) (column : ℕ) (line : RecordLine) (number : ℕ) →
         line.answer ≡ Swapped number →
@@ -104,7 +104,7 @@ pub fn a_swap_has_a_line_through_all_lanes()
         ((number : ℕ) → line.answer ≢ Swapped number) → swap_text script column line ≡ [] }
 {}
 
-/// The line of each swap or destroy that is shown and was carried out is in the picture.
+/// The line of each swap that is shown and was carried out is in the picture.
 pub fn each_swap_shown_has_its_line()
     ensures { (script : Script) (written : Record) (verdict : Verdict) (window : Window)
         (place : ℕ) (line : RecordLine) →

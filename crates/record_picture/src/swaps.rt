@@ -1,4 +1,4 @@
-//! The lines through all lanes at swaps and destroys that were carried out.
+//! The lines through all lanes at swaps that were carried out.
 ghost use Rattle.std.specs.Prelude.{◌≡◌, ◌≤◌, ◌<◌, ◌++◌, length, All, OnOk};
 ghost use Rattle.k42_limits.specs.declared.TheConstants.{CALLERS};
 ghost use Rattle.record_text.specs.Spelling.{HasSpelling};
@@ -8,7 +8,7 @@ ghost use Rattle.record_picture.specs.declared.window.TheConstants.{COLUMNS};
 
 use crate::measures::{column_left, lane_top};
 use crate::pieces::{put_fixed, put_numbered, put_worded};
-use k42_kinds::{Act, Answer, LayoutName};
+use k42_kinds::{Act, Answer, LayoutName, To};
 use k42_memory::Memory;
 use record_text::RecordLine;
 use script_text::Script;
@@ -25,9 +25,9 @@ fn layout_after(act: &Act) -> &'static [u8]
 {
     match act {
         Act::Call(_) => b"",
-        Act::Swap(LayoutName::Shared) => b"shared",
-        Act::Swap(LayoutName::Spread) => b"spread",
-        Act::Destroy => b"dead",
+        Act::Swap(To::Layout(LayoutName::Shared)) => b"shared",
+        Act::Swap(To::Layout(LayoutName::Spread)) => b"spread",
+        Act::Swap(To::Dead) => b"dead",
     }
 }
 
@@ -83,7 +83,7 @@ fn put_swap_line(
     put_swap_path(out, column, script.workers.len() as u32)
 }
 
-/// Adds the line of an entry, where it is a swap or destroy that was carried out.
+/// Adds the line of an entry, where it is a swap that was carried out.
 fn put_swap(
     out: &mut Vec<u8>,
     script: &Script,
@@ -101,7 +101,7 @@ fn put_swap(
     }
 }
 
-/// Adds a line for each swap or destroy among these entries that was carried out.
+/// Adds a line for each swap among these entries that was carried out.
 pub fn put_swaps(out: &mut Vec<u8>, script: &Script, lines: &[RecordLine]) -> Result<(), Memory>
     requires workers { length script.now.workers ≤ CALLERS }
     requires spelled { All (HasSpelling script.now) lines.now }

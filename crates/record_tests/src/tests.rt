@@ -4,7 +4,7 @@ mod judging;
 
 use conditions::{has_lines, has_text, is_version};
 use k42_items::Items;
-use k42_kinds::{Act, Answer, Entry, KindName, LayoutName, Name, Op, Reply, Text};
+use k42_kinds::{Act, Answer, Entry, KindName, LayoutName, Name, Op, Reply, Text, To};
 use k42_limits::{CALLERS, OBJECTS};
 use record_text::*;
 use script_text::{CallLine, Item, ObjectLine, Script, WorkerLines};
@@ -164,7 +164,7 @@ fn add(amount: u32) -> Act {
 }
 
 fn swap(layout: LayoutName) -> Act {
-    Act::Swap(layout)
+    Act::Swap(To::Layout(layout))
 }
 
 /// The reply to a call in an activity of the first generation.
@@ -179,7 +179,7 @@ fn reply(caller: u32, index: u32, act: Act, reply: Reply, incarnation: u32) -> T
     }
 }
 
-/// The end of a swap or destroy.
+/// The end of a swap.
 fn end(caller: u32, index: u32, act: Act, answer: Answer, incarnation: u32) -> Told {
     Told {
         caller,
@@ -282,16 +282,16 @@ fn swaps_and_destroys(rt: HostRuntime) -> Result<(), Fail> {
                 end 4\n",
         },
         &[
-            (0, 4, Act::Destroy),
+            (0, 4, Act::Swap(To::Dead)),
             (0, 5, call(Op::Get)),
             (0, 6, swap(LayoutName::Shared)),
-            (0, 7, Act::Destroy),
+            (0, 7, Act::Swap(To::Dead)),
         ],
         &[
-            end(0, 0, Act::Destroy, Answer::Swapped(1), 0),
+            end(0, 0, Act::Swap(To::Dead), Answer::Swapped(1), 0),
             reply(0, 1, call(Op::Get), Reply::Gone, 1),
             end(0, 2, swap(LayoutName::Shared), Answer::Gone, 1),
-            end(0, 3, Act::Destroy, Answer::Gone, 1),
+            end(0, 3, Act::Swap(To::Dead), Answer::Gone, 1),
         ],
     )?;
     expect_text(
@@ -491,7 +491,7 @@ fn the_widest_lines(rt: HostRuntime) -> Result<(), Fail> {
         widest(1, call(Op::Write(1023, text)), Answer::Replied(Reply::Done)),
         widest(1, call(Op::Read(1023)), Answer::Replied(Reply::Text(text))),
         widest(0, call(Op::Size), Answer::Replied(Reply::Number(u64::MAX))),
-        widest(1, Act::Destroy, Answer::Busy(u32::MAX)),
+        widest(1, Act::Swap(To::Dead), Answer::Busy(u32::MAX)),
     ] {
         lines.push(line)?;
     }

@@ -10,7 +10,7 @@ use Rattle.k42_kinds.specs.Legal.{IsLegalAct, IsLegalAnswer, IsLegalAmong, IsLeg
 use Rattle.k42_kinds.specs.declared.operation.KindName.{KindName}
 use Rattle.k42_kinds.specs.declared.states.AnyState.{AnyState}
 use Rattle.k42_kinds.specs.declared.entry.Act.{Act}
-use Rattle.k42_kinds.specs.declared.entry.Act.TheVariants.{Call, Swap, Destroy}
+use Rattle.k42_kinds.specs.declared.entry.Act.TheVariants.{Call, Swap}
 use Rattle.k42_kinds.specs.declared.entry.Answer.{Answer}
 use Rattle.k42_kinds.specs.declared.entry.Answer.TheVariants.{Replied, Swapped, Busy, Spent, Gone, Abandoned}
 use Rattle.k42_kinds.specs.declared.entry.Entry.{Entry}
@@ -36,12 +36,12 @@ module _ (script : Script) (version : ℕ) where
   abbrev pub bare : Entry → Entry
   bare entry = told (line_of script version entry)
 
-  states_same : (object : ℕ) (state : AnyState) (history : List Entry) → fold (moved_by object) state (map bare history) ≡ fold (moved_by object) state history
-  states_same object state [] = refl
-  states_same object state (entry ∷ history) = states_same object (moved_by object state entry) history
+  states_same : (kind : KindName) (object : ℕ) (state : AnyState) (history : List Entry) → fold (moved_by kind object) state (map bare history) ≡ fold (moved_by kind object) state history
+  states_same kind object state [] = refl
+  states_same kind object state (entry ∷ history) = states_same kind object (moved_by kind object state entry) history
 
   state_same : (kind : KindName) (object : ℕ) (history : List Entry) → state_of kind object (map bare history) ≡ state_of kind object history
-  state_same kind object history = states_same object (empty_state kind) history
+  state_same kind object history = states_same kind object (empty_state kind) history
 
   number_same : (object : ℕ) (history : List Entry) → number_of object (map bare history) ≡ number_of object history
   number_same object history = fold-map (λ (n : ℕ) (entry : Entry). n + cond (is_carried_out_on object entry) 1 0) bare 0 history
@@ -124,13 +124,11 @@ module _ (script : Script) (version : ℕ) where
 
     act_to : (act : Act) → IsLegalAct kind before entry after act → IsLegalAct kind B E A act
     act_to (Call op) legal = record { own_kind = legal.own_kind; replied = legal.replied ∙ ap (λ (s : AnyState). Replied (reply_of s op)) (sym S); incarnation = legal.incarnation ∙ sym N }
-    act_to (Swap layout) legal = answer_to entry.answer legal
-    act_to Destroy legal = answer_to entry.answer legal
+    act_to (Swap to) legal = answer_to entry.answer legal
 
     act_from : (act : Act) → IsLegalAct kind B E A act → IsLegalAct kind before entry after act
     act_from (Call op) legal = record { own_kind = legal.own_kind; replied = legal.replied ∙ ap (λ (s : AnyState). Replied (reply_of s op)) S; incarnation = legal.incarnation ∙ N }
-    act_from (Swap layout) legal = answer_from entry.answer legal
-    act_from Destroy legal = answer_from entry.answer legal
+    act_from (Swap to) legal = answer_from entry.answer legal
 
   told_all : (history : List Entry) → map told (map (line_of script version) history) ≡ map bare history
   told_all [] = refl

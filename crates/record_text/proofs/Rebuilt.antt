@@ -10,7 +10,7 @@ use Rattle.std.proofs.lemmas.List.Elements.{All-from_recursion, recursion_from_A
 use Rattle.std.proofs.Math.Seq.{take-append_seam}
 use Rattle.std.proofs.Math.ListN.{drop_of_length-le}
 use Rattle.k42_kinds.specs.declared.entry.Act.{Act}
-use Rattle.k42_kinds.specs.declared.entry.Act.TheVariants.{Call, Swap, Destroy}
+use Rattle.k42_kinds.specs.declared.entry.Act.TheVariants.{Call, Swap}
 use Rattle.k42_kinds.specs.declared.entry.Answer.{Answer}
 use Rattle.k42_kinds.specs.declared.entry.Answer.TheVariants.{Replied, Swapped, Busy, Spent, Gone, Abandoned}
 use Rattle.k42_kinds.specs.declared.entry.Entry.{Entry}
@@ -111,8 +111,7 @@ module _ (script : Script) where
 
   not_given_up : (act : Act) (answer : Answer) → Ends act answer → IsNotGivenUp answer
   not_given_up (Call op) (Abandoned number) form = form
-  not_given_up (Swap layout) (Abandoned number) form = form
-  not_given_up Destroy (Abandoned number) form = form
+  not_given_up (Swap to) (Abandoned number) form = form
   not_given_up act (Replied reply) form = tt
   not_given_up act (Swapped number) form = tt
   not_given_up act (Busy number) form = tt

@@ -1,7 +1,7 @@
 -- When a record is lawful for a script, and which line breaks which rule first.
 use Rattle.std.specs.Prelude.{◌≡◌, ◌⊎◌, ℕ, ◌+◌, ◌<◌, ◌≤◌, List, [], ◌∷◌, length, map, take, drop, Some, IfSome, Result, Ok, Err, slice_get}
 use Rattle.k42_kinds.specs.declared.entry.Act.{Act}
-use Rattle.k42_kinds.specs.declared.entry.Act.TheVariants.{Call, Swap, Destroy}
+use Rattle.k42_kinds.specs.declared.entry.Act.TheVariants.{Call, Swap}
 use Rattle.k42_kinds.specs.declared.entry.Answer.{Answer}
 use Rattle.k42_kinds.specs.declared.entry.Answer.TheVariants.{Busy}
 use Rattle.k42_kinds.specs.declared.entry.Entry.{Entry}
@@ -30,7 +30,7 @@ rule_number Generations = 21
 abbrev pub all_rules : List Rule
 all_rules = Stamps ∷ Order ∷ Calls ∷ Swaps ∷ Refusals ∷ Generations ∷ []
 
--- which rule says whether a swap or destroy may be answered so
+-- which rule says whether a swap may be answered so
 abbrev pub rule_of_answer : Answer → Rule
 rule_of_answer (Busy number) = Refusals
 rule_of_answer _ = Swaps
@@ -38,8 +38,7 @@ rule_of_answer _ = Swaps
 -- which rule says whether an act may be answered so
 abbrev pub rule_of_act : Act → Answer → Rule
 rule_of_act (Call op) answer = Calls
-rule_of_act (Swap layout) answer = rule_of_answer answer
-rule_of_act Destroy answer = rule_of_answer answer
+rule_of_act (Swap to) answer = rule_of_answer answer
 
 -- the line tells of a legal entry between those before it and those after it
 abbrev pub IsLegalLine : Script → List RecordLine → RecordLine → List RecordLine → Type 0

@@ -2,7 +2,7 @@
 use Rattle.std.specs.Prelude.{◌≡◌, ℕ, ◌<◌, ◌≤◌, ◌⊎◌, length, All, Option, Some, IsSome, IsNone, MatchOption, slice_get}
 use Rattle.k42_kinds.specs.declared.operation.KindName.{KindName}
 use Rattle.k42_kinds.specs.declared.entry.Act.{Act}
-use Rattle.k42_kinds.specs.declared.entry.Act.TheVariants.{Call, Swap, Destroy}
+use Rattle.k42_kinds.specs.declared.entry.Act.TheVariants.{Call, Swap}
 use Rattle.k42_kinds.specs.declared.entry.Answer.{Answer}
 use Rattle.k42_kinds.specs.declared.entry.Answer.TheVariants.{Replied, Swapped, Busy, Spent, Gone}
 use Rattle.script_text.specs.Lawful.{kinds_of}
@@ -18,7 +18,7 @@ abbrev pub EndsCall : Answer → Type 0
 EndsCall (Replied reply) = Unit {0}
 EndsCall _ = ⊥
 
--- how a swap or destroy may be answered: one that is under way has a number from 1
+-- how a swap may be answered: one that is under way has a number from 1
 abbrev pub EndsSwap : Answer → Type 0
 EndsSwap (Swapped number) = Unit {0}
 EndsSwap (Busy number) = 1 ≤ number
@@ -29,8 +29,7 @@ EndsSwap _ = ⊥
 -- the answer is one of the act, and none of an act that was given up
 abbrev pub Ends : Act → Answer → Type 0
 Ends (Call op) answer = EndsCall answer
-Ends (Swap layout) answer = EndsSwap answer
-Ends Destroy answer = EndsSwap answer
+Ends (Swap to) answer = EndsSwap answer
 
 -- a line has a spelling where its worker and its object are in the script, its act may be asked of
 -- that object, and its answer is one of the act
@@ -41,11 +40,10 @@ pub record HasSpelling (script : Script) (line : RecordLine) : Type 0 where
   pub asked : IsActOn kind line.act
   pub answered : Ends line.act line.answer
 
--- a call has a generation, and a swap or destroy has none
+-- a call has a generation, and a swap has none
 abbrev pub HasGeneration : Act → Option ℕ → Type 0
 HasGeneration (Call op) generation = IsSome generation
-HasGeneration (Swap layout) generation = IsNone generation
-HasGeneration Destroy generation = IsNone generation
+HasGeneration (Swap to) generation = IsNone generation
 
 -- version 1 tells nothing besides of a line, version 2 its processor and its generation
 pub record IsOfVersion (version : ℕ) (line : RecordLine) : Type 0 where

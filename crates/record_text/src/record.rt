@@ -10,7 +10,7 @@ use k42_memory::Memory;
 pub struct Extra {
     /// The worker's processor, from 0.
     pub proc: u32,
-    /// The generation of the worker's activity; `None` for swaps and destroys.
+    /// The generation of the worker's activity; `None` for swaps.
     pub generation: Option<u32>,
 }
 

@@ -15,7 +15,7 @@ use Rattle.std.proofs.lemmas.Slice.Eq.{bytes_eq-Decides}
 use Rattle.k42_kinds.specs.Operations.{same_kind, kind_of_op}
 use Rattle.k42_kinds.specs.Words.{is_name, is_text}
 use Rattle.k42_kinds.specs.declared.entry.Act.{Act}
-use Rattle.k42_kinds.specs.declared.entry.Act.TheVariants.{Call, Swap, Destroy}
+use Rattle.k42_kinds.specs.declared.entry.Act.TheVariants.{Call, Swap}
 use Rattle.k42_kinds.specs.declared.operation.KindName.{KindName}
 use Rattle.k42_kinds.specs.declared.operation.KindName.TheVariants.{Counter, Directory, Pages}
 use Rattle.k42_kinds.specs.declared.operation.LayoutName.TheVariants.{Shared}
@@ -70,13 +70,11 @@ module _ where
 
 range_when : (act : Act) → HasShortNumbers act → lacks_number (act_said act) ≡ false → lacks_word (act_said act) ≡ false → IsInRange act
 range_when (Call op) short numbers words = op_range_when op short numbers words
-range_when (Swap layout) short numbers words = tt
-range_when Destroy short numbers words = tt
+range_when (Swap to) short numbers words = tt
 
 range_from : (act : Act) → IsInRange act → (lacks_number (act_said act) ≡ false) × (lacks_word (act_said act) ≡ false)
 range_from (Call op) range = op_range_from op range
-range_from (Swap layout) range = (refl, refl)
-range_from Destroy range = (refl, refl)
+range_from (Swap to) range = (refl, refl)
 
 kind_asked-op : (op : Op) → kind_asked (op_said op) ≡ Some (kind_of_op op)
 kind_asked-op (Add amount) = refl
@@ -114,13 +112,11 @@ takes_when : (kind : KindName) (act : Act) → IsInRange act → is_another_kind
 takes_when kind (Call op) range own =
     let same : not (same_kind (kind_of_op op) kind) ≡ false = rw (kind_asked-op op) at own in
     (same_when_not_different (kind_of_op op) kind same, page_named op range)
-takes_when kind (Swap layout) range own = tt
-takes_when kind Destroy range own = tt
+takes_when kind (Swap to) range own = tt
 
 takes_from : (kind : KindName) (act : Act) → IsActOn kind act → is_another_kind (kind_asked (act_said act)) (Some kind) ≡ false
 takes_from kind (Call op) takes = rw (kind_asked-op op, takes.0, same_kind-itself kind) refl
-takes_from kind (Swap layout) takes = refl
-takes_from kind Destroy takes = refl
+takes_from kind (Swap to) takes = refl
 
 -- the object of this name stands at this place
 record FindsObject (script : Script) (name : List ℕ) : Type 0 where
@@ -196,12 +192,7 @@ module _ (script : Script) (name : List ℕ) where
 -- outside of activities anything may be asked, and inside any call
 in_place_when : (script : Script) (act : Act) → (is_in_block script ≡ false → IsOutside script) → (is_in_block script && is_swap (act_said act)) ≡ false → IsCall act ⊎ IsOutside script
 in_place_when script (Call op) outside kept = inl tt
-in_place_when script (Swap layout) outside kept = inr (outside (not_inside (is_in_block script) kept))
-  where
-    not_inside : (b : Bool) → (b && true) ≡ false → b ≡ false
-    not_inside true e = e
-    not_inside false e = refl
-in_place_when script Destroy outside kept = inr (outside (not_inside (is_in_block script) kept))
+in_place_when script (Swap to) outside kept = inr (outside (not_inside (is_in_block script) kept))
   where
     not_inside : (b : Bool) → (b && true) ≡ false → b ≡ false
     not_inside true e = e
@@ -209,8 +200,7 @@ in_place_when script Destroy outside kept = inr (outside (not_inside (is_in_bloc
 
 in_place_from : (script : Script) (act : Act) → IsCall act ⊎ IsOutside script → (is_in_block script && is_swap (act_said act)) ≡ false
 in_place_from script (Call op) (inl call) = and_right (is_in_block script) (is_swap (op_said op)) (rw (kind_asked-op op) refl)
-in_place_from script (Swap layout) (inl call) = absurd call
-in_place_from script Destroy (inl call) = absurd call
+in_place_from script (Swap to) (inl call) = absurd call
 in_place_from script act (inr outside) = and_left (is_in_block script) (is_swap (act_said act)) (outside_from script outside)
 
 -- an object that is declared stands behind the processors

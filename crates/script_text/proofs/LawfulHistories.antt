@@ -7,6 +7,7 @@ use Rattle.k42_kinds.specs.declared.operation.Op.TheVariants.{Add, Get}
 use Rattle.k42_kinds.specs.declared.operation.Reply.TheVariants.{Done, Number}
 use Rattle.k42_kinds.specs.declared.entry.Act.{Act}
 use Rattle.k42_kinds.specs.declared.entry.Act.TheVariants.{Call, Swap}
+use Rattle.k42_kinds.specs.declared.entry.To.TheVariants.{Layout}
 use Rattle.k42_kinds.specs.declared.entry.Answer.TheVariants.{Replied, Abandoned}
 use Rattle.k42_kinds.specs.declared.entry.Entry.{Entry}
 use Rattle.std.proofs.lemmas.List.Elements.{All-from_recursion}
@@ -68,7 +69,7 @@ stranger lawful = omega (arith, All-at_split (λ (entry : Entry). entry.caller <
 
 -- the worker `a` asks for a swap of the counter
 abbrev one_swap : Script
-one_swap = record two_workers { workers = record adder { items = asks 4 (Swap Shared) ∷ [] } ∷ [] }
+one_swap = record two_workers { workers = record adder { items = asks 4 (Swap (Layout Shared)) ∷ [] } ∷ [] }
 
-given_up : IsLawful one_swap (line 1 0 0 0 (Swap Shared) (Abandoned 1) ∷ []) → ⊥
-given_up lawful = All-at_split (λ (entry : Entry). IsNotGivenUp entry.answer) _ lawful.none_given_up [] (line 1 0 0 0 (Swap Shared) (Abandoned 1)) [] refl
+given_up : IsLawful one_swap (line 1 0 0 0 (Swap (Layout Shared)) (Abandoned 1) ∷ []) → ⊥
+given_up lawful = All-at_split (λ (entry : Entry). IsNotGivenUp entry.answer) _ lawful.none_given_up [] (line 1 0 0 0 (Swap (Layout Shared)) (Abandoned 1)) [] refl

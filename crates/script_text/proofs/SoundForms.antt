@@ -6,6 +6,7 @@ use Rattle.std.proofs.lemmas.Bool.{and_parts, not-true}
 use Rattle.std.proofs.lemmas.Bool.Decides.{nat_tests}
 use Rattle.std.proofs.lemmas.Option.{cond_some, option_and_then_some}
 use Rattle.k42_kinds.specs.Words.{is_name}
+use Rattle.k42_kinds.specs.declared.entry.To.TheVariants.{Layout}
 use Rattle.k42_kinds.specs.declared.operation.KindName.{KindName}
 use Rattle.k42_kinds.specs.declared.operation.LayoutName.{LayoutName}
 use Rattle.k42_limits.specs.declared.TheConstants.{PROCESSORS, PAGES}
@@ -132,7 +133,7 @@ module _ (procs : ℕ) where
   form_behind-formed heads.Swap word [] = tt
   form_behind-formed heads.Swap word (object ∷ []) = tt
   form_behind-formed heads.Swap word (object ∷ layout ∷ []) =
-      if_some_map (λ (named : LayoutName). Unit {0}) (IsFormed procs) (λ named. forms.Asks (name_of object) (Swap named)) (layout_named layout) (λ named any. tt) (any_some (layout_named layout))
+      if_some_map (λ (named : LayoutName). Unit {0}) (IsFormed procs) (λ named. forms.Asks (name_of object) (Swap (Layout named))) (layout_named layout) (λ named any. tt) (any_some (layout_named layout))
     where
       any_some : (layout : Option LayoutName) → IfSome layout (λ (named : LayoutName). Unit {0})
       any_some None = tt

@@ -19,7 +19,7 @@ use Rattle.script_text.specs.Sound.{NamesPage, IsActOn, IsCall}
 use Rattle.script_text.specs.declared.form.Form.{Form}
 use Rattle.script_text.specs.declared.form.Form.TheVariants as forms
 use Rattle.script_text.specs.declared.form.Request.{Request}
-use Rattle.script_text.specs.declared.form.Request.TheVariants.{Swap, Destroy, Add, Get, Drain, Bind, Find, Unbind, Size, Write, Read, Dirty, Clean}
+use Rattle.script_text.specs.declared.form.Request.TheVariants.{Swap, Add, Get, Drain, Bind, Find, Unbind, Size, Write, Read, Dirty, Clean}
 use Rattle.script_text.specs.declared.script.Item.TheVariants.{Begin, End, Line}
 use Rattle.script_text.specs.declared.script.ObjectLine.{ObjectLine}
 use Rattle.script_text.specs.declared.script.Script.{Script}
@@ -44,8 +44,7 @@ module _ (kind : KindName) (act : Act) where
   called op spells same page = subst (IsActOn kind) (same_Some (acts.Call op) act spells) (same_when_not_different (kind_of_op op) kind same, page)
 
   act_of-asked : (request : Request) → act_of request ≡ Some act → HasPage request → is_another_kind (kind_asked request) (Some kind) ≡ false → IsActOn kind act
-  act_of-asked (Swap layout) spells page same = subst (IsActOn kind) (same_Some (acts.Swap layout) act spells) tt
-  act_of-asked Destroy spells page same = subst (IsActOn kind) (same_Some acts.Destroy act spells) tt
+  act_of-asked (Swap to) spells page same = subst (IsActOn kind) (same_Some (acts.Swap to) act spells) tt
   act_of-asked (Add None) spells page same = absurd (none-some act spells)
   act_of-asked (Add (Some amount)) spells page same = called _ spells same tt
   act_of-asked Get spells page same = called _ spells same tt
@@ -70,8 +69,7 @@ module _ (kind : KindName) (act : Act) where
 
 -- a request of some kind spells a call
 swap_or_call : (request : Request) (act : Act) → act_of request ≡ Some act → (is_swap request ≡ true) ⊎ IsCall act
-swap_or_call (Swap layout) act spells = inl refl
-swap_or_call Destroy act spells = inl refl
+swap_or_call (Swap to) act spells = inl refl
 swap_or_call (Add None) act spells = absurd (none-some act spells)
 swap_or_call (Add (Some amount)) act spells = inr (subst IsCall (same_Some _ act spells) tt)
 swap_or_call Get act spells = inr (subst IsCall (same_Some _ act spells) tt)

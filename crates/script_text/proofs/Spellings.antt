@@ -10,7 +10,8 @@ use Rattle.std.proofs.lemmas.Fmt.{decimal_nonempty}
 use Rattle.std.proofs.lemmas.Option.{same_Some}
 use Rattle.k42_kinds.specs.Words.{is_digit, is_lower, is_visible, continues_name, is_name, is_text}
 use Rattle.k42_kinds.specs.declared.entry.Act.{Act}
-use Rattle.k42_kinds.specs.declared.entry.Act.TheVariants.{Call, Swap, Destroy}
+use Rattle.k42_kinds.specs.declared.entry.Act.TheVariants.{Call, Swap}
+use Rattle.k42_kinds.specs.declared.entry.To.TheVariants.{Layout, Dead}
 use Rattle.k42_kinds.specs.declared.operation.KindName.{KindName}
 use Rattle.k42_kinds.specs.declared.operation.KindName.TheVariants.{Counter, Directory, Pages}
 use Rattle.k42_kinds.specs.declared.operation.LayoutName.{LayoutName}
@@ -214,29 +215,27 @@ act_of-op Clean in_range = refl
 
 abbrev pub act_said : Act → Request
 act_said (Call op) = op_said op
-act_said (Swap layout) = requests.Swap layout
-act_said Destroy = requests.Destroy
+act_said (Swap to) = requests.Swap to
 
 act_of-act : (act : Act) → IsInRange act → act_of (act_said act) ≡ Some act
 act_of-act (Call op) in_range = act_of-op op in_range
-act_of-act (Swap layout) in_range = refl
-act_of-act Destroy in_range = refl
+act_of-act (Swap to) in_range = refl
 
 -- a line that asks something of an object, as its tokens, which are no remark
 pub act_says : (name : List ℕ) (act : Act) → is_remark name ≡ false → says_nothing (act_tokens name act) ≡ false
 act_says name (Call op) said = said
-act_says name (Swap layout) said = refl
-act_says name Destroy said = refl
+act_says name (Swap (Layout layout)) said = refl
+act_says name (Swap Dead) said = refl
 
 all_tokens : (name : List ℕ) (act : Act) → IsFreeName name → IsInRange act → AllByRecursion IsToken (act_tokens name act)
 all_tokens name (Call op) free in_range = (token_name name free.formed, op_tokens op in_range)
-all_tokens name (Swap layout) free in_range = (refl, (token_name name free.formed, (layout_token layout, tt)))
-all_tokens name Destroy free in_range = (refl, (token_name name free.formed, tt))
+all_tokens name (Swap (Layout layout)) free in_range = (refl, (token_name name free.formed, (layout_token layout, tt)))
+all_tokens name (Swap Dead) free in_range = (refl, (token_name name free.formed, tt))
 
 pub form_of-act : (procs : ℕ) (name : List ℕ) (act : Act) → is_reserved name ≡ false → form_of procs (act_tokens name act) ≡ Some (forms.Asks (name_of name) (act_said act))
 form_of-act procs name (Call op) free = rw (head_of-free name free, request_of-op op) refl
-form_of-act procs name (Swap layout) free = rw (layout_named-word layout) refl
-form_of-act procs name Destroy free = refl
+form_of-act procs name (Swap (Layout layout)) free = rw (layout_named-word layout) refl
+form_of-act procs name (Swap Dead) free = refl
 
 pub name_of-name : (name : List ℕ) → is_name name ≡ true → name_of name ≡ Some name
 name_of-name name formed = rw formed refl

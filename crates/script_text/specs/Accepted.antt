@@ -86,7 +86,7 @@ pub record TakesAct (name : List ℕ) (act : Act) (object : ObjectLine) : Type 0
 
 -- Processors are declared, the object is declared and its kind takes the act, each number, key and
 -- text is in its range, a worker stands before, there is room for a line more that asks something,
--- and no swap or destroy stands in an open activity.
+-- and no swap stands in an open activity.
 pub record MayAsk (script : Script) (name : List ℕ) (act : Act) : Type 0 where
   pub processors : 0 < script.procs
   pub declared : Any (TakesAct name act) script.objects

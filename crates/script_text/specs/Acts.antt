@@ -6,7 +6,8 @@ use Rattle.k42_kinds.specs.declared.operation.LayoutName.TheVariants.{Shared, Sp
 use Rattle.k42_kinds.specs.declared.operation.Op.{Op}
 use Rattle.k42_kinds.specs.declared.operation.Op.TheVariants.{Add, Get, Drain, Bind, Find, Unbind, Size, Write, Read, Dirty, Clean}
 use Rattle.k42_kinds.specs.declared.entry.Act.{Act}
-use Rattle.k42_kinds.specs.declared.entry.Act.TheVariants.{Call, Swap, Destroy}
+use Rattle.k42_kinds.specs.declared.entry.Act.TheVariants.{Call, Swap}
+use Rattle.k42_kinds.specs.declared.entry.To.TheVariants.{Layout, Dead}
 
 -- the word of a layout
 abbrev pub layout_word : LayoutName → List ℕ
@@ -40,5 +41,5 @@ argument_tokens _ = []
 -- `OBJECT OPERATION ARGUMENTS`, `swap OBJECT LAYOUT` or `destroy OBJECT`
 abbrev pub act_tokens : List ℕ → Act → List (List ℕ)
 act_tokens object (Call op) = object ∷ operation_word op ∷ argument_tokens op
-act_tokens object (Swap layout) = codes "swap" ∷ object ∷ layout_word layout ∷ []
-act_tokens object Destroy = codes "destroy" ∷ object ∷ []
+act_tokens object (Swap (Layout layout)) = codes "swap" ∷ object ∷ layout_word layout ∷ []
+act_tokens object (Swap Dead) = codes "destroy" ∷ object ∷ []

@@ -3,6 +3,7 @@ use Rattle.std.specs.Prelude.{ℕ, ◌^◌, Bool, false, not, ◌&&◌, if◌the
 use Rattle.std.specs.List.{list_any}
 use Rattle.std.specs.Str.{bytes_eq}
 use Rattle.k42_kinds.specs.Words.{is_name, is_text}
+use Rattle.k42_kinds.specs.declared.entry.To.TheVariants.{Layout, Dead}
 use Rattle.k42_kinds.specs.declared.operation.KindName.{KindName}
 use Rattle.k42_kinds.specs.declared.operation.KindName.TheVariants.{Counter, Directory, Pages}
 use Rattle.k42_kinds.specs.declared.operation.LayoutName.{LayoutName}
@@ -14,7 +15,7 @@ use Rattle.script_text.specs.declared.form.Form.TheVariants as forms
 use Rattle.script_text.specs.declared.form.Head.{Head}
 use Rattle.script_text.specs.declared.form.Head.TheVariants as heads
 use Rattle.script_text.specs.declared.form.Request.{Request}
-use Rattle.script_text.specs.declared.form.Request.TheVariants.{Swap, Destroy, Add, Get, Drain, Bind, Find, Unbind, Size, Write, Read, Dirty, Clean}
+use Rattle.script_text.specs.declared.form.Request.TheVariants.{Swap, Add, Get, Drain, Bind, Find, Unbind, Size, Write, Read, Dirty, Clean}
 
 -- the words that are no name of an object or a worker
 abbrev pub is_reserved : List ℕ → Bool
@@ -92,12 +93,12 @@ alone form _ = None
 -- `OBJECT LAYOUT`
 abbrev pub swap_form : List (List ℕ) → Option Form
 swap_form (object ∷ layout ∷ []) =
-    option_map (λ named. forms.Asks (name_of object) (Swap named)) (layout_named layout)
+    option_map (λ named. forms.Asks (name_of object) (Swap (Layout named))) (layout_named layout)
 swap_form _ = None
 
 -- `OBJECT`
 abbrev pub destroy_form : List (List ℕ) → Option Form
-destroy_form (object ∷ []) = Some (forms.Asks (name_of object) Destroy)
+destroy_form (object ∷ []) = Some (forms.Asks (name_of object) (Swap Dead))
 destroy_form _ = None
 
 -- an operation without an argument: `get`, `drain`, `size`, `dirty`, `clean`

@@ -3,6 +3,7 @@ use Rattle.std.specs.Prelude.{ℕ, zero, suc, ◌+◌, ◌*◌, ◌/◌, ◌%◌
 use Rattle.std.specs.List.{range_with_len}
 use Rattle.std.specs.Fmt.{decimal}
 use Rattle.k42_kinds.specs.declared.entry.Act.TheVariants.{Call, Swap}
+use Rattle.k42_kinds.specs.declared.entry.To.TheVariants.{Layout}
 use Rattle.k42_kinds.specs.declared.operation.KindName.TheVariants.{Counter, Directory, Pages}
 use Rattle.k42_kinds.specs.declared.operation.LayoutName.{LayoutName}
 use Rattle.k42_kinds.specs.declared.operation.LayoutName.TheVariants.{Shared, Spread}
@@ -52,7 +53,7 @@ layout_at k = if k / 1000 % 2 == 0 then Spread else Shared
 -- the line of this number, which swaps an object at step k
 abbrev pub swap_line : ℕ → ℕ → ℕ → CallLine
 swap_line number k object =
-    record { line = number; object = object; act = Swap (layout_at k) }
+    record { line = number; object = object; act = Swap (Layout (layout_at k)) }
 
 -- the line of this number, which calls the three objects by turns at step k with this value
 abbrev pub call_line : ℕ → ℕ → ℕ → CallLine

@@ -11,7 +11,7 @@ use Rattle.script_text.specs.Offences.{object_names, place_among, is_in_block, w
 use Rattle.script_text.specs.declared.form.Form.{Form}
 use Rattle.script_text.specs.declared.form.Form.TheVariants as forms
 use Rattle.script_text.specs.declared.form.Request.{Request}
-use Rattle.script_text.specs.declared.form.Request.TheVariants.{Swap, Destroy, Add, Get, Drain, Bind, Find, Unbind, Size, Write, Read, Dirty, Clean}
+use Rattle.script_text.specs.declared.form.Request.TheVariants.{Swap, Add, Get, Drain, Bind, Find, Unbind, Size, Write, Read, Dirty, Clean}
 use Rattle.script_text.specs.declared.script.Script.{Script}
 use Rattle.script_text.specs.declared.script.ObjectLine.{ObjectLine}
 use Rattle.script_text.specs.declared.script.WorkerHead.{WorkerHead}
@@ -28,8 +28,7 @@ byte_limit = SCRIPT_BYTES + 1
 
 -- the act that a request spells, where no part of it is missing
 abbrev pub act_of : Request → Option Act
-act_of (Swap layout) = Some (acts.Swap layout)
-act_of Destroy = Some acts.Destroy
+act_of (Swap to) = Some (acts.Swap to)
 act_of (Add (Some amount)) = Some (acts.Call (operations.Add amount))
 act_of Get = Some (acts.Call operations.Get)
 act_of Drain = Some (acts.Call operations.Drain)

@@ -12,7 +12,7 @@ use Rattle.script_text.specs.Forms.{begins_procs}
 use Rattle.script_text.specs.declared.form.Form.{Form}
 use Rattle.script_text.specs.declared.form.Form.TheVariants as forms
 use Rattle.script_text.specs.declared.form.Request.{Request}
-use Rattle.script_text.specs.declared.form.Request.TheVariants.{Swap, Destroy, Add, Get, Drain, Bind, Find, Unbind, Size, Write, Read, Dirty, Clean}
+use Rattle.script_text.specs.declared.form.Request.TheVariants.{Swap, Add, Get, Drain, Bind, Find, Unbind, Size, Write, Read, Dirty, Clean}
 use Rattle.script_text.specs.declared.script.Item.{Item}
 use Rattle.script_text.specs.declared.script.Item.TheVariants as items
 use Rattle.script_text.specs.declared.script.Script.{Script}
@@ -70,10 +70,9 @@ lacks_word (Unbind key) = is_none key
 lacks_word (Write page text) = is_none text
 lacks_word _ = false
 
--- the kind of object that takes the request; any can be swapped and destroyed
+-- the kind of object that takes the request; any can be swapped
 abbrev pub kind_asked : Request → Option KindName
-kind_asked (Swap layout) = None
-kind_asked Destroy = None
+kind_asked (Swap to) = None
 kind_asked (Add amount) = Some Counter
 kind_asked Get = Some Counter
 kind_asked Drain = Some Counter
@@ -86,7 +85,7 @@ kind_asked (Read page) = Some Pages
 kind_asked Dirty = Some Pages
 kind_asked Clean = Some Pages
 
--- a swap or destroy, which may not stand in an activity
+-- a swap, which may not stand in an activity
 abbrev pub is_swap : Request → Bool
 is_swap request = is_none (kind_asked request)
 

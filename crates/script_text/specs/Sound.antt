@@ -1,7 +1,7 @@
 -- What is true of every script that can be read: it can be run, and its records can be written.
 use Rattle.std.specs.Prelude.{◌≡◌, ℕ, ◌<◌, ◌≤◌, Bool, true, false, List, [], ◌∷◌, length, map, sum_by, All, Some, slice_get}
 use Rattle.k42_kinds.specs.declared.entry.Act.{Act}
-use Rattle.k42_kinds.specs.declared.entry.Act.TheVariants.{Call, Swap, Destroy}
+use Rattle.k42_kinds.specs.declared.entry.Act.TheVariants.{Call, Swap}
 use Rattle.k42_kinds.specs.declared.operation.KindName.{KindName}
 use Rattle.k42_kinds.specs.declared.operation.Op.{Op}
 use Rattle.k42_kinds.specs.declared.operation.Op.TheVariants.{Write, Read}
@@ -22,12 +22,10 @@ NamesPage (Write page text) = page < PAGES
 NamesPage (Read page) = page < PAGES
 NamesPage _ = Unit {0}
 
--- The act may be asked of an object of this kind: an operation of its kind, or a swap or destroy of
--- any.
+-- the act may be asked of an object of this kind: an operation of its kind, or a swap of any
 abbrev pub IsActOn : KindName → Act → Type 0
 IsActOn kind (Call op) = (kind_of_op op ≡ kind) × NamesPage op
-IsActOn kind (Swap layout) = Unit {0}
-IsActOn kind Destroy = Unit {0}
+IsActOn kind (Swap to) = Unit {0}
 
 -- the line asks of a declared object what may be asked of it
 pub record IsSoundLine (script : Script) (line : CallLine) : Type 0 where
@@ -35,11 +33,10 @@ pub record IsSoundLine (script : Script) (line : CallLine) : Type 0 where
   pub declared : slice_get (kinds_of script) line.object ≡ Some kind
   pub asked : IsActOn kind line.act
 
--- a call, and no swap or destroy
+-- a call, and no swap
 abbrev pub IsCall : Act → Type 0
 IsCall (Call op) = Unit {0}
-IsCall (Swap layout) = ⊥
-IsCall Destroy = ⊥
+IsCall (Swap to) = ⊥
 
 -- Where an activity is open before these items, or not, and after them, or not: none begins in
 -- another, each `end` ends one, and every line in one is a call.

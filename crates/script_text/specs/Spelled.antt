@@ -4,7 +4,7 @@ use Rattle.std.specs.List.{join_by, list_any}
 use Rattle.std.specs.Fmt.{decimal}
 use Rattle.k42_kinds.specs.Words.{is_name, is_text}
 use Rattle.k42_kinds.specs.declared.entry.Act.{Act}
-use Rattle.k42_kinds.specs.declared.entry.Act.TheVariants.{Call, Swap, Destroy}
+use Rattle.k42_kinds.specs.declared.entry.Act.TheVariants.{Call, Swap}
 use Rattle.k42_kinds.specs.declared.operation.KindName.{KindName}
 use Rattle.k42_kinds.specs.declared.operation.KindName.TheVariants.{Counter, Directory, Pages}
 use Rattle.k42_kinds.specs.declared.operation.Op.{Op}
@@ -70,5 +70,4 @@ IsOpInRange _ = Unit {0}
 -- The same of what an act asks.
 abbrev pub IsInRange : Act → Type 0
 IsInRange (Call op) = IsOpInRange op
-IsInRange (Swap layout) = Unit {0}
-IsInRange Destroy = Unit {0}
+IsInRange (Swap to) = Unit {0}

@@ -1,5 +1,5 @@
 //! What one line can say, told apart from how it is spelled.
-use k42_kinds::{KindName, LayoutName, Name, Text};
+use k42_kinds::{KindName, LayoutName, Name, Text, To};
 
 /// What the first word of a line begins.
 #[derive(Clone, Copy, Debug, PartialEq, Eq)]
@@ -25,7 +25,7 @@ pub enum Form {
     Worker(Option<Name>, Option<u32>),
     Begin,
     End,
-    /// A call, swap or destroy line: the object of this name is asked for it.
+    /// A call or swap line: the object of this name is asked for it.
     Asks(Option<Name>, Request),
 }
 
@@ -33,8 +33,7 @@ pub enum Form {
 /// range.
 #[derive(Clone, Copy, Debug, PartialEq, Eq)]
 pub enum Request {
-    Swap(LayoutName),
-    Destroy,
+    Swap(To),
     Add(Option<u32>),
     Get,
     Drain,

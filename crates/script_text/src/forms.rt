@@ -1,5 +1,5 @@
 //! From the tokens of a line to the form that it has.
-ghost use Rattle.std.specs.Prelude.{◌≡◌, ◌<◌, ◌^◌, [], ◌∷◌, option_map};
+ghost use Rattle.std.specs.Prelude.{◌≡◌, ◌<◌, ◌^◌, [], ◌∷◌};
 ghost use Rattle.script_text.specs.Numbers.{number_within, number_below};
 ghost use Rattle.script_text.specs.Tokens.{tokens_of};
 ghost use Rattle.script_text.specs.Forms as spelling;
@@ -7,7 +7,7 @@ ghost use Rattle.script_text.specs.Forms as spelling;
 use crate::form::{Form, Head, Request};
 use crate::numbers::number_up_to;
 use crate::tokens::{Words, first_token, is_word, words_of};
-use k42_kinds::{KindName, LayoutName, Name, Text};
+use k42_kinds::{KindName, LayoutName, Name, Text, To};
 use k42_limits::{AMOUNTS, PAGES, PROCESSORS};
 
 /// Whether the word is no name of an object or a worker.
@@ -198,12 +198,10 @@ fn end_form(text: &[u8]) -> Option<Form>
 
 /// A swap of the object of this name.
 fn swap_asked(object: &[u8], layout: &[u8]) -> Option<Form>
-    ensures { result
-        ≡ option_map (λ named. Form.Asks (spelling.name_of object.now) (Request.Swap named))
-        (spelling.layout_named layout.now) }
+    ensures { result ≡ spelling.swap_form (object.now ∷ layout.now ∷ []) }
 {
     let layout = layout_named(layout)?;
-    Some(Form::Asks(name_of(object), Request::Swap(layout)))
+    Some(Form::Asks(name_of(object), Request::Swap(To::Layout(layout))))
 }
 
 fn swap_form(text: &[u8]) -> Option<Form>
@@ -219,7 +217,7 @@ fn destroy_form(text: &[u8]) -> Option<Form>
     ensures { result ≡ spelling.destroy_form (tokens_of text.now) }
 {
     match words_of(text) {
-        Words::One(object) => Some(Form::Asks(name_of(object), Request::Destroy)),
+        Words::One(object) => Some(Form::Asks(name_of(object), Request::Swap(To::Dead))),
         _ => None,
     }
 }

@@ -8,7 +8,7 @@ ghost use Rattle.script_text.specs.Sound.{IsSound};
 
 use crate::script::{CallLine, Item, ObjectLine, Script, WorkerLines};
 use k42_items::Items;
-use k42_kinds::{Act, KindName, LayoutName, Name, Op, Text};
+use k42_kinds::{Act, KindName, LayoutName, Name, Op, Text, To};
 use k42_limits::PAGES;
 use k42_memory::Memory;
 use std::alloc::Global;
@@ -124,7 +124,7 @@ fn swap_line(line: u32, step: u32, object: u32) -> CallLine
     CallLine {
         line,
         object,
-        act: Act::Swap(layout),
+        act: Act::Swap(To::Layout(layout)),
     }
 }
 

@@ -1,4 +1,4 @@
-//! By what a form offends on its own, whatever was declared before it.
+//! What can be told of a form without the lines before it: bad numbers and names, its kind, and its act.
 ghost use Rattle.std.specs.Prelude.{◌≡◌, ◌==◌, is_none, not};
 ghost use Rattle.k42_kinds.specs.Operations.{same_kind};
 ghost use Rattle.script_text.specs.Offences as offences;
@@ -28,12 +28,12 @@ fn lacks_word(request: &Request) -> bool
     }
 }
 
-/// The kind of object that takes the request, of which swaps and destroys have none.
+/// The kind of object that takes the request, of which swaps have none.
 pub fn kind_asked(request: &Request) -> Option<KindName>
     ensures { result ≡ offences.kind_asked request.now }
 {
     match request {
-        Request::Swap(_) | Request::Destroy => None,
+        Request::Swap(_) => None,
         Request::Add(_) | Request::Get | Request::Drain => Some(KindName::Counter),
         Request::Bind(_, _) | Request::Find(_) | Request::Unbind(_) | Request::Size => {
             Some(KindName::Directory)
@@ -93,8 +93,7 @@ pub fn act_of(request: &Request) -> Option<Act>
     ensures { result ≡ act_of request.now }
 {
     match request {
-        Request::Swap(layout) => Some(Act::Swap(*layout)),
-        Request::Destroy => Some(Act::Destroy),
+        Request::Swap(to) => Some(Act::Swap(*to)),
         Request::Add(Some(amount)) => Some(Act::Call(Op::Add(*amount))),
         Request::Get => Some(Act::Call(Op::Get)),
         Request::Drain => Some(Act::Call(Op::Drain)),

@@ -27,7 +27,7 @@ fn is_act_on(kind: KindName, act: &Act) -> bool
 {
     match act {
         Act::Call(op) => kind_of(op) == kind && names_page(op),
-        Act::Swap(_) | Act::Destroy => true,
+        Act::Swap(_) => true,
     }
 }
 
@@ -36,7 +36,7 @@ fn ends(act: &Act, answer: &Answer) -> bool
 {
     match act {
         Act::Call(_) => matches!(answer, Answer::Replied(_)),
-        Act::Swap(_) | Act::Destroy => match answer {
+        Act::Swap(_) => match answer {
             Answer::Busy(number) => *number >= 1,
             Answer::Swapped(_) | Answer::Spent | Answer::Gone => true,
             Answer::Replied(_) | Answer::Abandoned(_) => false,
@@ -61,7 +61,7 @@ fn has_generation(act: &Act, generation: Option<u32>) -> bool
 {
     match act {
         Act::Call(_) => generation.is_some(),
-        Act::Swap(_) | Act::Destroy => generation.is_none(),
+        Act::Swap(_) => generation.is_none(),
     }
 }
 

@@ -2,7 +2,7 @@
 use super::conditions::has_text;
 use super::name;
 use k42_items::Items;
-use k42_kinds::{Act, Answer, KindName, LayoutName, Op, Reply};
+use k42_kinds::{Act, Answer, KindName, LayoutName, Op, Reply, To};
 use k42_limits::{CALLERS, OBJECTS};
 use k42_memory::Memory;
 use record_text::*;
@@ -126,7 +126,7 @@ fn expect(
     Ok(())
 }
 
-const SPREAD: Act = Act::Swap(LayoutName::Spread);
+const SPREAD: Act = Act::Swap(To::Layout(LayoutName::Spread));
 
 const THREE: [Asked; 3] = [(0, 4, Act::Call(Op::Add(5))), (0, 5, SPREAD), (0, 6, GET)];
 

@@ -10,7 +10,9 @@ use Rattle.k42_kinds.specs.declared.operation.LayoutName.{LayoutName}
 use Rattle.k42_kinds.specs.declared.operation.LayoutName.TheVariants.{Shared, Spread}
 use Rattle.k42_kinds.specs.declared.operation.Op.{Op}
 use Rattle.k42_kinds.specs.declared.entry.Act.{Act}
-use Rattle.k42_kinds.specs.declared.entry.Act.TheVariants.{Call, Swap, Destroy}
+use Rattle.k42_kinds.specs.declared.entry.Act.TheVariants.{Call, Swap}
+use Rattle.k42_kinds.specs.declared.entry.To.{To}
+use Rattle.k42_kinds.specs.declared.entry.To.TheVariants.{Layout, Dead}
 use Rattle.script_text.specs.Lawful.{kinds_of}
 use Rattle.script_text.specs.Sound.{IsActOn, NamesPage, HasDistinctNames, IsFreeName}
 use Rattle.script_text.specs.declared.script.ObjectLine.{ObjectLine}
@@ -20,7 +22,7 @@ use Rattle.record_text.specs.Acts.{operation_word, argument_tokens, layout_word,
 use Rattle.record_text.specs.Texts.{worker_name, object_name}
 use Rattle.record_text.specs.Values.{FitsOperation, FitsAct}
 use Rattle.record_text.specs.Reader.Parts.{Found, ◌>>=◌, spelled_at}
-use Rattle.record_text.specs.Reader.ActParts.{operation_at, layout_of, object_of, worker_of, asked, swap_at, destroy_at, call_at, act_of, act_at}
+use Rattle.record_text.specs.Reader.ActParts.{operation_at, layout_of, object_of, worker_of, asked, layout_at, dead_at, swap_at, call_at, act_of, act_at}
 use Rattle.record_text.specs.declared.reading.acts.Asked.{Asked}
 use Rattle.record_text.proofs.Reader.Parts.{step, word_or, pair_is, spelled_takes, spelled_again}
 use Rattle.record_text.proofs.Reader.Names.{place_takes, place_again, get_map}
@@ -60,43 +62,46 @@ pub record TakesAct (script : Script) (tokens : List (List ℕ)) (asks : Asked) 
   pub is_on : IsActOn kind asks.act
   pub fits : FitsAct asks.act
 
-layout_takes : (word : List ℕ) (layout : LayoutName) → layout_of word ≡ Some layout → word ≡ layout_word layout
-layout_takes word layout e =
-    let spread : Option LayoutName = cond (bytes_eq word (codes "spread")) (Some Spread) None in
-    elim (word_or word (codes "shared") (Some Shared) spread layout e) [
-      | inl this ↦ this.0 ∙ ap layout_word (same_Some Shared layout this.1)
-      | inr more ↦ elim (word_or word (codes "spread") (Some Spread) None layout more) [
-        | inl this ↦ this.0 ∙ ap layout_word (same_Some Spread layout this.1)
+layout_takes : (name word : List ℕ) (to : To) → layout_of word ≡ Some to → codes "swap" ∷ name ∷ word ∷ [] ≡ act_tokens name (Swap to)
+layout_takes name word to e =
+    let behind : List ℕ → List (List ℕ) = λ word. codes "swap" ∷ name ∷ word ∷ [] in
+    let spread : Option To = cond (bytes_eq word (codes "spread")) (Some (Layout Spread)) None in
+    elim (word_or word (codes "shared") (Some (Layout Shared)) spread to e) [
+      | inl this ↦ ap behind this.0 ∙ ap (λ (t : To). act_tokens name (Swap t)) (same_Some (Layout Shared) to this.1)
+      | inr more ↦ elim (word_or word (codes "spread") (Some (Layout Spread)) None to more) [
+        | inl this ↦ ap behind this.0 ∙ ap (λ (t : To). act_tokens name (Swap t)) (same_Some (Layout Spread) to this.1)
         | inr none ↦ absurd cc
       ]
     ]
 
-swap_takes : (script : Script) (tokens : List (List ℕ)) (asks : Asked) (rest : List (List ℕ)) → swap_at script tokens ≡ Some (asks, rest) → TakesAct script (codes "swap" ∷ tokens) asks rest
-unfolding swap_at
-swap_takes script tokens asks rest e =
-    let first = step (spelled_at (object_of script) tokens) (λ (object : ℕ × List (List ℕ)). spelled_at layout_of object.1 >>= (λ (layout : LayoutName × List (List ℕ)). Some (asked object.0 (Swap layout.0), layout.1))) (asks, rest) e in
-    let name = spelled_takes (object_of script) tokens first.0.0 first.0.1 first.1 in
-    let object = object_takes script name.token first.0.0 name.means in
-    let second = step (spelled_at layout_of first.0.1) (λ (layout : LayoutName × List (List ℕ)). Some (asked first.0.0 (Swap layout.0), layout.1)) (asks, rest) first.2 in
-    let word = spelled_takes layout_of first.0.1 second.0.0 second.0.1 second.1 in
-    let same = pair_is (asked first.0.0 (Swap second.0.0)) asks second.0.1 rest second.2 in
-    let behind : tokens ≡ object_name script first.0.0 ∷ layout_word second.0.0 ∷ rest =
-    name.first ∙ ap (λ (token : List ℕ). token ∷ first.0.1) object.named
-    ∙ ap (λ (left : List (List ℕ)). object_name script first.0.0 ∷ left) (word.first ∙ ap (λ (token : List ℕ). token ∷ second.0.1) (layout_takes word.token second.0.0 word.means) ∙ ap (λ (left : List (List ℕ)). layout_word second.0.0 ∷ left) same.1) in
-    subst (λ (a : Asked). TakesAct script (codes "swap" ∷ tokens) a rest) same.0
-    (record { spelled = ap (λ (left : List (List ℕ)). codes "swap" ∷ left) behind; kind = object.line.kind; of_object = object.kind; is_on = tt; fits = tt })
+-- behind this word and an object's name, these tokens are a swap to what is read of them
+abbrev Says : List ℕ → (List (List ℕ) → Found To) → Type 0
+Says word to_at =
+    (name : List ℕ) (tokens : List (List ℕ)) (to : To) (rest : List (List ℕ)) → to_at tokens ≡ Some (to, rest) → word ∷ name ∷ tokens ≡ act_tokens name (Swap to) ++ rest
 
-destroy_takes : (script : Script) (tokens : List (List ℕ)) (asks : Asked) (rest : List (List ℕ)) → destroy_at script tokens ≡ Some (asks, rest) → TakesAct script (codes "destroy" ∷ tokens) asks rest
-unfolding destroy_at
-destroy_takes script tokens asks rest e =
-    let first = step (spelled_at (object_of script) tokens) (λ (object : ℕ × List (List ℕ)). Some (asked object.0 Destroy, object.1)) (asks, rest) e in
+swap_says : Says (codes "swap") layout_at
+swap_says name tokens to rest e =
+    let word = spelled_takes layout_of tokens to rest e in
+    ap (λ (left : List (List ℕ)). codes "swap" ∷ name ∷ left) word.first ∙ ap (λ (words : List (List ℕ)). words ++ rest) (layout_takes name word.token to word.means)
+
+destroy_says : Says (codes "destroy") dead_at
+destroy_says name tokens to rest e =
+    let same = pair_is Dead to tokens rest e in
+    ap (λ (left : List (List ℕ)). codes "destroy" ∷ name ∷ left) same.1 ∙ ap (λ (t : To). act_tokens name (Swap t) ++ rest) same.0
+
+swap_takes : (script : Script) (word : List ℕ) (to_at : List (List ℕ) → Found To) → Says word to_at → (tokens : List (List ℕ)) (asks : Asked) (rest : List (List ℕ)) → swap_at script to_at tokens ≡ Some (asks, rest) → TakesAct script (word ∷ tokens) asks rest
+unfolding swap_at
+swap_takes script word to_at says tokens asks rest e =
+    let first = step (spelled_at (object_of script) tokens) (λ (object : ℕ × List (List ℕ)). to_at object.1 >>= (λ (to : To × List (List ℕ)). Some (asked object.0 (Swap to.0), to.1))) (asks, rest) e in
     let name = spelled_takes (object_of script) tokens first.0.0 first.0.1 first.1 in
     let object = object_takes script name.token first.0.0 name.means in
-    let same = pair_is (asked first.0.0 Destroy) asks first.0.1 rest first.2 in
-    let behind : tokens ≡ object_name script first.0.0 ∷ rest =
-    name.first ∙ ap (λ (token : List ℕ). token ∷ first.0.1) object.named ∙ ap (λ (left : List (List ℕ)). object_name script first.0.0 ∷ left) same.1 in
-    subst (λ (a : Asked). TakesAct script (codes "destroy" ∷ tokens) a rest) same.0
-    (record { spelled = ap (λ (left : List (List ℕ)). codes "destroy" ∷ left) behind; kind = object.line.kind; of_object = object.kind; is_on = tt; fits = tt })
+    let second = step (to_at first.0.1) (λ (to : To × List (List ℕ)). Some (asked first.0.0 (Swap to.0), to.1)) (asks, rest) first.2 in
+    let same = pair_is (asked first.0.0 (Swap second.0.0)) asks second.0.1 rest second.2 in
+    let behind : word ∷ tokens ≡ act_tokens (object_name script first.0.0) (Swap second.0.0) ++ rest =
+    ap (λ (left : List (List ℕ)). word ∷ left) (name.first ∙ ap (λ (token : List ℕ). token ∷ first.0.1) object.named)
+    ∙ says (object_name script first.0.0) first.0.1 second.0.0 rest (second.1 ∙ ap (λ (left : List (List ℕ)). Some (second.0.0, left)) same.1) in
+    subst (λ (a : Asked). TakesAct script (word ∷ tokens) a rest) same.0
+    (record { spelled = behind; kind = object.line.kind; of_object = object.kind; is_on = tt; fits = tt })
 
 call_takes : (script : Script) (name : List ℕ) (tokens : List (List ℕ)) (asks : Asked) (rest : List (List ℕ)) → call_at script name tokens ≡ Some (asks, rest) → TakesAct script (name ∷ tokens) asks rest
 unfolding call_at
@@ -115,11 +120,11 @@ call_takes script name tokens asks rest e =
 
 asked_takes : (script : Script) (word : List ℕ) (tokens : List (List ℕ)) (asks : Asked) (rest : List (List ℕ)) → act_of script word tokens ≡ Some (asks, rest) → TakesAct script (word ∷ tokens) asks rest
 asked_takes script word tokens asks rest e =
-    let from_destroy : Found Asked = cond (bytes_eq word (codes "destroy")) (destroy_at script tokens) (call_at script word tokens) in
-    elim (word_or word (codes "swap") (swap_at script tokens) from_destroy (asks, rest) e) [
-      | inl this ↦ rw this.0 (swap_takes script tokens asks rest this.1)
-      | inr more ↦ elim (word_or word (codes "destroy") (destroy_at script tokens) (call_at script word tokens) (asks, rest) more) [
-        | inl this ↦ rw this.0 (destroy_takes script tokens asks rest this.1)
+    let from_destroy : Found Asked = cond (bytes_eq word (codes "destroy")) (swap_at script dead_at tokens) (call_at script word tokens) in
+    elim (word_or word (codes "swap") (swap_at script layout_at tokens) from_destroy (asks, rest) e) [
+      | inl this ↦ rw this.0 (swap_takes script (codes "swap") layout_at swap_says tokens asks rest this.1)
+      | inr more ↦ elim (word_or word (codes "destroy") (swap_at script dead_at tokens) (call_at script word tokens) (asks, rest) more) [
+        | inl this ↦ rw this.0 (swap_takes script (codes "destroy") dead_at destroy_says tokens asks rest this.1)
         | inr call ↦ call_takes script word tokens asks rest call
       ]
     ]
@@ -131,7 +136,7 @@ act_takes script (word ∷ tokens) asks rest e = asked_takes script word tokens 
 
 -- ---- what is spelled is read
 
-layout_again : (layout : LayoutName) → layout_of (layout_word layout) ≡ Some layout
+layout_again : (layout : LayoutName) → layout_of (layout_word layout) ≡ Some (Layout layout)
 layout_again Shared = refl
 layout_again Spread = refl
 
@@ -192,14 +197,9 @@ worker_again script worker names lt =
       | inr past ↦ absurd (omega (arith, lt, past.0))
     ]
 
-swap_again : (script : Script) (object : ℕ) (layout : LayoutName) (rest : List (List ℕ)) → object_of script (object_name script object) ≡ Some object → swap_at script (object_name script object ∷ layout_word layout ∷ rest) ≡ Some (asked object (Swap layout), rest)
+swap_again : (script : Script) (object : ℕ) (to_at : List (List ℕ) → Found To) (to : To) (tokens rest : List (List ℕ)) → object_of script (object_name script object) ≡ Some object → to_at tokens ≡ Some (to, rest) → swap_at script to_at (object_name script object ∷ tokens) ≡ Some (asked object (Swap to), rest)
 unfolding swap_at
-swap_again script object layout rest found =
-    rw (spelled_again (object_of script) (object_name script object) object (layout_word layout ∷ rest) found, spelled_again layout_of (layout_word layout) layout rest (layout_again layout)) refl
-
-destroy_again : (script : Script) (object : ℕ) (rest : List (List ℕ)) → object_of script (object_name script object) ≡ Some object → destroy_at script (object_name script object ∷ rest) ≡ Some (asked object Destroy, rest)
-unfolding destroy_at
-destroy_again script object rest found = rw (spelled_again (object_of script) (object_name script object) object rest found) refl
+swap_again script object to_at to tokens rest found reads = rw (spelled_again (object_of script) (object_name script object) object tokens found, reads) refl
 
 call_again : (script : Script) (object : ℕ) (op : Op) (rest : List (List ℕ)) → object_of script (object_name script object) ≡ Some object → slice_get (kinds_of script) object ≡ Some (kind_of_op op) → NamesPage op → FitsOperation op
     → call_at script (object_name script object) ((operation_word op ∷ argument_tokens op) ++ rest) ≡ Some (asked object (Call op), rest)
@@ -217,8 +217,9 @@ act_again script object kind (Call op) rest names e is_on fits =
     let other : bytes_eq (object_name script object) (codes "swap") ≡ false = rw is.named none.swap in
     let another : bytes_eq (object_name script object) (codes "destroy") ≡ false = rw is.named none.destroy in
     rw (other, another) (call_again script object op rest found (e ∙ ap (λ (k : KindName). Some k) (sym is_on.0)) is_on.1 fits)
-act_again script object kind (Swap layout) rest names e is_on fits = swap_again script object layout rest (object_again script object kind names e)
-act_again script object kind Destroy rest names e is_on fits = destroy_again script object rest (object_again script object kind names e)
+act_again script object kind (Swap (Layout layout)) rest names e is_on fits =
+    swap_again script object layout_at (Layout layout) (layout_word layout ∷ rest) rest (object_again script object kind names e) (spelled_again layout_of (layout_word layout) (Layout layout) rest (layout_again layout))
+act_again script object kind (Swap Dead) rest names e is_on fits = swap_again script object dead_at Dead rest rest (object_again script object kind names e) refl
 
 -- ---- the names of a script are names
 

@@ -8,7 +8,7 @@ use Rattle.k42_kinds.specs.declared.operation.Op.{Op}
 use Rattle.k42_kinds.specs.declared.operation.Reply.{Reply}
 use Rattle.k42_kinds.specs.declared.operation.Reply.TheVariants as replies
 use Rattle.k42_kinds.specs.declared.entry.Act.{Act}
-use Rattle.k42_kinds.specs.declared.entry.Act.TheVariants.{Call, Swap, Destroy}
+use Rattle.k42_kinds.specs.declared.entry.Act.TheVariants.{Call, Swap}
 use Rattle.k42_kinds.specs.declared.entry.Answer.{Answer}
 use Rattle.k42_kinds.specs.declared.entry.Answer.TheVariants.{Replied, Swapped, Busy, Spent, Gone, Abandoned}
 use Rattle.script_text.specs.Numbers.{number_of, number_within}
@@ -84,7 +84,7 @@ record TakesAnswer (act : Act) (word : List ℕ) (tokens : List (List ℕ)) (ans
   ends : Ends act answer
   fits : FitsAnswer answer
 
--- the answer of a swap or destroy
+-- the answer of a swap
 record TakesEnding (word : List ℕ) (tokens : List (List ℕ)) (answer : Answer) (rest : List (List ℕ)) : Type 0 where
   spelled : word ∷ tokens ≡ answer_tokens answer ++ rest
   ends : EndsSwap answer
@@ -163,10 +163,7 @@ replied_takes word tokens answer rest act ends e =
 
 answered_takes : (act : Act) (word : List ℕ) (tokens : List (List ℕ)) (answer : Answer) (rest : List (List ℕ)) → answer_of act word tokens ≡ Some (answer, rest) → FindsAnswer act (word ∷ tokens) answer rest
 answered_takes (Call op) word tokens answer rest e = replied_takes word tokens answer rest (Call op) (λ reply. tt) e
-answered_takes (Swap layout) word tokens answer rest e =
-    let ending = ending_takes word tokens answer rest e in
-    record { spelled = ending.spelled; ends = ending.ends; fits = ending.fits }
-answered_takes Destroy word tokens answer rest e =
+answered_takes (Swap to) word tokens answer rest e =
     let ending = ending_takes word tokens answer rest e in
     record { spelled = ending.spelled; ends = ending.ends; fits = ending.fits }
 
@@ -236,5 +233,4 @@ call_again op (Abandoned number) rest ends fits = absurd ends
 pub answer_again : (act : Act) (answer : Answer) (rest : List (List ℕ)) → Ends act answer → FitsAnswer answer → answer_at act (answer_tokens answer ++ rest) ≡ Some (answer, rest)
 unfolding answer_at
 answer_again (Call op) answer rest ends fits = call_again op answer rest ends fits
-answer_again (Swap layout) answer rest ends fits = ending_again answer rest ends fits
-answer_again Destroy answer rest ends fits = ending_again answer rest ends fits
+answer_again (Swap to) answer rest ends fits = ending_again answer rest ends fits

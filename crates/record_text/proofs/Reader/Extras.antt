@@ -5,7 +5,7 @@ use Rattle.std.specs.Fmt.{decimal}
 use Rattle.std.proofs.lemmas.Bool.Decides.{nat_tests}
 use Rattle.std.proofs.lemmas.Option.{same_Some}
 use Rattle.k42_kinds.specs.declared.entry.Act.{Act}
-use Rattle.k42_kinds.specs.declared.entry.Act.TheVariants.{Call, Swap, Destroy}
+use Rattle.k42_kinds.specs.declared.entry.Act.TheVariants.{Call, Swap}
 use Rattle.record_text.specs.Texts.{generation_token, extra_tokens, first_tokens, last_tokens}
 use Rattle.record_text.specs.Spelling.{HasGeneration, IsVersion}
 use Rattle.record_text.specs.Values.{FitsExtra}
@@ -43,8 +43,7 @@ none_takes act tokens generation rest has e =
 
 generation_takes : (act : Act) (tokens : List (List ℕ)) (generation : Option ℕ) (rest : List (List ℕ)) → generation_at act tokens ≡ Some (generation, rest) → TakesGeneration act tokens generation rest
 generation_takes (Call op) tokens generation rest e = some_takes (Call op) tokens generation rest (λ g. refl) e
-generation_takes (Swap layout) tokens generation rest e = none_takes (Swap layout) tokens generation rest refl e
-generation_takes Destroy tokens generation rest e = none_takes Destroy tokens generation rest refl e
+generation_takes (Swap to) tokens generation rest e = none_takes (Swap to) tokens generation rest refl e
 
 -- what version 2 tells
 record TakesTold (act : Act) (tokens : List (List ℕ)) (extra : Option Extra) (rest : List (List ℕ)) : Type 0 where
@@ -113,10 +112,8 @@ none_again rest = rw (word_again (codes "g-") rest) refl
 generation_again : (act : Act) (generation : Option ℕ) (rest : List (List ℕ)) → HasGeneration act generation → IfSome generation (λ (g : ℕ). g < 2 ^ 32) → generation_at act (generation_token generation ∷ rest) ≡ Some (generation, rest)
 generation_again (Call op) None rest has small = absurd cc
 generation_again (Call op) (Some g) rest has small = some_again g rest small
-generation_again (Swap layout) None rest has small = none_again rest
-generation_again (Swap layout) (Some g) rest has small = absurd cc
-generation_again Destroy None rest has small = none_again rest
-generation_again Destroy (Some g) rest has small = absurd cc
+generation_again (Swap to) None rest has small = none_again rest
+generation_again (Swap to) (Some g) rest has small = absurd cc
 
 told_again : (act : Act) (told : Extra) (rest : List (List ℕ)) → HasGeneration act told.generation → FitsExtra told → told_at act (extra_tokens (Some told) ++ rest) ≡ Some (Some told, rest)
 unfolding told_at

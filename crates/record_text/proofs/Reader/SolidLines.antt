@@ -12,7 +12,8 @@ use Rattle.k42_kinds.specs.declared.operation.Op.TheVariants.{Add, Get, Drain, B
 use Rattle.k42_kinds.specs.declared.operation.Reply.{Reply}
 use Rattle.k42_kinds.specs.declared.operation.Reply.TheVariants as replies
 use Rattle.k42_kinds.specs.declared.entry.Act.{Act}
-use Rattle.k42_kinds.specs.declared.entry.Act.TheVariants.{Call, Swap, Destroy}
+use Rattle.k42_kinds.specs.declared.entry.Act.TheVariants.{Call, Swap}
+use Rattle.k42_kinds.specs.declared.entry.To.TheVariants.{Layout, Dead}
 use Rattle.k42_kinds.specs.declared.entry.Answer.{Answer}
 use Rattle.k42_kinds.specs.declared.entry.Answer.TheVariants.{Replied, Swapped, Busy, Spent, Gone, Abandoned}
 use Rattle.script_text.specs.Sound.{NamesPage, IsActOn, HasDistinctNames}
@@ -74,8 +75,8 @@ arguments_solid Clean page fits = refl
 
 act_solid : (object : List ℕ) (kind : KindName) (act : Act) → is_solid object ≡ true → IsActOn kind act → FitsAct act → are_solid (act_tokens object act) ≡ true
 act_solid object kind (Call op) solid is_on fits = rw (solid, operation_solid op, arguments_solid op is_on.1 fits) refl
-act_solid object kind (Swap layout) solid is_on fits = rw (solid, layout_solid layout) refl
-act_solid object kind Destroy solid is_on fits = rw solid refl
+act_solid object kind (Swap (Layout layout)) solid is_on fits = rw (solid, layout_solid layout) refl
+act_solid object kind (Swap Dead) solid is_on fits = rw solid refl
 
 reply_solid : (reply : Reply) → FitsReply reply → are_solid (reply_tokens reply) ≡ true
 reply_solid replies.Done fits = refl

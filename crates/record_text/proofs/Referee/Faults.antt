@@ -3,7 +3,7 @@ use Rattle.std.proofs.Common.{◌≡◌, ℕ, ◌+◌, List, length, take, drop,
 use Rattle.std.specs.Prelude.{Some, slice_get}
 use Rattle.std.proofs.lemmas.Option.{same_Some}
 use Rattle.k42_kinds.specs.declared.entry.Act.{Act}
-use Rattle.k42_kinds.specs.declared.entry.Act.TheVariants.{Call, Swap, Destroy}
+use Rattle.k42_kinds.specs.declared.entry.Act.TheVariants.{Call, Swap}
 use Rattle.k42_kinds.specs.declared.entry.Answer.{Answer}
 use Rattle.k42_kinds.specs.declared.entry.Answer.TheVariants.{Replied, Swapped, Busy, Spent, Gone, Abandoned}
 use Rattle.script_text.specs.declared.script.Script.{Script}
@@ -20,8 +20,7 @@ end_rules (Abandoned number) = inl refl
 
 pub act_rules : (act : Act) (answer : Answer) → (rule_of_act act answer ≡ Calls) ⊎ ((rule_of_act act answer ≡ Swaps) ⊎ (rule_of_act act answer ≡ Refusals))
 act_rules (Call op) answer = inl refl
-act_rules (Swap layout) answer = inr (end_rules answer)
-act_rules Destroy answer = inr (end_rules answer)
+act_rules (Swap to) answer = inr (end_rules answer)
 
 module _ (script : Script) (lines : List RecordLine) (place : ℕ) (line : RecordLine) (there : slice_get lines place ≡ Some line) where
   -- the line keeps the rule, or breaks it, and so does the record at its place

@@ -8,7 +8,7 @@ use Rattle.std.proofs.lemmas.List.{length-map, map-append, take-append-drop, get
 use Rattle.std.proofs.lemmas.List.Elements.{All-append, All-take, All-drop}
 use Rattle.std.proofs.lemmas.List.Folds.{Any-from_list_any, list_any-from_Any, list_any-append}
 use Rattle.k42_kinds.specs.declared.entry.Act.{Act}
-use Rattle.k42_kinds.specs.declared.entry.Act.TheVariants.{Call, Swap, Destroy}
+use Rattle.k42_kinds.specs.declared.entry.Act.TheVariants.{Call, Swap}
 use Rattle.k42_kinds.specs.declared.entry.Answer.{Answer}
 use Rattle.k42_kinds.specs.declared.entry.Answer.TheVariants.{Replied, Swapped, Busy, Spent, Gone, Abandoned}
 use Rattle.k42_kinds.specs.declared.entry.Entry.{Entry}
@@ -33,8 +33,7 @@ settles_to Gone number is = cc is
 settles_from : (act : Act) (answer : Answer) (number : ℕ) → Ends act answer → Settles number answer → has_number answer number ≡ true
 settles_from act (Swapped other) number form is = eq-eqb other number is
 settles_from (Call op) (Abandoned other) number form is = absurd form
-settles_from (Swap layout) (Abandoned other) number form is = absurd form
-settles_from Destroy (Abandoned other) number form is = absurd form
+settles_from (Swap to) (Abandoned other) number form is = absurd form
 settles_from act (Replied reply) number form is = absurd is
 settles_from act (Busy other) number form is = absurd is
 settles_from act Spent number form is = absurd is

@@ -1,5 +1,5 @@
 -- What an object says of a line is what the history says.
-use Rattle.std.proofs.Common.{◌≡◌, ◌≢◌, ℕ, zero, suc, ◌+◌, Bool, true, false, cond, List, [], ◌∷◌, ◌++◌, map, set, add-zero, refl, sym, ap, ◌∙◌, subst, inl, inr, ◌⊎◌, arith}
+use Rattle.std.proofs.Common.{◌≡◌, ◌≢◌, ℕ, zero, suc, ◌+◌, Bool, true, false, cond, List, [], ◌∷◌, ◌++◌, map, set, add-zero, refl, sym, ap, ap₂, ◌∙◌, subst, inl, inr, ◌⊎◌, arith}
 use Rattle.std.specs.Prelude.{Some, slice_get}
 use Rattle.std.specs.Bool.{Decides}
 use Rattle.std.proofs.lemmas.Bool.{eq-eqb, ne_eqb}
@@ -13,7 +13,7 @@ use Rattle.k42_kinds.specs.declared.operation.KindName.{KindName}
 use Rattle.k42_kinds.specs.declared.operation.KindName.TheVariants as kinds
 use Rattle.k42_kinds.specs.declared.states.AnyState.{AnyState}
 use Rattle.k42_kinds.specs.declared.entry.Act.{Act}
-use Rattle.k42_kinds.specs.declared.entry.Act.TheVariants.{Call, Swap, Destroy}
+use Rattle.k42_kinds.specs.declared.entry.Act.TheVariants.{Call, Swap}
 use Rattle.k42_kinds.specs.declared.entry.Answer.{Answer}
 use Rattle.k42_kinds.specs.declared.entry.Answer.TheVariants.{Replied, Swapped, Busy, Spent, Gone, Abandoned}
 use Rattle.k42_kinds.specs.declared.entry.Entry.{Entry}
@@ -95,16 +95,14 @@ module _ (kind : KindName) (before : List Entry) (line : RecordLine) (after : Li
     replied = says.replied ∙ ap (λ (state : AnyState). Replied (reply_of state op)) kept.state;
     incarnation = says.incarnation ∙ kept.swaps;
   }
-  act_to (Swap layout) on says = end_to line.answer refl says
-  act_to Destroy on says = end_to line.answer refl says
+  act_to (Swap to) on says = end_to line.answer refl says
 
   act_from : (act : Act) → Ends act line.answer → IsLegalAct kind before (told line) after act → Tells object refusable line act
   act_from (Call op) form legal = record {
     replied = legal.replied ∙ ap (λ (state : AnyState). Replied (reply_of state op)) (sym kept.state);
     incarnation = legal.incarnation ∙ sym kept.swaps;
   }
-  act_from (Swap layout) form legal = end_from line.answer refl form legal
-  act_from Destroy form legal = end_from line.answer refl form legal
+  act_from (Swap to) form legal = end_from line.answer refl form legal
 
 -- what the object says is legal, and what is legal the object says
 pub legal_decided : (kinds : List KindName) (before : List RecordLine) (line : RecordLine) (after : List RecordLine) (objects : List Object) (object : Object) (refusable legal : Bool) → AreKept kinds before objects → slice_get objects line.object ≡ Some object → HasLegalForm kinds line
@@ -128,7 +126,7 @@ counted_on false number = omega arith
 kept_here : (kind : KindName) (before : List Entry) (line : RecordLine) (object : Object) → IsKept kind line.object before object → IsKept kind line.object (before ++ told line ∷ []) (object_after object line.act line.answer)
 kept_here kind before line object kept = record {
   kind = kept.kind;
-  state = ap (λ (state : AnyState). state_after_act state line.act line.answer) kept.state ∙ sym (state_of-push kind line.object before (told line) ∙ rw (eq-eqb line.object line.object refl) refl);
+  state = ap₂ (λ (k : KindName) (state : AnyState). state_after_act k state line.act line.answer) kept.kind kept.state ∙ sym (state_of-push kind line.object before (told line) ∙ rw (eq-eqb line.object line.object refl) refl);
   swaps = counted_on (is_carried_out line.answer) object.number ∙ sym (number_of-push line.object before (told line) ∙ rw (eq-eqb line.object line.object refl, ← kept.swaps) refl);
 }
 
@@ -165,5 +163,4 @@ taken_kind kinds.Pages = refl
 -- what may be asked of an object of its kind, the object can take
 pub can_take : (object : Object) (kind : KindName) (act : Act) → object.plain.kind ≡ kind → IsActOn kind act → CanTake object act
 can_take object kind (Call op) same on = rw (same, ← on.0) (taken_kind (kind_of_op op))
-can_take object kind (Swap layout) same on = tt
-can_take object kind Destroy same on = tt
+can_take object kind (Swap to) same on = tt

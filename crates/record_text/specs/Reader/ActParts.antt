@@ -4,12 +4,13 @@ use Rattle.std.specs.List.{position}
 use Rattle.std.specs.Str.{bytes_eq}
 use Rattle.k42_kinds.specs.declared.operation.KindName.{KindName}
 use Rattle.k42_kinds.specs.declared.operation.KindName.TheVariants as kinds
-use Rattle.k42_kinds.specs.declared.operation.LayoutName.{LayoutName}
 use Rattle.k42_kinds.specs.declared.operation.LayoutName.TheVariants.{Shared, Spread}
 use Rattle.k42_kinds.specs.declared.operation.Op.{Op}
 use Rattle.k42_kinds.specs.declared.operation.Op.TheVariants.{Add, Get, Drain, Bind, Find, Unbind, Size, Write, Read, Dirty, Clean}
 use Rattle.k42_kinds.specs.declared.entry.Act.{Act}
-use Rattle.k42_kinds.specs.declared.entry.Act.TheVariants.{Call, Swap, Destroy}
+use Rattle.k42_kinds.specs.declared.entry.Act.TheVariants.{Call, Swap}
+use Rattle.k42_kinds.specs.declared.entry.To.{To}
+use Rattle.k42_kinds.specs.declared.entry.To.TheVariants.{Layout, Dead}
 use Rattle.script_text.specs.Lawful.{kinds_of}
 use Rattle.k42_limits.specs.declared.TheConstants.{PAGES}
 use Rattle.script_text.specs.declared.script.Script.{Script}
@@ -82,12 +83,19 @@ operation_at kind tokens = do
   word ← token_at tokens
   operation_of kind word.0 word.1
 
--- the layout of this word
-abbrev pub layout_of : List ℕ → Option LayoutName
+-- a swap to the layout of this word
+abbrev pub layout_of : List ℕ → Option To
 layout_of word =
-    if bytes_eq word (codes "shared") then Some Shared
-    else if bytes_eq word (codes "spread") then Some Spread
+    if bytes_eq word (codes "shared") then Some (Layout Shared)
+    else if bytes_eq word (codes "spread") then Some (Layout Spread)
     else None
+
+-- what a swap is to: `LAYOUT` of one to a layout, and of a destroy nothing is read
+abbrev pub layout_at : List (List ℕ) → Found To
+layout_at tokens = spelled_at layout_of tokens
+
+abbrev pub dead_at : List (List ℕ) → Found To
+dead_at tokens = Some (Dead, tokens)
 
 -- the place, in the script, of the object of this name
 abbrev pub object_of : Script → List ℕ → Option ℕ
@@ -101,18 +109,12 @@ worker_of script name = position (λ worker. bytes_eq name worker.name) script.w
 abbrev pub asked : ℕ → Act → Asked
 asked object act = record { object = object; act = act }
 
--- `OBJECT LAYOUT` of a swap
-unfoldable pub swap_at : Script → List (List ℕ) → Found Asked
-swap_at script tokens = do
+-- `OBJECT` of a swap, and behind it what the swap is to
+unfoldable pub swap_at : Script → (List (List ℕ) → Found To) → List (List ℕ) → Found Asked
+swap_at script to_at tokens = do
   object ← spelled_at (object_of script) tokens
-  layout ← spelled_at layout_of object.1
-  Some (asked object.0 (Swap layout.0), layout.1)
-
--- `OBJECT` of a destroy
-unfoldable pub destroy_at : Script → List (List ℕ) → Found Asked
-destroy_at script tokens = do
-  object ← spelled_at (object_of script) tokens
-  Some (asked object.0 Destroy, object.1)
+  to ← to_at object.1
+  Some (asked object.0 (Swap to.0), to.1)
 
 -- `OPERATION ARGUMENTS` of a call of the object of this name
 unfoldable pub call_at : Script → List ℕ → List (List ℕ) → Found Asked
@@ -125,11 +127,11 @@ call_at script name tokens = do
 -- the act that begins with this word
 abbrev pub act_of : Script → List ℕ → List (List ℕ) → Found Asked
 act_of script word tokens =
-    if bytes_eq word (codes "swap") then swap_at script tokens
-    else if bytes_eq word (codes "destroy") then destroy_at script tokens
+    if bytes_eq word (codes "swap") then swap_at script layout_at tokens
+    else if bytes_eq word (codes "destroy") then swap_at script dead_at tokens
     else call_at script word tokens
 
--- a swap, a destroy or a call
+-- a swap or a call
 unfoldable pub act_at : Script → List (List ℕ) → Found Asked
 act_at script tokens = do
   word ← token_at tokens

@@ -4,7 +4,7 @@ use Rattle.std.specs.Str.{bytes_eq}
 use Rattle.k42_kinds.specs.declared.operation.Reply.{Reply}
 use Rattle.k42_kinds.specs.declared.operation.Reply.TheVariants as replies
 use Rattle.k42_kinds.specs.declared.entry.Act.{Act}
-use Rattle.k42_kinds.specs.declared.entry.Act.TheVariants.{Call, Swap, Destroy}
+use Rattle.k42_kinds.specs.declared.entry.Act.TheVariants.{Call, Swap}
 use Rattle.k42_kinds.specs.declared.entry.Answer.{Answer}
 use Rattle.k42_kinds.specs.declared.entry.Answer.TheVariants.{Replied, Swapped, Busy, Spent, Gone}
 use Rattle.script_text.specs.Numbers.{number_within}
@@ -39,7 +39,7 @@ counted low answer tokens = do
   number ← number_at low most_32 tokens
   Some (answer number.0, number.1)
 
--- the answer of a swap or destroy that begins with this word
+-- the answer of a swap that begins with this word
 abbrev pub ending_of : List ℕ → List (List ℕ) → Found Answer
 ending_of word tokens =
     if bytes_eq word (codes "done") then counted 0 Swapped tokens
@@ -57,8 +57,7 @@ replied word tokens = do
 -- the answer of an act that begins with this word
 abbrev pub answer_of : Act → List ℕ → List (List ℕ) → Found Answer
 answer_of (Call op) word tokens = replied word tokens
-answer_of (Swap layout) word tokens = ending_of word tokens
-answer_of Destroy word tokens = ending_of word tokens
+answer_of (Swap to) word tokens = ending_of word tokens
 
 -- the answer of an act
 unfoldable pub answer_at : Act → List (List ℕ) → Found Answer

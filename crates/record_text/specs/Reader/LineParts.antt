@@ -1,7 +1,7 @@
 -- The lines of a record, by their tokens.
 use Rattle.std.specs.Prelude.{ℕ, ◌==◌, if◌then◌else◌, List, Option, Some, None, codes}
 use Rattle.k42_kinds.specs.declared.entry.Act.{Act}
-use Rattle.k42_kinds.specs.declared.entry.Act.TheVariants.{Call, Swap, Destroy}
+use Rattle.k42_kinds.specs.declared.entry.Act.TheVariants.{Call, Swap}
 use Rattle.script_text.specs.declared.script.Script.{Script}
 use Rattle.record_text.specs.Reader.Parts.{Found, ◌>>=◌, spelled_at, behind_word, number_at, marked_at, at_end, most_32, most_64}
 use Rattle.record_text.specs.Reader.ActParts.{worker_of, act_at}
@@ -26,7 +26,7 @@ count_on tokens = do
   end ← at_end count.1
   Some count.0
 
--- `gG` of a call, and `g-` of a swap or destroy
+-- `gG` of a call, and `g-` of a swap
 unfoldable pub some_generation : List (List ℕ) → Found (Option ℕ)
 some_generation tokens = do
   generation ← marked_at 103 tokens
@@ -39,8 +39,7 @@ no_generation tokens = do
 
 abbrev pub generation_at : Act → List (List ℕ) → Found (Option ℕ)
 generation_at (Call op) tokens = some_generation tokens
-generation_at (Swap layout) tokens = no_generation tokens
-generation_at Destroy tokens = no_generation tokens
+generation_at (Swap to) tokens = no_generation tokens
 
 -- `pP` and the generation
 unfoldable pub told_at : Act → List (List ℕ) → Found (Option Extra)

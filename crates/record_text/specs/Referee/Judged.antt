@@ -9,7 +9,7 @@ use Rattle.k42_kinds.specs.declared.operation.KindName.{KindName}
 use Rattle.k42_kinds.specs.declared.operation.Op.{Op}
 use Rattle.k42_kinds.specs.declared.states.AnyState.TheVariants as states
 use Rattle.k42_kinds.specs.declared.entry.Act.{Act}
-use Rattle.k42_kinds.specs.declared.entry.Act.TheVariants.{Call, Swap, Destroy}
+use Rattle.k42_kinds.specs.declared.entry.Act.TheVariants.{Call, Swap}
 use Rattle.k42_kinds.specs.declared.entry.Answer.{Answer}
 use Rattle.k42_kinds.specs.declared.entry.Answer.TheVariants.{Replied, Swapped, Busy, Spent, Gone}
 use Rattle.k42_kinds.specs.declared.entry.Entry.{Entry}
@@ -44,7 +44,7 @@ pub record IsGoneNow (object : Object) (seen : ℕ) : Type 0 where
   pub dead : object.state ≡ states.Dead
   pub incarnation : seen ≡ object.number
 
--- a swap or destroy may be answered so, where it is known whether another's swap may refuse it
+-- a swap may be answered so, where it is known whether another's swap may refuse it
 abbrev pub EndsAs : Object → Bool → ℕ → Answer → Type 0
 EndsAs object refusable incarnation (Swapped number) = IsNextSwap object incarnation number
 EndsAs object refusable incarnation Spent = IsSpentNow object incarnation
@@ -55,9 +55,7 @@ EndsAs object refusable incarnation _ = ⊥
 -- the line tells what the object does next
 abbrev pub Tells : Object → Bool → RecordLine → Act → Type 0
 Tells object refusable line (Call op) = IsReply object line op
-Tells object refusable line (Swap layout) =
-    EndsAs object refusable line.incarnation line.answer
-Tells object refusable line Destroy = EndsAs object refusable line.incarnation line.answer
+Tells object refusable line (Swap to) = EndsAs object refusable line.incarnation line.answer
 
 abbrev pub number_after : ℕ → Answer → ℕ
 number_after number answer = if is_carried_out answer then number + 1 else number
@@ -65,24 +63,18 @@ number_after number answer = if is_carried_out answer then number + 1 else numbe
 abbrev pub object_after : Object → Act → Answer → Object
 object_after object act answer = record {
   plain = object.plain;
-  state = state_after_act object.state act answer;
+  state = state_after_act object.plain.kind object.state act answer;
   number = number_after object.number answer;
 }
-
--- the object with another number of swaps
-abbrev pub renumbered : Object → ℕ → Object
-renumbered object number =
-    record { plain = object.plain; state = object.state; number = number }
 
 -- the object before its first line
 abbrev pub fresh : Plain → Object
 fresh plain = record { plain = plain; state = empty_state plain.kind; number = 0 }
 
--- an operation is of the object's kind, and any object can be swapped and destroyed
+-- an operation is of the object's kind, and any object can be swapped
 abbrev pub CanTake : Object → Act → Type 0
 CanTake object (Call op) = IsTrue (takes_operation object.plain.kind op)
-CanTake object (Swap layout) = Unit {0}
-CanTake object Destroy = Unit {0}
+CanTake object (Swap to) = Unit {0}
 
 -- the line is of a declared object, and its act is answered in a form that such an act may have
 pub record HasLegalForm (kinds : List KindName) (line : RecordLine) : Type 0 where

@@ -1,14 +1,14 @@
 //! Each line is replayed on the object of one thread.
-ghost use Rattle.std.specs.Prelude.{◌≡◌, ◌+◌, IsTrue, true, IfOk, if◌then◌else◌};
+ghost use Rattle.std.specs.Prelude.{◌≡◌, IsTrue, true, IfOk, if◌then◌else◌};
 ghost use Rattle.std.specs.Bool.{Decides};
 ghost use Rattle.k42_kinds.specs.Objects.{empty_state};
 ghost use Rattle.k42_kinds.specs.Operations.{takes_operation};
 ghost use Rattle.k42_kinds.specs.declared.states.AnyState.TheVariants as states;
-ghost use Rattle.record_text.specs.Referee.Judged.{IsReply, IsNextSwap, EndsAs, CanTake, number_after, object_after};
+ghost use Rattle.record_text.specs.Referee.Judged.{IsReply, IsNextSwap, EndsAs, CanTake, object_after};
 ghost use Rattle.record_text.specs.Referee.Judged as judged;
 
 use crate::record::RecordLine;
-use k42_kinds::{Act, Answer, AnyState, Kind, Op, Plain};
+use k42_kinds::{Act, Answer, AnyState, Kind, Op, Plain, To};
 use k42_limits::LAST_INCARNATION;
 use k42_memory::Memory;
 use std::alloc::Global;
@@ -18,7 +18,7 @@ use std::alloc::Global;
 pub struct Object {
     pub plain: Plain,
     pub state: AnyState,
-    /// How many swaps and destroys of it were carried out.
+    /// How many swaps of it were carried out.
     pub number: u32,
 }
 
@@ -55,14 +55,7 @@ impl Object {
     {
         match &line.act {
             Act::Call(op) => self.call(alloc, line, op),
-            Act::Swap(_) => Ok(self.swap(line, refusable)),
-            Act::Destroy => {
-                let legal = self.swap(line, refusable);
-                if legal && matches!(line.answer, Answer::Swapped(_)) {
-                    self.state = AnyState::Dead;
-                }
-                Ok(legal)
-            }
+            Act::Swap(to) => Ok(self.swap(line, to, refusable)),
         }
     }
 
@@ -76,14 +69,14 @@ impl Object {
         Ok(line.answer == Answer::Replied(reply) && line.incarnation == self.number)
     }
 
-    fn swap(&mut self, line: &RecordLine, refusable: bool) -> bool
+    fn swap(&mut self, line: &RecordLine, to: &To, refusable: bool) -> bool
         ensures legal { Decides result
             (EndsAs self.old refusable line.now.incarnation line.now.answer) }
         ensures moved { result ≡ true →
-            self.new ≡ judged.renumbered self.old (number_after self.old.number line.now.answer) }
+            self.new ≡ object_after self.old (Act.Swap to.now) line.now.answer }
     {
         match line.answer {
-            Answer::Swapped(number) => self.carry_out(line.incarnation, number),
+            Answer::Swapped(number) => self.carry_out(line.incarnation, number, to),
             Answer::Busy(_) => refusable,
             Answer::Spent => {
                 !self.is_dead()
@@ -95,10 +88,10 @@ impl Object {
         }
     }
 
-    fn carry_out(&mut self, incarnation: u32, number: u32) -> bool
+    fn carry_out(&mut self, incarnation: u32, number: u32, to: &To) -> bool
         ensures legal { Decides result (IsNextSwap self.old incarnation number) }
         ensures moved { result ≡ true →
-            self.new ≡ judged.renumbered self.old (self.old.number + 1) }
+            self.new ≡ object_after self.old (Act.Swap to.now) (Answer.Swapped number) }
     {
         let legal = !self.is_dead()
             && self.number < LAST_INCARNATION
@@ -106,6 +99,9 @@ impl Object {
             && incarnation == self.number;
         if legal {
             self.number = number;
+            if matches!(to, To::Dead) {
+                self.state = AnyState::Dead;
+            }
         }
         legal
     }

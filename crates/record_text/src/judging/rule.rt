@@ -23,7 +23,7 @@ impl Rule {
     {
         match line.act {
             Act::Call(_) => Rule::Calls,
-            Act::Swap(_) | Act::Destroy => match line.answer {
+            Act::Swap(_) => match line.answer {
                 Answer::Busy(_) => Rule::Refusals,
                 _ => Rule::Swaps,
             },

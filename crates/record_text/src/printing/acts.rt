@@ -4,7 +4,7 @@ ghost use Rattle.record_text.specs.Tokens.{behind_spaces};
 ghost use Rattle.record_text.specs.Acts as spelling;
 
 use crate::printing::tokens::{put_number, put_token};
-use k42_kinds::{Act, LayoutName, Op};
+use k42_kinds::{Act, LayoutName, Op, To};
 use k42_memory::Memory;
 
 fn layout_word(layout: &LayoutName) -> &'static [u8]
@@ -66,12 +66,12 @@ pub fn put_act(out: &mut Vec<u8>, object: &[u8], act: &Act) -> Result<(), Memory
             put_token(out, operation_word(op))?;
             put_arguments(out, op)
         }
-        Act::Swap(layout) => {
+        Act::Swap(To::Layout(layout)) => {
             put_token(out, b"swap")?;
             put_token(out, object)?;
             put_token(out, layout_word(layout))
         }
-        Act::Destroy => {
+        Act::Swap(To::Dead) => {
             put_token(out, b"destroy")?;
             put_token(out, object)
         }

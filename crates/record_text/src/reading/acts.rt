@@ -10,7 +10,7 @@ use crate::reading::cursor::{Left, take_token};
 use crate::reading::parts::{
     is_word, take_name, take_number, take_page, take_small_number, take_text,
 };
-use k42_kinds::{Act, KindName, LayoutName, Op};
+use k42_kinds::{Act, KindName, LayoutName, Op, To};
 use script_text::Script;
 
 /// An act, and the place of its object in the script.
@@ -91,22 +91,22 @@ fn kind_of_object(script: &Script, object: u32) -> Option<KindName>
     }
 }
 
-fn layout_of(word: &[u8]) -> Option<LayoutName>
+fn layout_of(word: &[u8]) -> Option<To>
     ensures { result ≡ parts.layout_of word.now }
 {
     if is_word(word, "shared") {
-        return Some(LayoutName::Shared);
+        return Some(To::Layout(LayoutName::Shared));
     }
     if is_word(word, "spread") {
-        return Some(LayoutName::Spread);
+        return Some(To::Layout(LayoutName::Spread));
     }
     None
 }
 
 /// Takes the word of a layout.
 #[tactic(auto, unfolding(crate::specs::Reader::Parts::spelled_at))]
-fn take_layout(left: &mut Left<'_>) -> Option<LayoutName>
-    ensures { Takes result left.new (spelled_at parts.layout_of (left_tokens left.old)) }
+fn take_layout(left: &mut Left<'_>) -> Option<To>
+    ensures { Takes result left.new (parts.layout_at (left_tokens left.old)) }
 {
     let token = take_token(left)?;
     layout_of(token)
@@ -233,25 +233,25 @@ fn take_operation(left: &mut Left<'_>, kind: KindName) -> Option<Op>
 #[tactic(auto, unfolding(crate::specs::Reader::ActParts::swap_at))]
 fn take_swap(left: &mut Left<'_>, script: &Script) -> Option<Asked>
     requires { length script.now.objects ≤ OBJECTS }
-    ensures { Takes result left.new (parts.swap_at script.now (left_tokens left.old)) }
+    ensures { Takes result left.new (parts.swap_at script.now parts.layout_at (left_tokens left.old)) }
 {
     let object = take_object(left, script)?;
-    let layout = take_layout(left)?;
+    let to = take_layout(left)?;
     Some(Asked {
         object,
-        act: Act::Swap(layout),
+        act: Act::Swap(to),
     })
 }
 
-#[tactic(auto, unfolding(crate::specs::Reader::ActParts::destroy_at))]
+#[tactic(auto, unfolding(crate::specs::Reader::ActParts::swap_at))]
 fn take_destroy(left: &mut Left<'_>, script: &Script) -> Option<Asked>
     requires { length script.now.objects ≤ OBJECTS }
-    ensures { Takes result left.new (parts.destroy_at script.now (left_tokens left.old)) }
+    ensures { Takes result left.new (parts.swap_at script.now parts.dead_at (left_tokens left.old)) }
 {
     let object = take_object(left, script)?;
     Some(Asked {
         object,
-        act: Act::Destroy,
+        act: Act::Swap(To::Dead),
     })
 }
 
@@ -269,7 +269,7 @@ fn take_call(left: &mut Left<'_>, script: &Script, name: &[u8]) -> Option<Asked>
     })
 }
 
-/// Takes a swap, a destroy or a call.
+/// Takes a swap or a call.
 #[tactic(auto, unfolding(crate::specs::Reader::ActParts::act_at))]
 pub fn take_act(left: &mut Left<'_>, script: &Script) -> Option<Asked>
     requires { length script.now.objects ≤ OBJECTS }

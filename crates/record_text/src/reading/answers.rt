@@ -64,7 +64,7 @@ fn take_busy(left: &mut Left<'_>) -> Option<Answer>
     Some(Answer::Busy(number))
 }
 
-/// Takes what is left of the answer of a swap or destroy that begins with this word.
+/// Takes what is left of the answer of a swap that begins with this word.
 fn take_ending(left: &mut Left<'_>, word: &[u8]) -> Option<Answer>
     ensures { Takes result left.new (parts.ending_of word.now (left_tokens left.old)) }
 {
@@ -99,6 +99,6 @@ pub fn take_answer(left: &mut Left<'_>, act: &Act) -> Option<Answer>
     let word = take_token(left)?;
     match act {
         Act::Call(_) => take_replied(left, word),
-        Act::Swap(_) | Act::Destroy => take_ending(left, word),
+        Act::Swap(_) => take_ending(left, word),
     }
 }

@@ -81,7 +81,7 @@ fn take_generation(left: &mut Left<'_>, act: &Act) -> Option<Option<u32>>
 {
     match act {
         Act::Call(_) => take_some_generation(left),
-        Act::Swap(_) | Act::Destroy => take_no_generation(left),
+        Act::Swap(_) => take_no_generation(left),
     }
 }
 

@@ -94,7 +94,7 @@ fn swap(line: u32, object: u32, layout: LayoutName) -> Item {
     Item::Line(CallLine {
         line,
         object,
-        act: Act::Swap(layout),
+        act: Act::Swap(To::Layout(layout)),
     })
 }
 

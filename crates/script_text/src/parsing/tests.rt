@@ -1,7 +1,7 @@
 //! Scripts with what they say, and others with the line and the cause by which they are refused.
 use super::*;
 use crate::script::{CallLine, Item, ObjectLine};
-use k42_kinds::{Act, KindName, LayoutName, Name, Op, Text};
+use k42_kinds::{Act, KindName, LayoutName, Name, Op, Text, To};
 use std::alloc::AllocError;
 use std::process::Abort;
 use std::test::Fail;
@@ -356,11 +356,11 @@ fn each_worker_has_the_lines_behind_its_own(rt: HostRuntime) -> Result<(), Fail>
         Item::Begin,
         call(5, Op::Add(5)),
         Item::End,
-        asks(8, 0, Act::Swap(LayoutName::Shared)),
+        asks(8, 0, Act::Swap(To::Layout(LayoutName::Shared))),
     ];
     let second = [
         asks(10, 1, Act::Call(Op::Bind(end, 7))),
-        asks(11, 1, Act::Destroy),
+        asks(11, 1, Act::Swap(To::Dead)),
         asks(13, 2, Act::Call(Op::Write(1023, written))),
     ];
     let workers = script.workers.as_slice();
