@@ -29,7 +29,8 @@ destroy = Swap Dead
 abbrev IsIllegal : List Entry → Entry → List Entry → Type 0
 IsIllegal before entry after = IsLegal kinds.Counter before entry after → ⊥
 
-no_rival : {before : List Entry} {entry : Entry} {after : List Entry} {number : ℕ} → AllByRecursion (λ other. IsRival entry number other → ⊥) (before ++ after) → IsLegalRefusal before entry after number → ⊥
+no_rival : {before : List Entry} {entry : Entry} {after : List Entry} {number : ℕ} → AllByRecursion (λ other. IsRival entry number other → ⊥) (before ++ after) →
+    IsLegalRefusal before entry after number → ⊥
 no_rival {before} {entry} {after} {number} none legal = none-Any (IsRival entry number) (before ++ after) none legal.rival
 
 -- ---- a refusal is for the sake of a swap that was carried out or given up

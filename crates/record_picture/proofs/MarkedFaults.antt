@@ -42,7 +42,8 @@ frame-joined : (a l y t e : List ℕ) → (a ++ l) ++ (y ++ t) ++ e ≡ a ++ l +
 frame-joined a l y t e = simp append_assoc refl
 
 frame-spelled : (column lane : ℕ) → fault_frame column lane ≡
-    codes "<rect class='x' width='" ++ decimal 150 ++ codes "' height='" ++ decimal 68 ++ codes "' rx='4' x='" ++ decimal (column_left column - 2) ++ codes "' y='" ++ decimal (lane_top lane + 2) ++ codes "'/>"
+    codes "<rect class='x' width='" ++ decimal 150 ++ codes "' height='" ++ decimal 68
+    ++ codes "' rx='4' x='" ++ decimal (column_left column - 2) ++ codes "' y='" ++ decimal (lane_top lane + 2) ++ codes "'/>"
 unfolding fault_frame numbered
 frame-spelled column lane =
     frame-joined (codes "<rect class='x' width='150' height='68' rx='4' x='") (decimal (column_left column - 2)) (codes "' y='") (decimal (lane_top lane + 2)) (codes "'/>")
@@ -69,7 +70,8 @@ veil-joined : (a l w n h m e : List ℕ) → (a ++ l) ++ (w ++ n) ++ (h ++ m) ++
 veil-joined a l w n h m e = simp append_assoc refl
 
 veil-spelled : (column columns lanes : ℕ) → veil column columns lanes ≡
-    codes "<rect class='y' y='" ++ decimal 28 ++ codes "' x='" ++ decimal (column_left column - 3) ++ codes "' width='" ++ decimal (152 * columns) ++ codes "' height='" ++ decimal (height_of lanes) ++ codes "'/>\n"
+    codes "<rect class='y' y='" ++ decimal 28 ++ codes "' x='" ++ decimal (column_left column - 3)
+    ++ codes "' width='" ++ decimal (152 * columns) ++ codes "' height='" ++ decimal (height_of lanes) ++ codes "'/>\n"
 unfolding veil numbered
 veil-spelled column columns lanes =
     veil-joined (codes "<rect class='y' y='28' x='") (decimal (column_left column - 3)) (codes "' width='") (decimal (152 * columns)) (codes "' height='") (decimal (height_of lanes)) (codes "'/>\n")
@@ -85,14 +87,16 @@ veil-behind column columns lanes = record {
 
 -- ---- what stands in a picture
 
-fault_on-found : (lanes before : ℕ) (lines : List RecordLine) (place : ℕ) (line : RecordLine) → slice_get lines place ≡ Some line → fault_on lanes before lines (before + place + 2) ≡ fault_at lanes (length lines) place line
+fault_on-found : (lanes before : ℕ) (lines : List RecordLine) (place : ℕ) (line : RecordLine) → slice_get lines place ≡ Some line →
+    fault_on lanes before lines (before + place + 2) ≡ fault_at lanes (length lines) place line
 fault_on-found lanes before lines place line found =
     let within : nat_le (before + 2) (before + place + 2) ≡ true = grind (arith, nat_tests) in
     let here : (before + place + 2) - (before + 2) ≡ place = omega arith in
     rw (within, here, found) refl
 
 module _ (script : Script) (written : Record) (window : Window) where
-  stands-in_entries : {part : List ℕ} (verdict : Verdict) → StandsIn part (fault (length script.workers) window.before (shown window written.lines) verdict) → StandsIn part (picture script written verdict window)
+  stands-in_entries : {part : List ℕ} (verdict : Verdict) → StandsIn part (fault (length script.workers) window.before (shown window written.lines) verdict) →
+      StandsIn part (picture script written verdict window)
   unfolding entries
   stands-in_entries verdict stands =
       let lines : List RecordLine = shown window written.lines in
@@ -100,19 +104,23 @@ module _ (script : Script) (written : Record) (window : Window) where
       (stands-before (codes "</svg>\n") (stands-behind (boxes script window.before lines) stands))
 
   module _ (place rule : ℕ) (line : RecordLine) (found : slice_get (shown window written.lines) place ≡ Some line) where
-    stands-in_fault : {part : List ℕ} → StandsIn part (fault_at (length script.workers) (length (shown window written.lines)) place line) → StandsIn part (picture script written (Unlawful (window.before + place + 2) rule) window)
-    stands-in_fault stands = stands-in_entries (Unlawful (window.before + place + 2) rule) (rw (fault_on-found (length script.workers) window.before (shown window written.lines) place line found) stands)
+    stands-in_fault : {part : List ℕ} → StandsIn part (fault_at (length script.workers) (length (shown window written.lines)) place line) →
+        StandsIn part (picture script written (Unlawful (window.before + place + 2) rule) window)
+    stands-in_fault stands = stands-in_entries (Unlawful (window.before + place + 2) rule)
+        (rw (fault_on-found (length script.workers) window.before (shown window written.lines) place line found) stands)
 
     pub framed : (text : List ℕ) × FramesBox place line.worker text × StandsIn text (picture script written (Unlawful (window.before + place + 2) rule) window)
     unfolding fault_at
     framed = (fault_frame place line.worker, frame-around place line.worker, stands-in_fault (stands-before _ (stands-itself (fault_frame place line.worker))))
 
-    pub veiled : (text : List ℕ) × VeilsBehind place (length (shown window written.lines)) (length script.workers) text × StandsIn text (picture script written (Unlawful (window.before + place + 2) rule) window)
+    pub veiled : (text : List ℕ) × VeilsBehind place (length (shown window written.lines)) (length script.workers) text
+        × StandsIn text (picture script written (Unlawful (window.before + place + 2) rule) window)
     unfolding fault_at
     veiled =
         let columns : ℕ = length (shown window written.lines) in
         let lanes : ℕ = length script.workers in
-        (veil (place + 1) (columns - (place + 1)) lanes, veil-behind place columns lanes, stands-in_fault (stands-behind (fault_frame place line.worker) (stands-itself (veil (place + 1) (columns - (place + 1)) lanes))))
+        (veil (place + 1) (columns - (place + 1)) lanes, veil-behind place columns lanes,
+        stands-in_fault (stands-behind (fault_frame place line.worker) (stands-itself (veil (place + 1) (columns - (place + 1)) lanes))))
 
 -- ---- where nothing is marked
 

@@ -55,7 +55,8 @@ pub fn the_verdict_is_told_in_words()
         StandsIn
         (fault_words line (rule_number (rule_of_act (Call op) answer))
         (codes "the object would not have replied so"))
-        (picture script written (Unlawful line (rule_number (rule_of_act (Call op) answer))) window) }
+        (picture script written (Unlawful line (rule_number (rule_of_act (Call op) answer)))
+        window) }
     ensures swaps { (script : Script) (written : Record) (window : Window) (line : ℕ)
         (answer : Answer) →
         StandsIn

@@ -106,7 +106,8 @@ line_of_nobody kept = cc kept
 -- ---- the answers
 
 -- the line tells of an entry that is not legal
-illegal : (before : List RecordLine) (line : RecordLine) (after : List RecordLine) → line.object ≡ 0 → (IsLegal Counter (map told before) (told line) (map told after) → ⊥) → IsLegalLine counting before line after → ⊥
+illegal : (before : List RecordLine) (line : RecordLine) (after : List RecordLine) → line.object ≡ 0 → (IsLegal Counter (map told before) (told line) (map told after) → ⊥) →
+    IsLegalLine counting before line after → ⊥
 illegal before line after declared not_legal legal = not_legal (legal_at_kind (Counter ∷ []) Counter (map told before) (told line) (map told after) (rw declared) legal)
 
 wrong_reply : Breaks (added ∷ []) (record read { answer = Replied (Number 2) }) [] Calls
@@ -188,7 +189,8 @@ later_rule : IsFirstFault counting (record { lines = record added { stamp = 3; l
 later_rule (inr fault) = omega (arith, fault.numbered)
 later_rule (inl fault) =
     let here : fault.place ≡ 0 = omega (arith, fault.numbered) in
-    let kept : BreaksFirst (KeepsAt counting (record added { stamp = 3; line = 6 } ∷ []) 0) all_rules 8 = subst (λ (place : ℕ). BreaksFirst (KeepsAt counting (record added { stamp = 3; line = 6 } ∷ []) place) all_rules 8) here fault.broken in
+    let kept : BreaksFirst (KeepsAt counting (record added { stamp = 3; line = 6 } ∷ []) 0) all_rules 8 =
+        subst (λ (place : ℕ). BreaksFirst (KeepsAt counting (record added { stamp = 3; line = 6 } ∷ []) place) all_rules 8) here fault.broken in
     elim kept [
       | inl stamps ↦ omega (arith, stamps.0)
       | inr behind ↦ omega (arith, behind.0 (record added { stamp = 3; line = 6 }) refl)
