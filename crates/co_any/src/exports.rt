@@ -1,3 +1,4 @@
+//! The state for which a spread counter or spread pages stand, from parts of any kind.
 ghost use Rattle.std.specs.Prelude.{◌≡◌, map, IfOk};
 ghost use Rattle.co_counter.specs.Counters.{total_of};
 ghost use Rattle.co_pages.specs.SpreadRows as spread_rows;

@@ -1,3 +1,4 @@
+//! The way of each layout's own part to a part of any kind and back.
 ghost use Rattle.std.specs.Prelude.{◌≡◌};
 ghost use Rattle.co_any.specs.declared.part.AnyPart.{AnyPart};
 ghost use Rattle.co_any.specs.declared.part.AnyPart.TheVariants as parts;

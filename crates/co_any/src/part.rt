@@ -1,3 +1,4 @@
+//! What a cell can hold, over all kinds and layouts.
 use co_directory::IndexedNames;
 use co_pages::Places;
 use k42_kinds::{DirectoryState, PagesState};

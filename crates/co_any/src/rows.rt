@@ -1,3 +1,4 @@
+//! A row of parts of any kind, used as a row of one layout's own parts.
 ghost use Rattle.std.specs.Prelude.{◌≡◌, ◌+◌, ◌++◌, ◌≤◌, IsTrue, map, length, vec_len, vec_capacity, IfOk, OnOk, OnErr};
 ghost use Rattle.k42_kinds.specs.LayoutLaws.{IsWholeRow};
 

@@ -1,3 +1,4 @@
+//! Each layout at one and at eight processors, and objects that move through all of them.
 ghost use Rattle.std.specs.Prelude.{◌≡◌, ◌<◌, ◌≤◌, IsTrue, IfOk};
 ghost use Rattle.k42_limits.specs.declared.TheConstants.{PROCESSORS};
 ghost use Rattle.k42_kinds.specs.Operations.{takes_operation};

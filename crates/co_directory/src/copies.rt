@@ -1,3 +1,4 @@
+//! The copies of a spread directory change together, or none does.
 ghost use Rattle.std.specs.Prelude.{◌≡◌, ℕ, map, replicate, IfOk, OnOk, OnErr};
 ghost use Rattle.std.specs.List.{AllByRecursion};
 ghost use Rattle.std.specs.FinMap as finite;

@@ -1,3 +1,4 @@
+//! The map of a shared directory, in which a name is found by its hash.
 ghost use Rattle.std.specs.Prelude.{◌≡◌, IfOk, OnOk, OnErr};
 ghost use Rattle.std.specs.FinMap as map;
 ghost use Rattle.k42_kinds.specs.Objects.{directory_after, directory_reply, found_number};

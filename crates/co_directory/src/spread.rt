@@ -1,3 +1,4 @@
+//! The layout of a directory that keeps a copy for each processor.
 ghost use Rattle.std.specs.Prelude.{◌==◌, refl};
 ghost use Rattle.k42_kinds.specs.declared.entry.Act.TheVariants.{Swap};
 ghost use Rattle.k42_kinds.specs.declared.operation.LayoutName.TheVariants as layouts;

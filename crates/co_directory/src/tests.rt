@@ -1,3 +1,4 @@
+//! Both layouts at several processors, and a directory that moves between them.
 ghost use Rattle.std.specs.Prelude.{◌≡◌, ◌<◌, ◌≤◌, IsTrue};
 ghost use Rattle.k42_limits.specs.declared.TheConstants.{PROCESSORS};
 ghost use Rattle.k42_kinds.specs.declared.operation.Op.{Op};

@@ -1,3 +1,4 @@
+//! The pages of one cell, in a vector that is as long as its last page needs.
 ghost use Rattle.std.specs.Prelude.{◌≡◌, ◌%◌, ◌^◌, ◌<◌, ◌≤◌, IfOk, OnOk, OnErr, map, option_map};
 ghost use Rattle.k42_kinds.specs.Pages.{cleaned};
 ghost use Rattle.co_pages.specs.Places as kept;

@@ -1,3 +1,4 @@
+//! The layout of pages that keeps one map for all.
 ghost use Rattle.std.specs.Prelude.{◌≡◌, ◌==◌, IfOk, refl};
 ghost use Rattle.std.proofs.Common.{arith};
 ghost use Rattle.k42_kinds.specs.declared.entry.Act.TheVariants.{Swap};

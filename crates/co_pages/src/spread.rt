@@ -1,3 +1,4 @@
+//! The layout of pages that keeps each page in the cell of its number.
 ghost use Rattle.std.specs.Prelude.{◌≡◌, ◌==◌, IfOk, OnOk, OnErr, refl, map};
 ghost use Rattle.k42_kinds.specs.declared.entry.Act.TheVariants.{Swap};
 ghost use Rattle.k42_kinds.specs.declared.operation.LayoutName.TheVariants as layouts;

@@ -1,3 +1,4 @@
+//! Both layouts at several processors, and pages that come back from the cells.
 ghost use Rattle.std.specs.Prelude.{◌≡◌, ◌<◌, ◌≤◌, IsTrue, IfOk};
 ghost use Rattle.k42_limits.specs.declared.TheConstants.{PROCESSORS};
 ghost use Rattle.k42_kinds.specs.declared.operation.Op.{Op};

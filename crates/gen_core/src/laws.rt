@@ -1,3 +1,4 @@
+//! What holds of activities and graces, whatever events come.
 ghost use Rattle.std.specs.Prelude.{◌≡◌, ℕ, ◌+◌, ◌<◌, ◌≤◌, List, length};
 ghost use Rattle.gen_core.specs.declared.event.GenEvent.{GenEvent};
 ghost use Rattle.gen_core.specs.Plain.{Generations};

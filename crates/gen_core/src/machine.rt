@@ -1,3 +1,4 @@
+//! Every event of the machine, tested and then carried out.
 ghost use Rattle.std.specs.Prelude.{◌≡◌, ◌<◌, length};
 ghost use Rattle.gen_core.specs.Events.{caller_of, Applies};
 ghost use Rattle.gen_core.specs.Sound.{IsSound};

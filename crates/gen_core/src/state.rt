@@ -1,3 +1,4 @@
+//! The state of the machine: processors with their counts, and callers with their graces.
 ghost use Rattle.std.specs.Prelude.{◌≡◌, ℕ, ◌-◌, ◌^◌, ◌<◌, ◌≤◌, nat_lt, length, slice_set, IfOk};
 ghost use Rattle.std.specs.List.{list_all};
 ghost use Rattle.k42_limits.specs.declared.TheConstants.{PROCESSORS};

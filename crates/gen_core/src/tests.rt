@@ -1,3 +1,4 @@
+//! Graces that wait for activities, on one processor and on eight.
 ghost use Rattle.std.specs.Prelude.{◌≡◌, ◌<◌, length};
 ghost use Rattle.gen_core.specs.Events.{caller_of};
 ghost use Rattle.gen_core.specs.Sound.{IsSound};

@@ -89,7 +89,7 @@ pub record GoesOn {L : Type 0} (s t : Joined L) : Type 0 where
   pub freed : (o : ℕ) → (object_at s.phases o).freed ≤ (object_at t.phases o).freed
 
 -- what a pass knows of the objects that it names stays
-pub record IsLeft {L P : Type 0} (s t : Joined L) (x : PassView P) : Type 0 where
+pub record IsUndisturbed {L P : Type 0} (s t : Joined L) (x : PassView P) : Type 0 where
   pub place :
       (o i : ℕ) → IsInside x.visitor.place o i → (object_at t.phases o).layout ≡ (object_at s.phases o).layout
   pub swap : (o : ℕ) → named_by x.visitor.swap ≡ Some o → IsSameRow (object_at s.phases o) (object_at t.phases o)
@@ -149,7 +149,7 @@ module _ {L : Type 0} (s : Joined L) (objects : List Object) (visitors : List Vi
     pub same_on : GoesOn s t
     same_on = record { old = old_stays; freed = λ o. (rows.each o).freed }
 
-    pub same_left : {P : Type 0} (x : PassView P) → IsLeft s t x
+    pub same_left : {P : Type 0} (x : PassView P) → IsUndisturbed s t x
     same_left x = record {
       place = λ o i inside. (rows.each o).layout;
       swap = λ o named. rows.each o;
@@ -158,7 +158,7 @@ module _ {L : Type 0} (s : Joined L) (objects : List Object) (visitors : List Vi
     }
 
   -- a pass that does nothing
-  module _ {P : Type 0} (x : PassView P) (left : IsLeft s t x) where
+  module _ {P : Type 0} (x : PassView P) (left : IsUndisturbed s t x) where
     handed_same : is_moved x.visitor.swap ≡ true → is_handed t (object_named x.visitor.swap) ≡ is_handed s (object_named x.visitor.swap)
     handed_same moved = rw (left.swap (object_named x.visitor.swap) (moved_names x.visitor.swap moved)).incarnation refl
 
@@ -281,7 +281,7 @@ module _ {S L P : Type 0} (F : Layouts S L P) (laws : AreLaws F) (declared : Lis
     pub possible : IsPossible F declared r.state (AtPhases e)
     pub effect_is : state_after ≡ effect r.state (AtPhases e)
     pub on : GoesOn r.state state_after
-    pub left : (j : ℕ) (y : PassView P) → y.number ≢ v.number → KnowsPass F.tag_of r.state r.beside j y → IsLeft r.state state_after y
+    pub left : (j : ℕ) (y : PassView P) → y.number ≢ v.number → KnowsPass F.tag_of r.state r.beside j y → IsUndisturbed r.state state_after y
     pub kept_else : (d : ℕ) → d ≢ v.number → kept_of state_after d ≡ kept_of r.state d
 
   pub same_visit : IsPossible F declared r.state (AtPhases e) → state_after ≡ effect r.state (AtPhases e)

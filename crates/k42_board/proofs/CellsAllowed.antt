@@ -19,7 +19,7 @@ use Rattle.k42_joined.specs.State.{many_callers}
 use Rattle.k42_board.specs.Cells.{Slot}
 use Rattle.k42_board.specs.Parts.{IsPart}
 use Rattle.k42_board.specs.Rule.{Rule, Ruled}
-use Rattle.k42_board.specs.Taking.{cell_at_lock, HoldsHome, MayLock, LockFound, MayPut, IsWhole, AreRowsNoted, Lifts, GivesBackKnown, Reaches, Puts, given_view, noted, ActIs, locked_view, unlocked_view, reaching_view, lifted_view, taken_view, put_view}
+use Rattle.k42_board.specs.Taking.{cell_at_lock, HoldsHome, MayLock, LockFound, MayPut, IsWhole, AreRowsNoted, Lifts, GivesBackKnown, Reaches, Puts, cell_given_view, noted, ActIs, locked_view, unlocked_view, reaching_view, lifted_view, taken_view, put_view}
 use Rattle.k42_board.specs.Words.{lock_word, slot_of}
 use Rattle.k42_board.specs.declared.cell.Content as code
 use Rattle.k42_board.specs.declared.view.Note.{Note}
@@ -65,7 +65,7 @@ module _ {S L P : Type 0} (F : Layouts S L P) (laws : AreLaws F) (declared : Lis
       → ActIs F declared (λ s. effect s (AtCells (Take v.number n))) (lock_word n) id [] v (takes (slot_of n) (Some content)) (lifted_view content v)
   take_is may idle content table r at valid = takes_away F laws declared table r id v at n may idle content valid
 
-  pub give_is : v.out ≡ Some n → ActIs F declared (λ s. s) (lock_word n) id ((slot_of n, None) ∷ []) v gives (given_view v)
+  pub give_is : v.out ≡ Some n → ActIs F declared (λ s. s) (lock_word n) id ((slot_of n, None) ∷ []) v gives (cell_given_view v)
   give_is out table r at valid = gives_back F laws declared table r id v at n out
 
   pub reach_is : v.out ≡ None → (place : ℕ) (note : Note P) → slice_get v.notes place ≡ Some note → note.cell ≡ n
@@ -76,8 +76,8 @@ module _ {S L P : Type 0} (F : Layouts S L P) (laws : AreLaws F) (declared : Lis
   pub always_reached : v.out ≡ None → (Q : Joined L → Type 0) → Always F declared id v Q → Always F declared id (reaching_view n v) Q
   always_reached idle Q always table r at =
       let back = gives_back F laws declared table r id (reaching_view n v) at n refl in
-      let same : given_view (reaching_view n v) ≡ v = λ k. record v { out = sym idle k } in
-      let there = set_here table.views id (Crew (given_view (reaching_view n v) ∷ [])) (at_within table.views id (Crew (reaching_view n v ∷ [])) at) in
+      let same : cell_given_view (reaching_view n v) ≡ v = λ k. record v { out = sym idle k } in
+      let there = set_here table.views id (Crew (cell_given_view (reaching_view n v) ∷ [])) (at_within table.views id (Crew (reaching_view n v ∷ [])) at) in
       subst Q back.1 (always _ back.0 (there ∙ (λ k. some (Crew (same k ∷ [])))))
 
   pub put_is : (content : code.Content P) → MayPut F declared id n content v → v.out ≡ None
@@ -99,7 +99,7 @@ module _ {S L P : Type 0} (F : Layouts S L P) (laws : AreLaws F) (declared : Lis
       }
 
   -- what a pass knows of rows does not hang on the slot that is out with it
-  rows_given : AreRowsNoted F declared v → AreRowsNoted F declared (given_view v)
+  rows_given : AreRowsNoted F declared v → AreRowsNoted F declared (cell_given_view v)
   rows_given is = record { inside = is.inside; moved = is.moved }
 
   pub take_possible_always : HoldsHome n v → Always F declared id v (λ s. IsPossible F declared s (AtCells (Take v.number n)))
@@ -131,7 +131,7 @@ module _ {S L P : Type 0} (F : Layouts S L P) (laws : AreLaws F) (declared : Lis
     give_allowed Known known' out slots table r long at fits =
         let after = gives_back F laws declared table r.rule id v at n out in
         let noted' = rows_given (rows_noted F laws declared table r.rule id v at) in
-        (Crew (given_view v ∷ []), gives, tt, still_ruled callers r after refl, (refl, known' (given_view v) noted'))
+        (Crew (cell_given_view v ∷ []), gives, tt, still_ruled callers r after refl, (refl, known' (cell_given_view v) noted'))
 
     pub reach_allowed : v.out ≡ None → (place : ℕ) (note : Note P) → slice_get v.notes place ≡ Some note → note.cell ≡ n → (slots : ℕ)
         → Allows (Ruled F declared callers) slots id (Crew (v ∷ []), []) (lock_word n) (λ word. word) (Reaches (step slots (lock_word n) 0 0 none) (Crew (v ∷ []), []))
@@ -226,10 +226,10 @@ module _ {P : Type 0} (n : ℕ) (v : PassView P) (me : Seated P) (is : IsSeatOf 
 
 -- what it knows as the slot comes back, it knows after that
 pub given_known : {P : Type 0} (Known : PassView P → Type 0) (me after : Seated P) (w : PassView P) (carried : List (ℕ × Slot P)) → me ≡ (Crew (w ∷ []), carried)
-    → after ≡ (on_pass given_view me.0, rest me.1) → Known (given_view (pass_in me.0)) → Known (pass_in after.0)
+    → after ≡ (on_pass cell_given_view me.0, rest me.1) → Known (cell_given_view (pass_in me.0)) → Known (pass_in after.0)
 given_known Known me after w carried is told known =
-    subst Known (sym (ap (λ (m : Seated _). pass_in m.0) told ∙ ap (λ (m : Seated _). pass_in (on_pass given_view m.0)) is))
-    (subst (λ (m : Seated _). Known (given_view (pass_in m.0))) is known)
+    subst Known (sym (ap (λ (m : Seated _). pass_in m.0) told ∙ ap (λ (m : Seated _). pass_in (on_pass cell_given_view m.0)) is))
+    (subst (λ (m : Seated _). Known (cell_given_view (pass_in m.0))) is known)
 
 -- the slot that went out, and what an exchange leaves of the seat
 module _ {P : Type 0} (lifted : Seated P) (w : PassView P) (slot : ℕ) (y : Slot P) (is : lifted ≡ (Crew (w ∷ []), (slot, y) ∷ [])) where
@@ -252,7 +252,7 @@ same_content z e f = same_Some _ _ (e ∙ f)
 
 module _ {S L P : Type 0} (F : Layouts S L P) (laws : AreLaws F) (declared : List L) (id n : ℕ) (v : PassView P) (idle : v.out ≡ None) (may : HoldsHome n v) where
   -- what take tells at its end
-  pub given_is : (content : code.Content P) → content.number ≡ n → (w : PassView P) → given_view (lifted_view content v) ≡ w
+  pub given_is : (content : code.Content P) → content.number ≡ n → (w : PassView P) → cell_given_view (lifted_view content v) ≡ w
       → ActIs F declared (λ s. s) (lock_word n) id ((slot_of n, None) ∷ []) (lifted_view content v) gives w
   given_is content number w same =
       subst (λ z. ActIs F declared (λ s. s) (lock_word n) id ((slot_of n, None) ∷ []) (lifted_view content v) gives z) same

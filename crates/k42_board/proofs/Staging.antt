@@ -41,7 +41,7 @@ use Rattle.k42_board.specs.declared.view.PassView.{PassView}
 use Rattle.k42_board.specs.declared.view.Row.{Row}
 use Rattle.k42_board.specs.declared.view.View.{View}
 use Rattle.k42_board.specs.declared.view.View.TheVariants.{Crew}
-use Rattle.k42_board.proofs.AtTables.{visited, told, GoesOn, IsLeft, IsSameRow, same_row, IsVisit, rows_stay, rows_told, own_after}
+use Rattle.k42_board.proofs.AtTables.{visited, told, GoesOn, IsUndisturbed, IsSameRow, same_row, IsVisit, rows_stay, rows_told, own_after}
 use Rattle.k42_board.proofs.OnePass.{known}
 
 -- what becomes of an object, of which the state is so
@@ -213,7 +213,7 @@ module _ {S L P : Type 0} (F : Layouts S L P) (laws : AreLaws F) (declared : Lis
             by_object (λ q l. (i : ℕ) → IsInside (visitor_at s d).place q i → l.layout ≡ (object_at s q).layout)
             (λ i inside. staged.inside d i lt inside) (λ q not i inside. refl)
 
-        left : (j : ℕ) (y : PassView P) → y.number ≢ c → KnowsPass F.tag_of r.state r.beside j y → IsLeft r.state staged_state y
+        left : (j : ℕ) (y : PassView P) → y.number ≢ c → KnowsPass F.tag_of r.state r.beside j y → IsUndisturbed r.state staged_state y
         left j y not was = record {
           place = λ q i inside. inside_stays y.number was.there q i (subst (λ (z : Visitor). IsInside z.place q i) (sym was.phases.visitor) inside);
           swap =

@@ -71,8 +71,8 @@ abbrev pub lifted_view : {P : Type 0} → Content P → PassView P → PassView 
 lifted_view content v = record v { notes = noted content ∷ v.notes; out = Some content.number }
 
 -- and no longer is
-abbrev pub given_view : {P : Type 0} → PassView P → PassView P
-given_view v = record v { out = None }
+abbrev pub cell_given_view : {P : Type 0} → PassView P → PassView P
+cell_given_view v = record v { out = None }
 
 abbrev pub taken_view : {P : Type 0} → Content P → PassView P → PassView P
 taken_view content v = record v { notes = noted content ∷ v.notes; out = None }
@@ -88,11 +88,11 @@ Lifts step me found after =
     × (after ≡ (on_pass (lifted_view content) me.0, (slot_of (cell_at_lock step.word), Some content) ∷ me.1))
 
 abbrev pub GivesBack : {P : Type 0} → Step (Slot P) → Seated P → ℕ → Seated P → Type 0
-GivesBack step me found after = after ≡ (on_pass given_view me.0, rest me.1)
+GivesBack step me found after = after ≡ (on_pass cell_given_view me.0, rest me.1)
 
 -- and what the pass knows then
 abbrev pub GivesBackKnown : {P : Type 0} → (PassView P → Type 0) → Step (Slot P) → Seated P → ℕ → Seated P → Type 0
-GivesBackKnown Known step me found after = GivesBack step me found after × Known (given_view (pass_in me.0))
+GivesBackKnown Known step me found after = GivesBack step me found after × Known (cell_given_view (pass_in me.0))
 
 abbrev pub Reaches : {P : Type 0} → Step (Slot P) → Seated P → ℕ → Seated P → Type 0
 Reaches step me found after =

@@ -33,4 +33,4 @@ impl<L: Layout> TableRule<Option<Cell<L>>, View<L::Part>, Setup<L>> for Ruling<L
 
 pub type Board<L> = Table<Option<Cell<L>>, View<<L as Layout>::Part>, Setup<L>, Ruling<L>, Global>;
 
-pub type Place<L> = Seat<Option<Cell<L>>, View<<L as Layout>::Part>>;
+pub type BoardSeat<L> = Seat<Option<Cell<L>>, View<<L as Layout>::Part>>;

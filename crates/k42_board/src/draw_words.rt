@@ -11,12 +11,16 @@ ghost use Rattle.k42_board.specs.Views.{pass_in};
 ghost use Rattle.k42_board.specs.Steps.{StepIs};
 ghost use Rattle.k42_board.specs.Words.{many_words, role_word, lock_word};
 
-use crate::board::{Board, Place};
+use crate::board::{Board, BoardSeat};
 use crate::cell::{Cell, Content};
 use crate::draw_plays::{Draw, Said};
 use k42_kinds::{Entry, Layout};
 
-pub fn alone_word<L: Layout, K: Said<L::Part>>(board: &Board<L>, seat: &mut Place<L>, entry: &Entry)
+pub fn alone_word<L: Layout, K: Said<L::Part>>(
+    board: &Board<L>,
+    seat: &mut BoardSeat<L>,
+    entry: &Entry,
+)
     requires ours { (seat.old.table_id ≡ board.now.shared.table_id) × (board.now.shared.table_id.words ≡ many_words) }
     requires laws { AreLaws (layouts_on L.object L.tag_of L.ways L.whole L.serves L.admitted L.act_of board.now.shared.key.procs board.now.shared.key.callers.items) }
     requires says { K.becomes ≡ alone_view entry.now }
@@ -32,7 +36,7 @@ pub fn alone_word<L: Layout, K: Said<L::Part>>(board: &Board<L>, seat: &mut Plac
 
 pub fn mark_word<L: Layout, K: Said<L::Part>>(
     board: &Board<L>,
-    seat: &mut Place<L>,
+    seat: &mut BoardSeat<L>,
     cell: &Cell<L>,
     entry: &Entry,
 )
@@ -54,7 +58,7 @@ pub fn mark_word<L: Layout, K: Said<L::Part>>(
 
 pub fn call_word<L: Layout, K: Said<L::Part>>(
     board: &Board<L>,
-    seat: &mut Place<L>,
+    seat: &mut BoardSeat<L>,
     cells: &[Cell<L>],
     entry: &Entry,
 )

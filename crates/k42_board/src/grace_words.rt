@@ -16,11 +16,11 @@ ghost use Rattle.k42_board.specs.Steps.{StepIs, StateStays};
 ghost use Rattle.k42_board.specs.Words.{many_words, generation_word, exits_word, freed_word, role_word};
 ghost use Rattle.k42_board.specs.declared.view.View.TheVariants.{Crew};
 
-use crate::board::{Board, Place};
+use crate::board::{Board, BoardSeat};
 use crate::plays::{AskGeneration, Flip, Free, GiveRole, Look, TakeRole};
 use k42_kinds::Layout;
 
-pub fn take_role_word<L: Layout>(board: &Board<L>, seat: &mut Place<L>, number: u64) -> u64
+pub fn take_role_word<L: Layout>(board: &Board<L>, seat: &mut BoardSeat<L>, number: u64) -> u64
     requires ours { (seat.old.table_id ≡ board.now.shared.table_id) × (board.now.shared.table_id.words ≡ many_words) }
     requires laws { AreLaws (layouts_on L.object L.tag_of L.ways L.whole L.serves L.admitted L.act_of board.now.shared.key.procs board.now.shared.key.callers.items) }
     requires may { IsSeatOf seat.old.me (pass_in seat.old.me.0) × MayTakeRole (pass_in seat.old.me.0) × ((pass_in seat.old.me.0).number ≡ number) × (number < 2 ^ 32) }
@@ -34,7 +34,7 @@ pub fn take_role_word<L: Layout>(board: &Board<L>, seat: &mut Place<L>, number: 
         .compare_exchange::<TakeRole>(seat, 1040, 0, number + 1)
 }
 
-pub fn generation_load<L: Layout>(board: &Board<L>, seat: &mut Place<L>) -> u64
+pub fn generation_load<L: Layout>(board: &Board<L>, seat: &mut BoardSeat<L>) -> u64
     requires ours { (seat.old.table_id ≡ board.now.shared.table_id) × (board.now.shared.table_id.words ≡ many_words) }
     requires laws { AreLaws (layouts_on L.object L.tag_of L.ways L.whole L.serves L.admitted L.act_of board.now.shared.key.procs board.now.shared.key.callers.items) }
     requires may { IsSeatOf seat.old.me (pass_in seat.old.me.0) × MayAskGeneration (pass_in seat.old.me.0) }
@@ -48,7 +48,7 @@ pub fn generation_load<L: Layout>(board: &Board<L>, seat: &mut Place<L>) -> u64
 
 pub fn look_word<L: Layout>(
     board: &Board<L>,
-    seat: &mut Place<L>,
+    seat: &mut BoardSeat<L>,
     proc: usize,
     parity: usize,
 ) -> u64
@@ -64,7 +64,12 @@ pub fn look_word<L: Layout>(
     board.shared.load::<Look>(seat, 17 + 64 * proc + parity)
 }
 
-pub fn flip_swap<L: Layout>(board: &Board<L>, seat: &mut Place<L>, proc: usize, word: u64) -> u64
+pub fn flip_swap<L: Layout>(
+    board: &Board<L>,
+    seat: &mut BoardSeat<L>,
+    proc: usize,
+    word: u64,
+) -> u64
     requires ours { (seat.old.table_id ≡ board.now.shared.table_id) × (board.now.shared.table_id.words ≡ many_words) }
     requires laws { AreLaws (layouts_on L.object L.tag_of L.ways L.whole L.serves L.admitted L.act_of board.now.shared.key.procs board.now.shared.key.callers.items) }
     requires few { proc < 8 }
@@ -76,7 +81,7 @@ pub fn flip_swap<L: Layout>(board: &Board<L>, seat: &mut Place<L>, proc: usize, 
     board.shared.swap::<Flip>(seat, 16 + 64 * proc, word)
 }
 
-pub fn give_role_store<L: Layout>(board: &Board<L>, seat: &mut Place<L>)
+pub fn give_role_store<L: Layout>(board: &Board<L>, seat: &mut BoardSeat<L>)
     requires ours { (seat.old.table_id ≡ board.now.shared.table_id) × (board.now.shared.table_id.words ≡ many_words) }
     requires laws { AreLaws (layouts_on L.object L.tag_of L.ways L.whole L.serves L.admitted L.act_of board.now.shared.key.procs board.now.shared.key.callers.items) }
     requires may { IsSeatOf seat.old.me (pass_in seat.old.me.0) × MayGiveRole (pass_in seat.old.me.0) }
@@ -90,7 +95,7 @@ pub fn give_role_store<L: Layout>(board: &Board<L>, seat: &mut Place<L>)
 
 pub fn free_word<L: Layout>(
     board: &Board<L>,
-    seat: &mut Place<L>,
+    seat: &mut BoardSeat<L>,
     object: usize,
     number: u64,
 ) -> u64

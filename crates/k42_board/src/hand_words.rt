@@ -11,7 +11,7 @@ ghost use Rattle.k42_board.specs.Steps.{StepIs};
 ghost use Rattle.k42_board.specs.Views.{pass_in};
 ghost use Rattle.k42_board.specs.Words.{many_words, lock_word};
 
-use crate::board::{Board, Place};
+use crate::board::{Board, BoardSeat};
 use crate::cell::{Cell, Content};
 use crate::draw_plays::{Draw, Said};
 use k42_kinds::{Entry, Layout};
@@ -29,7 +29,7 @@ pub fn number_at<P: Drop>(cells: &[Content<P>], place: usize) -> u32
 
 pub fn hand_word<L: Layout, K: Said<L::Part>>(
     board: &Board<L>,
-    seat: &mut Place<L>,
+    seat: &mut BoardSeat<L>,
     cells: &[Cell<L>],
     to: &L,
     entry: &Entry,

@@ -22,7 +22,7 @@ mod table_words;
 mod view;
 mod words;
 
-pub use board::{Board, Place, Ruling, Setup};
+pub use board::{Board, BoardSeat, Ruling, Setup};
 pub use cell::{Cell, Content};
 pub use draw_plays::Said;
 pub use draw_words::{alone_word, call_word, first_of, mark_word};

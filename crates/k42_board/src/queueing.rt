@@ -9,7 +9,7 @@ ghost use Rattle.k42_board.specs.Views.{pass_in};
 ghost use Rattle.k42_board.specs.Words.{many_words};
 ghost use Rattle.k42_board.specs.declared.view.View.TheVariants.{Named};
 
-use crate::board::{Board, Place};
+use crate::board::{Board, BoardSeat};
 use crate::cell::Content;
 use crate::retired::{Carried, Slip};
 use crate::view::View;
@@ -193,7 +193,7 @@ impl<P> Join<View<P>> for TakeIn {
 }
 
 /// Splits a seat off for the oldest row that the pass holds.
-pub fn name_oldest<L: Layout>(board: &Board<L>, seat: &mut Place<L>) -> Place<L>
+pub fn name_oldest<L: Layout>(board: &Board<L>, seat: &mut BoardSeat<L>) -> BoardSeat<L>
     requires ours { (seat.old.table_id ≡ board.now.shared.table_id) × (board.now.shared.table_id.words ≡ many_words) }
     requires pass { IsSeatOf seat.old.me (pass_in seat.old.me.0) }
     requires holds { 0 < length (pass_in seat.old.me.0).rows }
@@ -207,7 +207,12 @@ pub fn name_oldest<L: Layout>(board: &Board<L>, seat: &mut Place<L>) -> Place<L>
 }
 
 /// Joins the seat of a row to that of a pass, which holds the row as its oldest.
-pub fn take_back<L: Layout>(board: &Board<L>, seat: &mut Place<L>, named: Place<L>, granted: bool)
+pub fn take_back<L: Layout>(
+    board: &Board<L>,
+    seat: &mut BoardSeat<L>,
+    named: BoardSeat<L>,
+    granted: bool,
+)
     requires ours { (seat.old.table_id ≡ board.now.shared.table_id) × (board.now.shared.table_id.words ≡ many_words) }
     requires pass { IsSeatOf seat.old.me (pass_in seat.old.me.0) }
     requires row { (named.table_id ≡ board.now.shared.table_id) × (named.me ≡ (Named (row_named named.me.0), [])) }
@@ -224,7 +229,7 @@ pub fn take_back<L: Layout>(board: &Board<L>, seat: &mut Place<L>, named: Place<
 }
 
 /// The same, and it holds the row as its newest.
-pub fn take_in<L: Layout>(board: &Board<L>, seat: &mut Place<L>, named: Place<L>)
+pub fn take_in<L: Layout>(board: &Board<L>, seat: &mut BoardSeat<L>, named: BoardSeat<L>)
     requires ours { (seat.old.table_id ≡ board.now.shared.table_id) × (board.now.shared.table_id.words ≡ many_words) }
     requires pass { IsSeatOf seat.old.me (pass_in seat.old.me.0) }
     requires row { (named.table_id ≡ board.now.shared.table_id) × (named.me ≡ (Named (row_named named.me.0), [])) }

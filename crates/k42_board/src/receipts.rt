@@ -6,7 +6,7 @@ ghost use Rattle.k42_board.specs.Seen.{IsSeatOf};
 ghost use Rattle.k42_board.specs.Views.{pass_in};
 ghost use Rattle.k42_board.specs.Words.{many_words};
 
-use crate::board::{Board, Place};
+use crate::board::{Board, BoardSeat};
 use crate::cell::Cell;
 use crate::draw_plays::Receipt;
 use k42_kinds::Layout;
@@ -14,7 +14,7 @@ use k42_kinds::Layout;
 /// The first cell whose seat does not tell of the entry yet.
 pub fn tell_cell<L: Layout>(
     board: &Board<L>,
-    seat: &mut Place<L>,
+    seat: &mut BoardSeat<L>,
     cell: &mut Cell<L>,
     closed: bool,
     last: u64,
@@ -34,7 +34,7 @@ pub fn tell_cell<L: Layout>(
 /// All cells, of which the first so many are closed and the others begin a row or stay as they were.
 pub fn tell_all<L: Layout>(
     board: &Board<L>,
-    seat: &mut Place<L>,
+    seat: &mut BoardSeat<L>,
     cells: &mut [Cell<L>],
     closes: usize,
     begins: bool,

@@ -15,12 +15,17 @@ ghost use Rattle.k42_board.specs.Words.{many_words, many_slots, lock_word, slot_
 ghost use Rattle.k42_board.specs.declared.view.PassView.{PassView};
 ghost use Rattle.k42_board.specs.declared.view.View.TheVariants.{Crew};
 
-use crate::board::{Board, Place};
+use crate::board::{Board, BoardSeat};
 use crate::cell::Cell;
 use crate::slot_plays::{GiveBack, Known, Lift, Lock, PutBack, Reach, Unlock};
 use k42_kinds::Layout;
 
-pub fn lock_cell<L: Layout>(board: &Board<L>, seat: &mut Place<L>, cell: usize, number: u32) -> u64
+pub fn lock_cell<L: Layout>(
+    board: &Board<L>,
+    seat: &mut BoardSeat<L>,
+    cell: usize,
+    number: u32,
+) -> u64
     requires ours { (seat.old.table_id ≡ board.now.shared.table_id) × (board.now.shared.table_id.words ≡ many_words) }
     requires laws { AreLaws (layouts_on L.object L.tag_of L.ways L.whole L.serves L.admitted L.act_of board.now.shared.key.procs board.now.shared.key.callers.items) }
     requires number { (pass_in seat.old.me.0).number ≡ number }
@@ -37,7 +42,7 @@ pub fn lock_cell<L: Layout>(board: &Board<L>, seat: &mut Place<L>, cell: usize, 
         .compare_exchange::<Lock>(seat, 48 + 64 * (cell % 8) + cell / 8, 0, new)
 }
 
-pub fn unlock_cell<L: Layout>(board: &Board<L>, seat: &mut Place<L>, cell: usize)
+pub fn unlock_cell<L: Layout>(board: &Board<L>, seat: &mut BoardSeat<L>, cell: usize)
     requires ours { (seat.old.table_id ≡ board.now.shared.table_id) × (board.now.shared.table_id.words ≡ many_words) }
     requires laws { AreLaws (layouts_on L.object L.tag_of L.ways L.whole L.serves L.admitted L.act_of board.now.shared.key.procs board.now.shared.key.callers.items) }
     requires idle { IsSeatOf seat.old.me (pass_in seat.old.me.0) × ((pass_in seat.old.me.0).out ≡ None) }
@@ -53,7 +58,7 @@ pub fn unlock_cell<L: Layout>(board: &Board<L>, seat: &mut Place<L>, cell: usize
 
 pub fn take_cell<L: Layout, K: Known<L::Part>>(
     board: &Board<L>,
-    seat: &mut Place<L>,
+    seat: &mut BoardSeat<L>,
     cell: usize,
 ) -> Cell<L>
     requires ours { (seat.old.table_id ≡ board.now.shared.table_id) × (board.now.shared.table_id.words ≡ many_words) × (board.now.shared.table_id.slots ≡ many_slots) }
@@ -79,7 +84,7 @@ pub fn take_cell<L: Layout, K: Known<L::Part>>(
     content
 }
 
-pub fn put_cell<L: Layout>(board: &Board<L>, seat: &mut Place<L>, cell: usize, content: Cell<L>)
+pub fn put_cell<L: Layout>(board: &Board<L>, seat: &mut BoardSeat<L>, cell: usize, content: Cell<L>)
     requires ours { (seat.old.table_id ≡ board.now.shared.table_id) × (board.now.shared.table_id.words ≡ many_words) × (board.now.shared.table_id.slots ≡ many_slots) }
     requires laws { AreLaws (layouts_on L.object L.tag_of L.ways L.whole L.serves L.admitted L.act_of board.now.shared.key.procs board.now.shared.key.callers.items) }
     requires idle { IsSeatOf seat.old.me (pass_in seat.old.me.0) × ((pass_in seat.old.me.0).out ≡ None) }

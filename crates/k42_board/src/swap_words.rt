@@ -11,13 +11,13 @@ ghost use Rattle.k42_board.specs.Swapping.{object_swapped, MayChangeEntry, entry
 ghost use Rattle.k42_board.specs.Words.{many_words, local_word, object_word};
 ghost use Rattle.k42_board.specs.declared.view.View.TheVariants.{Crew};
 
-use crate::board::{Board, Place};
+use crate::board::{Board, BoardSeat};
 use crate::swap_plays::{Block, ChangeEntry, Clear, Move, TurnOver};
 use k42_kinds::Layout;
 
 pub fn change_entry_word<L: Layout>(
     board: &Board<L>,
-    seat: &mut Place<L>,
+    seat: &mut BoardSeat<L>,
     proc: usize,
     object: usize,
     new: u64,
@@ -36,7 +36,7 @@ pub fn change_entry_word<L: Layout>(
         .swap::<ChangeEntry>(seat, 32 + 64 * proc + object, new)
 }
 
-pub fn block_word<L: Layout>(board: &Board<L>, seat: &mut Place<L>, object: usize) -> u64
+pub fn block_word<L: Layout>(board: &Board<L>, seat: &mut BoardSeat<L>, object: usize) -> u64
     requires ours { (seat.old.table_id ≡ board.now.shared.table_id) × (board.now.shared.table_id.words ≡ many_words) }
     requires laws { AreLaws (layouts_on L.object L.tag_of L.ways L.whole L.serves L.admitted L.act_of board.now.shared.key.procs board.now.shared.key.callers.items) }
     requires places { (object < 16) × (object_swapped (pass_in seat.old.me.0) ≡ object) }
@@ -52,7 +52,7 @@ pub fn block_word<L: Layout>(board: &Board<L>, seat: &mut Place<L>, object: usiz
 
 pub fn move_word<L: Layout>(
     board: &Board<L>,
-    seat: &mut Place<L>,
+    seat: &mut BoardSeat<L>,
     object: usize,
     old: u64,
     new: u64,
@@ -74,7 +74,7 @@ pub fn move_word<L: Layout>(
 
 pub fn turn_word<L: Layout>(
     board: &Board<L>,
-    seat: &mut Place<L>,
+    seat: &mut BoardSeat<L>,
     object: usize,
     layout: u32,
     amount: u64,
@@ -93,7 +93,12 @@ pub fn turn_word<L: Layout>(
         .fetch_add::<TurnOver>(seat, 528 + 16 * object, amount)
 }
 
-pub fn clear_word<L: Layout>(board: &Board<L>, seat: &mut Place<L>, object: usize, mask: u64) -> u64
+pub fn clear_word<L: Layout>(
+    board: &Board<L>,
+    seat: &mut BoardSeat<L>,
+    object: usize,
+    mask: u64,
+) -> u64
     requires ours { (seat.old.table_id ≡ board.now.shared.table_id) × (board.now.shared.table_id.words ≡ many_words) }
     requires laws { AreLaws (layouts_on L.object L.tag_of L.ways L.whole L.serves L.admitted L.act_of board.now.shared.key.procs board.now.shared.key.callers.items) }
     requires places { (object < 16) × (object_swapped (pass_in seat.old.me.0) ≡ object) }

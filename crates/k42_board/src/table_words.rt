@@ -14,13 +14,13 @@ ghost use Rattle.k42_board.specs.Values.{layout_in};
 ghost use Rattle.k42_board.specs.Words.{many_words, local_word, object_word};
 ghost use Rattle.k42_board.specs.declared.view.View.TheVariants.{Crew};
 
-use crate::board::{Board, Place};
+use crate::board::{Board, BoardSeat};
 use crate::table_plays::{Begin, EndCall, Install, Knock, LoadRoot, LookUp};
 use k42_kinds::Layout;
 
 pub fn look_up_word<L: Layout>(
     board: &Board<L>,
-    seat: &mut Place<L>,
+    seat: &mut BoardSeat<L>,
     home: usize,
     object: usize,
 ) -> u64
@@ -36,7 +36,7 @@ pub fn look_up_word<L: Layout>(
     board.shared.load::<LookUp>(seat, 32 + 64 * home + object)
 }
 
-pub fn root_word<L: Layout>(board: &Board<L>, seat: &mut Place<L>, object: usize) -> u64
+pub fn root_word<L: Layout>(board: &Board<L>, seat: &mut BoardSeat<L>, object: usize) -> u64
     requires ours { (seat.old.table_id ≡ board.now.shared.table_id) × (board.now.shared.table_id.words ≡ many_words) }
     requires laws { AreLaws (layouts_on L.object L.tag_of L.ways L.whole L.serves L.admitted L.act_of board.now.shared.key.procs board.now.shared.key.callers.items) }
     requires places { object < 16 }
@@ -49,7 +49,12 @@ pub fn root_word<L: Layout>(board: &Board<L>, seat: &mut Place<L>, object: usize
     board.shared.load::<LoadRoot>(seat, 528 + 16 * object)
 }
 
-pub fn end_word<L: Layout>(board: &Board<L>, seat: &mut Place<L>, home: usize, object: usize) -> u64
+pub fn end_word<L: Layout>(
+    board: &Board<L>,
+    seat: &mut BoardSeat<L>,
+    home: usize,
+    object: usize,
+) -> u64
     requires ours { (seat.old.table_id ≡ board.now.shared.table_id) × (board.now.shared.table_id.words ≡ many_words) }
     requires laws { AreLaws (layouts_on L.object L.tag_of L.ways L.whole L.serves L.admitted L.act_of board.now.shared.key.procs board.now.shared.key.callers.items) }
     requires places { (home < 8) × (object < 16) }
@@ -63,7 +68,7 @@ pub fn end_word<L: Layout>(board: &Board<L>, seat: &mut Place<L>, home: usize, o
 
 pub fn install_word<L: Layout>(
     board: &Board<L>,
-    seat: &mut Place<L>,
+    seat: &mut BoardSeat<L>,
     home: usize,
     object: usize,
     cell: u32,
@@ -84,7 +89,7 @@ pub fn install_word<L: Layout>(
         .compare_exchange::<Install>(seat, 32 + 64 * home + object, old, new)
 }
 
-pub fn knock_word<L: Layout>(board: &Board<L>, seat: &mut Place<L>, object: usize) -> u64
+pub fn knock_word<L: Layout>(board: &Board<L>, seat: &mut BoardSeat<L>, object: usize) -> u64
     requires ours { (seat.old.table_id ≡ board.now.shared.table_id) × (board.now.shared.table_id.words ≡ many_words) }
     requires laws { AreLaws (layouts_on L.object L.tag_of L.ways L.whole L.serves L.admitted L.act_of board.now.shared.key.procs board.now.shared.key.callers.items) }
     requires places { object < 16 }
@@ -97,7 +102,7 @@ pub fn knock_word<L: Layout>(board: &Board<L>, seat: &mut Place<L>, object: usiz
     board.shared.fetch_add::<Knock>(seat, 528 + 16 * object, 1)
 }
 
-pub fn step_out_word<L: Layout>(board: &Board<L>, seat: &mut Place<L>, object: usize) -> u64
+pub fn step_out_word<L: Layout>(board: &Board<L>, seat: &mut BoardSeat<L>, object: usize) -> u64
     requires ours { (seat.old.table_id ≡ board.now.shared.table_id) × (board.now.shared.table_id.words ≡ many_words) }
     requires laws { AreLaws (layouts_on L.object L.tag_of L.ways L.whole L.serves L.admitted L.act_of board.now.shared.key.procs board.now.shared.key.callers.items) }
     requires places { (object < 16) × (object_of (pass_in seat.old.me.0).visitor.place ≡ object) }
@@ -111,7 +116,7 @@ pub fn step_out_word<L: Layout>(board: &Board<L>, seat: &mut Place<L>, object: u
         .fetch_sub::<EndCall>(seat, 528 + 16 * object, 1)
 }
 
-pub fn begin_word<L: Layout>(board: &Board<L>, seat: &mut Place<L>, object: usize) -> u64
+pub fn begin_word<L: Layout>(board: &Board<L>, seat: &mut BoardSeat<L>, object: usize) -> u64
     requires ours { (seat.old.table_id ≡ board.now.shared.table_id) × (board.now.shared.table_id.words ≡ many_words) }
     requires laws { AreLaws (layouts_on L.object L.tag_of L.ways L.whole L.serves L.admitted L.act_of board.now.shared.key.procs board.now.shared.key.callers.items) }
     requires places { object < 16 }

@@ -12,11 +12,11 @@ ghost use Rattle.k42_board.specs.Steps.{StepIs};
 ghost use Rattle.k42_board.specs.Words.{many_words, generation_word, exits_word};
 ghost use Rattle.k42_board.specs.declared.view.View.TheVariants.{Crew};
 
-use crate::board::{Board, Place};
+use crate::board::{Board, BoardSeat};
 use crate::plays::{Enter, Leave};
 use k42_kinds::Layout;
 
-pub fn enter_word<L: Layout>(board: &Board<L>, seat: &mut Place<L>, home: usize) -> u64
+pub fn enter_word<L: Layout>(board: &Board<L>, seat: &mut BoardSeat<L>, home: usize) -> u64
     requires ours { (seat.old.table_id ≡ board.now.shared.table_id) × (board.now.shared.table_id.words ≡ many_words) }
     requires laws { AreLaws (layouts_on L.object L.tag_of L.ways L.whole L.serves L.admitted L.act_of board.now.shared.key.procs board.now.shared.key.callers.items) }
     requires home { (home < 8) × ((pass_in seat.old.me.0).turn.proc ≡ home) }
@@ -31,7 +31,7 @@ pub fn enter_word<L: Layout>(board: &Board<L>, seat: &mut Place<L>, home: usize)
 
 pub fn leave_word<L: Layout>(
     board: &Board<L>,
-    seat: &mut Place<L>,
+    seat: &mut BoardSeat<L>,
     home: usize,
     generation: u32,
 ) -> u64

@@ -1,3 +1,4 @@
+//! What a run of the program leaves: its text, its status and its history.
 ghost use Rattle.std.specs.Prelude.{◌≡◌, None, IfOk};
 ghost use Rattle.k42_input.specs.Dues as dues;
 

@@ -1,3 +1,4 @@
+//! The one call of the program: it reads the input, does the work, and writes the output.
 ghost use Rattle.std.specs.Prelude.{◌≡◌, ◌≢◌, ℕ, ◌-◌, ◌^◌, ◌<◌, ◌≤◌, ◌⊎◌, ◌↔◌, true, false, List, length, take, Option, Some, None, IfOk, OnOk, IsErrOf, map, string_bytes, is_some};
 ghost use Rattle.k42_io.specs.Source.{TakesFirst, LosesAtMost};
 ghost use Rattle.k42_runtime.specs.Histories.{HistorySeen};

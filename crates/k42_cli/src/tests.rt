@@ -1,3 +1,4 @@
+//! The program over sources and sinks that fail, and which history it keeps.
 ghost use Rattle.std.specs.Prelude.{◌<◌, None};
 
 use crate::program::k42_main;

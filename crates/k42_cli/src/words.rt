@@ -1,3 +1,4 @@
+//! The words of the command line, and the form that they ask for.
 ghost use Rattle.std.specs.Prelude.{◌≡◌, map, string_bytes, IfSome};
 ghost use Rattle.script_text.specs.Numbers.{number_within};
 ghost use Rattle.k42_cli.specs.Words as asked;

@@ -1,3 +1,4 @@
+//! What each form of the command has to write for the input that it read.
 ghost use Rattle.std.specs.Prelude.{◌≡◌, ◌<◌, ◌≤◌, length, None, IfOk};
 ghost use Rattle.script_text.specs.Language.{byte_limit};
 ghost use Rattle.script_text.specs.Sound.{IsSound};

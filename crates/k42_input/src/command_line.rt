@@ -1,3 +1,4 @@
+//! The words of the command line, as both programs take them from the system.
 use k42_memory::Memory;
 use std::env;
 use std::env::Env;

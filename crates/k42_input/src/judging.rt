@@ -1,3 +1,4 @@
+//! The record behind a script is read and judged, for every program that has one.
 ghost use Rattle.std.specs.Prelude.{◌≡◌, ◌<◌, ◌≤◌, ◌^◌, length, IfOk};
 ghost use Rattle.record_text.specs.Reading.{reading};
 ghost use Rattle.record_text.specs.Spelling.{HasText};

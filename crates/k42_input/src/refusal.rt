@@ -1,3 +1,4 @@
+//! The one line with which a program answers a script that is refused.
 ghost use Rattle.std.specs.Prelude.{◌≡◌, IfOk};
 ghost use Rattle.k42_input.specs.Dues as dues;
 

@@ -1,3 +1,4 @@
+//! The input is cut where the script ends and the record begins.
 ghost use Rattle.std.specs.Prelude.{◌≡◌, ◌+◌, ◌<◌, ◌≤◌, ◌∷◌, length, take, drop};
 ghost use Rattle.script_text.specs.Lines.{lines_of};
 ghost use Rattle.k42_input.specs.Separation as separation;

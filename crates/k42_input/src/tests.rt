@@ -1,3 +1,4 @@
+//! Inputs that are cut, records that are found in them, and the numbers of the statuses.
 use crate::judging::{RecordFound, record_in};
 use crate::separation::{line_count, separate};
 use crate::status::Status;

@@ -1,3 +1,4 @@
+//! What can be found of a record, as a status and as a line.
 ghost use Rattle.std.specs.Prelude.{◌≡◌, IfOk};
 ghost use Rattle.k42_input.specs.Verdicts as verdicts;
 

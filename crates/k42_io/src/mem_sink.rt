@@ -1,3 +1,4 @@
+//! A sink for tests, which can be told when to fail.
 ghost use Rattle.std.specs.Prelude.{◌≡◌, ◌-◌, ◌^◌, ◌<◌, ◌↔◌, ⊤, min, length, take, Contains, IsOk, IsErr, IfOk, OnOk, OnErr};
 ghost use Rattle.std.specs.Io.{WritesAtMost};
 ghost use Rattle.k42_io.specs.Schedule.{next_number};

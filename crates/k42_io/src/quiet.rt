@@ -1,3 +1,4 @@
+//! A source and a sink over memory, for where no failure is wanted.
 ghost use Rattle.std.specs.Prelude.{◌≡◌, ◌<◌, ⊤, min, length, drop, Some, IsOk, IfOk};
 ghost use Rattle.std.specs.Io.{ReadsAtMost};
 ghost use Rattle.std.specs.Io.KnownBytes.{ReadConsumes};

@@ -1,3 +1,4 @@
+//! A source is read to its end, in pieces, up to a limit.
 ghost use Rattle.std.specs.Prelude.{◌≡◌, ◌+◌, ◌-◌, ◌^◌, ◌<◌, ◌≤◌, ◌↔◌, IfOk, OnOk, OnErr, IsErrOf, vec_len};
 ghost use Rattle.std.specs.Io.KnownBytes.{IsAtEnd};
 ghost use Rattle.k42_io.specs.Source.{TakesFirst, LosesAtMost};

@@ -1,3 +1,4 @@
+//! What the fakes have still to give.
 ghost use Rattle.std.specs.Prelude.{◌≡◌, min, length, take, drop};
 
 use std::marker::Model;

@@ -1,3 +1,4 @@
+//! Which of the calls of a fake are to fail.
 ghost use Rattle.std.specs.Prelude.{◌≡◌, ◌-◌, ◌^◌, ◌<◌, ◌↔◌, Contains, IsErr, OnOk, OnErr};
 ghost use Rattle.k42_io.specs.Schedule.{new_calls, next_number, after_call, after_fault};
 

@@ -1,3 +1,4 @@
+//! What a contract may say of a place to which bytes go.
 ghost use Rattle.std.specs.Prelude.{◌≡◌, ℕ, ◌+◌, ◌-◌, ◌^◌, ◌<◌, List, Option, length, IfOk, OnOk, OnErr};
 ghost use Rattle.std.specs.Io.{WritesAtMost};
 ghost use Rattle.k42_io.specs.Sink.{Stays, WriteGrows};

@@ -1,3 +1,4 @@
+//! Where the fakes keep what was written to them.
 ghost use Rattle.std.specs.Prelude.{◌≡◌, IfOk};
 ghost use Rattle.k42_io.specs.Storage.{empty_shelf, after_store, told};
 ghost use Rattle.k42_io.specs.Sink.{Grows};

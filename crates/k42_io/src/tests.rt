@@ -1,3 +1,4 @@
+//! Fakes that fail at chosen calls, and the real streams at their ends.
 ghost use Rattle.std.specs.Prelude.{◌≡◌, None};
 
 use super::*;

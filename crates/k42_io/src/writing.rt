@@ -1,3 +1,4 @@
+//! A text is written whole, however little a sink takes at a time.
 ghost use Rattle.std.specs.Prelude.{◌≡◌, ◌-◌, ◌^◌, ◌<◌, OnOk, OnErr};
 ghost use Rattle.k42_io.specs.Sink.{Grows, GrowsByFront};
 

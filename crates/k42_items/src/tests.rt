@@ -1,3 +1,4 @@
+//! Items go in and come out in one order.
 use super::*;
 use std::test::Fail;
 

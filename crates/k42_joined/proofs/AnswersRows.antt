@@ -14,7 +14,7 @@ use Rattle.k42_kinds.specs.declared.entry.Entry.{Entry}
 use Rattle.phase_core.specs.declared.caller.SwapAt.TheVariants.{Moved}
 use Rattle.turn_core.specs.Sound as turns
 use Rattle.k42_stamp.specs.Chains.{Row, Turn, Chain, past_entries, entries_of}
-use Rattle.k42_stamp.specs.Fits.{IsServed, IsEntryOf, IsHandOf, IsBegun, IsAbove, IsRow, ArePast, Fits}
+use Rattle.k42_stamp.specs.Fits.{IsCallOrMark, IsEntryOf, IsHandOf, IsBegun, IsAbove, IsRow, ArePast, Fits}
 use Rattle.k42_stamp.specs.Laws.{AreLaws}
 use Rattle.k42_stamp.specs.Layouts.{Layouts}
 use Rattle.k42_stamp.specs.Lists.{InSome, InRows, is_drawn}
@@ -33,7 +33,7 @@ use Rattle.k42_joined.proofs.RowsStamps.{in_own}
 
 -- a swap that was carried out is no call, and none of a row's entries
 not_served : {S : Type 0} (one : OneThread S) (tag number n : ℕ) (act : Act) (answer : Answer) → answer ≡ Swapped n → is_call act ≡ false
-    → IsServed one tag number act answer → ⊥
+    → IsCallOrMark one tag number act answer → ⊥
 not_served one tag number n (Call op) answer is call served = cc
 not_served one tag number n (Swap to) (Swapped k) is call served = served
 not_served one tag number n Destroy (Swapped k) is call served = served

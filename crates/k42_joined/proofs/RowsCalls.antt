@@ -25,7 +25,7 @@ use Rattle.turn_core.specs.Sound as turns
 use Rattle.turn_core.specs.declared.event.TurnEvent.TheVariants.{Draw}
 use Rattle.turn_core.specs.Events as turn_events
 use Rattle.k42_stamp.specs.Chains.{Chain, parts_of}
-use Rattle.k42_stamp.specs.Fits.{IsMark as IsMarkOf, IsServed}
+use Rattle.k42_stamp.specs.Fits.{IsMark as IsMarkOf, IsCallOrMark}
 use Rattle.k42_stamp.specs.Laws.{AreLaws}
 use Rattle.k42_stamp.specs.Layouts.{Layouts}
 use Rattle.k42_stamp.specs.Parts.{reached as needs, reach_of, part_steps, act_replies, reply_in}
@@ -90,7 +90,7 @@ mark_of k tag number Gone over known same now is = same ∙ is.1
 mark_of k tag number answer over known same now is = absurd (cc)
 
 mark_served : {S : Type 0} (one : OneThread S) (k : Object) (tag number : ℕ) (act : Act) (answer : Answer) → ((op : Op) → act ≡ Call op → ⊥)
-    → IsMarkOf tag number answer → IsServed one tag number act answer
+    → IsMarkOf tag number answer → IsCallOrMark one tag number act answer
 mark_served one k tag number (Call op) answer not mark = absurd (not op refl)
 mark_served one k tag number (Swap to) answer not mark = mark
 mark_served one k tag number Destroy answer not mark = mark
@@ -157,8 +157,8 @@ module _ {S L P : Type 0} (F : Layouts S L P) (laws : AreLaws F) (declared : Lis
     takes : IsTrue ((F.object_of x.row.layout).takes op)
     takes = subst (λ (one : OneThread S). IsTrue (one.takes op)) (sym has.rows.fits.row.kind) call.takes
 
-    served : (number : ℕ) → IsServed (F.object_of x.row.layout) (F.tag_of x.row.layout) number e.act e.answer
-    served number = subst (λ act. IsServed (F.object_of x.row.layout) (F.tag_of x.row.layout) number act e.answer) (sym act) takes
+    served : (number : ℕ) → IsCallOrMark (F.object_of x.row.layout) (F.tag_of x.row.layout) number e.act e.answer
+    served number = subst (λ act. IsCallOrMark (F.object_of x.row.layout) (F.tag_of x.row.layout) number act e.answer) (sym act) takes
 
     within : IsWithin F.procs (reach_of F x.row.layout e)
     within =
@@ -242,7 +242,7 @@ module _ {S L P : Type 0} (F : Layouts S L P) (laws : AreLaws F) (declared : Lis
         (ap (slice_get (layouts_of s e.object ++ declaration ∷ [])) (omega (arith, now))
         ∙ ap (λ layouts. slice_get layouts 0) (sym has.rows.layouts))
 
-    served : IsServed (F.object_of x.row.layout) (F.tag_of x.row.layout) (length x.past) e.act e.answer
+    served : IsCallOrMark (F.object_of x.row.layout) (F.tag_of x.row.layout) (length x.past) e.act e.answer
     served =
         mark_served (F.object_of x.row.layout) (object s e.object) (F.tag_of x.row.layout) (length x.past) e.act e.answer not
         (mark_of (object s e.object) (F.tag_of x.row.layout) (length x.past) e.answer mark.over has.rows.fits.row.known tagged

@@ -25,7 +25,7 @@ use Rattle.turn_core.proofs.Changed.{callers-change_cells}
 use Rattle.turn_core.proofs.Drawing.{IsNext as IsNextStamp, next_parts}
 use Rattle.k42_stamp.specs.Chains.{Turn, Chain, past_entries, parts_of}
 use Rattle.k42_stamp.specs.Draws.{IsLater, IsNext, drawn_at, chain_with, Draws}
-use Rattle.k42_stamp.specs.Fits.{IsServed, IsEntryOf}
+use Rattle.k42_stamp.specs.Fits.{IsCallOrMark, IsEntryOf}
 use Rattle.k42_stamp.specs.Laws.{AreLaws}
 use Rattle.k42_stamp.specs.Layouts.{Layouts}
 use Rattle.k42_stamp.specs.Lists.{InHistory, AreThose, is_drawn}
@@ -65,7 +65,7 @@ core_draw s c cells e can =
     record { once = first.1; opened = second.1; next = next_parts s c cells e third.1 }
 
 -- each entry of a row was drawn at cells
-served_drawn : {S : Type 0} (object : OneThread S) (tag number : ℕ) (act : Act) (answer : Answer) → IsServed object tag number act answer → is_drawn act answer ≡ true
+served_drawn : {S : Type 0} (object : OneThread S) (tag number : ℕ) (act : Act) (answer : Answer) → IsCallOrMark object tag number act answer → is_drawn act answer ≡ true
 served_drawn object tag number (Call op) answer served = refl
 served_drawn object tag number (Swap to) Spent served = refl
 served_drawn object tag number (Swap to) Gone served = refl
@@ -151,7 +151,7 @@ module _ {S L P : Type 0} (F : Layouts S L P) (laws : AreLaws F) (declared : Lis
   history_now p lt =
       ap (λ row. history_in s o row p) past_now ∙ at_present_life (cell_in s o i p) (i / 2) (locked.lives o p named lt).present.past
 
-  module _ (served : IsServed (F.object_of x.row.layout) (F.tag_of x.row.layout) (length x.past) e.act e.answer)
+  module _ (served : IsCallOrMark (F.object_of x.row.layout) (F.tag_of x.row.layout) (length x.past) e.act e.answer)
       (replied : (part_steps F x.row.layout).answers (parts_of F x.row) e ≡ (part_steps F x.row.layout).tells e) where
     next : IsNext F o (history_in s o) x e
     next = record {

@@ -1,3 +1,4 @@
+//! The laws of the joined machine, which the running table takes over for its own states.
 ghost use Rattle.std.specs.Prelude.{◌≡◌, ◌⊎◌, ◌<◌, ℕ, List, Some, slice_get};
 ghost use Rattle.k42_kinds.specs.declared.entry.Entry.{Entry};
 ghost use Rattle.k42_stamp.specs.Layouts.{layouts_with};

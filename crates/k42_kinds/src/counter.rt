@@ -1,3 +1,4 @@
+//! The counter of one thread.
 ghost use Rattle.std.specs.Prelude.{◌≡◌};
 ghost use Rattle.k42_kinds.specs.Objects.{counter_after, counter_reply};
 

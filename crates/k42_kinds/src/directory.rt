@@ -1,3 +1,4 @@
+//! The directory of one thread, as a map.
 ghost use Rattle.std.specs.Prelude.{◌≡◌, IfOk, OnOk, OnErr};
 ghost use Rattle.std.specs.FinMap as map;
 ghost use Rattle.k42_kinds.specs.Objects.{BindsNew, directory_after, directory_reply, found_number};

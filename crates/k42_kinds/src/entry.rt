@@ -1,3 +1,4 @@
+//! The lines of a history: who asked what of which object, and the answer.
 ghost use Rattle.std.specs.Prelude.{◌≡◌, [], ◌∷◌, ◌++◌, OnOk, OnErr};
 
 use crate::operation::{LayoutName, Op, Reply};

@@ -1,3 +1,4 @@
+//! What every object of one thread offers.
 ghost use Rattle.std.specs.Prelude.{◌≡◌, IsTrue, IfOk, OnErr};
 ghost use Rattle.k42_kinds.specs.OneThread.{OneThread};
 ghost use Rattle.k42_kinds.specs.Steps.{Steps};

@@ -1,3 +1,4 @@
+//! What a layout owes the object of one thread, as laws that each layout proves.
 ghost use Rattle.std.specs.Prelude.{◌≡◌, ◌==◌, ◌<◌, ◌≤◌, ℕ, Bool, true, false, IsTrue, List, IfOk, OnOk, OnErr};
 ghost use Rattle.k42_limits.specs.declared.TheConstants.{PROCESSORS};
 ghost use Rattle.k42_kinds.specs.declared.operation.Op.{Op};

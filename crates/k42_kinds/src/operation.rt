@@ -1,3 +1,4 @@
+//! Every operation of every kind, and every reply.
 ghost use Rattle.std.specs.Prelude.{◌≡◌};
 ghost use Rattle.k42_kinds.specs.Operations.{kind_of_op};
 

@@ -1,3 +1,4 @@
+//! What is kept of one page.
 use crate::text::Text;
 
 /// A page that was written.

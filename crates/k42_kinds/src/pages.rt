@@ -1,3 +1,4 @@
+//! The pages of one thread, as a map.
 ghost use Rattle.std.specs.Prelude.{◌≡◌, IfOk, OnOk, OnErr};
 ghost use Rattle.std.specs.FinMap as map;
 ghost use Rattle.k42_kinds.specs.Pages.{dirty_count, all_cleaned, written};

@@ -1,3 +1,4 @@
+//! The object of one thread of any kind, against which all layouts and records are judged.
 ghost use Rattle.std.specs.Prelude.{◌≡◌, IfOk, OnErr};
 ghost use Rattle.k42_kinds.specs.Objects.{plain_object, state_after, reply_of, NeedsMemory};
 ghost use Rattle.k42_kinds.specs.Steps.{Steps};

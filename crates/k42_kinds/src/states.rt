@@ -1,3 +1,4 @@
+//! The state of an object of one thread, whatever its kind.
 use crate::directory::DirectoryState;
 use crate::pages::PagesState;
 

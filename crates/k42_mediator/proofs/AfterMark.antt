@@ -21,7 +21,7 @@ use Rattle.k42_board.specs.Views.{hears, object_begun, word_begun}
 use Rattle.k42_board.specs.declared.cell.Content.{Content}
 use Rattle.k42_board.specs.declared.view.PassView.{PassView}
 use Rattle.k42_mediator.specs.Entries.{IsNext}
-use Rattle.k42_mediator.specs.Taken.{released, IsReady}
+use Rattle.k42_mediator.specs.Taken.{released, MayPutBack}
 use Rattle.k42_mediator.proofs.GivenBack.{released_taken, released_drawn, released_none, held_due}
 use Rattle.k42_mediator.proofs.Heard.{heard_now}
 use Rattle.k42_mediator.proofs.NotesTold.{told_part, taken_now}
@@ -90,7 +90,7 @@ module _ {P : Type 0} (v0 : PassView P) (n : ℕ) (cell : Content P) (number : c
       ∙ ap (λ cells. hears entry.stamp (record v0 { taker = caller_drawn entry v0.taker; found = None; untold = cells })) (sym told))
 
   pub mark_ready : {S L : Type 0} (F : Layouts S L P) → AreLaws F → (declared : List L) (id : ℕ) (new : Content P) → n < CELLS → IsTold w.notes cell new
-      → IsReady F declared id w new
+      → MayPutBack F declared id w new
   mark_ready F laws declared id new few told =
       let same : new.number ≡ n = told.number ∙ number in
       let named : names (cell.number ∷ []) new.number ≡ true = ap (λ b. b || false) (eq-eqb cell.number new.number (sym told.number)) in

@@ -25,11 +25,11 @@ use Rattle.k42_board.specs.declared.view.View.{View}
 use Rattle.k42_board.specs.declared.view.View.TheVariants.{Crew}
 use Rattle.k42_board.proofs.Fields.{Fits, object_fits, object_read, cleared_value}
 use Rattle.k42_board.proofs.OnePass.{known}
-use Rattle.k42_mediator.specs.Swaps.{staged, IsFree, LeadsTo, LeavesOpen}
+use Rattle.k42_mediator.specs.Swaps.{staged, IsRestored, LeadsToRow, LeavesOpen}
 
 -- the word of an object without the bits of a swap
 free_word : (k : Object) (word begun : ℕ) → Fits k → AreClear (bits_of k) → word ≡ object_value (cleared k)
-    → layout_in begun ≡ k.layout → incarnation_in begun ≡ k.incarnation → IsFree begun word
+    → layout_in begun ≡ k.layout → incarnation_in begun ≡ k.incarnation → IsRestored begun word
 free_word k word begun fits clear is layout incarnation =
     let l = cleared k in
     let fits' : Fits l = record { count = fits.count; layout = fits.layout; incarnation = fits.incarnation } in
@@ -46,7 +46,7 @@ free_word k word begun fits clear is layout incarnation =
     unmoved : word ≡ k.count + 2 ^ 24 * (0 + 2 * 0 + 4 * 0 + 8 * 0) + 2 ^ 28 * k.layout + 2 ^ 32 * k.incarnation → k.count ≤ 16 → word / 2 ^ 26 % 2 ≡ 0
     unmoved same few = omega (arith, same, few)
 
-leads_to : (layout p i : ℕ) (e : LocalEntry) → IsTagged layout p e → e.incarnation ≡ i → LeadsTo i e
+leads_to : (layout p i : ℕ) (e : LocalEntry) → IsTagged layout p e → e.incarnation ≡ i → LeadsToRow i e
 leads_to layout p i e tagged same =
     ⊎_elim (λ (is : (e.tag ≡ 0) × (e.layout ≡ 0) × (e.cell ≡ 0)). let tag = is.0 in record { incarnation = same; tag = omega (arith, tag) })
     (λ is. let tag = is.0 in record { incarnation = same; tag = omega (arith, tag) }) tagged
@@ -80,14 +80,14 @@ module _ {S L P : Type 0} (F : Layouts S L P) (declared : List L) (id o : ℕ) (
       ⊎_elim (λ (is : AreClear (bits_of k)). is) (λ is. absurd (let done = is.0.2 in let not = incomplete in cc))
       (rw stage at (object_known s r.sound.phases o there).bits_follow.bits)
 
-  free : IsFree (word_begun v.last) (bit_and (get_or table.words (object_word o) 0) (2 ^ 64 - 1 - 2 ^ 24 - 2 ^ 27))
+  free : IsRestored (word_begun v.last) (bit_and (get_or table.words (object_word o) 0) (2 ^ 64 - 1 - 2 ^ 24 - 2 ^ 27))
   free =
       let fits = object_fits s r.sound.phases o there in
       free_word k (bit_and (get_or table.words (object_word o) 0) (2 ^ 64 - 1 - 2 ^ 24 - 2 ^ 27)) (word_begun v.last) fits clear
       (cleared_value k (get_or table.words (object_word o) 0) fits (r.shows.objects o k (slice_get-get_or s.objects o fresh_object there)).word)
       (knows.phases.swap.layout_begun o refl unturned) (knows.phases.swap.begun o refl unturned)
 
-  entries : EachPlace (λ p e. LeadsTo (incarnation_in (word_begun v.last)) e) k.entries
+  entries : EachPlace (λ p e. LeadsToRow (incarnation_in (word_begun v.last)) e) k.entries
   entries p e is =
       let stage = ((visitor_known s r.sound.phases v.number knows.there).swap_alone.owned o (ap named_by own)).1 ∙ own in
       let known' = object_known s r.sound.phases o there in

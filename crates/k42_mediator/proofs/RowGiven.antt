@@ -12,7 +12,7 @@ use Rattle.k42_board.specs.declared.cell.Content.{Content}
 use Rattle.k42_board.specs.declared.view.Note.{Note}
 use Rattle.k42_board.specs.declared.view.PassView.{PassView}
 use Rattle.k42_rule.proofs.HandedNotes.{numbers_more}
-use Rattle.k42_mediator.specs.Taken.{released, IsReady, AreReady}
+use Rattle.k42_mediator.specs.Taken.{released, MayPutBack, MayPutAllBack}
 use Rattle.k42_mediator.proofs.GivenBack.{released_twice}
 use Rattle.k42_mediator.proofs.Remaining.{eqb_turned}
 
@@ -73,7 +73,7 @@ module _ {P : Type 0} (n m : ℕ) (apart : eqb n m ≡ false) where
 
 -- a cell that is ready stays so as another is given back
 pub ready_stays : {S L P : Type 0} (F : Layouts S L P) (declared : List L) (id n : ℕ) (v : PassView P) (content : Content P) → eqb n content.number ≡ false
-    → IsReady F declared id v content → IsReady F declared id (released (n ∷ []) v) content
+    → MayPutBack F declared id v content → MayPutBack F declared id (released (n ∷ []) v) content
 ready_stays F declared id n v content apart ready =
     let m : ℕ = content.number in
     record {
@@ -125,7 +125,7 @@ pub record IsGiving
   pub same : IsSamePass first now
   pub once : names_once (numbers_of cells) ≡ true
   pub back : now.view.out ≡ None
-  pub ready : AreReady F declared first.seat now.view cells
+  pub ready : MayPutAllBack F declared first.seat now.view cells
   pub released_is : released (numbers_of cells) now.view ≡ released (numbers_of before) first.view
 
 at_front : {A : Type 0} (xs : List A) (x : A) (k : ℕ) (y : A) → slice_get xs k ≡ Some y → slice_get (xs ++ x ∷ []) k ≡ Some y
@@ -152,10 +152,10 @@ module _ {S L P : Type 0} (F : Layouts S L P) (declared : List L) (first now : P
   front : IsLastOnce (numbers_of xs) content.number
   front = last_once (numbers_of xs) content.number (sym (ap names_once numbers) ∙ is.once)
 
-  ready : AreReady F declared first.seat now.view (xs ++ content ∷ [])
-  ready = subst (AreReady F declared first.seat now.view) are is.ready
+  ready : MayPutAllBack F declared first.seat now.view (xs ++ content ∷ [])
+  ready = subst (MayPutAllBack F declared first.seat now.view) are is.ready
 
-  pub last_ready : IsReady F declared first.seat now.view content
+  pub last_ready : MayPutBack F declared first.seat now.view content
   last_ready = let at = at_end xs content in ready at.0 content at.1
 
   pub gives_next : (new : PassSeen P) → IsSamePass now new → new.view ≡ released (content.number ∷ []) now.view → IsGiving F declared first new before xs
@@ -172,7 +172,7 @@ module _ {S L P : Type 0} (F : Layouts S L P) (declared : List L) (first now : P
     once = front.once;
     back = ap (λ (v : PassView _). v.out) e;
     ready = λ k other at.
-        subst (λ v. IsReady F declared first.seat v other) (sym e)
+        subst (λ v. MayPutBack F declared first.seat v other) (sym e)
         (ready_stays F declared first.seat content.number now.view other (unnamed xs content.number k other front.apart at) (ready k other (at_front xs content k other at)));
     released_is =
         ap (released (numbers_of xs)) e ∙ released_twice (numbers_of xs) (content.number ∷ []) now.view

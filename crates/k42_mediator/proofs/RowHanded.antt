@@ -30,7 +30,7 @@ use Rattle.k42_board.proofs.HandedOn.{once_both}
 use Rattle.k42_board.proofs.Noted.{each_named}
 use Rattle.k42_board.proofs.RowCells.{row_once}
 use Rattle.k42_rule.proofs.HandedNotes.{numbers_more}
-use Rattle.k42_mediator.specs.Taken.{released, AreTaken, AreReady}
+use Rattle.k42_mediator.specs.Taken.{released, AreTaken, MayPutAllBack}
 use Rattle.k42_mediator.specs.Transfers.{IsDoneNext, HasHanded}
 use Rattle.k42_mediator.proofs.AfterMark.{later_stamp}
 use Rattle.k42_mediator.proofs.GivenBack.{held_due}
@@ -94,7 +94,7 @@ module _ {S L P : Type 0} (F : Layouts S L P) (laws : AreLaws F) (declared : Lis
   noted_is k content at = named_noted v cells has.taken content.number (ap (λ ns. names ns content.number) (sym numbers) ∙ each_named news k content at)
 
   -- and the cells are ready to be given back
-  pub ready_handed : (id : ℕ) (told : List (Content P)) → AreTold w.notes news told → AreReady F declared id w told
+  pub ready_handed : (id : ℕ) (told : List (Content P)) → AreTold w.notes news told → MayPutAllBack F declared id w told
   ready_handed id told are k content at =
       let lt = slice_get_within told k content at in let long = are.0 in
       let old = at_of news k (omega (arith, lt, long)) in

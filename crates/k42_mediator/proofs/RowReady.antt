@@ -30,7 +30,7 @@ use Rattle.k42_board.proofs.RowCells.{place_in_row}
 use Rattle.k42_rule.proofs.HandedNotes.{numbers_more}
 use Rattle.k42_rule.proofs.PartsDue.{first_note, parts_whole}
 use Rattle.k42_mediator.specs.Parts.{parts_from, IsKept, AreKept, filled}
-use Rattle.k42_mediator.specs.Taken.{AreTaken, IsAlike, IsReady, AreReady}
+use Rattle.k42_mediator.specs.Taken.{AreTaken, IsAlike, MayPutBack, MayPutAllBack}
 use Rattle.k42_mediator.proofs.GivenBack.{held_due}
 use Rattle.k42_mediator.proofs.PartsMoved.{take_twice, cells_few}
 use Rattle.k42_mediator.proofs.Remaining.{names_more}
@@ -149,7 +149,7 @@ module _ {S L P : Type 0} (F : Layouts S L P) (laws : AreLaws F) (declared : Lis
   number_small k content e = named_small content.number (ap (λ ns. names ns content.number) (sym has.numbers) ∙ each_named cells k content e)
 
   module _ (id : ℕ) where
-    pub ready_same : (k : ℕ) (content : Content P) → slice_get cells k ≡ Some content → IsReady F declared id v content
+    pub ready_same : (k : ℕ) (content : Content P) → slice_get cells k ≡ Some content → MayPutBack F declared id v content
     ready_same k content at = record {
       cell = number_small k content at;
       holds = named_at k content at;
@@ -171,12 +171,12 @@ module _ {S L P : Type 0} (F : Layouts S L P) (laws : AreLaws F) (declared : Lis
         has.declaration layout has.declares has.same (has.tagged ∙ ap (λ last. layout_in (word_begun last)) (sym alike.last)) within table r at)
 
     pub ready_kept : (k : ℕ) (old new : Content P) → slice_get cells k ≡ Some old → old.number ≡ cell_of o i k → k < procs → IsKept ways procs many k old new
-        → IsReady F declared id v new
+        → MayPutBack F declared id v new
     ready_kept k old new at named lt is =
-        ⊎_elim (λ (e : new ≡ old). subst (IsReady F declared id v) (sym e) (ready_same k old at))
+        ⊎_elim (λ (e : new ≡ old). subst (MayPutBack F declared id v) (sym e) (ready_same k old at))
         (λ (e : (k < many) × (new ≡ record old { part = Some (unwrap_or old.part (ways.empty procs k)) })).
         let was = ready_same k old at in
-        subst (IsReady F declared id v) (sym e.1) (record {
+        subst (MayPutBack F declared id v) (sym e.1) (record {
           cell = was.cell;
           holds = was.holds;
           held = record { noted = was.held.noted; history = was.held.history; closed = was.held.closed };
@@ -218,7 +218,7 @@ module _ {S L P : Type 0} (F : Layouts S L P) (laws : AreLaws F) (declared : Lis
       none k = omega arith
 
   -- without memory they are given back
-  pub ready_again : (id : ℕ) → drop F.procs news ≡ drop F.procs cells → AreReady F declared id v news
+  pub ready_again : (id : ℕ) → drop F.procs news ≡ drop F.procs cells → MayPutAllBack F declared id v news
   ready_again id same k new at =
       ⊎_elim
       (λ (is : (k < F.procs) × (slice_get (take F.procs news) k ≡ Some new)).

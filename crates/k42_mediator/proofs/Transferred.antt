@@ -17,13 +17,13 @@ use Rattle.k42_board.specs.Views.{hears}
 use Rattle.k42_board.specs.declared.view.PassView.{PassView}
 use Rattle.k42_board.proofs.OnePass.{known}
 use Rattle.k42_mediator.specs.Taken.{released}
-use Rattle.k42_mediator.specs.Transfers.{IsLeft, IsDoneNext, HasHanded, HasDone, HasKept}
+use Rattle.k42_mediator.specs.Transfers.{IsVacant, IsDoneNext, HasHanded, HasDone, HasKept}
 use Rattle.k42_mediator.proofs.GivenBack.{released_none}
 use Rattle.k42_mediator.proofs.Heard.{heard_now}
 
 -- while an object is moved nobody is inside its rows
 pub left_always : {S L P : Type 0} (F : Layouts S L P) (declared : List L) (id o : ℕ) (v : PassView P) → v.visitor.swap ≡ Moved o
-    → Always F declared id v (IsLeft o)
+    → Always F declared id v (IsVacant o)
 left_always F declared id o v moved table r at d i there inside =
     let s = r.state.phases in
     let knows : KnowsPass F.tag_of r.state r.beside id v = known F declared table r id v at in

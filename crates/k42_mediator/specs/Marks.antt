@@ -58,6 +58,6 @@ module _ {S L P : Type 0} (F : Layouts S L P) (declared : List L) where
         StepIs F declared (AtCells (Lock old.view.number (cell_marked old.view))) (lock_word (cell_marked old.view))
         (λ word. if word == 0 then old.view.number + 1 else word) old.seat old.view (holder + 1) new.view
 
-  abbrev pub IsMark : Marked → Act → PassSeen P → PassSeen P → Type 0
-  IsMark marks.Marked act old new = HasMarked act old new
-  IsMark (marks.Held holder) act old new = IsHeldBy holder old new
+  abbrev pub IsMarkAnswer : Marked → Act → PassSeen P → PassSeen P → Type 0
+  IsMarkAnswer marks.Marked act old new = HasMarked act old new
+  IsMarkAnswer (marks.Held holder) act old new = IsHeldBy holder old new

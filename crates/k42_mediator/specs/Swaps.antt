@@ -75,8 +75,8 @@ pub record HasOpened {P : Type 0} (v : PassView P) : Type 0 where
   pub turned : v.turned ≡ true
 
 -- it swaps nothing any more, and has the old row behind those that it held
-abbrev pub ended_view : {P : Type 0} → PassView P → PassView P
-ended_view v = record (staged Idle v) { turned = false; rows = rows_ended v }
+abbrev pub swap_ended_view : {P : Type 0} → PassView P → PassView P
+swap_ended_view v = record (staged Idle v) { turned = false; rows = rows_ended v }
 
 -- it gives its swap up: it has opened all entries again, and has drawn that
 abbrev pub given_up_view : {P : Type 0} → Act → PassView P → PassView P
@@ -93,7 +93,7 @@ abbrev pub abandoned_view : {P : Type 0} → Act → PassView P → PassView P
 abandoned_view act v = staged Idle (given_up_view act v)
 
 -- the word has the layout and the incarnation that a Begin found, and none of the bits of a swap
-pub record IsFree (begun word : ℕ) : Type 0 where
+pub record IsRestored (begun word : ℕ) : Type 0 where
   pub layout : layout_in word ≡ layout_in begun
   pub incarnation : incarnation_in word ≡ incarnation_in begun
   pub swap : has_bit word 24 ≡ false
@@ -102,7 +102,7 @@ pub record IsFree (begun word : ℕ) : Type 0 where
   pub complete : has_bit word 27 ≡ false
 
 -- an entry that leads into the row, or is empty there
-pub record LeadsTo (i : ℕ) (e : LocalEntry) : Type 0 where
+pub record LeadsToRow (i : ℕ) (e : LocalEntry) : Type 0 where
   pub incarnation : e.incarnation ≡ i
   pub tag : e.tag ≤ 1
 
@@ -112,5 +112,5 @@ module _ {S L P : Type 0} (F : Layouts S L P) (declared : List L) where
   abbrev pub LeavesOpen : ℕ → PassView P → Type 0
   LeavesOpen id v =
       (table : State (Slot P) (View P)) (r : Rule F declared table) → get_elem? table.views id ≡ some (Crew (v ∷ []))
-      → IsFree (word_begun v.last) (clears v.visitor.swap (slice_index table.words (object_word (object_swapped v))))
-      × EachPlace (λ p e. LeadsTo (incarnation_in (word_begun v.last)) e) (object r.state (object_swapped v)).entries
+      → IsRestored (word_begun v.last) (clears v.visitor.swap (slice_index table.words (object_word (object_swapped v))))
+      × EachPlace (λ p e. LeadsToRow (incarnation_in (word_begun v.last)) e) (object r.state (object_swapped v)).entries

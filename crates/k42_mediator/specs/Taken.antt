@@ -40,7 +40,7 @@ pub record IsAlike {P : Type 0} (v w : PassView P) : Type 0 where
 
 module _ {S L P : Type 0} (F : Layouts S L P) (declared : List L) where
   -- whatever else the pass gives back first, it may put the cell back with the part that this has now
-  pub record IsReady (id : ℕ) (v : PassView P) (content : Content P) : Type 0 where
+  pub record MayPutBack (id : ℕ) (v : PassView P) (content : Content P) : Type 0 where
     pub cell : content.number < CELLS
     pub holds : names v.taker.held content.number ≡ true
     pub held : IsHeld v.notes content
@@ -49,5 +49,5 @@ module _ {S L P : Type 0} (F : Layouts S L P) (declared : List L) where
         → part_noted w.notes content.number ≡ part_noted v.notes content.number
         → Always F declared id w (λ s. IsPart F declared s content.number content.part)
 
-  abbrev pub AreReady : ℕ → PassView P → List (Content P) → Type 0
-  AreReady id v contents = EachPlace (λ place content. IsReady id v content) contents
+  abbrev pub MayPutAllBack : ℕ → PassView P → List (Content P) → Type 0
+  MayPutAllBack id v contents = EachPlace (λ place content. MayPutBack id v content) contents

@@ -26,8 +26,8 @@ pub record IsOfKind {S L : Type 0} (object_of : L → OneThread S) (declared : L
   pub same : object_of layout ≡ object_of declaration
 
 -- no call is inside a row of the object
-abbrev pub IsLeft : {L : Type 0} → ℕ → Joined L → Type 0
-IsLeft o s = (c i : ℕ) → c < many_callers s → IsInside (visitor_at s.phases c).place o i → ⊥
+abbrev pub IsVacant : {L : Type 0} → ℕ → Joined L → Type 0
+IsVacant o s = (c i : ℕ) → c < many_callers s → IsInside (visitor_at s.phases c).place o i → ⊥
 
 -- the entry of a swap that the pass has done
 abbrev pub IsDoneNext : {P : Type 0} → Act → PassView P → Entry → Type 0

@@ -4,7 +4,7 @@ ghost use Rattle.k42_board.specs.Plan.{layouts_on};
 ghost use Rattle.k42_board.specs.Seen.{IsPassOf};
 ghost use Rattle.k42_board.specs.Tabling.{is_over_in};
 ghost use Rattle.k42_board.specs.Values.{answer_in};
-ghost use Rattle.k42_mediator.specs.Marks.{MayMark, IsMark};
+ghost use Rattle.k42_mediator.specs.Marks.{MayMark, IsMarkAnswer};
 
 use crate::answers::Marked;
 use crate::begun::last_of;
@@ -30,7 +30,7 @@ pub fn mark<L: Layout>(sys: &Sys<L>, pass: &mut Pass<L>, act: Act) -> Marked
     requires ours { IsPassOf sys.now pass.old }
     requires may { MayMark act pass.old.view }
     requires room { 0 < pass.old.room }
-    ensures { IsMark
+    ensures { IsMarkAnswer
         (layouts_on L.object L.tag_of L.ways L.whole L.serves L.admitted L.act_of sys.now.procs sys.now.callers)
         sys.now.layouts result act pass.old pass.new }
 {

@@ -8,7 +8,7 @@ ghost use Rattle.k42_board.specs.Steps.{StepIs};
 ghost use Rattle.k42_board.specs.Swapping.{object_swapped, clears};
 ghost use Rattle.k42_board.specs.Views.{hears};
 ghost use Rattle.k42_board.specs.Words.{object_word};
-ghost use Rattle.k42_mediator.specs.Swaps.{HasTransferred, opened_view, HasOpened, ended_view};
+ghost use Rattle.k42_mediator.specs.Swaps.{HasTransferred, opened_view, HasOpened, swap_ended_view};
 
 use crate::interposing::change_entries;
 use k42_kinds::Layout;
@@ -32,7 +32,7 @@ pub fn end<L: Layout>(sys: &Sys<L>, pass: &mut Pass<L>)
     requires opened { HasOpened pass.old.view }
     requires room { 0 < pass.old.row_room }
     ensures same { HasSameRoom pass.old pass.new }
-    ensures knows { pass.new.view ≡ hears pass.new.view.heard (ended_view pass.old.view) }
+    ensures knows { pass.new.view ≡ hears pass.new.view.heard (swap_ended_view pass.old.view) }
     ensures event { StepIs
         (layouts_on L.object L.tag_of L.ways L.whole L.serves L.admitted L.act_of sys.now.procs sys.now.callers)
         sys.now.layouts (AtPhases (phases.Clear pass.old.view.number))

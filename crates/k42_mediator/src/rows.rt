@@ -9,7 +9,7 @@ ghost use Rattle.k42_board.specs.Plan.{layouts_on};
 ghost use Rattle.k42_board.specs.Seen.{IsOf, IsSamePass};
 ghost use Rattle.k42_board.specs.Taking.{AreRowsNoted, TouchesMoved};
 ghost use Rattle.k42_board.specs.Views.{hears};
-ghost use Rattle.k42_mediator.specs.Taken.{released, AreTaken, IsReady, AreReady};
+ghost use Rattle.k42_mediator.specs.Taken.{released, AreTaken, MayPutBack, MayPutAllBack};
 
 use k42_kinds::Layout;
 use k42_rule::{Cell, Pass, Sys, lock, put, take, unlock};
@@ -85,7 +85,7 @@ pub(crate) fn take_row<L: Layout>(
 /// Puts one cell back, and leaves its lock.
 pub(crate) fn give_next<L: Layout>(sys: &Sys<L>, pass: &mut Pass<L>, cell: Cell<L>)
     requires ours { IsOf sys.now pass.old }
-    requires ready { IsReady
+    requires ready { MayPutBack
         (layouts_on L.object L.tag_of L.ways L.whole L.serves L.admitted L.act_of sys.now.procs sys.now.callers)
         sys.now.layouts pass.old.seat pass.old.view cell }
     ensures same { IsSamePass pass.old pass.new }
@@ -101,7 +101,7 @@ pub(crate) fn give_back<L: Layout>(sys: &Sys<L>, pass: &mut Pass<L>, mut cells: 
     requires ours { IsOf sys.now pass.old }
     requires once { names_once (numbers_of cells.items) ≡ true }
     requires back { pass.old.view.out ≡ None }
-    requires ready { AreReady
+    requires ready { MayPutAllBack
         (layouts_on L.object L.tag_of L.ways L.whole L.serves L.admitted L.act_of sys.now.procs sys.now.callers)
         sys.now.layouts pass.old.seat pass.old.view cells.items }
     ensures same { IsSamePass pass.old pass.new }

@@ -14,8 +14,8 @@ ghost use Rattle.k42_board.specs.Values.{incarnation_in};
 ghost use Rattle.k42_board.specs.Views.{word_begun};
 ghost use Rattle.k42_board.specs.declared.view.PassView.{PassView};
 ghost use Rattle.k42_mediator.specs.Swaps.{HasMoved};
-ghost use Rattle.k42_mediator.specs.Taken.{AreTaken, AreReady};
-ghost use Rattle.k42_mediator.specs.Transfers.{IsOfKind, IsLeft, HasHanded, HasDone, HasKept};
+ghost use Rattle.k42_mediator.specs.Taken.{AreTaken, MayPutAllBack};
+ghost use Rattle.k42_mediator.specs.Transfers.{IsOfKind, IsVacant, HasHanded, HasDone, HasKept};
 
 use crate::begun::moved_row;
 use crate::parts::move_state;
@@ -26,7 +26,7 @@ use k42_rule::{Cell, Pass, Row, Sys, draw_done, layouts_are_lawful};
 use std::alloc::Global;
 
 /// Moves the state of the old row, whose cells come first, into the new one, and closes the old one.
-fn hand_on<L: Layout>(
+fn move_and_draw<L: Layout>(
     alloc: Global,
     sys: &Sys<L>,
     pass: &mut Pass<L>,
@@ -53,7 +53,7 @@ fn hand_on<L: Layout>(
     ensures numbers { numbers_of cells.new.items ≡ numbers_of cells.old.items }
     ensures seat { (pass.new.table ≡ pass.old.table) × (pass.new.seat ≡ pass.old.seat) }
     ensures back { pass.new.view.out ≡ pass.old.view.out }
-    ensures ready { AreReady
+    ensures ready { MayPutAllBack
         (layouts_on L.object L.tag_of L.ways L.whole L.serves L.admitted L.act_of sys.now.procs sys.now.callers)
         sys.now.layouts pass.new.seat pass.new.view cells.new.items }
     ensures handed { OnOk result (HasHanded (L.act_of to.now) (L.tag_of to.now) (numbers_of cells.old.items) pass.old pass.new) }
@@ -82,7 +82,7 @@ pub fn transfer<L: Layout>(
     requires few { length pass.old.view.taker.mine < MOST }
     ensures left { (v : PassView L.Part) → v.visitor ≡ pass.old.view.visitor → Always
         (layouts_on L.object L.tag_of L.ways L.whole L.serves L.admitted L.act_of sys.now.procs sys.now.callers)
-        sys.now.layouts pass.old.seat v (IsLeft (object_swapped pass.old.view)) }
+        sys.now.layouts pass.old.seat v (IsVacant (object_swapped pass.old.view)) }
     ensures done { OnOk result (HasDone (L.act_of to.now) (L.tag_of to.now) pass.old pass.new) }
     ensures memory { OnErr result (HasKept pass.old pass.new) }
 {
@@ -91,7 +91,7 @@ pub fn transfer<L: Layout>(
     let row = moved_row::<L>(pass);
     take_row(sys, pass, row.object, row.incarnation, &mut cells);
     take_row(sys, pass, row.object, row.incarnation + 1, &mut cells);
-    let done = hand_on(alloc, sys, pass, to, row, &mut cells);
+    let done = move_and_draw(alloc, sys, pass, to, row, &mut cells);
     give_back(sys, pass, cells);
     done
 }

@@ -1,3 +1,4 @@
+//! What a quiet grace tells of the activities of others.
 ghost use Rattle.std.specs.Prelude.{◌≡◌, ◌<◌, ℕ, List, Some, [], ◌∷◌};
 ghost use mathlib.Core.Option.{some};
 ghost use lib.ListN.{get_elem?};

@@ -12,13 +12,13 @@ ghost use Rattle.k42_board.specs.declared.view.View.{View};
 ghost use Rattle.k42_board.specs.declared.view.View.TheVariants.{Crew};
 
 use crate::pass::{Pass, Walker};
-use k42_board::{Board, Gather, Place};
+use k42_board::{Board, BoardSeat, Gather};
 use k42_kinds::{Entry, Layout};
 
 /// The passes' seats are joined to one, and their lists stand in order.
 pub(crate) fn gather<L: Layout>(
     board: &Board<L>,
-    seat: &mut Place<L>,
+    seat: &mut BoardSeat<L>,
     lists: &mut Vec<Vec<Entry>>,
     passes: Vec<Pass<L>>,
 )
@@ -42,7 +42,7 @@ pub(crate) fn gather<L: Layout>(
 }
 
 /// Frees the table. In its last state the seat's passes are what they were.
-pub(crate) fn close<L: Layout>(board: Board<L>, seat: Place<L>)
+pub(crate) fn close<L: Layout>(board: Board<L>, seat: BoardSeat<L>)
     requires { seat.table_id ≡ board.shared.table_id }
     ensures { (table : State (Slot L.Part) (View L.Part)) × Seen (Ruled
         (layouts_on L.object L.tag_of L.ways L.whole L.serves L.admitted L.act_of board.shared.key.procs board.shared.key.callers.items)

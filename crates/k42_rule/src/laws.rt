@@ -1,3 +1,4 @@
+//! What holds in every state that the table shows.
 ghost use Rattle.std.specs.Prelude.{◌≡◌, ℕ, true, [], ◌∷◌};
 ghost use mathlib.Core.Option.{some};
 ghost use lib.ListN.{get_elem?};

@@ -12,7 +12,7 @@ ghost use Rattle.k42_board.specs.declared.view.View.TheVariants.{Crew};
 
 use crate::pass::{Pass, Walker};
 use gen_core::GraceAt;
-use k42_board::{Another, Board, Deal, Line, Place, Post};
+use k42_board::{Another, Board, BoardSeat, Deal, Line, Post};
 use k42_kinds::Layout;
 use k42_memory::Memory;
 use phase_core::SwapAt;
@@ -21,7 +21,7 @@ use std::alloc::Global;
 fn deal<L: Layout>(
     alloc: Global,
     board: &Board<L>,
-    seat: &mut Place<L>,
+    seat: &mut BoardSeat<L>,
     line: &Line<L::Part>,
     root: &mut Post<L::Part>,
     procs: u32,
@@ -72,7 +72,7 @@ fn deal<L: Layout>(
 pub(crate) fn deal_all<L: Layout>(
     alloc: Global,
     board: &Board<L>,
-    seat: &mut Place<L>,
+    seat: &mut BoardSeat<L>,
     line: &Line<L::Part>,
     root: &mut Post<L::Part>,
     procs: u32,

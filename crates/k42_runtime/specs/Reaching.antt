@@ -9,7 +9,7 @@ use Rattle.k42_board.specs.Taking.{AreRowsNoted}
 use Rattle.k42_board.specs.Views.{hears}
 use Rattle.k42_board.specs.declared.cell.Content.{Content}
 use Rattle.k42_board.specs.declared.view.PassView.{PassView}
-use Rattle.k42_mediator.specs.Taken.{released, AreTaken, AreReady}
+use Rattle.k42_mediator.specs.Taken.{released, AreTaken, MayPutAllBack}
 use Rattle.k42_runtime.specs.Calls.{WasHeldAt, WasHeld}
 
 -- the cells that are needed are there, of so many processors
@@ -62,4 +62,4 @@ module _ {S L P : Type 0} (F : Layouts S L P) (declared : List L) where
   pub record MayGiveBack (id : ℕ) (v : PassView P) (contents : List (Content P)) : Type 0 where
     pub once : names_once (numbers_of contents) ≡ true
     pub back : v.out ≡ None
-    pub ready : AreReady F declared id v contents
+    pub ready : MayPutAllBack F declared id v contents

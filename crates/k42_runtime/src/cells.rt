@@ -7,7 +7,7 @@ ghost use Rattle.k42_joined.specs.Rows.{cells_reached};
 ghost use Rattle.k42_board.specs.Drawing.{numbers_of};
 ghost use Rattle.k42_board.specs.Seen.{IsOf, IsSamePass};
 ghost use Rattle.k42_board.specs.Taking.{TouchesInside};
-ghost use Rattle.k42_mediator.specs.Taken.{released, AreTaken, IsReady};
+ghost use Rattle.k42_mediator.specs.Taken.{released, AreTaken, MayPutBack};
 ghost use Rattle.k42_runtime.specs.Reaching.{IsThere, TakesNext, Takes, MayGiveBack};
 ghost use Rattle.k42_runtime.specs.Stepping.{many_reached};
 ghost use Rattle.k42_runtime.specs.Systems.{any_layouts};
@@ -139,7 +139,7 @@ pub(crate) fn take_cells(
 /// Puts one cell back, and leaves its lock.
 fn give_next(sys: &Sys<AnyLayout>, pass: &mut Pass<AnyLayout>, cell: Cell<AnyLayout>)
     requires ours { IsOf sys.now pass.old }
-    requires ready { IsReady (any_layouts sys.now.procs sys.now.callers) sys.now.layouts pass.old.seat pass.old.view cell }
+    requires ready { MayPutBack (any_layouts sys.now.procs sys.now.callers) sys.now.layouts pass.old.seat pass.old.view cell }
     ensures same { IsSamePass pass.old pass.new }
     ensures released { pass.new.view ≡ released (cell.number ∷ []) pass.old.view }
 {

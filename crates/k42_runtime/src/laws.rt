@@ -1,3 +1,4 @@
+//! What holds of a system while its passes are at work.
 ghost use Rattle.std.specs.Prelude.{◌≡◌, ℕ, true, List};
 ghost use Rattle.atomic_table.specs.Table.{State};
 ghost use Rattle.co_any.specs.declared.part.AnyPart.{AnyPart};

@@ -17,6 +17,8 @@ mod waiting;
 
 pub use calls::{Call, CallCause, CallStep};
 pub use history::{History, Unclosed};
+pub use k42_kinds::{Act, Answer, Entry, KindName, LayoutName, Name, Op, Reply, Text};
+pub use k42_memory::Memory;
 pub use laws::{nothing_seen_is_later_than_the_last_entry, traces_are_legal};
 pub use plan::{ObjectPlan, Plan, PlanFault};
 pub use swaps::{Cause, Step, Swap, Swapped, To};

@@ -150,12 +150,12 @@ impl Swap {
         let _swap = pass.swap();
         match try_move(&system.sys, pass) {
             Moving::InFlight { count } => Step::Again(Cause::InFlight { count }),
-            Moving::Moved => self.hand_on(alloc, system, pass),
+            Moving::Moved => self.transfer_or_abandon(alloc, system, pass),
         }
     }
 
     /// Hands the state on, and opens the new row; for want of memory it opens the old one.
-    fn hand_on(&mut self, alloc: Global, system: &System, pass: &mut Pass) -> Step
+    fn transfer_or_abandon(&mut self, alloc: Global, system: &System, pass: &mut Pass) -> Step
         requires ours { IsPassHere system.now pass.old }
         requires way { IsUnderWay (length system.now.plan.objects) self.old.object pass.old }
         requires found { HasFoundFree pass.old.view }

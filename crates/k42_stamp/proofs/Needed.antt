@@ -12,7 +12,7 @@ use Rattle.k42_kinds.specs.Rows.{cells_of, IsWithin}
 use Rattle.k42_stamp.specs.Layouts.{Layouts}
 use Rattle.k42_stamp.specs.Parts.{reached, reach_of, touches, those_at}
 use Rattle.k42_stamp.specs.Chains.{Turn, first_of}
-use Rattle.k42_stamp.specs.Fits.{IsServed, IsEntryOf, IsAbove, PastLeaves}
+use Rattle.k42_stamp.specs.Fits.{IsCallOrMark, IsEntryOf, IsAbove, PastLeaves}
 use Rattle.k42_stamp.specs.Laws.{AreLaws}
 use Rattle.k42_stamp.proofs.Elements.{all_weaker, all_both, all_back, all_for, all-from_filter}
 use Rattle.k42_stamp.proofs.PartSteps.{AreDisjoint}
@@ -50,7 +50,7 @@ wider fewer more (One c) le h = omega arith
 wider fewer more All le h = omega arith
 
 module _ {S L P : Type 0} (F : Layouts S L P) (laws : AreLaws F) (layout : L) (known : F.tag_of layout ≤ 2) where
-  act_within : (number caller : ℕ) (act : Act) (answer : Answer) → IsServed (F.object_of layout) (F.tag_of layout) number act answer → IsWithin F.procs (reached (F.ways_of layout) F.procs act (F.proc_of caller))
+  act_within : (number caller : ℕ) (act : Act) (answer : Answer) → IsCallOrMark (F.object_of layout) (F.tag_of layout) number act answer → IsWithin F.procs (reached (F.ways_of layout) F.procs act (F.proc_of caller))
   act_within number caller (Call op) answer served = wider (cells_of (F.tag_of layout) F.procs) F.procs ((F.ways_of layout).reach F.procs op (F.proc_of caller)) (few_cells (F.tag_of layout) F.procs laws.some) (laws.reaches layout (F.proc_of caller) op known (laws.on_one caller) served)
   act_within number caller (Swap to) answer served = laws.some
   act_within number caller Destroy answer served = laws.some

@@ -20,7 +20,7 @@ use Rattle.k42_kinds.proofs.Splits.{EachBehind}
 use Rattle.k42_stamp.specs.Replays.{replayed, Answered}
 use Rattle.k42_stamp.specs.Layouts.{Layouts}
 use Rattle.k42_stamp.specs.Parts.{reached, reach_of, act_moves, act_replies, reply_in, part_steps}
-use Rattle.k42_stamp.specs.Fits.{IsMark, IsServed, IsEntryOf}
+use Rattle.k42_stamp.specs.Fits.{IsMark, IsCallOrMark, IsEntryOf}
 use Rattle.k42_stamp.specs.Laws.{AreLaws}
 
 -- an entry that is legal by those before it
@@ -122,7 +122,7 @@ module _ {S L P : Type 0} (F : Layouts S L P) (laws : AreLaws F) (layout : L) (k
       counted = number_after_own o front e false own still ∙ omega (arith, s.counted);
     }
 
-    act_step : (act : Act) → e.act ≡ act → IsServed here (F.tag_of layout) number act e.answer
+    act_step : (act : Act) → e.act ≡ act → IsCallOrMark here (F.tag_of layout) number act e.answer
         → act_replies (F.ways_of layout) parts act (reach_of F layout e) ≡ reply_in e.answer → StepsOn front e parts
     act_step (Call op) is takes told =
         call_step op is takes (subst (λ (act : Act). StepsRow here (F.ways_of layout) (F.Whole layout F.procs) parts op (reached (F.ways_of layout) F.procs act (F.proc_of e.caller))) (sym is)

@@ -21,15 +21,15 @@ IsMark tag number Gone = tag ≡ 2
 IsMark tag number _ = ⊥
 
 -- a call of the object's kind, or such a mark
-abbrev pub IsServed : {S : Type 0} → OneThread S → ℕ → ℕ → Act → Answer → Type 0
-IsServed object tag number (Call op) answer = IsTrue (object.takes op)
-IsServed object tag number _ answer = IsMark tag number answer
+abbrev pub IsCallOrMark : {S : Type 0} → OneThread S → ℕ → ℕ → Act → Answer → Type 0
+IsCallOrMark object tag number (Call op) answer = IsTrue (object.takes op)
+IsCallOrMark object tag number _ answer = IsMark tag number answer
 
 -- an entry of row number so many of the object, but for the one with which the row begins
 pub record IsEntryOf {S L P : Type 0} (F : Layouts S L P) (layout : L) (o number : ℕ) (entry : Entry) : Type 0 where
   pub object : entry.object ≡ o
   pub incarnation : entry.incarnation ≡ number
-  pub served : IsServed (F.object_of layout) (F.tag_of layout) number entry.act entry.answer
+  pub served : IsCallOrMark (F.object_of layout) (F.tag_of layout) number entry.act entry.answer
 
 -- the entry with which row number so many begins: it tells of the swap by its layout's act
 pub record IsHandOf (asked : Act) (o number : ℕ) (entry : Entry) : Type 0 where

@@ -1,3 +1,4 @@
+//! Laws of rows and lists: what a draw and a hand keep, and that the merged history is legal.
 ghost use Rattle.std.specs.Prelude.{◌≡◌, ◌<◌, ℕ, suc, Bool, List, length};
 ghost use Rattle.k42_kinds.specs.declared.entry.Act.{Act};
 ghost use Rattle.k42_kinds.specs.declared.entry.Answer.{Answer};

@@ -1,3 +1,4 @@
+//! The lists of all callers become one history, in the order of their stamps.
 ghost use Rattle.std.specs.Prelude.{◌≡◌, ◌+◌, ◌≤◌, true, false, None, [], map, vec_items, vec_len, vec_capacity, length, IfOk, IfSome};
 ghost use Rattle.k42_stamp.specs.Lists.{AreLists, IsMerged, IsTrace, numbered_from};
 ghost use Rattle.k42_stamp.specs.Merging.{HasRoom, HasMoved, AreEmpty, IsAlone, entries_in};

@@ -1,3 +1,4 @@
+//! The order of entries that bear one stamp.
 ghost use Rattle.std.specs.Prelude.{◌≡◌, map, vec_items, IfOk};
 ghost use Rattle.k42_stamp.specs.Lists.{IsListOf, AreLists};
 

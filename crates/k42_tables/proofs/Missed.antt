@@ -23,7 +23,7 @@ use Rattle.k42_board.specs.Words.{local_word, lock_word}
 use Rattle.k42_board.specs.declared.view.PassView.{PassView}
 use Rattle.k42_tables.specs.Entries.{IfInstalled}
 use Rattle.k42_tables.specs.Filling.{HasRepresented}
-use Rattle.k42_tables.specs.Missing.{IsStillThere, HasEnded, IsRooted, place_named, cell_named, filled_in, HasFilled, IsHeldUp}
+use Rattle.k42_tables.specs.Missing.{IsStillThere, HasEndedCall, IsRooted, place_named, cell_named, filled_in, HasFilled, IsHeldUp}
 use Rattle.k42_tables.specs.Serving.{IsServed}
 use Rattle.k42_tables.specs.Walks.{WalksAside}
 use Rattle.k42_tables.specs.declared.answers.Filled.{Filled}
@@ -89,15 +89,15 @@ module _ {P : Type 0} where
   pub same_row : (v w : PassView P) → IsStillThere v w → row_of w.visitor.place ≡ row_of v.visitor.place
   same_row v w there = ap (λ (x : PassView P). row_of x.visitor.place) there
 
-  pub ended_there : (v u w : PassView P) (found : ℕ) → IsStillThere v u → w ≡ ended_view found u → HasEnded v w
+  pub ended_there : (v u w : PassView P) (found : ℕ) → IsStillThere v u → w ≡ ended_view found u → HasEndedCall v w
   ended_there v u w found there is =
       let out : w ≡ record (ended_view found v) { refused = u.refused } = is ∙ ap (ended_view found) there in
       out ∙ (λ k. record (ended_view (sym (ap (λ (x : PassView P). x.heard) out) k) v) { refused = sym (ap (λ (x : PassView P). x.refused) out) k })
 
-  pub ended_further : (v u w : PassView P) → IsStillThere v u → HasEnded u w → HasEnded v w
+  pub ended_further : (v u w : PassView P) → IsStillThere v u → HasEndedCall u w → HasEndedCall v w
   ended_further v u w there out = out ∙ ap (λ (x : PassView P). record (ended_view w.heard x) { refused = w.refused }) there
 
-  pub none_installed : (v w : PassView P) → HasEnded v w → w.installed ≡ v.installed
+  pub none_installed : (v w : PassView P) → HasEndedCall v w → w.installed ≡ v.installed
   none_installed v w out = ap (λ (x : PassView P). x.installed) out
 
   installed_heard : (o found : ℕ) (v : PassView P) → (installed_view o found v).heard ≡ found

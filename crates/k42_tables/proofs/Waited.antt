@@ -13,7 +13,7 @@ use Rattle.k42_board.specs.Tabling.{installs, ended_view}
 use Rattle.k42_board.specs.Taking.{locked_view}
 use Rattle.k42_board.specs.Words.{local_word}
 use Rattle.k42_board.specs.declared.view.PassView.{PassView}
-use Rattle.k42_tables.specs.Missing.{MayMiss, IsStillThere, HasEnded, IsRooted, cell_named, HasFilled, HasGivenUp, IsHeldUp, HasFoundHeld}
+use Rattle.k42_tables.specs.Missing.{MayMiss, IsStillThere, HasEndedCall, IsRooted, cell_named, HasFilled, HasGivenUp, IsHeldUp, HasFoundHeld}
 use Rattle.k42_tables.specs.Walks.{WalksAside}
 use Rattle.k42_tables.specs.declared.answers.Filled.{Filled}
 use Rattle.k42_tables.proofs.Missed.{ended_there, ended_further, none_installed, represented_from}
@@ -89,7 +89,7 @@ module _ {S L P : Type 0} (F : Layouts S L P) (declared : List L) where
 
     pub given_up : (w : PassView P) → HasGivenUp F declared now.seat now.view w → HasGivenUp F declared old.seat old.view w
     given_up w is =
-        let out : HasEnded old.view w = ended_further old.view now.view w waits.there is.out in
+        let out : HasEndedCall old.view w = ended_further old.view now.view w waits.there is.out in
         record {
           walk = walk_on F declared old.seat old.view now.view w waits.walk (walk_at F declared old.seat now.seat now.view w seat is.walk);
           out = out;
@@ -129,7 +129,7 @@ module _ {S L P : Type 0} (F : Layouts S L P) (declared : List L) where
       → w ≡ ended_view found u → HasFoundHeld F declared id o v w holder
   gives_up_held id o holder id' found v u w same is end out =
       let n = cell_named o is.before in
-      let over : HasEnded v w = ended_there v u w found (held_there v is.before u n holder is.rooted is.view) out in
+      let over : HasEndedCall v w = ended_there v u w found (held_there v is.before u n holder is.rooted is.view) out in
       record {
         before = is.before;
         rooted = is.rooted;

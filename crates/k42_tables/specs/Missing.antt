@@ -31,8 +31,8 @@ abbrev pub IsStillThere : {P : Type 0} → PassView P → PassView P → Type 0
 IsStillThere old v = v ≡ record old { layout = v.layout; heard = v.heard; refused = v.refused }
 
 -- and one whose call is over
-abbrev pub HasEnded : {P : Type 0} → PassView P → PassView P → Type 0
-HasEnded old v = v ≡ record (ended_view v.heard old) { refused = v.refused }
+abbrev pub HasEndedCall : {P : Type 0} → PassView P → PassView P → Type 0
+HasEndedCall old v = v ≡ record (ended_view v.heard old) { refused = v.refused }
 
 -- and one that has learned the layout of the row which it missed
 pub record IsRooted {P : Type 0} (old v : PassView P) : Type 0 where
@@ -60,7 +60,7 @@ pub record HasGivenUp
     {S L P : Type 0} (F : Layouts S L P) (declared : List L) (id : ℕ) (old new : PassView P)
     : Type 0 where
   pub walk : WalksAside F declared id old new
-  pub out : HasEnded old new
+  pub out : HasEndedCall old new
   pub installed : new.installed ≡ old.installed
 
 module _ {S L P : Type 0} (F : Layouts S L P) (declared : List L) (id o : ℕ) where
@@ -102,6 +102,6 @@ module _ {S L P : Type 0} (F : Layouts S L P) (declared : List L) (id o : ℕ) w
     pub walk : WalksAside F declared id old before
     pub held : FoundHeld before holder
     pub rest : WalksAside F declared id (locked_view (cell_named o before) (holder + 1) before) new
-    pub out : HasEnded old new
+    pub out : HasEndedCall old new
     pub refused : new.refused ≡ (holder + 1) ∷ old.refused
     pub installed : new.installed ≡ old.installed

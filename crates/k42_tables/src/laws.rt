@@ -1,3 +1,4 @@
+//! What a call inside a row may rely on.
 ghost use Rattle.std.specs.Prelude.{◌≡◌, ◌<◌, ℕ};
 ghost use Rattle.k42_joined.specs.Safe.{IsOpenRow};
 ghost use Rattle.k42_board.specs.Plan.{layouts_on};

@@ -1,3 +1,4 @@
+//! The one call of the program: it reads the input, draws, and writes the output.
 ghost use Rattle.std.specs.Prelude.{◌≡◌, ◌≢◌, ℕ, ◌-◌, ◌^◌, ◌<◌, ◌≤◌, ◌⊎◌, ◌↔◌, List, take, Some, None, IfOk, OnOk, IsErrOf, map, string_bytes};
 ghost use Rattle.k42_io.specs.Source.{LosesAtMost};
 ghost use Rattle.record_picture.specs.declared.window.TheConstants.{COLUMNS};

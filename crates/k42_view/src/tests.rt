@@ -1,3 +1,4 @@
+//! The program over lawful and unlawful records, and over ends that fail.
 ghost use Rattle.std.specs.Prelude.{◌<◌, None};
 
 use crate::program::view_main;

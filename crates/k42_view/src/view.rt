@@ -1,3 +1,4 @@
+//! What the program has to write for an input: a picture, or the line that says why there is none.
 ghost use Rattle.std.specs.Prelude.{◌≡◌, ◌≤◌, ◌<◌, ◌^◌, length, IfOk, Ok};
 ghost use Rattle.record_picture.specs.declared.window.TheConstants.{COLUMNS};
 ghost use Rattle.record_text.specs.Spelling.{HasText};

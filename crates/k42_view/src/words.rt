@@ -1,3 +1,4 @@
+//! The words of the command line, and the window that they ask for.
 ghost use Rattle.std.specs.Prelude.{◌≡◌, ◌≤◌, map, string_bytes, IfSome};
 ghost use Rattle.record_picture.specs.declared.window.TheConstants.{COLUMNS};
 ghost use Rattle.script_text.specs.Numbers.{number_within};

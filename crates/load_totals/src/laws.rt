@@ -1,3 +1,4 @@
+//! The law that lets the numbers of loads be compared from run to run.
 ghost use Rattle.std.specs.Prelude.{◌≡◌, ◌≤◌, ℕ, List};
 ghost use Rattle.k42_kinds.specs.declared.entry.Entry.{Entry};
 ghost use Rattle.script_text.specs.Generated.{generated};

@@ -6,18 +6,18 @@ use Rattle.k42_board.specs.Seen.{SysSeen, PassSeen, IsPassOf, is_at_rest}
 use Rattle.k42_board.specs.declared.view.PassView.{PassView}
 
 -- the pass is one of the system, and holds no cell
-pub record IsFree {L P : Type 0} (sys : SysSeen L) (pass : PassSeen P) : Type 0 where
+pub record HoldsNoCell {L P : Type 0} (sys : SysSeen L) (pass : PassSeen P) : Type 0 where
   pub ours : IsPassOf sys pass
   pub held : pass.view.taker.held ≡ []
   pub notes : pass.view.notes ≡ []
 
 -- all of them are so
-abbrev pub AreFree : {L P : Type 0} → SysSeen L → List (PassSeen P) → Type 0
-AreFree sys passes = EachPlace (λ c pass. IsFree sys pass) passes
+abbrev pub HoldNoCells : {L P : Type 0} → SysSeen L → List (PassSeen P) → Type 0
+HoldNoCells sys passes = EachPlace (λ c pass. HoldsNoCell sys pass) passes
 
 -- it is in an activity
 pub record IsBusy {L P : Type 0} (sys : SysSeen L) (pass : PassSeen P) : Type 0 where
-  pub free : IsFree sys pass
+  pub free : HoldsNoCell sys pass
   pub active : is_some pass.view.turn.active ≡ true
 
 -- its call is inside a row, whose layout it knows

@@ -1,5 +1,6 @@
+//! A caller that meets a mediator while an object is swapped and the swap is given up.
 ghost use Rattle.std.specs.Prelude.{OnOk};
-ghost use Rattle.mediator_tests.specs.Ready.{IsFree};
+ghost use Rattle.mediator_tests.specs.Ready.{HoldsNoCell};
 
 use crate::tests::calls::{end, end_activity, find_busy, keep_out, let_in, look, start_activity};
 use crate::tests::crews::{finish, last, start};
@@ -27,10 +28,10 @@ fn meet(
     caller: &mut Pass<AnyLayout>,
     swapper: &mut Pass<AnyLayout>,
 ) -> Result<(), Memory>
-    requires caller { IsFree sys.now caller.old }
-    requires swapper { IsFree sys.now swapper.old }
-    ensures caller { OnOk result (IsFree sys.now caller.new) }
-    ensures swapper { OnOk result (IsFree sys.now swapper.new) }
+    requires caller { HoldsNoCell sys.now caller.old }
+    requires swapper { HoldsNoCell sys.now swapper.old }
+    ensures caller { OnOk result (HoldsNoCell sys.now caller.new) }
+    ensures swapper { OnOk result (HoldsNoCell sys.now swapper.new) }
 {
     send_to_mediator(rt, sys, swapper);
     find_busy(rt, sys, caller, Phase::Forward);

@@ -1,3 +1,4 @@
+//! What the machine keeps of one caller: its call and its swap.
 ghost use Rattle.std.specs.Prelude.{◌≡◌, ◌≤◌, ◌*◌, ℕ, length, slice_set};
 ghost use Rattle.phase_core.specs.State.{has_row, with_row};
 ghost use Rattle.phase_core.specs.Effects.{at_place, at_row, at_stage};

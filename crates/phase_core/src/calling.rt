@@ -1,3 +1,4 @@
+//! Events of a call: the look-up, the miss, and the mediator.
 ghost use Rattle.std.specs.Prelude.{◌≡◌, ◌<◌, length};
 ghost use Rattle.phase_core.specs.Event.{LookUp, RootLoad, Install, Knock, StepOut, EndCall};
 ghost use Rattle.phase_core.specs.Effects.{place_found};

@@ -1,3 +1,4 @@
+//! What may happen to objects and callers.
 use gen_core::GenEvent;
 
 /// What a caller, named by its number, may do next. Objects are named by their numbers too.

@@ -1,3 +1,4 @@
+//! What holds of objects and callers, whatever events come.
 ghost use Rattle.std.specs.Prelude.{◌≡◌, ℕ, ◌<◌, ◌⊎◌, true, List, [], ◌∷◌, ◌++◌, length, IsTrue};
 ghost use Rattle.phase_core.specs.Event.{Event, caller_of, NamesObjects};
 ghost use Rattle.phase_core.specs.Plain.{Phases};

@@ -1,3 +1,4 @@
+//! Every event of the machine, passed to the room that carries it out.
 ghost use Rattle.std.specs.Prelude.{◌≡◌, ◌<◌, length};
 ghost use Rattle.phase_core.specs.Event.{event_seen, caller_of, NamesObjects};
 ghost use Rattle.phase_core.specs.Events.{Applies};

@@ -1,3 +1,4 @@
+//! What the machine keeps of one object, and the entries of the processors.
 ghost use Rattle.std.specs.Prelude.{◌≡◌};
 ghost use Rattle.phase_core.specs.State.{empty_entry, mediator_entry};
 ghost use Rattle.phase_core.specs.Effects.{direct_entry};

@@ -1,3 +1,4 @@
+//! States in which nobody has entered.
 ghost use Rattle.std.specs.Prelude.{◌≡◌, ◌≤◌, map, replicate, IfOk};
 ghost use Rattle.k42_limits.specs.declared.TheConstants.{OBJECTS};
 ghost use Rattle.phase_core.specs.State.{new_object, new_visitor, new_phases, IsPlan};

@@ -1,3 +1,4 @@
+//! The state of the machine, and the steps from which its events are made.
 ghost use Rattle.std.specs.Prelude.{◌≡◌, ℕ, ◌<◌, ◌≤◌, ◌*◌, length, slice_set, replicate, [], is_none};
 ghost use Rattle.gen_core.specs.State.{caller_at};
 ghost use Rattle.phase_core.specs.Turns.{AreTurnsSound, turning, can_turn, turns_happened, put_turns};

@@ -1,3 +1,4 @@
+//! Events of a swap, from its begin to its end or until it is given up.
 ghost use Rattle.std.specs.Prelude.{◌≡◌, ◌<◌, ◌≤◌, length};
 ghost use Rattle.k42_limits.specs.declared.TheConstants.{PROCESSORS};
 ghost use Rattle.phase_core.specs.Event.{Begin, Interpose, Block, Move, TurnOver, Unblock, Open, Clear};

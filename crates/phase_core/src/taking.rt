@@ -1,3 +1,4 @@
+//! The event that takes the role, with notes of the rows that its grace may free.
 ghost use Rattle.std.specs.Prelude.{◌≡◌, ◌<◌, length};
 ghost use Rattle.std.specs.List.{All};
 ghost use Rattle.phase_core.specs.Event.{TakeRoleWith};

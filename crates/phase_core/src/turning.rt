@@ -1,3 +1,4 @@
+//! Events of activities and graces, and the freeing of rows.
 ghost use Rattle.std.specs.Prelude.{◌≡◌, ◌<◌, length};
 ghost use Rattle.gen_core.specs.State.{caller_at};
 ghost use Rattle.phase_core.specs.Event.{Turn, Free};

@@ -1,3 +1,4 @@
+//! Calls, swaps and freed rows as events of the machine, each with the state that is due.
 ghost use Rattle.std.specs.Prelude.{◌≡◌, ◌<◌, nat_lt, [], ◌∷◌};
 ghost use Rattle.std.specs.Bool.{OnTrue};
 ghost use Rattle.std.specs.List.{All, list_all};

@@ -5,13 +5,13 @@ use Rattle.k42_joined.specs.Swapping.{holds_none}
 use Rattle.k42_board.specs.Seen.{SysSeen, PassSeen, IsPassOf, is_at_rest}
 
 -- the pass is one of the system, and holds no cell
-pub record IsFree {L P : Type 0} (sys : SysSeen L) (pass : PassSeen P) : Type 0 where
+pub record HoldsNoCell {L P : Type 0} (sys : SysSeen L) (pass : PassSeen P) : Type 0 where
   pub ours : IsPassOf sys pass
   pub held : holds_none pass.view.taker.held ≡ true
 
 -- so are all of them
-abbrev pub AreFree : {L P : Type 0} → SysSeen L → List (PassSeen P) → Type 0
-AreFree sys passes = EachPlace (λ c pass. IsFree sys pass) passes
+abbrev pub HoldNoCells : {L P : Type 0} → SysSeen L → List (PassSeen P) → Type 0
+HoldNoCells sys passes = EachPlace (λ c pass. HoldsNoCell sys pass) passes
 
 -- it is that of this caller, and nothing of it is under way
 pub record RestsAt {P : Type 0} (caller : ℕ) (pass : PassSeen P) : Type 0 where

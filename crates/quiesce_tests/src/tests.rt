@@ -1,10 +1,11 @@
+//! Graces that wait for an activity, on one thread and on two, and rows that nobody holds.
 ghost use Rattle.std.specs.Prelude.{◌≡◌, true, None, Some, IfOk};
 ghost use Rattle.gen_core.specs.declared.state.GraceAt.TheVariants.{Looking, Quiet};
 ghost use Rattle.k42_board.specs.Generating.{CanLeave};
 ghost use Rattle.k42_board.specs.Gracing.{MayTakeRole};
 ghost use Rattle.k42_quiesce.specs.Gracing.{MayStep};
 ghost use Rattle.std.specs.Thread.{IsSync};
-ghost use Rattle.quiesce_tests.specs.Ready.{IsFree};
+ghost use Rattle.quiesce_tests.specs.Ready.{HoldsNoCell};
 
 use crate::tests::crews::{Walk, finish, last, start};
 use co_any::AnyLayout;
@@ -20,8 +21,8 @@ mod crews;
 
 /// Begins an activity.
 fn begin(rt: &impl Abort, sys: &Sys<AnyLayout>, pass: &mut Walk)
-    requires free { IsFree sys.now pass.old }
-    ensures free { IsFree sys.now pass.new }
+    requires free { HoldsNoCell sys.now pass.old }
+    ensures free { HoldsNoCell sys.now pass.new }
     ensures entered { CanLeave pass.new.view }
 {
     assert!(rt; pass.is_idle() && pass.activities() < 1_048_576);
@@ -43,8 +44,8 @@ fn wait_for_one(
     one: &mut Walk,
     two: &mut Walk,
 )
-    requires free { IsFree sys.now zero.old × IsFree sys.now one.old × IsFree sys.now two.old }
-    ensures free { IsFree sys.now zero.new × IsFree sys.now one.new × IsFree sys.now two.new }
+    requires free { HoldsNoCell sys.now zero.old × HoldsNoCell sys.now one.old × HoldsNoCell sys.now two.old }
+    ensures free { HoldsNoCell sys.now zero.new × HoldsNoCell sys.now one.new × HoldsNoCell sys.now two.new }
 {
     begin(rt, sys, zero);
     assert!(rt; may_begin(one) && may_begin(two));
@@ -81,8 +82,8 @@ fn a_grace_waits_for_the_activity_that_was_open(rt: HostRuntime) -> Result<(), F
 
 /// Ends the activity of the pass.
 fn leave_with(sys: &Sys<AnyLayout>, mut pass: Walk) -> Walk
-    requires { IsFree sys.now pass × CanLeave pass.view }
-    ensures { IsFree sys.now result }
+    requires { HoldsNoCell sys.now pass × CanLeave pass.view }
+    ensures { HoldsNoCell sys.now result }
 {
     leave(sys, &mut pass);
     pass
@@ -90,8 +91,8 @@ fn leave_with(sys: &Sys<AnyLayout>, mut pass: Walk) -> Walk
 
 /// Waits until a grace of the pass is quiet, and frees what it noted.
 fn wait_with(rt: &impl Wait, sys: &Sys<AnyLayout>, mut pass: Walk) -> Walk
-    requires { IsFree sys.now pass × MayTakeRole pass.view }
-    ensures { IsFree sys.now result }
+    requires { HoldsNoCell sys.now pass × MayTakeRole pass.view }
+    ensures { HoldsNoCell sys.now result }
 {
     grace(rt, sys, &mut pass);
     reclaim(sys, &mut pass);
@@ -105,19 +106,19 @@ fn leave_meanwhile<R: Threads + Wait + Sync>(
     zero: Walk,
     one: Walk,
 ) -> (Walk, Walk)
-    requires free { IsFree sys.now zero × IsFree sys.now one }
+    requires free { HoldsNoCell sys.now zero × HoldsNoCell sys.now one }
     requires may { CanLeave zero.view × MayTakeRole one.view }
-    ensures free { IsFree sys.now result.0 × IsFree sys.now result.1 }
+    ensures free { HoldsNoCell sys.now result.0 × HoldsNoCell sys.now result.1 }
 {
     thread::join(
         rt,
         move || -> Walk
-            requires { IsFree sys.now zero × CanLeave zero.view }
-            ensures { IsFree sys.entry.now result }
+            requires { HoldsNoCell sys.now zero × CanLeave zero.view }
+            ensures { HoldsNoCell sys.entry.now result }
         { leave_with(sys, zero) },
         move || -> Walk
-            requires { IsFree sys.now one × MayTakeRole one.view }
-            ensures { IsFree sys.entry.now result }
+            requires { HoldsNoCell sys.now one × MayTakeRole one.view }
+            ensures { HoldsNoCell sys.entry.now result }
         { wait_with(rt, sys, one) },
     )
 }

@@ -1,3 +1,4 @@
+//! Which lines of a worker belong to one activity, as its frames need to know.
 ghost use Rattle.std.specs.Prelude.{◌≡◌, IfOk};
 ghost use Rattle.record_picture.specs.Activities.{joins};
 

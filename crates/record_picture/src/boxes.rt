@@ -1,3 +1,4 @@
+//! The boxes of entries, with what was asked and answered in each.
 ghost use Rattle.std.specs.Prelude.{◌≡◌, ◌≤◌, ◌++◌, ◌+◌, length, All, IfOk, OnOk};
 ghost use Rattle.record_text.specs.Spelling.{Ends, HasSpelling};
 ghost use Rattle.record_text.specs.Texts.{line_tokens};

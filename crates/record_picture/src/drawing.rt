@@ -1,3 +1,4 @@
+//! The whole picture, part after part.
 ghost use Rattle.std.specs.Prelude.{◌≡◌, ◌≤◌, ◌++◌, length, All, IfOk, OnOk};
 ghost use Rattle.k42_limits.specs.declared.TheConstants.{CALLERS};
 ghost use Rattle.record_text.specs.Spelling.{HasSpelling};

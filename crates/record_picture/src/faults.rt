@@ -1,3 +1,4 @@
+//! What marks the entry that breaks a rule, and pales those behind it.
 ghost use Rattle.std.specs.Prelude.{◌≡◌, ◌≤◌, ◌<◌, ◌++◌, length, OnOk};
 ghost use Rattle.record_picture.specs.Faults as drawn;
 ghost use Rattle.record_picture.specs.declared.window.TheConstants.{COLUMNS};

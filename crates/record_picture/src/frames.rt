@@ -1,3 +1,4 @@
+//! The frames that join the calls of one activity.
 ghost use Rattle.std.specs.Prelude.{◌≡◌, ◌+◌, ◌<◌, ◌≤◌, List, ◌∷◌, ◌++◌, length, false, slice_index_or, IfOk, OnOk};
 ghost use Rattle.k42_limits.specs.declared.TheConstants.{CALLERS};
 ghost use Rattle.record_text.specs.Told as told;

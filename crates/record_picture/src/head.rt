@@ -1,3 +1,4 @@
+//! The head of the document: its size, its style, and the verdict in words.
 ghost use Rattle.std.specs.Prelude.{◌≡◌, ◌++◌, OnOk};
 ghost use Rattle.record_picture.specs.Head as drawn;
 ghost use Rattle.record_picture.specs.Verdicts.{rule_words as words_of_rule, verdict_text};

@@ -1,3 +1,4 @@
+//! The lanes, with the name and the processor of each worker.
 ghost use Rattle.std.specs.Prelude.{◌≡◌, ◌≤◌, ◌++◌, length, OnOk};
 ghost use Rattle.k42_limits.specs.declared.TheConstants.{CALLERS};
 ghost use Rattle.record_picture.specs.Lanes as drawn;

@@ -1,3 +1,4 @@
+//! Laws of a picture: its boxes, its lines of swaps, and that no name or text is markup.
 ghost use Rattle.std.specs.Prelude.{◌≡◌, ℕ, List, [], ◌∷◌, ◌++◌, ◌+◌, ◌<◌, ◌≤◌, ◌≢◌, length, codes, count_by, slice_get, Some, true};
 ghost use Rattle.std.specs.List.{list_all};
 ghost use Rattle.k42_kinds.specs.declared.entry.Answer.TheVariants.{Swapped};

@@ -1,3 +1,4 @@
+//! Where columns and lanes lie, and how large a picture is.
 ghost use Rattle.std.specs.Prelude.{◌≡◌, ◌≤◌};
 ghost use Rattle.k42_limits.specs.declared.TheConstants.{CALLERS};
 ghost use Rattle.record_picture.specs.declared.window.TheConstants.{COLUMNS};

@@ -1,3 +1,4 @@
+//! The pieces of XML that all others are made of, and the one place where names and texts are escaped.
 ghost use Rattle.std.specs.Prelude.{◌≡◌, ◌≤◌, ◌++◌, IfOk, OnOk};
 ghost use Rattle.record_picture.specs.Pieces.{escape, escaped, numbered, worded, cut_to};
 

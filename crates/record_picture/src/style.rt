@@ -1,3 +1,4 @@
+//! Colours and shapes, once for the whole document.
 ghost use Rattle.std.specs.Prelude.{◌≡◌, ◌++◌, OnOk};
 ghost use Rattle.record_picture.specs.Style.{shapes, colours, style, marks};
 

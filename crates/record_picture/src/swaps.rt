@@ -1,3 +1,4 @@
+//! The lines through all lanes at swaps and destroys that were carried out.
 ghost use Rattle.std.specs.Prelude.{◌≡◌, ◌≤◌, ◌<◌, ◌++◌, length, All, OnOk};
 ghost use Rattle.k42_limits.specs.declared.TheConstants.{CALLERS};
 ghost use Rattle.record_text.specs.Spelling.{HasSpelling};

@@ -1,3 +1,4 @@
+//! The part of a record that a picture shows.
 ghost use Rattle.std.specs.Prelude.{◌≡◌, ◌≤◌, length};
 ghost use Rattle.record_picture.specs.Windows.{shown};
 

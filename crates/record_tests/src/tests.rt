@@ -1,3 +1,4 @@
+//! Known histories: the texts of their records, and that these are read back.
 mod conditions;
 mod judging;
 

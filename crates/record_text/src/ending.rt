@@ -1,3 +1,4 @@
+//! How reading and checking a record can fail.
 use k42_memory::Memory;
 use std::alloc::{AllocError, AllocFailed};
 

@@ -1,3 +1,4 @@
+//! A history becomes a record: each entry finds the script's line that it answers.
 ghost use Rattle.std.specs.Prelude.{◌≡◌, All, IfOk, slice_index};
 ghost use Rattle.record_text.specs.Spelling.{IsVersion, version_number};
 ghost use Rattle.record_text.specs.Histories as told;

@@ -1,3 +1,4 @@
+//! A record is judged line by line: the first line that breaks a rule, and the rule.
 ghost use Rattle.std.specs.Prelude.{◌≡◌, ◌<◌, ◌+◌, ◌^◌, ◌≤◌, [], ◌∷◌, ◌++◌, ℕ, true, List, All, Some, None, IfOk, Option, length, map, take, vec_len, slice_get};
 ghost use Rattle.std.specs.Bool.{Decides};
 ghost use Rattle.k42_limits.specs.declared.TheConstants.{CALLERS, OBJECTS};

@@ -1,3 +1,4 @@
+//! Laws of records: text and value belong to one another, and the rules make a record lawful.
 ghost use Rattle.std.specs.Prelude.{◌≡◌, ◌↔◌, ◌<◌, ◌^◌, ℕ, List, length, Ok, Err};
 ghost use Rattle.k42_kinds.specs.declared.entry.Entry.{Entry};
 ghost use Rattle.script_text.specs.Lawful.{IsLawful};

@@ -1,3 +1,4 @@
+//! A record or a history is written as text, line by line.
 ghost use Rattle.std.specs.Prelude.{◌≡◌, ◌<◌, ◌∷◌, ◌++◌, [], length, All, IfOk, OnOk};
 ghost use Rattle.std.specs.List.{flat_map};
 ghost use Rattle.record_text.specs.Histories.{HasLine, record_of, history_text};

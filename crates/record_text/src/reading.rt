@@ -1,3 +1,4 @@
+//! A record is read from its text, or the first line is named at which it is none.
 ghost use Rattle.std.specs.Prelude.{◌≡◌, ℕ, ◌<◌, ◌^◌, ◌≤◌, [], length, Ok, Err, IfOk};
 ghost use Rattle.k42_limits.specs.declared.TheConstants.{CALLERS, OBJECTS};
 ghost use Rattle.script_text.specs.Lines.{lines_of};

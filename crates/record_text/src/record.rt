@@ -1,3 +1,4 @@
+//! A record as a value: its lines, in the order of the history.
 ghost use Rattle.std.specs.Prelude.{◌≡◌, [], ◌∷◌, ◌++◌, OnOk};
 
 use k42_items::Items;

@@ -1,3 +1,4 @@
+//! The two ways to write a record.
 ghost use Rattle.std.specs.Prelude.{◌≡◌};
 ghost use Rattle.record_text.specs.Spelling.{IsVersion, version_number};
 

@@ -12,7 +12,7 @@ use Rattle.k42_board.specs.Starting.{IsStarted}
 use Rattle.k42_rule.specs.Tags.{HaveTags}
 use Rattle.k42_board.specs.Seen.{SysSeen, PassSeen}
 use Rattle.k42_board.specs.declared.view.PassView.{PassView}
-use Rattle.rule_tests.specs.Ready.{IsFree, AreFree, IsCrewOf, RestsAt, RestFrom}
+use Rattle.rule_tests.specs.Ready.{HoldsNoCell, HoldNoCells, IsCrewOf, RestsAt, RestFrom}
 use Rattle.k42_places.proofs.EachPlaces.{EachPlace-list_all}
 use Rattle.k42_places.proofs.Appended.{at_push, slice_get-append_left, slice_get-append_seam}
 
@@ -61,20 +61,20 @@ pub rest_more : {P : Type 0} (first : ℕ) (pass : PassSeen P) (passes : List (P
 rest_more first pass passes one others zero x e = subst (RestsAt (first + 0)) (same_Some pass x e) (subst (λ n. RestsAt n pass) (omega arith) one)
 rest_more first pass passes one others (suc c) x e = subst (λ n. RestsAt n x) (omega arith) (others c x e)
 
-pub free_push : {L P : Type 0} (sys : SysSeen L) (passes new : List (PassSeen P)) (pass : PassSeen P) → AreFree sys passes → IsFree sys pass → new ≡ passes ++ pass ∷ []
-    → AreFree sys new × (length new ≡ length passes + 1)
+pub free_push : {L P : Type 0} (sys : SysSeen L) (passes new : List (PassSeen P)) (pass : PassSeen P) → HoldNoCells sys passes → HoldsNoCell sys pass → new ≡ passes ++ pass ∷ []
+    → HoldNoCells sys new × (length new ≡ length passes + 1)
 free_push sys passes new pass are is e = (
-  subst (AreFree sys) (sym e) (each_push (IsFree sys) passes pass are is),
+  subst (HoldNoCells sys) (sym e) (each_push (HoldsNoCell sys) passes pass are is),
   (let long = ap length e in omega (arith, long, length-append passes (pass ∷ []))),
 )
 
-pub free_front : {L P : Type 0} (sys : SysSeen L) (passes new : List (PassSeen P)) (out : Option (PassSeen P)) → AreFree sys passes → passes ≡ new ++ option_to_list out
-    → AreFree sys new
-free_front sys passes new out are e = each_front (IsFree sys) new (option_to_list out) (subst (AreFree sys) e are)
+pub free_front : {L P : Type 0} (sys : SysSeen L) (passes new : List (PassSeen P)) (out : Option (PassSeen P)) → HoldNoCells sys passes → passes ≡ new ++ option_to_list out
+    → HoldNoCells sys new
+free_front sys passes new out are e = each_front (HoldsNoCell sys) new (option_to_list out) (subst (HoldNoCells sys) e are)
 
-pub free_last : {L P : Type 0} (sys : SysSeen L) (passes new : List (PassSeen P)) (pass : PassSeen P) → AreFree sys passes → passes ≡ new ++ pass ∷ []
-    → IsFree sys pass × (length new + 1 ≡ length passes)
+pub free_last : {L P : Type 0} (sys : SysSeen L) (passes new : List (PassSeen P)) (pass : PassSeen P) → HoldNoCells sys passes → passes ≡ new ++ pass ∷ []
+    → HoldsNoCell sys pass × (length new + 1 ≡ length passes)
 free_last sys passes new pass are e = (
-  each_last (IsFree sys) new pass (subst (AreFree sys) e are),
+  each_last (HoldsNoCell sys) new pass (subst (HoldNoCells sys) e are),
   (let long = ap length e in omega (arith, long, length-append new (pass ∷ []))),
 )

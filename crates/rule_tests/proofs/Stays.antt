@@ -5,7 +5,7 @@ use Rattle.k42_board.specs.Gracing.{role_view}
 use Rattle.k42_board.specs.Noting.{due_note}
 use Rattle.k42_board.specs.Seen.{SysSeen, PassSeen, IsSamePass}
 use Rattle.k42_board.specs.declared.view.PassView.{PassView}
-use Rattle.rule_tests.specs.Ready.{IsFree}
+use Rattle.rule_tests.specs.Ready.{HoldsNoCell}
 
 length_made : {A : Type 0} (f : ℕ → A) (first many : ℕ) → length (made_from f first many) ≡ many
 length_made f first zero = refl
@@ -20,7 +20,7 @@ record IsAlike {P : Type 0} (v w : PassView P) : Type 0 where
   held : w.taker.held ≡ v.taker.held
   notes : w.notes ≡ v.notes
 
-free_alike : {L P : Type 0} (sys : SysSeen L) (old new : PassSeen P) → IsFree sys old → IsSamePass old new → IsAlike old.view new.view → IsFree sys new
+free_alike : {L P : Type 0} (sys : SysSeen L) (old new : PassSeen P) → HoldsNoCell sys old → IsSamePass old new → IsAlike old.view new.view → HoldsNoCell sys new
 free_alike sys old new is same alike = record {
   ours = record {
     table = same.table ∙ is.ours.table;
@@ -35,8 +35,8 @@ free_alike sys old new is same alike = record {
 }
 
 -- where it has tried to take the role
-pub free_taken : {L P : Type 0} (sys : SysSeen L) (old new : PassSeen P) (found : ℕ) → IsFree sys old → IsSamePass old new → new.view ≡ role_view found old.view
-    → IsFree sys new
+pub free_taken : {L P : Type 0} (sys : SysSeen L) (old new : PassSeen P) (found : ℕ) → HoldsNoCell sys old → IsSamePass old new → new.view ≡ role_view found old.view
+    → HoldsNoCell sys new
 free_taken sys old new found is same e = free_alike sys old new is same (subst (IsAlike old.view) (sym e) (go (eqb found 0) refl)) where
   go : (b : Bool) → eqb found 0 ≡ b → IsAlike old.view (role_view found old.view)
   go true free = rw free (record {

@@ -8,7 +8,7 @@ use Rattle.k42_board.specs.Seen.{SysSeen, PassSeen, IsPassOf, is_at_rest}
 use Rattle.k42_board.specs.declared.view.PassView.{PassView}
 
 -- the pass is one of the system, and holds no cell
-pub record IsFree {L P : Type 0} (sys : SysSeen L) (pass : PassSeen P) : Type 0 where
+pub record HoldsNoCell {L P : Type 0} (sys : SysSeen L) (pass : PassSeen P) : Type 0 where
   pub ours : IsPassOf sys pass
   pub held : pass.view.taker.held ≡ []
   pub notes : pass.view.notes ≡ []
@@ -31,13 +31,13 @@ pub record IsLayoutOf {S L : Type 0} (object_of : L → OneThread S) (layouts : 
   pub same : object_of layout ≡ object_of declaration
 
 -- so are all of them
-abbrev pub AreFree : {L P : Type 0} → SysSeen L → List (PassSeen P) → Type 0
-AreFree sys passes = EachPlace (λ c pass. IsFree sys pass) passes
+abbrev pub HoldNoCells : {L P : Type 0} → SysSeen L → List (PassSeen P) → Type 0
+HoldNoCells sys passes = EachPlace (λ c pass. HoldsNoCell sys pass) passes
 
 -- and they are as many as the callers
 pub record IsCrewOf {L P : Type 0} (sys : SysSeen L) (passes : List (PassSeen P)) : Type 0 where
   pub many : length passes ≡ length sys.callers
-  pub free : AreFree sys passes
+  pub free : HoldNoCells sys passes
 
 -- it is the pass of this caller, and nothing of it is under way
 pub record RestsAt {P : Type 0} (c : ℕ) (pass : PassSeen P) : Type 0 where

@@ -19,7 +19,7 @@ pub record IsSwapping (system : SystemSeen) (swap : SwapSeen) (pass : PassSeen A
   pub stage : IsAtStage swap.stage (length system.plan.objects) swap pass
 
 -- it is in an activity, and its call is inside a row; these are the cells that it holds, with their content in place
-pub record IsServed (system : SystemSeen) (cells : List ℕ) (pass : PassSeen AnyPart) : Type 0 where
+pub record IsInRow (system : SystemSeen) (cells : List ℕ) (pass : PassSeen AnyPart) : Type 0 where
   pub ours : IsPassOf system.sys pass
   pub active : is_some pass.view.turn.active ≡ true
   pub grace : graces.is_idle pass.view.turn.grace ≡ true

@@ -1,3 +1,4 @@
+//! Plans that are refused, and calls, swaps and destroys that meet on one thread.
 use crate::tests::crews::{Three, closed, counters};
 use crate::tests::ending::{destroy_once, find_gone, free_once, swap_once, swap_twice};
 use crate::tests::holding::{

@@ -1,3 +1,4 @@
+//! The law that tells an accepted line by the script in front of it.
 ghost use Rattle.std.specs.Prelude.{◌<◌, ◌^◌, ℕ, List};
 ghost use Rattle.k42_kinds.specs.declared.entry.Act.{Act};
 ghost use Rattle.script_text.specs.Accepted.{IsAcceptedWhere, MayDeclareProcessors, MayDeclareObject, MayDeclareWorker, MayBegin, MayEnd, MayAsk, BeginsCall, HasShortNumbers};

@@ -1,3 +1,4 @@
+//! Why a script is refused, and at which line.
 ghost use Rattle.std.specs.Prelude.{◌≡◌};
 ghost use Rattle.script_text.specs.declared.fault.ParseEnd.TheVariants.{Memory as OutOfMemory};
 ghost use Rattle.script_text.specs.Causes.{cause_word};

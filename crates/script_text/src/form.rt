@@ -1,3 +1,4 @@
+//! What one line can say, told apart from how it is spelled.
 use k42_kinds::{KindName, LayoutName, Name, Text};
 
 /// What the first word of a line begins.

@@ -1,3 +1,4 @@
+//! Laws of lines: what one written with single spaces says, and what it adds to the script.
 ghost use Rattle.std.specs.Prelude.{◌≡◌, ◌<◌, ◌≤◌, ◌∷◌, ◌++◌, ℕ, List, [], length, All, Some, codes};
 ghost use Rattle.k42_kinds.specs.declared.entry.Act.{Act};
 ghost use Rattle.k42_limits.specs.declared.TheConstants.{PROCESSORS, SPACE};

@@ -1,3 +1,4 @@
+//! From the tokens of a line to the form that it has.
 ghost use Rattle.std.specs.Prelude.{◌≡◌, ◌<◌, ◌^◌, [], ◌∷◌, option_map};
 ghost use Rattle.script_text.specs.Numbers.{number_within, number_below};
 ghost use Rattle.script_text.specs.Tokens.{tokens_of};

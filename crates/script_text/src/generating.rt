@@ -1,3 +1,4 @@
+//! The script of so many steps, made by a rule and not read.
 ghost use Rattle.std.specs.Prelude.{◌≡◌, ◌/◌, ◌^◌, ◌≤◌, [], ◌∷◌, ◌++◌, true, length, IfOk, OnOk};
 ghost use Rattle.std.specs.Fmt.{decimal};
 ghost use Rattle.k42_kinds.specs.Words.{is_lower, is_name};

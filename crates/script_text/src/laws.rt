@@ -1,3 +1,4 @@
+//! Laws of whole texts: numbers, lines, the first offence, and how a worker does its lines.
 ghost use Rattle.std.specs.Prelude.{◌≡◌, ◌+◌, ◌^◌, ◌<◌, ◌↔◌, ℕ, true, List, ◌∷◌, ◌++◌, length, Some, Err};
 ghost use Rattle.std.specs.List.{concat};
 ghost use Rattle.std.specs.Fmt.{decimal};

@@ -1,3 +1,4 @@
+//! A text is cut into lines, and the bytes are tested that may stand in one.
 ghost use Rattle.std.specs.Prelude.{◌≡◌, ◌≢◌, ℕ, ◌<◌, ◌≤◌, ◌∷◌, ◌++◌, length, slice_index};
 ghost use Rattle.std.specs.List.{list_all};
 ghost use Rattle.script_text.specs.Lines.{lines_of, text_of, is_printable};

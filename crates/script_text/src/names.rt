@@ -1,3 +1,4 @@
+//! Declared names and their numbers, so that a line finds its object.
 ghost use Rattle.std.specs.Prelude.{◌≡◌, false, ◌∷◌, ◌<◌, ◌++◌, [], length, IfSome, OnOk, Some};
 ghost use Rattle.script_text.specs.Offences.{is_among, place_among};
 

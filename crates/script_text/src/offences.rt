@@ -1,3 +1,4 @@
+//! What can be told of a form without the lines before it: bad numbers and names, its kind, and its act.
 ghost use Rattle.std.specs.Prelude.{◌≡◌, ◌==◌, is_none, not};
 ghost use Rattle.k42_kinds.specs.Operations.{same_kind};
 ghost use Rattle.script_text.specs.Offences as offences;

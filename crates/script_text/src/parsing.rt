@@ -1,3 +1,4 @@
+//! A whole script is read, line by line, up to the first that offends.
 ghost use Rattle.std.specs.Prelude.{◌≡◌, ◌<◌, ℕ, List, IfOk, OnOk, length, take, max};
 ghost use Rattle.script_text.specs.Language.{parsed, byte_limit, fault_at, script_at_end};
 ghost use Rattle.script_text.specs.Reading.{IsKept, script_so_far};

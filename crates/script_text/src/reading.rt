@@ -1,3 +1,4 @@
+//! What the lines of a script have said so far, and what one more line adds to it or offends by.
 ghost use Rattle.std.specs.Prelude.{◌≡◌, ◌+◌, ◌<◌, ◌≤◌, [], ◌∷◌, ◌++◌, length, OnOk, IfSome, true, false, if◌then◌else◌, Ok, Some, None, Option, is_some, nat_le};
 ghost use Rattle.script_text.specs.Tokens.{tokens_of};
 ghost use Rattle.script_text.specs.Forms as forms;

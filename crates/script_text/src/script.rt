@@ -1,3 +1,4 @@
+//! A script as a value: processors, objects, and the lines of each worker.
 use k42_items::Items;
 use k42_kinds::{Act, KindName, LayoutName, Name};
 

@@ -1,3 +1,4 @@
+//! A line is cut into tokens at its spaces, and lines are found that say nothing.
 ghost use Rattle.std.specs.Prelude.{◌≡◌, ◌≢◌, ℕ, ◌<◌, ◌≤◌, [], length, slice_index};
 ghost use Rattle.std.specs.Str.{bytes_eq};
 ghost use Rattle.script_text.specs.Tokens.{tokens_of, says_nothing};

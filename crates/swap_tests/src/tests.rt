@@ -1,3 +1,4 @@
+//! Two swaps of one object, with the entries that each caller has drawn.
 ghost use Rattle.std.specs.Prelude.{◌<◌};
 
 use crate::tests::calls::call;

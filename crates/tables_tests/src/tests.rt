@@ -1,3 +1,4 @@
+//! Callers that miss an entry: one installs it, another finds it there or finds the cell held.
 ghost use Rattle.std.specs.Prelude.{◌≡◌, true, OnOk, IfOk};
 ghost use Rattle.phase_core.specs.Stages.{is_out, is_missed};
 ghost use Rattle.k42_tables.specs.Entries.{LeadsTo, EndsAt};

@@ -11,20 +11,20 @@ use Rattle.k42_board.specs.Starting.{IsStarted}
 use Rattle.k42_board.specs.declared.view.PassView.{PassView}
 use Rattle.k42_rule.specs.Finishing.{AreAtRest, IsPassAtRest}
 use Rattle.k42_rule.specs.Tags.{HaveTags}
-use Rattle.thread_tests.specs.Ready.{IsFree, AreFree, RestsAt}
+use Rattle.thread_tests.specs.Ready.{HoldsNoCell, HoldNoCells, RestsAt}
 
 module _ {L P : Type 0} (sys : SysSeen L) where
   -- the last pass, where there is one, was taken off the list
 
-  pub front_free : (passes front : List (PassSeen P)) (out : Option (PassSeen P)) → AreFree sys passes → passes ≡ front ++ option_to_list out
-      → AreFree sys front
+  pub front_free : (passes front : List (PassSeen P)) (out : Option (PassSeen P)) → HoldNoCells sys passes → passes ≡ front ++ option_to_list out
+      → HoldNoCells sys front
   front_free passes front out free e c pass here =
-      (subst (AreFree sys) e free) c pass (slice_get-append_left front (option_to_list out) c pass here)
+      (subst (HoldNoCells sys) e free) c pass (slice_get-append_left front (option_to_list out) c pass here)
 
-  pub last_free : (passes front : List (PassSeen P)) (out : Option (PassSeen P)) → AreFree sys passes → passes ≡ front ++ option_to_list out
-      → IfSome out (λ pass. IsFree sys pass)
+  pub last_free : (passes front : List (PassSeen P)) (out : Option (PassSeen P)) → HoldNoCells sys passes → passes ≡ front ++ option_to_list out
+      → IfSome out (λ pass. HoldsNoCell sys pass)
   last_free passes front None free e = tt
-  last_free passes front (Some pass) free e = (subst (AreFree sys) e free) (length front) pass (slice_get-append_seam front pass [])
+  last_free passes front (Some pass) free e = (subst (HoldNoCells sys) e free) (length front) pass (slice_get-append_seam front pass [])
 
 -- all layouts of this type have all tags
 pub any_tags : (layouts : List AnyLayout) → HaveTags (λ (layout : AnyLayout) tag. leb tag 2) layouts
@@ -32,9 +32,9 @@ any_tags layouts o layout e tag few = le-leb tag 2 few
 
 -- the passes of a system that has started hold no cell
 pub new_four : {L P : Type 0} (layouts : List L) (procs : ℕ) (callers : List ℕ) (sys : SysSeen L) (passes : List (PassSeen P))
-    → IsStarted layouts procs callers sys passes → length callers ≡ 4 → AreFree sys passes × (length sys.callers ≡ 4)
+    → IsStarted layouts procs callers sys passes → length callers ≡ 4 → HoldNoCells sys passes × (length sys.callers ≡ 4)
 new_four {L} {P} layouts procs callers sys passes is four = (free, ap length is.callers_are ∙ four) where
-  free : AreFree sys passes
+  free : HoldNoCells sys passes
   free c pass e = record {
     ours = is.passes_are c pass e;
     held = ap (λ (v : PassView P). v.taker.held) (is.dealt.each c pass e).new;
@@ -42,10 +42,10 @@ new_four {L} {P} layouts procs callers sys passes is four = (free, ap length is.
   }
 
 module _ {L P : Type 0} (sys : SysSeen L) where
-  rests : (c : ℕ) (pass : PassSeen P) → IsFree sys pass → RestsAt c pass → IsPassAtRest sys c pass
+  rests : (c : ℕ) (pass : PassSeen P) → HoldsNoCell sys pass → RestsAt c pass → IsPassAtRest sys c pass
   rests c pass free is = record { ours = free.ours.table; number = is.number; rests = is.rests }
 
-  pub at_rest : (one two three four : PassSeen P) → length sys.callers ≡ 4 → IsFree sys one → IsFree sys two → IsFree sys three → IsFree sys four
+  pub at_rest : (one two three four : PassSeen P) → length sys.callers ≡ 4 → HoldsNoCell sys one → HoldsNoCell sys two → HoldsNoCell sys three → HoldsNoCell sys four
       → RestsAt 0 one → RestsAt 1 two → RestsAt 2 three → RestsAt 3 four → AreAtRest sys (one ∷ two ∷ three ∷ four ∷ [])
   at_rest one two three four callers a b c d x y z w = record { many = sym callers; each = each } where
     each : (i : ℕ) (pass : PassSeen P) → slice_get (one ∷ two ∷ three ∷ four ∷ []) i ≡ Some pass → IsPassAtRest sys i pass

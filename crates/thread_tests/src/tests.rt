@@ -1,6 +1,6 @@
 //! Three passes call on two processors while a fourth swaps, each on a thread of its own.
 ghost use Rattle.std.specs.Thread.{IsSync};
-ghost use Rattle.thread_tests.specs.Ready.{IsFree};
+ghost use Rattle.thread_tests.specs.Ready.{HoldsNoCell};
 
 use crate::tests::crews::{Walk, finish, last, start};
 use crate::tests::lists::{are_adds, calls_in, is_sum, is_swap, stand_once};
@@ -32,18 +32,18 @@ fn add_twice<R: Threads + Abort + Wait + Sync>(
     other: Walk,
     progress: &Progress,
 ) -> (Called, Called)
-    requires { IsFree sys.now one × IsFree sys.now other }
-    ensures { IsFree sys.now result.0.0 × IsFree sys.now result.1.0 }
+    requires { HoldsNoCell sys.now one × HoldsNoCell sys.now other }
+    ensures { HoldsNoCell sys.now result.0.0 × HoldsNoCell sys.now result.1.0 }
 {
     thread::join(
         rt,
         move || -> Called
-            requires { IsFree sys.now one }
-            ensures { IsFree sys.entry.now result.0 }
+            requires { HoldsNoCell sys.now one }
+            ensures { HoldsNoCell sys.entry.now result.0 }
         { add_all(rt, alloc, sys, one, progress) },
         move || -> Called
-            requires { IsFree sys.now other }
-            ensures { IsFree sys.entry.now result.0 }
+            requires { HoldsNoCell sys.now other }
+            ensures { HoldsNoCell sys.entry.now result.0 }
         { add_all(rt, alloc, sys, other, progress) },
     )
 }
@@ -57,18 +57,18 @@ fn add_and_swap<R: Threads + Abort + Wait + Sync>(
     other: Walk,
     progress: &Progress,
 ) -> (Called, Walk)
-    requires { IsFree sys.now one × IsFree sys.now other }
-    ensures { IsFree sys.now result.0.0 × IsFree sys.now result.1 }
+    requires { HoldsNoCell sys.now one × HoldsNoCell sys.now other }
+    ensures { HoldsNoCell sys.now result.0.0 × HoldsNoCell sys.now result.1 }
 {
     thread::join(
         rt,
         move || -> Called
-            requires { IsFree sys.now one }
-            ensures { IsFree sys.entry.now result.0 }
+            requires { HoldsNoCell sys.now one }
+            ensures { HoldsNoCell sys.entry.now result.0 }
         { add_all(rt, alloc, sys, one, progress) },
         move || -> Walk
-            requires { IsFree sys.now other }
-            ensures { IsFree sys.entry.now result }
+            requires { HoldsNoCell sys.now other }
+            ensures { HoldsNoCell sys.entry.now result }
         { swap_all(rt, alloc, sys, other, progress) },
     )
 }
@@ -82,20 +82,20 @@ fn run<R: Threads + Abort + Wait + Sync>(
     back: (Walk, Walk),
     progress: &Progress,
 ) -> ((Called, Called), (Called, Walk))
-    requires front { IsFree sys.now front.0 × IsFree sys.now front.1 }
-    requires back { IsFree sys.now back.0 × IsFree sys.now back.1 }
-    ensures front { IsFree sys.now result.0.0.0 × IsFree sys.now result.0.1.0 }
-    ensures back { IsFree sys.now result.1.0.0 × IsFree sys.now result.1.1 }
+    requires front { HoldsNoCell sys.now front.0 × HoldsNoCell sys.now front.1 }
+    requires back { HoldsNoCell sys.now back.0 × HoldsNoCell sys.now back.1 }
+    ensures front { HoldsNoCell sys.now result.0.0.0 × HoldsNoCell sys.now result.0.1.0 }
+    ensures back { HoldsNoCell sys.now result.1.0.0 × HoldsNoCell sys.now result.1.1 }
 {
     thread::join(
         rt,
         move || -> (Called, Called)
-            requires { IsSync R.row × IsFree sys.now front.0 × IsFree sys.now front.1 }
-            ensures { IsFree sys.entry.now result.0.0 × IsFree sys.entry.now result.1.0 }
+            requires { IsSync R.row × HoldsNoCell sys.now front.0 × HoldsNoCell sys.now front.1 }
+            ensures { HoldsNoCell sys.entry.now result.0.0 × HoldsNoCell sys.entry.now result.1.0 }
         { add_twice(rt, alloc, sys, front.0, front.1, progress) },
         move || -> (Called, Walk)
-            requires { IsSync R.row × IsFree sys.now back.0 × IsFree sys.now back.1 }
-            ensures { IsFree sys.entry.now result.0.0 × IsFree sys.entry.now result.1 }
+            requires { IsSync R.row × HoldsNoCell sys.now back.0 × HoldsNoCell sys.now back.1 }
+            ensures { HoldsNoCell sys.entry.now result.0.0 × HoldsNoCell sys.entry.now result.1 }
         { add_and_swap(rt, alloc, sys, back.0, back.1, progress) },
     )
 }

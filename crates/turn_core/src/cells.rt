@@ -1,3 +1,4 @@
+//! Whether a caller holds a cell, and has taken what is in it.
 ghost use Rattle.std.specs.Prelude.{◌≡◌, ◌<◌, length, Option, Some};
 ghost use Rattle.turn_core.specs.Events.{holds, holds_home, has_taken};
 

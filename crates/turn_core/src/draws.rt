@@ -1,3 +1,4 @@
+//! The caller's side of a draw, and the way back where memory lacks.
 ghost use Rattle.std.specs.Prelude.{◌≡◌, ◌<◌, length, All, OnOk, OnErr};
 ghost use Rattle.std.specs.List.{list_all};
 ghost use Rattle.turn_core.specs.State.{change_caller};

@@ -1,3 +1,4 @@
+//! What may happen to cells.
 use k42_items::Items;
 use k42_kinds::Entry;
 

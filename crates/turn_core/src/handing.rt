@@ -1,3 +1,4 @@
+//! The event that closes the cells of one row and begins those of another with one entry.
 ghost use Rattle.std.specs.Prelude.{◌≡◌, ◌<◌, ◌^◌, ◌-◌, ◌++◌, length, All, IsTrue, OnOk, OnErr};
 ghost use Rattle.std.specs.List.{list_all};
 ghost use Rattle.turn_core.specs.State.{cell_at, change_cell, change_cells};

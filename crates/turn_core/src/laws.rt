@@ -1,3 +1,4 @@
+//! What holds of cells, histories and lists, whatever events come.
 ghost use Rattle.std.specs.Prelude.{◌≡◌, ◌≢◌, ℕ, ◌≤◌, List, Some, slice_get, IsFalse};
 ghost use Rattle.k42_kinds.specs.declared.entry.Entry.{Entry};
 ghost use Rattle.turn_core.specs.declared.event.TurnEvent.{TurnEvent};

@@ -1,3 +1,4 @@
+//! Every event of the machine, tested and then carried out.
 ghost use Rattle.std.specs.Prelude.{◌≡◌, ◌<◌, ◌++◌, length, All, OnOk, OnErr, Ok};
 ghost use Rattle.std.specs.Bool.{OnTrue, OnFalse};
 ghost use Rattle.turn_core.specs.Events.{caller_of, cells_of, is_possible, effect};

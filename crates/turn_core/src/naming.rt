@@ -1,3 +1,4 @@
+//! Lists of cells by their numbers.
 ghost use Rattle.std.specs.Prelude.{◌≡◌, not, ◌==◌, ◌++◌, length, IfOk};
 ghost use Rattle.std.specs.List.{filter};
 ghost use Rattle.turn_core.specs.Names.{names, names_once};

@@ -1,3 +1,4 @@
+//! Which stamp a draw bears, and whether an entry is the caller's next.
 ghost use Rattle.std.specs.Prelude.{◌≡◌, ◌<◌, ◌+◌, ◌==◌, length, All, max};
 ghost use Rattle.turn_core.specs.State.{caller_at};
 ghost use Rattle.turn_core.specs.Stamps.{last_stamp, last_stamp_at};

@@ -1,3 +1,4 @@
+//! States in which no cell was used.
 ghost use Rattle.std.specs.Prelude.{◌≡◌, IfOk};
 ghost use Rattle.turn_core.specs.State.{fresh, fresh_cells, fresh_callers, IsPlan};
 ghost use Rattle.turn_core.specs.Sound.{IsSound};

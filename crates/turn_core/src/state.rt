@@ -1,3 +1,4 @@
+//! The state of the machine: cells with their histories, and callers with their lists.
 ghost use Rattle.std.specs.Prelude.{◌≡◌, ◌<◌, length};
 ghost use Rattle.turn_core.specs.State.{cell_at, caller_at, change_cell, change_caller};
 ghost use Rattle.turn_core.specs.Events.{cell_locked, cell_unlocked, cell_taken, cell_put, cell_closed, caller_unlocked};

@@ -1,3 +1,4 @@
+//! The cells' side of a draw, and the way back where memory lacks.
 ghost use Rattle.std.specs.Prelude.{◌≡◌, ◌<◌, ◌++◌, ◌∷◌, [], length, All, OnOk, OnErr};
 ghost use Rattle.turn_core.specs.State.{cell_at, change_cell, change_cells};
 ghost use Rattle.turn_core.specs.Events.{cell_told, drawn};

@@ -1,3 +1,4 @@
+//! Events that follow one another, and which of them are possible.
 ghost use Rattle.std.specs.Prelude.{◌<◌, All};
 ghost use Rattle.std.specs.Bool.{OnTrue};
 ghost use Rattle.turn_core.specs.Events.{caller_of, cells_of};

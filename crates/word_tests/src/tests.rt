@@ -1,11 +1,12 @@
+//! The words that the table shows in the course of four swaps, bit by bit.
 ghost use Rattle.std.specs.Prelude.{OnOk};
 ghost use Rattle.k42_mediator.specs.Swaps.{HasMoved};
-ghost use Rattle.word_tests.specs.Ready.{IsFree};
+ghost use Rattle.word_tests.specs.Ready.{HoldsNoCell};
 
 use crate::tests::calls::{go_in, go_out, look, visit};
 use crate::tests::crews::{Walk, last, start};
 use crate::tests::phases::{
-    begin_alone, hand_on, has_moved, has_opened, may_block, may_move, move_now, swap, wait_free,
+    begin_alone, has_moved, has_opened, may_block, may_move, move_now, swap, transfer_to, wait_free,
 };
 use co_any::AnyLayout;
 use k42_mediator::{Begun, Moving, Phase, begin, block, end, interpose, open_entries, try_move};
@@ -34,8 +35,8 @@ const EMPTY: u64 = 0x0000_0001_0000_0000;
 const ENTERED: u64 = 0x0000_0002_0000_0007;
 
 fn visit_seven_times(rt: &impl Abort, sys: &Sys<AnyLayout>, pass: &mut Walk)
-    requires free { IsFree sys.now pass.old }
-    ensures free { IsFree sys.now pass.new }
+    requires free { HoldsNoCell sys.now pass.old }
+    ensures free { HoldsNoCell sys.now pass.new }
 {
     visit(rt, sys, pass);
     visit(rt, sys, pass);
@@ -54,8 +55,8 @@ fn swap_three_times<R: Abort + Wait>(
     swapper: &mut Walk,
     caller: &mut Walk,
 ) -> Result<(), Memory>
-    requires free { IsFree sys.now swapper.old × IsFree sys.now caller.old }
-    ensures free { OnOk result (IsFree sys.now swapper.new × IsFree sys.now caller.new) }
+    requires free { HoldsNoCell sys.now swapper.old × HoldsNoCell sys.now caller.old }
+    ensures free { OnOk result (HoldsNoCell sys.now swapper.new × HoldsNoCell sys.now caller.new) }
 {
     visit_seven_times(rt, sys, caller);
     swap(rt, alloc, sys, swapper, 0, 0, 0)?;
@@ -70,8 +71,8 @@ fn swap_three_times<R: Abort + Wait>(
 
 /// Tries to begin a swap while the fourth one is in that phase, and finds that word.
 fn find(rt: &impl Abort, sys: &Sys<AnyLayout>, observer: &mut Walk, phase: Phase, word: u64)
-    requires free { IsFree sys.now observer.old }
-    ensures free { IsFree sys.now observer.new }
+    requires free { HoldsNoCell sys.now observer.old }
+    ensures free { HoldsNoCell sys.now observer.new }
 {
     assert!(rt; observer.is_idle() && sys.objects() > 0);
     assert_eq!(rt; begin(sys, observer, 0), Begun::Busy { number: 4, phase });
@@ -87,8 +88,8 @@ fn block_two(
     other: &mut Walk,
     observer: &mut Walk,
 )
-    requires free { IsFree sys.now swapper.old × IsFree sys.now caller.old × IsFree sys.now other.old × IsFree sys.now observer.old }
-    ensures free { IsFree sys.now swapper.new × IsFree sys.now caller.new × IsFree sys.now other.new × IsFree sys.now observer.new }
+    requires free { HoldsNoCell sys.now swapper.old × HoldsNoCell sys.now caller.old × HoldsNoCell sys.now other.old × HoldsNoCell sys.now observer.old }
+    ensures free { HoldsNoCell sys.now swapper.new × HoldsNoCell sys.now caller.new × HoldsNoCell sys.now other.new × HoldsNoCell sys.now observer.new }
 {
     go_in(rt, sys, caller, 0);
     go_in(rt, sys, other, 0);
@@ -103,8 +104,8 @@ fn block_two(
 
 /// Begins to move the state once nobody is inside.
 fn move_shut(rt: &impl Abort, sys: &Sys<AnyLayout>, swapper: &mut Walk, observer: &mut Walk)
-    requires free { IsFree sys.now swapper.old × IsFree sys.now observer.old }
-    ensures free { IsFree sys.now swapper.new × IsFree sys.now observer.new }
+    requires free { HoldsNoCell sys.now swapper.old × HoldsNoCell sys.now observer.old }
+    ensures free { HoldsNoCell sys.now swapper.new × HoldsNoCell sys.now observer.new }
     ensures moved { HasMoved swapper.new.view }
 {
     assert!(rt; may_move(swapper));
@@ -121,10 +122,10 @@ fn turn(
     swapper: &mut Walk,
     observer: &mut Walk,
 ) -> Result<(), Memory>
-    requires free { IsFree sys.now swapper.old × IsFree sys.now observer.old }
+    requires free { HoldsNoCell sys.now swapper.old × HoldsNoCell sys.now observer.old }
     requires moved { HasMoved swapper.old.view }
 {
-    hand_on(rt, alloc, sys, swapper, 0, 0)?;
+    transfer_to(rt, alloc, sys, swapper, 0, 0)?;
     open_entries(sys, swapper);
     find(rt, sys, observer, Phase::Complete, TURNED);
     assert!(rt; has_opened(swapper) && swapper.row_room() > 0);

@@ -1,3 +1,4 @@
+//! Which words are numbers.
 use crate::words::number_of;
 
 #[test]

@@ -1,3 +1,4 @@
+//! A layout made for this test keeps the laws of layouts, and its row is handed on.
 ghost use Rattle.std.specs.Prelude.{◌≡◌, ◌==◌, ◌<◌, ◌≤◌, refl, IfOk};
 ghost use Rattle.k42_limits.specs.declared.TheConstants.{PROCESSORS};
 ghost use Rattle.std.proofs.Common.{arith};

@@ -1,3 +1,4 @@
+//! Objects of one thread, stepped through operations with known replies.
 use super::*;
 use crate::name::Name;
 use crate::operation::kind_of;

@@ -1,3 +1,4 @@
+//! Scripts that are run: their answers, their numbers, and what their gate is told.
 use super::run_script;
 use crate::gate::{FreeGate, Gate};
 use crossbeam_utils::Backoff;

@@ -3,7 +3,7 @@ ghost use Rattle.std.specs.Prelude.{◌≡◌, ◌<◌, true, OnOk};
 ghost use Rattle.phase_core.specs.Stages.{is_at_mediator, is_missed, is_out};
 ghost use Rattle.k42_board.specs.Generating.{MayEnter};
 ghost use Rattle.k42_board.specs.Phases.{is_served};
-ghost use Rattle.mediator_tests.specs.Ready.{IsFree, IsBusy, IsServing, IsHolding};
+ghost use Rattle.mediator_tests.specs.Ready.{HoldsNoCell, IsBusy, IsServing, IsHolding};
 
 use k42_kinds::Layout;
 use k42_mediator::{Begun, Knocked, Phase, begin, knock};
@@ -17,8 +17,8 @@ use std::sync::Wait;
 
 /// Would begin a swap, of which another one has begun the first and is so far.
 pub(super) fn find_busy<L: Layout>(rt: &impl Abort, sys: &Sys<L>, pass: &mut Pass<L>, phase: Phase)
-    requires { IsFree sys.now pass.old }
-    ensures { IsFree sys.now pass.new }
+    requires { HoldsNoCell sys.now pass.old }
+    ensures { HoldsNoCell sys.now pass.new }
 {
     assert!(rt; pass.is_idle() && 0 < sys.objects());
     assert_eq!(rt; begin(sys, pass, 0), Begun::Busy { number: 1, phase });
@@ -32,7 +32,7 @@ fn may_enter<L: Layout>(pass: &Pass<L>) -> bool
 
 /// Begins an activity.
 pub(super) fn start_activity<L: Layout>(rt: &impl Abort, sys: &Sys<L>, pass: &mut Pass<L>)
-    requires { IsFree sys.now pass.old }
+    requires { HoldsNoCell sys.now pass.old }
     ensures busy { IsBusy sys.now pass.new }
     ensures out { is_out pass.new.view.visitor.place ≡ true }
 {
@@ -178,7 +178,7 @@ pub(super) fn keep_out<L: Layout>(rt: &impl Abort, sys: &Sys<L>, pass: &mut Pass
 pub(super) fn end_activity<L: Layout>(sys: &Sys<L>, pass: &mut Pass<L>)
     requires busy { IsBusy sys.now pass.old }
     requires out { is_out pass.old.view.visitor.place ≡ true }
-    ensures { IsFree sys.now pass.new }
+    ensures { HoldsNoCell sys.now pass.new }
 {
     leave(sys, pass);
 }

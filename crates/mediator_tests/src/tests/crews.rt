@@ -1,7 +1,7 @@
 //! Systems of one object on one processor, and the passes of their two callers.
 ghost use Rattle.std.specs.Prelude.{◌≡◌, true, length, IfOk, IfSome};
 ghost use Rattle.k42_rule.specs.Tags.{HasTags};
-ghost use Rattle.mediator_tests.specs.Ready.{IsFree, AreFree, RestsAt};
+ghost use Rattle.mediator_tests.specs.Ready.{HoldsNoCell, HoldNoCells, RestsAt};
 
 use k42_kinds::{Entry, Layout};
 use k42_memory::Memory;
@@ -11,7 +11,7 @@ use std::alloc::Global;
 pub(super) fn start<L: Layout>(alloc: Global, layout: L) -> Result<(Sys<L>, Vec<Pass<L>>), Memory>
     requires live { L.tag_of layout ≡ 0 }
     requires tags { HasTags L.has_tag layout }
-    ensures { IfOk result (λ made. AreFree made.0 made.1.items × (length made.0.callers ≡ 2)) }
+    ensures { IfOk result (λ made. HoldNoCells made.0 made.1.items × (length made.0.callers ≡ 2)) }
 {
     let mut layouts = Vec::new(alloc);
     layouts.push(layout)?;
@@ -22,9 +22,9 @@ pub(super) fn start<L: Layout>(alloc: Global, layout: L) -> Result<(Sys<L>, Vec<
 
 /// Takes the last pass out of the list.
 pub(super) fn last<L: Layout>(sys: &Sys<L>, passes: &mut Vec<Pass<L>>) -> Option<Pass<L>>
-    requires free { AreFree sys.now passes.old.items }
-    ensures free { AreFree sys.now passes.new.items }
-    ensures out { IfSome result (λ pass. IsFree sys.now pass) }
+    requires free { HoldNoCells sys.now passes.old.items }
+    ensures free { HoldNoCells sys.now passes.new.items }
+    ensures out { IfSome result (λ pass. HoldsNoCell sys.now pass) }
 {
     passes.pop()
 }
@@ -43,7 +43,7 @@ pub(super) fn finish<L: Layout>(
     two: Pass<L>,
 ) -> Result<Option<Vec<Vec<Entry>>>, Memory>
     requires callers { length sys.callers ≡ 2 }
-    requires free { IsFree sys one × IsFree sys two }
+    requires free { HoldsNoCell sys one × HoldsNoCell sys two }
 {
     if !rests::<L>(&one, 0) || !rests::<L>(&two, 1) {
         return Ok(None);

@@ -2,7 +2,7 @@
 ghost use Rattle.std.specs.Prelude.{◌<◌, OnOk};
 ghost use Rattle.k42_kinds.specs.declared.entry.Act.TheVariants as Act;
 ghost use Rattle.k42_mediator.specs.Marks.{MayMark};
-ghost use Rattle.mediator_tests.specs.Ready.{IsFree, IsHolding};
+ghost use Rattle.mediator_tests.specs.Ready.{HoldsNoCell, IsHolding};
 
 use crate::tests::calls::{end, end_activity, fill, hold, let_go, look_in_vain, start_activity};
 use crate::tests::crews::{finish, last, start};
@@ -24,8 +24,8 @@ fn destroy(
     sys: &Sys<AnyLayout>,
     pass: &mut Pass<AnyLayout>,
 ) -> Result<(), Memory>
-    requires { IsFree sys.now pass.old }
-    ensures { OnOk result (IsFree sys.now pass.new) }
+    requires { HoldsNoCell sys.now pass.old }
+    ensures { OnOk result (HoldsNoCell sys.now pass.new) }
 {
     assert!(rt; 0 < sys.objects());
     let dead = sys.declared(0).with_tag(2);
@@ -40,7 +40,7 @@ fn come_in<R: Abort + Wait>(
     pass: &mut Pass<AnyLayout>,
     cell: u32,
 ) -> Result<(), Memory>
-    requires { IsFree sys.now pass.old }
+    requires { HoldsNoCell sys.now pass.old }
     ensures { OnOk result (IsHolding cell sys.now pass.new) }
 {
     start_activity(rt, sys, pass);
@@ -54,7 +54,7 @@ fn come_in<R: Abort + Wait>(
 fn go_out(sys: &Sys<AnyLayout>, pass: &mut Pass<AnyLayout>, cell: u32)
     requires few { cell < 256 }
     requires holding { IsHolding cell sys.now pass.old }
-    ensures { IsFree sys.now pass.new }
+    ensures { HoldsNoCell sys.now pass.new }
 {
     let_go(sys, pass, cell);
     end(sys, pass);
@@ -67,8 +67,8 @@ fn find_dead(
     sys: &Sys<AnyLayout>,
     pass: &mut Pass<AnyLayout>,
 ) -> Result<(), Memory>
-    requires { IsFree sys.now pass.old }
-    ensures free { OnOk result (IsFree sys.now pass.new) }
+    requires { HoldsNoCell sys.now pass.old }
+    ensures free { OnOk result (HoldsNoCell sys.now pass.new) }
     ensures may { OnOk result (MayMark Act.Destroy pass.new.view) }
     ensures room { OnOk result (0 < pass.new.room) }
 {
@@ -81,10 +81,10 @@ fn find_dead(
 
 /// Tries to draw that at the cell, which that caller is to hold.
 fn find_held(rt: &impl Abort, sys: &Sys<AnyLayout>, pass: &mut Pass<AnyLayout>, holder: u32)
-    requires free { IsFree sys.now pass.old }
+    requires free { HoldsNoCell sys.now pass.old }
     requires may { MayMark Act.Destroy pass.old.view }
     requires room { 0 < pass.old.room }
-    ensures free { IsFree sys.now pass.new }
+    ensures free { HoldsNoCell sys.now pass.new }
     ensures may { MayMark Act.Destroy pass.new.view }
     ensures room { 0 < pass.new.room }
 {
@@ -94,10 +94,10 @@ fn find_held(rt: &impl Abort, sys: &Sys<AnyLayout>, pass: &mut Pass<AnyLayout>, 
 
 /// Draws it.
 fn draw(rt: &impl Abort, sys: &Sys<AnyLayout>, pass: &mut Pass<AnyLayout>)
-    requires free { IsFree sys.now pass.old }
+    requires free { HoldsNoCell sys.now pass.old }
     requires may { MayMark Act.Destroy pass.old.view }
     requires room { 0 < pass.old.room }
-    ensures { IsFree sys.now pass.new }
+    ensures { HoldsNoCell sys.now pass.new }
 {
     let answer = mark(sys, pass, Act::Destroy);
     assert!(rt; answer == Marked::Marked);

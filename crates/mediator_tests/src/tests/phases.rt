@@ -5,7 +5,7 @@ ghost use Rattle.k42_board.specs.Gracing.{MayTakeRole};
 ghost use Rattle.k42_board.specs.Swapping.{object_swapped, MayBlock, MayMove};
 ghost use Rattle.k42_mediator.specs.Swaps.{HasBegun, HasMoved, HasTransferred, HasOpened};
 ghost use Rattle.k42_mediator.specs.Transfers.{IsOfKind};
-ghost use Rattle.mediator_tests.specs.Ready.{IsFree};
+ghost use Rattle.mediator_tests.specs.Ready.{HoldsNoCell};
 
 use gen_core::GraceAt;
 use k42_kinds::Layout;
@@ -27,8 +27,8 @@ fn has_begun<L: Layout>(pass: &Pass<L>) -> bool
 
 /// Begins a swap of the first object, which is to be its only one, and leads callers to the mediator.
 pub(super) fn send_to_mediator<L: Layout>(rt: &impl Abort, sys: &Sys<L>, pass: &mut Pass<L>)
-    requires { IsFree sys.now pass.old }
-    ensures { IsFree sys.now pass.new }
+    requires { HoldsNoCell sys.now pass.old }
+    ensures { HoldsNoCell sys.now pass.new }
 {
     assert!(rt; pass.is_idle() && 0 < sys.objects());
     assert_eq!(rt; begin(sys, pass, 0), Begun::Begun);
@@ -48,8 +48,8 @@ fn may_wait<L: Layout>(pass: &Pass<L>) -> bool
 
 /// Has a grace, which is to be quiet at once and to free no row.
 pub(super) fn wait_quiet<L: Layout>(rt: &impl Abort, sys: &Sys<L>, pass: &mut Pass<L>)
-    requires { IsFree sys.now pass.old }
-    ensures { IsFree sys.now pass.new }
+    requires { HoldsNoCell sys.now pass.old }
+    ensures { HoldsNoCell sys.now pass.new }
 {
     let mut grace = Grace::new();
     assert!(rt; may_wait::<L>(pass));
@@ -65,8 +65,8 @@ fn may_block<L: Layout>(pass: &Pass<L>) -> bool
 
 /// Keeps out whoever knocks from now on.
 pub(super) fn close<L: Layout>(rt: &impl Abort, sys: &Sys<L>, pass: &mut Pass<L>)
-    requires { IsFree sys.now pass.old }
-    ensures { IsFree sys.now pass.new }
+    requires { HoldsNoCell sys.now pass.old }
+    ensures { HoldsNoCell sys.now pass.new }
 {
     assert!(rt; may_block::<L>(pass));
     block(sys, pass);
@@ -82,8 +82,8 @@ fn may_move<L: Layout>(pass: &Pass<L>) -> bool
 
 /// Tries to move the state of a closed object, in which one caller is counted still.
 pub(super) fn try_early<L: Layout>(rt: &impl Abort, sys: &Sys<L>, pass: &mut Pass<L>)
-    requires { IsFree sys.now pass.old }
-    ensures { IsFree sys.now pass.new }
+    requires { HoldsNoCell sys.now pass.old }
+    ensures { HoldsNoCell sys.now pass.new }
 {
     assert!(rt; may_move::<L>(pass));
     assert_eq!(rt; try_move(sys, pass), Moving::InFlight { count: 1 });
@@ -98,10 +98,10 @@ fn has_moved<L: Layout>(pass: &Pass<L>) -> bool
 /// Moves the state of a closed object, in which nobody is counted.
 #[tactic(auto, using(crate::proofs::Handed::still_unhanded))]
 fn try_again<L: Layout>(rt: &impl Abort, sys: &Sys<L>, pass: &mut Pass<L>)
-    requires free { IsFree sys.now pass.old }
+    requires free { HoldsNoCell sys.now pass.old }
     requires may { MayMove pass.old.view }
     requires unhanded { pass.old.view.handed ≡ None }
-    ensures free { IsFree sys.now pass.new }
+    ensures free { HoldsNoCell sys.now pass.new }
     ensures unhanded { pass.new.view.handed ≡ None }
 {
     assert_eq!(rt; try_move(sys, pass), Moving::Moved);
@@ -109,8 +109,8 @@ fn try_again<L: Layout>(rt: &impl Abort, sys: &Sys<L>, pass: &mut Pass<L>)
 
 /// Begins to move the state.
 pub(super) fn move_now<L: Layout>(rt: &impl Abort, sys: &Sys<L>, pass: &mut Pass<L>)
-    requires { IsFree sys.now pass.old }
-    ensures free { IsFree sys.now pass.new }
+    requires { HoldsNoCell sys.now pass.old }
+    ensures free { HoldsNoCell sys.now pass.new }
     ensures moved { HasMoved pass.new.view }
 {
     assert!(rt; may_move::<L>(pass));
@@ -125,10 +125,10 @@ pub(super) fn give_up<L: Layout>(
     pass: &mut Pass<L>,
     to: &L,
 ) -> Result<(), Memory>
-    requires free { IsFree sys.now pass.old }
+    requires free { HoldsNoCell sys.now pass.old }
     requires moved { HasMoved pass.old.view }
     requires known { L.tag_of to.now ≤ 2 }
-    ensures { OnOk result (IsFree sys.now pass.new) }
+    ensures { OnOk result (HoldsNoCell sys.now pass.new) }
 {
     pass.reserve()?;
     assert!(rt; pass.entries().len() < 1_048_576);
@@ -144,11 +144,11 @@ pub(super) fn hand_nothing_on<L: Layout>(
     pass: &mut Pass<L>,
     to: &L,
 ) -> Result<(), Memory>
-    requires free { IsFree sys.now pass.old }
+    requires free { HoldsNoCell sys.now pass.old }
     requires moved { HasMoved pass.old.view }
     requires kind { IsOfKind L.object sys.now.layouts 0 to.now }
     requires known { L.tag_of to.now ≤ 2 }
-    ensures free { OnOk result (IsFree sys.now pass.new) }
+    ensures free { OnOk result (HoldsNoCell sys.now pass.new) }
     ensures moved { OnOk result (HasMoved pass.new.view) }
 {
     assert!(rt; pass.swap() == SwapAt::Moved(0));
@@ -159,18 +159,18 @@ pub(super) fn hand_nothing_on<L: Layout>(
 }
 
 /// Hands the state of the first object on to that layout.
-pub(super) fn hand_on<L: Layout>(
+pub(super) fn transfer_to<L: Layout>(
     rt: &impl Abort,
     alloc: Global,
     sys: &Sys<L>,
     pass: &mut Pass<L>,
     to: &L,
 ) -> Result<(), Memory>
-    requires free { IsFree sys.now pass.old }
+    requires free { HoldsNoCell sys.now pass.old }
     requires moved { HasMoved pass.old.view }
     requires kind { IsOfKind L.object sys.now.layouts 0 to.now }
     requires known { L.tag_of to.now ≤ 2 }
-    ensures free { OnOk result (IsFree sys.now pass.new) }
+    ensures free { OnOk result (HoldsNoCell sys.now pass.new) }
     ensures transferred { OnOk result (HasTransferred pass.new.view) }
 {
     assert!(rt; pass.swap() == SwapAt::Moved(0));
@@ -187,9 +187,9 @@ fn has_opened<L: Layout>(pass: &Pass<L>) -> bool
 
 /// Opens the new row, and ends the swap.
 pub(super) fn open<L: Layout>(rt: &impl Abort, sys: &Sys<L>, pass: &mut Pass<L>)
-    requires free { IsFree sys.now pass.old }
+    requires free { HoldsNoCell sys.now pass.old }
     requires transferred { HasTransferred pass.old.view }
-    ensures free { IsFree sys.now pass.new }
+    ensures free { HoldsNoCell sys.now pass.new }
 {
     open_entries(sys, pass);
     assert!(rt; has_opened::<L>(pass) && pass.row_room() > 0);
@@ -198,8 +198,8 @@ pub(super) fn open<L: Layout>(rt: &impl Abort, sys: &Sys<L>, pass: &mut Pass<L>)
 
 /// Begins a swap of the first object, as far as its state is to be handed on.
 pub(super) fn take_over<L: Layout>(rt: &impl Abort, sys: &Sys<L>, pass: &mut Pass<L>)
-    requires { IsFree sys.now pass.old }
-    ensures free { IsFree sys.now pass.new }
+    requires { HoldsNoCell sys.now pass.old }
+    ensures free { HoldsNoCell sys.now pass.new }
     ensures moved { HasMoved pass.new.view }
 {
     send_to_mediator(rt, sys, pass);
@@ -216,13 +216,13 @@ pub(super) fn swap<L: Layout>(
     pass: &mut Pass<L>,
     to: &L,
 ) -> Result<(), Memory>
-    requires free { IsFree sys.now pass.old }
+    requires free { HoldsNoCell sys.now pass.old }
     requires kind { IsOfKind L.object sys.now.layouts 0 to.now }
     requires known { L.tag_of to.now ≤ 2 }
-    ensures { OnOk result (IsFree sys.now pass.new) }
+    ensures { OnOk result (HoldsNoCell sys.now pass.new) }
 {
     take_over(rt, sys, pass);
-    hand_on(rt, alloc, sys, pass, to)?;
+    transfer_to(rt, alloc, sys, pass, to)?;
     open(rt, sys, pass);
     Ok(())
 }

@@ -1,7 +1,7 @@
 //! A swap whose transfer finds no memory is given up, and the object is as it was.
 ghost use Rattle.std.specs.Prelude.{OnOk};
 ghost use Rattle.k42_mediator.specs.Swaps.{HasMoved};
-ghost use Rattle.mediator_tests.specs.Ready.{IsFree, IsBusy, IsServing};
+ghost use Rattle.mediator_tests.specs.Ready.{HoldsNoCell, IsBusy, IsServing};
 
 use crate::tests::balky::Balky;
 use crate::tests::calls::{
@@ -45,8 +45,8 @@ fn call(
     pass: &mut Pass<Balky>,
     op: &Op,
 ) -> Result<Option<u64>, Memory>
-    requires { IsFree sys.now pass.old }
-    ensures { OnOk result (IsFree sys.now pass.new) }
+    requires { HoldsNoCell sys.now pass.old }
+    ensures { OnOk result (HoldsNoCell sys.now pass.new) }
 {
     start_activity(rt, sys, pass);
     look_in_vain(rt, sys, pass);
@@ -64,9 +64,9 @@ fn go_back(
     sys: &Sys<Balky>,
     pass: &mut Pass<Balky>,
 ) -> Result<(), Memory>
-    requires free { IsFree sys.now pass.old }
+    requires free { HoldsNoCell sys.now pass.old }
     requires moved { HasMoved pass.old.view }
-    ensures { OnOk result (IsFree sys.now pass.new) }
+    ensures { OnOk result (HoldsNoCell sys.now pass.new) }
 {
     assert!(rt; 0 < sys.objects());
     let to = Balky {
@@ -79,8 +79,8 @@ fn go_back(
 
 /// Finds the entry of the object empty, and its word without any bit of a swap.
 fn find_open(rt: &impl Abort, sys: &Sys<Balky>, pass: &mut Pass<Balky>)
-    requires { IsFree sys.now pass.old }
-    ensures { IsFree sys.now pass.new }
+    requires { HoldsNoCell sys.now pass.old }
+    ensures { HoldsNoCell sys.now pass.new }
 {
     start_activity(rt, sys, pass);
     look_in_vain(rt, sys, pass);
@@ -96,8 +96,8 @@ fn go_on(
     sys: &Sys<Balky>,
     pass: &mut Pass<Balky>,
 ) -> Result<(), Memory>
-    requires { IsFree sys.now pass.old }
-    ensures { OnOk result (IsFree sys.now pass.new) }
+    requires { HoldsNoCell sys.now pass.old }
+    ensures { OnOk result (HoldsNoCell sys.now pass.new) }
 {
     assert!(rt; 0 < sys.objects());
     let to = sys.declared(0).with_tag(0);

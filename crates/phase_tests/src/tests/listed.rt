@@ -1,3 +1,4 @@
+//! Long lists of events, each with whether it is possible, and the states to which they come.
 use super::{Step, answered, numbers, place, swap};
 use gen_core::GenEvent;
 use phase_core::{PhaseState, Place, SwapAt};

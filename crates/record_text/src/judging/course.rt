@@ -1,3 +1,4 @@
+//! One worker's way through its lines, in their order and in step with its generations.
 ghost use Rattle.std.specs.Prelude.{◌≡◌, ◌<◌, ◌+◌, ◌^◌, [], ◌∷◌, ◌++◌, ℕ, List, Option, Some, true, slice_get, length};
 ghost use Rattle.std.specs.Bool.{Decides};
 ghost use Rattle.script_text.specs.Lawful.{call_lines};

@@ -1,3 +1,4 @@
+//! Which worker carried out which swap, over the whole record.
 ghost use Rattle.std.specs.Prelude.{◌≡◌, List, [], ◌∷◌, ◌++◌, IfOk, OnOk};
 ghost use Rattle.std.specs.Bool.{Decides};
 ghost use Rattle.record_text.specs.declared.record.RecordLine.{RecordLine as Line};

@@ -1,3 +1,4 @@
+//! What later lines say about how far an object can have come.
 ghost use Rattle.std.specs.Prelude.{◌≡◌, ◌<◌, ℕ, IfOk, All};
 ghost use Rattle.record_text.specs.Referee.Seen as seen;
 ghost use Rattle.record_text.specs.Referee.Seen.{IsPlaced, AreLeast};

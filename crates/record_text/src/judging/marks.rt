@@ -1,3 +1,4 @@
+//! A number for each worker and object, in one array.
 ghost use Rattle.std.specs.Prelude.{◌≡◌, ◌<◌, ◌&&◌, ◌==◌, ℕ, if◌then◌else◌};
 ghost use Rattle.k42_limits.specs.declared.TheConstants.{CALLERS, OBJECTS};
 ghost use Rattle.record_text.specs.Referee.Marks.{Shows};

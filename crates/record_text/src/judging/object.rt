@@ -1,3 +1,4 @@
+//! Each line is replayed on the object of one thread.
 ghost use Rattle.std.specs.Prelude.{◌≡◌, ◌+◌, IsTrue, true, IfOk, if◌then◌else◌};
 ghost use Rattle.std.specs.Bool.{Decides};
 ghost use Rattle.k42_kinds.specs.Objects.{empty_state};

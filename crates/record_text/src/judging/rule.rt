@@ -1,3 +1,4 @@
+//! The rules by which a line is judged, with the numbers that answers name.
 ghost use Rattle.std.specs.Prelude.{◌≡◌};
 ghost use Rattle.record_text.specs.Rules as rules;
 

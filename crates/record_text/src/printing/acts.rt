@@ -1,3 +1,4 @@
+//! What was asked, as words.
 ghost use Rattle.std.specs.Prelude.{◌≡◌, ◌++◌, OnOk};
 ghost use Rattle.record_text.specs.Tokens.{behind_spaces};
 ghost use Rattle.record_text.specs.Acts as spelling;

@@ -1,3 +1,4 @@
+//! Tokens and numbers, from which lines are made.
 ghost use Rattle.std.specs.Prelude.{◌≡◌, ◌∷◌, ◌++◌, [], OnOk};
 ghost use Rattle.std.specs.Fmt.{decimal};
 ghost use Rattle.record_text.specs.Tokens.{behind_spaces};

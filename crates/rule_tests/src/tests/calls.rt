@@ -4,7 +4,7 @@ ghost use Rattle.k42_limits.specs.declared.TheConstants.{PROCESSORS};
 ghost use Rattle.k42_kinds.specs.LayoutLaws.{IsReached};
 ghost use Rattle.phase_core.specs.declared.caller.Place.TheVariants.{Missed, AtMediator};
 ghost use Rattle.k42_board.specs.Seen.{inside_in};
-ghost use Rattle.rule_tests.specs.Ready.{IsFree, IsIn, IsServing, IsLayoutOf};
+ghost use Rattle.rule_tests.specs.Ready.{HoldsNoCell, IsIn, IsServing, IsLayoutOf};
 
 use co_any::AnyLayout;
 use k42_kinds::{Act, Answer, Layout, Op, Reach, Reply, kind_of};
@@ -17,8 +17,8 @@ use std::alloc::Global;
 
 /// Begins an activity, and answers the word that was found.
 pub(super) fn enter<L: Layout>(sys: &Sys<L>, pass: &mut Pass<L>) -> Option<u64>
-    requires free { IsFree sys.now pass.old }
-    ensures free { IsFree sys.now pass.new }
+    requires free { HoldsNoCell sys.now pass.old }
+    ensures free { HoldsNoCell sys.now pass.new }
     ensures entered { IsSome result → IsIn pass.new.view }
 {
     if !pass.is_idle() || pass.activities() >= 1_048_576 {
@@ -29,10 +29,10 @@ pub(super) fn enter<L: Layout>(sys: &Sys<L>, pass: &mut Pass<L>) -> Option<u64>
 
 /// Installs the entry that was found empty, and answers whether the call is in the row then.
 fn install<L: Layout>(sys: &Sys<L>, pass: &mut Pass<L>, object: u32, incarnation: u32) -> bool
-    requires free { IsFree sys.now pass.old }
+    requires free { HoldsNoCell sys.now pass.old }
     requires active { is_some pass.old.view.turn.active ≡ true }
     requires missed { (pass.old.view.visitor.place ≡ Missed object incarnation) × (object < length sys.now.layouts) }
-    ensures free { IsFree sys.now pass.new }
+    ensures free { HoldsNoCell sys.now pass.new }
     ensures served { result ≡ true → IsServing pass.new.view }
     ensures out { result ≡ false → IsIn pass.new.view }
 {
@@ -47,10 +47,10 @@ fn install<L: Layout>(sys: &Sys<L>, pass: &mut Pass<L>, object: u32, incarnation
 
 /// Knocks at the mediator, and answers whether the call was let in.
 fn knock<L: Layout>(sys: &Sys<L>, pass: &mut Pass<L>, object: u32) -> bool
-    requires free { IsFree sys.now pass.old }
+    requires free { HoldsNoCell sys.now pass.old }
     requires active { is_some pass.old.view.turn.active ≡ true }
     requires sent { (pass.old.view.visitor.place ≡ AtMediator object) × (object < length sys.now.layouts) }
-    ensures free { IsFree sys.now pass.new }
+    ensures free { HoldsNoCell sys.now pass.new }
     ensures served { result ≡ true → IsServing pass.new.view }
     ensures out { result ≡ false → IsIn pass.new.view }
 {
@@ -71,10 +71,10 @@ pub(super) struct Found {
 
 /// Looks the object up, and goes on until it is in the row or outside of the call.
 pub(super) fn look_up<L: Layout>(sys: &Sys<L>, pass: &mut Pass<L>, object: u32) -> Found
-    requires free { IsFree sys.now pass.old }
+    requires free { HoldsNoCell sys.now pass.old }
     requires entered { IsIn pass.old.view }
     requires there { object < length sys.now.layouts }
-    ensures free { IsFree sys.now pass.new }
+    ensures free { HoldsNoCell sys.now pass.new }
     ensures served { result.served ≡ true → IsServing pass.new.view }
     ensures out { result.served ≡ false → IsIn pass.new.view }
 {
@@ -89,9 +89,9 @@ pub(super) fn look_up<L: Layout>(sys: &Sys<L>, pass: &mut Pass<L>, object: u32) 
 
 /// Ends a call that is in a row.
 pub(super) fn end<L: Layout>(sys: &Sys<L>, pass: &mut Pass<L>)
-    requires free { IsFree sys.now pass.old }
+    requires free { HoldsNoCell sys.now pass.old }
     requires serving { IsServing pass.old.view }
-    ensures free { IsFree sys.now pass.new }
+    ensures free { HoldsNoCell sys.now pass.new }
     ensures entered { IsIn pass.new.view }
 {
     if pass.inside().tracked {
@@ -138,12 +138,12 @@ pub(super) fn step_at<L: Layout>(
     inside: &Inside,
     op: &Op,
 ) -> Result<Option<u64>, Memory>
-    requires free { IsFree sys.now pass.old }
+    requires free { HoldsNoCell sys.now pass.old }
     requires serving { IsServing pass.old.view }
     requires inside { (inside.now ≡ inside_in pass.old.view) × (inside.now.object < 16) }
     requires layout { IsLayoutOf L.object sys.now.layouts inside.now.object layout.now × (L.tag_of layout.now ≡ inside.now.layout) × (inside.now.layout ≤ 2) }
     requires takes { IsTrue ((L.object layout.now).takes op.now) }
-    ensures free { OnOk result (IsFree sys.now pass.new) }
+    ensures free { OnOk result (HoldsNoCell sys.now pass.new) }
     ensures serving { OnOk result (IsServing pass.new.view) }
 {
     layouts_are_lawful(sys);
@@ -184,9 +184,9 @@ pub(super) fn step(
     pass: &mut Pass<AnyLayout>,
     op: &Op,
 ) -> Result<Option<u64>, Memory>
-    requires free { IsFree sys.now pass.old }
+    requires free { HoldsNoCell sys.now pass.old }
     requires serving { IsServing pass.old.view }
-    ensures free { OnOk result (IsFree sys.now pass.new) }
+    ensures free { OnOk result (HoldsNoCell sys.now pass.new) }
     ensures serving { OnOk result (IsServing pass.new.view) }
 {
     let inside = pass.inside();
@@ -203,9 +203,9 @@ pub(super) fn step(
 
 /// Ends the activity.
 pub(super) fn leave<L: Layout>(sys: &Sys<L>, pass: &mut Pass<L>) -> u64
-    requires free { IsFree sys.now pass.old }
+    requires free { HoldsNoCell sys.now pass.old }
     requires entered { IsIn pass.old.view }
-    ensures free { IsFree sys.now pass.new }
+    ensures free { HoldsNoCell sys.now pass.new }
 {
     leave_step(sys, pass)
 }
@@ -218,10 +218,10 @@ fn serve(
     object: u32,
     op: &Op,
 ) -> Result<Option<u64>, Memory>
-    requires free { IsFree sys.now pass.old }
+    requires free { HoldsNoCell sys.now pass.old }
     requires entered { IsIn pass.old.view }
     requires there { object < length sys.now.layouts }
-    ensures free { OnOk result (IsFree sys.now pass.new) }
+    ensures free { OnOk result (HoldsNoCell sys.now pass.new) }
     ensures entered { OnOk result (IsIn pass.new.view) }
 {
     if !look_up(sys, pass, object).served {
@@ -240,8 +240,8 @@ pub(super) fn call(
     object: u32,
     op: &Op,
 ) -> Result<Option<u64>, Memory>
-    requires free { IsFree sys.now pass.old }
-    ensures free { OnOk result (IsFree sys.now pass.new) }
+    requires free { HoldsNoCell sys.now pass.old }
+    ensures free { OnOk result (HoldsNoCell sys.now pass.new) }
 {
     if object >= sys.objects() || enter(sys, pass).is_none() {
         return Ok(None);

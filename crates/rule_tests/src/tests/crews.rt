@@ -1,7 +1,7 @@
 //! Systems, and the passes that are taken from their lists and put back.
 ghost use Rattle.std.specs.Prelude.{◌≡◌, ◌<◌, ◌≤◌, ◌+◌, ◌++◌, ◌∷◌, [], nat_lt, nat_le, true, length, IfOk, IfSome, IfNone, vec_len, vec_capacity, OnOk};
 ghost use Rattle.std.specs.List.{list_all};
-ghost use Rattle.rule_tests.specs.Ready.{IsFree, AreFree, IsCrewOf, RestsAt, RestFrom};
+ghost use Rattle.rule_tests.specs.Ready.{HoldsNoCell, HoldNoCells, IsCrewOf, RestsAt, RestFrom};
 
 use co_any::AnyLayout;
 use k42_kinds::{Entry, Layout};
@@ -46,9 +46,9 @@ pub(super) fn start(
 /// Takes the last pass out of the list.
 #[tactic(auto, using(crate::proofs::Crews::free_front, crate::proofs::Crews::free_last))]
 pub(super) fn last<L: Layout>(sys: &Sys<L>, passes: &mut Vec<Pass<L>>) -> Option<Pass<L>>
-    requires free { AreFree sys.now passes.old.items }
-    ensures free { AreFree sys.now passes.new.items }
-    ensures out { IfSome result (λ pass. IsFree sys.now pass × (length passes.new.items + 1 ≡ length passes.old.items)) }
+    requires free { HoldNoCells sys.now passes.old.items }
+    ensures free { HoldNoCells sys.now passes.new.items }
+    ensures out { IfSome result (λ pass. HoldsNoCell sys.now pass × (length passes.new.items + 1 ≡ length passes.old.items)) }
     ensures none { IfNone result (passes.new.items ≡ passes.old.items) }
 {
     passes.pop()
@@ -60,8 +60,8 @@ pub(super) fn keep<L: Layout>(
     passes: &mut Vec<Pass<L>>,
     pass: Pass<L>,
 ) -> Result<(), Memory>
-    requires free { AreFree sys.now passes.old.items × IsFree sys.now pass }
-    ensures free { OnOk result (AreFree sys.now passes.new.items × (length passes.new.items ≡ length passes.old.items + 1)) }
+    requires free { HoldNoCells sys.now passes.old.items × HoldsNoCell sys.now pass }
+    ensures free { OnOk result (HoldNoCells sys.now passes.new.items × (length passes.new.items ≡ length passes.old.items + 1)) }
 {
     passes.push(pass)?;
     Ok(())

@@ -1,7 +1,7 @@
 //! A grace, step by step.
 ghost use Rattle.std.specs.Prelude.{◌≡◌, ◌<◌, true, length};
 ghost use Rattle.gen_core.specs.declared.state.GraceAt.TheVariants.{Flipping};
-ghost use Rattle.rule_tests.specs.Ready.{IsFree};
+ghost use Rattle.rule_tests.specs.Ready.{HoldsNoCell};
 
 use gen_core::GraceAt;
 use k42_kinds::Layout;
@@ -10,8 +10,8 @@ use phase_core::SwapAt;
 
 /// Takes the role, and answers whether it was free.
 pub(super) fn take<L: Layout>(sys: &Sys<L>, pass: &mut Pass<L>) -> bool
-    requires free { IsFree sys.now pass.old }
-    ensures free { IsFree sys.now pass.new }
+    requires free { HoldsNoCell sys.now pass.old }
+    ensures free { HoldsNoCell sys.now pass.new }
 {
     if pass.is_active() || pass.grace() != GraceAt::Idle || pass.graces() >= 1_048_576 {
         return false;
@@ -24,9 +24,9 @@ pub(super) fn take<L: Layout>(sys: &Sys<L>, pass: &mut Pass<L>) -> bool
 
 /// Takes the next step of a grace at the processor that it flips next.
 fn flip_next<L: Layout>(sys: &Sys<L>, pass: &mut Pass<L>, proc: u32)
-    requires free { IsFree sys.now pass.old }
+    requires free { HoldsNoCell sys.now pass.old }
     requires flipping { pass.old.view.turn.grace ≡ Flipping proc }
-    ensures free { IsFree sys.now pass.new }
+    ensures free { HoldsNoCell sys.now pass.new }
 {
     match (pass.base(), pass.coming()) {
         (None, _) if proc == 0 => {
@@ -44,8 +44,8 @@ fn flip_next<L: Layout>(sys: &Sys<L>, pass: &mut Pass<L>, proc: u32)
 
 /// Takes the next step of a grace.
 fn step<L: Layout>(sys: &Sys<L>, pass: &mut Pass<L>)
-    requires free { IsFree sys.now pass.old }
-    ensures free { IsFree sys.now pass.new }
+    requires free { HoldsNoCell sys.now pass.old }
+    ensures free { HoldsNoCell sys.now pass.new }
 {
     match pass.grace() {
         GraceAt::Flipping(proc) => flip_next(sys, pass, proc),
@@ -60,8 +60,8 @@ fn step<L: Layout>(sys: &Sys<L>, pass: &mut Pass<L>)
 
 /// Goes on with a grace for as many steps, and answers whether it is quiet then.
 pub(super) fn go_on<L: Layout>(sys: &Sys<L>, pass: &mut Pass<L>, steps: u32) -> bool
-    requires free { IsFree sys.now pass.old }
-    ensures free { IsFree sys.now pass.new }
+    requires free { HoldsNoCell sys.now pass.old }
+    ensures free { HoldsNoCell sys.now pass.new }
 {
     for _ in 0..steps {
         if pass.grace() == GraceAt::Quiet {
@@ -74,8 +74,8 @@ pub(super) fn go_on<L: Layout>(sys: &Sys<L>, pass: &mut Pass<L>, steps: u32) -> 
 
 /// Frees what a quiet grace noted of the object, and gives the role back. It answers the mark that was found.
 pub(super) fn give<L: Layout>(sys: &Sys<L>, pass: &mut Pass<L>, object: u32) -> Option<u64>
-    requires free { IsFree sys.now pass.old }
-    ensures free { IsFree sys.now pass.new }
+    requires free { HoldsNoCell sys.now pass.old }
+    ensures free { HoldsNoCell sys.now pass.new }
 {
     if pass.grace() != GraceAt::Quiet || object >= sys.objects() {
         return None;

@@ -1,6 +1,6 @@
 //! What a system keeps of the calls of one pass.
 ghost use Rattle.std.specs.Prelude.{◌<◌};
-ghost use Rattle.rule_tests.specs.Ready.{IsFree};
+ghost use Rattle.rule_tests.specs.Ready.{HoldsNoCell};
 
 use crate::tests::calls::call;
 use crate::tests::crews::{finish, keep, last, start};
@@ -51,8 +51,8 @@ fn a_call_is_found_in_the_list_of_its_caller(rt: HostRuntime) -> Result<(), Fail
 
 /// A grace by a pass that holds no row: true where it was quiet and noted nothing of the object.
 fn graced(sys: &Sys<AnyLayout>, pass: &mut Pass<AnyLayout>) -> bool
-    requires free { IsFree sys.now pass.old }
-    ensures free { IsFree sys.now pass.new }
+    requires free { HoldsNoCell sys.now pass.old }
+    ensures free { HoldsNoCell sys.now pass.new }
 {
     let quiet = take(sys, pass) && go_on(sys, pass, 16);
     quiet && give(sys, pass, 0).is_none()

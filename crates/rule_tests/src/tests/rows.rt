@@ -1,5 +1,5 @@
 //! Rows that are handed from pass to pass.
-ghost use Rattle.rule_tests.specs.Ready.{IsFree};
+ghost use Rattle.rule_tests.specs.Ready.{HoldsNoCell};
 
 use crate::tests::crews::{last, start};
 use co_any::AnyLayout;
@@ -10,8 +10,8 @@ use std::test::Fail;
 
 /// Pops a row, where there is room.
 fn pop<L: Layout>(rt: &impl Wait, sys: &Sys<L>, pass: &mut Pass<L>) -> bool
-    requires free { IsFree sys.now pass.old }
-    ensures free { IsFree sys.now pass.new }
+    requires free { HoldsNoCell sys.now pass.old }
+    ensures free { HoldsNoCell sys.now pass.new }
 {
     pass.row_room() >= 2 && pop_row(rt, sys, pass)
 }

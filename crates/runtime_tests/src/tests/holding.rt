@@ -1,7 +1,7 @@
 //! Calls that are held up: by a swap that keeps the object shut, and by a caller that holds a cell.
 ghost use Rattle.std.specs.Prelude.{◌<◌, [], ◌∷◌, IfOk, OnOk};
 ghost use Rattle.k42_crews.specs.Ready.{IsFree, IsIn};
-ghost use Rattle.runtime_tests.specs.Ready.{IsCallOf, IsServed, IsSwapping};
+ghost use Rattle.runtime_tests.specs.Ready.{IsCallOf, IsInRow, IsSwapping};
 
 use crate::tests::steps::{call, come_in, go_home, try_call, try_swap};
 use crate::tests::table::{end_call, hold_cell, knock_in, let_go};
@@ -65,7 +65,7 @@ fn be_counted(
     requires two { IsFree system.now two.old }
     ensures zero { OnOk result (IsFree system.now zero.new) }
     ensures one { OnOk result (IsSwapping system.now swap.new one.new) }
-    ensures two { OnOk result (IsServed system.now [] two.new) }
+    ensures two { OnOk result (IsInRow system.now [] two.new) }
 {
     come_in(rt, system, zero);
     find_left(rt, alloc, system, one, swap)?;
@@ -90,7 +90,7 @@ pub(super) fn be_waited_for(
     requires two { IsFree system.now two.old }
     ensures zero { OnOk result (IsFree system.now zero.new) }
     ensures one { OnOk result (IsSwapping system.now swap.new one.new) }
-    ensures two { OnOk result (IsServed system.now [] two.new) }
+    ensures two { OnOk result (IsInRow system.now [] two.new) }
 {
     be_counted(rt, alloc, system, zero, one, two, swap)?;
     let step = try_swap(rt, alloc, system, one, swap)?;
@@ -108,7 +108,7 @@ pub(super) fn be_shut_out(
     get: &mut Call,
 ) -> Result<(), Memory>
     requires zero { IsFree system.now zero.old }
-    requires two { IsServed system.now [] two.old }
+    requires two { IsInRow system.now [] two.old }
     requires asked { IsCallOf system.now get.old }
     ensures zero { OnOk result (IsIn system.now zero.new) }
     ensures two { OnOk result (IsFree system.now two.new) }
@@ -151,7 +151,7 @@ pub(super) fn hold<R: Abort + Wait>(
     pass: &mut Pass,
 ) -> Result<u32, Memory>
     requires free { IsFree system.now pass.old }
-    ensures served { IfOk result (λ cell. IsServed system.now (cell ∷ []) pass.new) }
+    ensures served { IfOk result (λ cell. IsInRow system.now (cell ∷ []) pass.new) }
     ensures few { IfOk result (λ cell. cell < 256) }
 {
     come_in(rt, system, pass);
@@ -173,7 +173,7 @@ pub(super) fn wait_for_cell(
     add: &mut Call,
 ) -> Result<(), Memory>
     requires zero { IsFree system.now zero.old }
-    requires one { IsServed system.now (cell ∷ []) one.old }
+    requires one { IsInRow system.now (cell ∷ []) one.old }
     requires few { cell < 256 }
     requires asked { IsCallOf system.now add.old }
     ensures zero { OnOk result (IsFree system.now zero.new) }

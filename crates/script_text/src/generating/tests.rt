@@ -1,3 +1,4 @@
+//! Generated scripts beside texts that are spelled out by the same rule.
 use super::*;
 use crate::parsing::parse;
 use std::alloc::AllocError;

@@ -1,3 +1,4 @@
+//! Scripts with what they say, and others with the line and the cause by which they are refused.
 use super::*;
 use crate::script::{CallLine, Item, ObjectLine};
 use k42_kinds::{Act, KindName, LayoutName, Name, Op, Text};

@@ -1,10 +1,10 @@
 //! A swap under which calls are in the row.
 ghost use Rattle.std.specs.Prelude.{◌≡◌, true, false, OnOk};
-ghost use Rattle.swap_tests.specs.Ready.{IsFree, IsIn, IsServing};
+ghost use Rattle.swap_tests.specs.Ready.{HoldsNoCell, IsIn, IsServing};
 
 use crate::tests::calls::{end, enter, leave, look_up, step};
 use crate::tests::crews::{Walk, finish, last, start};
-use crate::tests::phases::{close, hand_on, lead_in, move_out, open, try_early, wait_free};
+use crate::tests::phases::{close, lead_in, move_out, open, transfer_to, try_early, wait_free};
 use crate::tests::{called, has_drawn, has_drawn_nothing, swapped};
 use co_any::AnyLayout;
 use k42_kinds::{LayoutName, Op, Reply};
@@ -16,8 +16,8 @@ use std::test::Fail;
 
 /// Begins an activity and a call of the first object, which is let in or not.
 fn come_in(rt: &impl Abort, sys: &Sys<AnyLayout>, pass: &mut Walk, served: bool)
-    requires free { IsFree sys.now pass.old }
-    ensures free { IsFree sys.now pass.new }
+    requires free { HoldsNoCell sys.now pass.old }
+    ensures free { HoldsNoCell sys.now pass.new }
     ensures serving { served ≡ true → IsServing pass.new.view }
     ensures out { served ≡ false → IsIn pass.new.view }
 {
@@ -32,9 +32,9 @@ fn go_out(
     pass: &mut Walk,
     op: &Op,
 ) -> Result<Option<u64>, Memory>
-    requires free { IsFree sys.now pass.old }
+    requires free { HoldsNoCell sys.now pass.old }
     requires serving { IsServing pass.old.view }
-    ensures free { OnOk result (IsFree sys.now pass.new) }
+    ensures free { OnOk result (HoldsNoCell sys.now pass.new) }
 {
     let stamp = step(alloc, sys, pass, op)?;
     end(sys, pass);
@@ -62,7 +62,7 @@ fn a_swap_waits_for_the_call_that_is_counted(rt: HostRuntime) -> Result<(), Fail
     leave(&sys, &mut two);
     assert_eq!(rt; go_out(alloc, &sys, &mut zero, &Op::Add(5))?, Some(1));
     move_out(&rt, &sys, &mut one);
-    hand_on(&rt, alloc, &sys, &mut one, 0, 1)?;
+    transfer_to(&rt, alloc, &sys, &mut one, 0, 1)?;
     open(&rt, &sys, &mut one);
     let Some(lists) = finish(alloc, sys, zero, one, two)? else {
         return Err("a pass does not rest")?;

@@ -1,6 +1,6 @@
 //! Systems of one counter on one processor, and the passes of their three callers.
 ghost use Rattle.std.specs.Prelude.{◌≡◌, true, length, IfOk, IfSome, OnOk};
-ghost use Rattle.swap_tests.specs.Ready.{IsFree, AreFree, RestsAt};
+ghost use Rattle.swap_tests.specs.Ready.{HoldsNoCell, HoldNoCells, RestsAt};
 
 use co_any::AnyLayout;
 use k42_kinds::{Entry, KindName, LayoutName};
@@ -12,7 +12,7 @@ pub(super) type Walk = Pass<AnyLayout>;
 
 #[tactic(auto, using(crate::proofs::Crews::any_tags))]
 pub(super) fn start(alloc: Global) -> Result<(Sys<AnyLayout>, Vec<Walk>), Memory>
-    ensures { IfOk result (λ made. AreFree made.0 made.1.items × (length made.0.callers ≡ 3)) }
+    ensures { IfOk result (λ made. HoldNoCells made.0 made.1.items × (length made.0.callers ≡ 3)) }
 {
     let layouts = vec![in alloc; AnyLayout::of(KindName::Counter, LayoutName::Shared)]?;
     let callers = vec![in alloc; 0, 0, 0]?;
@@ -22,9 +22,9 @@ pub(super) fn start(alloc: Global) -> Result<(Sys<AnyLayout>, Vec<Walk>), Memory
 
 /// Takes the last pass out of the list.
 pub(super) fn last(sys: &Sys<AnyLayout>, passes: &mut Vec<Walk>) -> Option<Walk>
-    requires free { AreFree sys.now passes.old.items }
-    ensures free { AreFree sys.now passes.new.items }
-    ensures out { IfSome result (λ pass. IsFree sys.now pass) }
+    requires free { HoldNoCells sys.now passes.old.items }
+    ensures free { HoldNoCells sys.now passes.new.items }
+    ensures out { IfSome result (λ pass. HoldsNoCell sys.now pass) }
 {
     passes.pop()
 }
@@ -44,7 +44,7 @@ pub(super) fn finish(
     three: Walk,
 ) -> Result<Option<Vec<Vec<Entry>>>, Memory>
     requires callers { length sys.callers ≡ 3 }
-    requires free { IsFree sys one × IsFree sys two × IsFree sys three }
+    requires free { HoldsNoCell sys one × HoldsNoCell sys two × HoldsNoCell sys three }
 {
     if !rests(&one, 0) || !rests(&two, 1) || !rests(&three, 2) {
         return Ok(None);

@@ -4,7 +4,7 @@ ghost use Rattle.phase_core.specs.declared.caller.SwapAt.TheVariants.{Moved};
 ghost use Rattle.k42_board.specs.Gracing.{MayTakeRole};
 ghost use Rattle.k42_board.specs.Swapping.{object_swapped, MayBlock, MayMove};
 ghost use Rattle.k42_mediator.specs.Swaps.{HasBegun, HasMoved, HasTransferred, HasOpened};
-ghost use Rattle.swap_tests.specs.Ready.{IsFree};
+ghost use Rattle.swap_tests.specs.Ready.{HoldsNoCell};
 
 use crate::tests::crews::Walk;
 use co_any::AnyLayout;
@@ -29,8 +29,8 @@ fn has_begun(pass: &Walk) -> bool
 
 /// Begins a swap, which is to be the only one of the object.
 fn begin_alone(rt: &impl Abort, sys: &Sys<AnyLayout>, pass: &mut Walk, object: u32)
-    requires free { IsFree sys.now pass.old }
-    ensures free { IsFree sys.now pass.new }
+    requires free { HoldsNoCell sys.now pass.old }
+    ensures free { HoldsNoCell sys.now pass.new }
     ensures begun { HasBegun pass.new.view }
 {
     assert!(rt; pass.is_idle() && object < sys.objects());
@@ -40,8 +40,8 @@ fn begin_alone(rt: &impl Abort, sys: &Sys<AnyLayout>, pass: &mut Walk, object: u
 
 /// Begins a swap, and leads all entries to the mediator.
 pub(super) fn lead_in(rt: &impl Abort, sys: &Sys<AnyLayout>, pass: &mut Walk, object: u32)
-    requires free { IsFree sys.now pass.old }
-    ensures free { IsFree sys.now pass.new }
+    requires free { HoldsNoCell sys.now pass.old }
+    ensures free { HoldsNoCell sys.now pass.new }
 {
     begin_alone(rt, sys, pass, object);
     interpose(sys, pass);
@@ -59,8 +59,8 @@ fn may_wait(pass: &Walk) -> bool
 
 /// Waits for a grace, which is to free so many rows.
 pub(super) fn wait_free<R: Abort + Wait>(rt: &R, sys: &Sys<AnyLayout>, pass: &mut Walk, freed: u32)
-    requires free { IsFree sys.now pass.old }
-    ensures free { IsFree sys.now pass.new }
+    requires free { HoldsNoCell sys.now pass.old }
+    ensures free { HoldsNoCell sys.now pass.new }
 {
     assert!(rt; may_wait(pass));
     grace(rt, sys, pass);
@@ -90,10 +90,10 @@ fn has_moved(pass: &Walk) -> bool
 /// Begins to move the state of a shut object: nobody is counted.
 #[tactic(auto, using(crate::proofs::Handed::still_unhanded))]
 fn move_now(rt: &impl Abort, sys: &Sys<AnyLayout>, pass: &mut Walk)
-    requires free { IsFree sys.now pass.old }
+    requires free { HoldsNoCell sys.now pass.old }
     requires may { MayMove pass.old.view }
     requires unhanded { pass.old.view.handed ≡ None }
-    ensures free { IsFree sys.now pass.new }
+    ensures free { HoldsNoCell sys.now pass.new }
     ensures unhanded { pass.new.view.handed ≡ None }
 {
     assert_eq!(rt; try_move(sys, pass), Moving::Moved);
@@ -101,8 +101,8 @@ fn move_now(rt: &impl Abort, sys: &Sys<AnyLayout>, pass: &mut Walk)
 
 /// Keeps out whoever knocks from now on.
 pub(super) fn close(rt: &impl Abort, sys: &Sys<AnyLayout>, pass: &mut Walk)
-    requires free { IsFree sys.now pass.old }
-    ensures free { IsFree sys.now pass.new }
+    requires free { HoldsNoCell sys.now pass.old }
+    ensures free { HoldsNoCell sys.now pass.new }
 {
     assert!(rt; may_block(pass));
     block(sys, pass);
@@ -110,8 +110,8 @@ pub(super) fn close(rt: &impl Abort, sys: &Sys<AnyLayout>, pass: &mut Walk)
 
 /// Tries to move the state, while so many callers are counted.
 pub(super) fn try_early(rt: &impl Abort, sys: &Sys<AnyLayout>, pass: &mut Walk, count: u32)
-    requires free { IsFree sys.now pass.old }
-    ensures free { IsFree sys.now pass.new }
+    requires free { HoldsNoCell sys.now pass.old }
+    ensures free { HoldsNoCell sys.now pass.new }
 {
     assert!(rt; may_move(pass));
     assert_eq!(rt; try_move(sys, pass), Moving::InFlight { count });
@@ -119,8 +119,8 @@ pub(super) fn try_early(rt: &impl Abort, sys: &Sys<AnyLayout>, pass: &mut Walk, 
 
 /// Begins to move the state.
 pub(super) fn move_out(rt: &impl Abort, sys: &Sys<AnyLayout>, pass: &mut Walk)
-    requires free { IsFree sys.now pass.old }
-    ensures free { IsFree sys.now pass.new }
+    requires free { HoldsNoCell sys.now pass.old }
+    ensures free { HoldsNoCell sys.now pass.new }
     ensures moved { HasMoved pass.new.view }
 {
     assert!(rt; may_move(pass));
@@ -130,8 +130,8 @@ pub(super) fn move_out(rt: &impl Abort, sys: &Sys<AnyLayout>, pass: &mut Walk)
 
 /// Keeps the object shut, and begins to move its state.
 pub(super) fn shut(rt: &impl Abort, sys: &Sys<AnyLayout>, pass: &mut Walk)
-    requires free { IsFree sys.now pass.old }
-    ensures free { IsFree sys.now pass.new }
+    requires free { HoldsNoCell sys.now pass.old }
+    ensures free { HoldsNoCell sys.now pass.new }
     ensures moved { HasMoved pass.new.view }
 {
     close(rt, sys, pass);
@@ -139,7 +139,7 @@ pub(super) fn shut(rt: &impl Abort, sys: &Sys<AnyLayout>, pass: &mut Walk)
 }
 
 /// Hands the state on to the layout of that tag.
-pub(super) fn hand_on(
+pub(super) fn transfer_to(
     rt: &impl Abort,
     alloc: Global,
     sys: &Sys<AnyLayout>,
@@ -147,9 +147,9 @@ pub(super) fn hand_on(
     object: u32,
     tag: u32,
 ) -> Result<(), Memory>
-    requires free { IsFree sys.now pass.old }
+    requires free { HoldsNoCell sys.now pass.old }
     requires moved { HasMoved pass.old.view }
-    ensures free { OnOk result (IsFree sys.now pass.new) }
+    ensures free { OnOk result (HoldsNoCell sys.now pass.new) }
     ensures transferred { OnOk result (HasTransferred pass.new.view) }
 {
     assert!(rt; object < sys.objects() && tag <= 2);
@@ -167,9 +167,9 @@ pub(super) fn give_up(
     pass: &mut Walk,
     tag: u32,
 ) -> Result<(), Memory>
-    requires free { IsFree sys.now pass.old }
+    requires free { HoldsNoCell sys.now pass.old }
     requires moved { HasMoved pass.old.view }
-    ensures free { OnOk result (IsFree sys.now pass.new) }
+    ensures free { OnOk result (HoldsNoCell sys.now pass.new) }
 {
     assert!(rt; sys.objects() > 0 && tag <= 2);
     pass.reserve()?;
@@ -187,9 +187,9 @@ fn has_opened(pass: &Walk) -> bool
 
 /// Opens the new row, and ends the swap.
 pub(super) fn open(rt: &impl Abort, sys: &Sys<AnyLayout>, pass: &mut Walk)
-    requires free { IsFree sys.now pass.old }
+    requires free { HoldsNoCell sys.now pass.old }
     requires transferred { HasTransferred pass.old.view }
-    ensures free { IsFree sys.now pass.new }
+    ensures free { HoldsNoCell sys.now pass.new }
 {
     open_entries(sys, pass);
     assert!(rt; has_opened(pass) && pass.row_room() > 0);
@@ -205,8 +205,8 @@ pub(super) fn begin_late(
     number: u32,
     phase: Phase,
 )
-    requires free { IsFree sys.now pass.old }
-    ensures free { IsFree sys.now pass.new }
+    requires free { HoldsNoCell sys.now pass.old }
+    ensures free { HoldsNoCell sys.now pass.new }
 {
     assert!(rt; pass.is_idle() && object < sys.objects());
     let busy = Begun::Busy { number, phase };
@@ -223,13 +223,13 @@ pub(super) fn swap<R: Abort + Wait>(
     tag: u32,
     freed: u32,
 ) -> Result<(), Memory>
-    requires free { IsFree sys.now pass.old }
-    ensures free { OnOk result (IsFree sys.now pass.new) }
+    requires free { HoldsNoCell sys.now pass.old }
+    ensures free { OnOk result (HoldsNoCell sys.now pass.new) }
 {
     lead_in(rt, sys, pass, object);
     wait_free(rt, sys, pass, freed);
     shut(rt, sys, pass);
-    hand_on(rt, alloc, sys, pass, object, tag)?;
+    transfer_to(rt, alloc, sys, pass, object, tag)?;
     open(rt, sys, pass);
     Ok(())
 }

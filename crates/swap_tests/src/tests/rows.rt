@@ -1,6 +1,6 @@
 //! Rows that are handed from pass to pass.
 ghost use Rattle.std.specs.Prelude.{OnOk};
-ghost use Rattle.swap_tests.specs.Ready.{IsFree};
+ghost use Rattle.swap_tests.specs.Ready.{HoldsNoCell};
 
 use crate::tests::crews::{Walk, last, start};
 use crate::tests::phases::{swap, wait_free};
@@ -13,8 +13,8 @@ use std::test::Fail;
 
 /// Pushes the oldest row that the pass holds.
 fn push<R: Abort + Wait>(rt: &R, sys: &Sys<AnyLayout>, pass: &mut Walk) -> Result<(), Memory>
-    requires free { IsFree sys.now pass.old }
-    ensures free { OnOk result (IsFree sys.now pass.new) }
+    requires free { HoldsNoCell sys.now pass.old }
+    ensures free { OnOk result (HoldsNoCell sys.now pass.new) }
 {
     assert!(rt; !pass.rows().is_empty());
     push_row(rt, sys, pass)
@@ -22,8 +22,8 @@ fn push<R: Abort + Wait>(rt: &R, sys: &Sys<AnyLayout>, pass: &mut Walk) -> Resul
 
 /// Pops a row, and answers whether there was one.
 fn pop<R: Abort + Wait>(rt: &R, sys: &Sys<AnyLayout>, pass: &mut Walk) -> bool
-    requires free { IsFree sys.now pass.old }
-    ensures free { IsFree sys.now pass.new }
+    requires free { HoldsNoCell sys.now pass.old }
+    ensures free { HoldsNoCell sys.now pass.new }
 {
     assert!(rt; pass.row_room() >= 2);
     pop_row(rt, sys, pass)

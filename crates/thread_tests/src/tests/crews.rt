@@ -1,6 +1,6 @@
 //! Systems of one counter on two processors, and the passes of their four callers.
 ghost use Rattle.std.specs.Prelude.{◌≡◌, true, length, IfOk, IfSome};
-ghost use Rattle.thread_tests.specs.Ready.{IsFree, AreFree, RestsAt};
+ghost use Rattle.thread_tests.specs.Ready.{HoldsNoCell, HoldNoCells, RestsAt};
 
 use co_any::AnyLayout;
 use k42_kinds::{Entry, KindName, LayoutName};
@@ -21,7 +21,7 @@ pub(super) fn amount_of(caller: u32) -> u32 {
 
 #[tactic(auto, using(crate::proofs::Crews::any_tags))]
 pub(super) fn start(alloc: Global) -> Result<(Sys<AnyLayout>, Vec<Walk>), Memory>
-    ensures { IfOk result (λ made. AreFree made.0 made.1.items × (length made.0.callers ≡ 4)) }
+    ensures { IfOk result (λ made. HoldNoCells made.0 made.1.items × (length made.0.callers ≡ 4)) }
 {
     let layouts = vec![in alloc; AnyLayout::of(KindName::Counter, LayoutName::Spread)]?;
     let callers = vec![in alloc; 0, 1, 0, 1]?;
@@ -31,9 +31,9 @@ pub(super) fn start(alloc: Global) -> Result<(Sys<AnyLayout>, Vec<Walk>), Memory
 
 /// Takes the last pass out of the list.
 pub(super) fn last(sys: &Sys<AnyLayout>, passes: &mut Vec<Walk>) -> Option<Walk>
-    requires free { AreFree sys.now passes.old.items }
-    ensures free { AreFree sys.now passes.new.items }
-    ensures out { IfSome result (λ pass. IsFree sys.now pass) }
+    requires free { HoldNoCells sys.now passes.old.items }
+    ensures free { HoldNoCells sys.now passes.new.items }
+    ensures out { IfSome result (λ pass. HoldsNoCell sys.now pass) }
 {
     passes.pop()
 }
@@ -54,8 +54,8 @@ pub(super) fn finish(
     four: Walk,
 ) -> Result<Option<Vec<Vec<Entry>>>, Memory>
     requires callers { length sys.callers ≡ 4 }
-    requires front { IsFree sys one × IsFree sys two }
-    requires back { IsFree sys three × IsFree sys four }
+    requires front { HoldsNoCell sys one × HoldsNoCell sys two }
+    requires back { HoldsNoCell sys three × HoldsNoCell sys four }
 {
     if !rests(&one, 0) || !rests(&two, 1) || !rests(&three, 2) || !rests(&four, 3) {
         return Ok(None);

@@ -4,7 +4,7 @@ ghost use Rattle.phase_core.specs.declared.caller.SwapAt.TheVariants.{Moved};
 ghost use Rattle.k42_board.specs.Gracing.{MayTakeRole};
 ghost use Rattle.k42_board.specs.Swapping.{object_swapped, MayBlock, MayMove};
 ghost use Rattle.k42_mediator.specs.Swaps.{HasBegun, HasMoved, HasTransferred, HasOpened};
-ghost use Rattle.thread_tests.specs.Ready.{IsFree};
+ghost use Rattle.thread_tests.specs.Ready.{HoldsNoCell};
 
 use crate::tests::crews::Walk;
 use co_any::AnyLayout;
@@ -28,8 +28,8 @@ fn has_begun(pass: &Walk) -> bool
 
 /// Begins a swap, which is to be the only one of the object.
 fn begin_alone(rt: &impl Abort, sys: &Sys<AnyLayout>, pass: &mut Walk, object: u32)
-    requires free { IsFree sys.now pass.old }
-    ensures free { IsFree sys.now pass.new }
+    requires free { HoldsNoCell sys.now pass.old }
+    ensures free { HoldsNoCell sys.now pass.new }
     ensures begun { HasBegun pass.new.view }
 {
     assert!(rt; pass.is_idle() && object < sys.objects());
@@ -49,8 +49,8 @@ fn may_wait(pass: &Walk) -> bool
 
 /// Waits for a grace, which is to free so many rows.
 fn wait_free<R: Abort + Wait>(rt: &R, sys: &Sys<AnyLayout>, pass: &mut Walk, freed: u32)
-    requires free { IsFree sys.now pass.old }
-    ensures free { IsFree sys.now pass.new }
+    requires free { HoldsNoCell sys.now pass.old }
+    ensures free { HoldsNoCell sys.now pass.new }
 {
     assert!(rt; may_wait(pass));
     grace(rt, sys, pass);
@@ -80,10 +80,10 @@ fn has_moved(pass: &Walk) -> bool
 /// Begins to move the state, unless callers are still counted.
 #[tactic(auto, using(crate::proofs::Handed::still_unhanded))]
 fn move_now(sys: &Sys<AnyLayout>, pass: &mut Walk) -> bool
-    requires free { IsFree sys.now pass.old }
+    requires free { HoldsNoCell sys.now pass.old }
     requires may { MayMove pass.old.view }
     requires unhanded { pass.old.view.handed ≡ None }
-    ensures free { IsFree sys.now pass.new }
+    ensures free { HoldsNoCell sys.now pass.new }
     ensures unhanded { pass.new.view.handed ≡ None }
 {
     try_move(sys, pass) == Moving::Moved
@@ -91,8 +91,8 @@ fn move_now(sys: &Sys<AnyLayout>, pass: &mut Walk) -> bool
 
 /// Tries to begin to move the state, and answers whether nobody was counted.
 fn try_shut(rt: &impl Abort, sys: &Sys<AnyLayout>, pass: &mut Walk) -> bool
-    requires free { IsFree sys.now pass.old }
-    ensures free { IsFree sys.now pass.new }
+    requires free { HoldsNoCell sys.now pass.old }
+    ensures free { HoldsNoCell sys.now pass.new }
     ensures moved { result ≡ true → HasMoved pass.new.view }
 {
     assert!(rt; may_move(pass));
@@ -105,8 +105,8 @@ fn try_shut(rt: &impl Abort, sys: &Sys<AnyLayout>, pass: &mut Walk) -> bool
 
 /// Keeps the object shut, waits until nobody is counted, and begins to move its state.
 fn shut<R: Abort + Wait>(rt: &R, sys: &Sys<AnyLayout>, pass: &mut Walk)
-    requires free { IsFree sys.now pass.old }
-    ensures free { IsFree sys.now pass.new }
+    requires free { HoldsNoCell sys.now pass.old }
+    ensures free { HoldsNoCell sys.now pass.new }
     ensures moved { HasMoved pass.new.view }
 {
     assert!(rt; may_block(pass));
@@ -122,7 +122,7 @@ fn shut<R: Abort + Wait>(rt: &R, sys: &Sys<AnyLayout>, pass: &mut Walk)
 }
 
 /// Hands the state on to the layout of that tag.
-fn hand_on(
+fn transfer_to(
     rt: &impl Abort,
     alloc: Global,
     sys: &Sys<AnyLayout>,
@@ -130,9 +130,9 @@ fn hand_on(
     object: u32,
     tag: u32,
 ) -> Result<(), Memory>
-    requires free { IsFree sys.now pass.old }
+    requires free { HoldsNoCell sys.now pass.old }
     requires moved { HasMoved pass.old.view }
-    ensures free { OnOk result (IsFree sys.now pass.new) }
+    ensures free { OnOk result (HoldsNoCell sys.now pass.new) }
     ensures transferred { OnOk result (HasTransferred pass.new.view) }
 {
     assert!(rt; object < sys.objects() && tag <= 2);
@@ -151,9 +151,9 @@ fn has_opened(pass: &Walk) -> bool
 
 /// Opens the new row, and ends the swap.
 fn open(rt: &impl Abort, sys: &Sys<AnyLayout>, pass: &mut Walk)
-    requires free { IsFree sys.now pass.old }
+    requires free { HoldsNoCell sys.now pass.old }
     requires transferred { HasTransferred pass.old.view }
-    ensures free { IsFree sys.now pass.new }
+    ensures free { HoldsNoCell sys.now pass.new }
 {
     open_entries(sys, pass);
     assert!(rt; has_opened(pass) && pass.row_room() > 0);
@@ -170,14 +170,14 @@ pub(super) fn swap<R: Abort + Wait>(
     tag: u32,
     freed: u32,
 ) -> Result<(), Memory>
-    requires free { IsFree sys.now pass.old }
-    ensures free { OnOk result (IsFree sys.now pass.new) }
+    requires free { HoldsNoCell sys.now pass.old }
+    ensures free { OnOk result (HoldsNoCell sys.now pass.new) }
 {
     begin_alone(rt, sys, pass, object);
     interpose(sys, pass);
     wait_free(rt, sys, pass, freed);
     shut(rt, sys, pass);
-    hand_on(rt, alloc, sys, pass, object, tag)?;
+    transfer_to(rt, alloc, sys, pass, object, tag)?;
     open(rt, sys, pass);
     Ok(())
 }

@@ -1,6 +1,6 @@
 //! Three passes add in rounds, and a fourth swaps in each round but the last.
 ghost use Rattle.std.specs.Prelude.{IfOk, OnOk};
-ghost use Rattle.thread_tests.specs.Ready.{IsFree};
+ghost use Rattle.thread_tests.specs.Ready.{HoldsNoCell};
 
 use crate::tests::crews::{Walk, amount_of};
 use crate::tests::phases::swap;
@@ -55,8 +55,8 @@ fn add_round<R: Abort + Wait>(
     stamps: &mut Vec<u64>,
     progress: &Progress,
 ) -> Result<(), Memory>
-    requires free { IsFree sys.now pass.old }
-    ensures free { OnOk result (IsFree sys.now pass.new) }
+    requires free { HoldsNoCell sys.now pass.old }
+    ensures free { OnOk result (HoldsNoCell sys.now pass.new) }
 {
     let op = Op::Add(amount_of(pass.caller()));
     for _ in 0..250 {
@@ -75,8 +75,8 @@ fn add_in_rounds<R: Abort + Wait>(
     mut pass: Walk,
     progress: &Progress,
 ) -> Result<Called, Memory>
-    requires free { IsFree sys.now pass }
-    ensures free { IfOk result (λ called. IsFree sys.now called.0) }
+    requires free { HoldsNoCell sys.now pass }
+    ensures free { IfOk result (λ called. HoldsNoCell sys.now called.0) }
 {
     let mut stamps = Vec::new(alloc);
     for round in 0..4 {
@@ -94,8 +94,8 @@ pub(super) fn add_all<R: Abort + Wait>(
     pass: Walk,
     progress: &Progress,
 ) -> Called
-    requires free { IsFree sys.now pass }
-    ensures free { IsFree sys.now result.0 }
+    requires free { HoldsNoCell sys.now pass }
+    ensures free { HoldsNoCell sys.now result.0 }
 {
     let Ok(called) = add_in_rounds(rt, alloc, sys, pass, progress) else {
         panic!(rt; "no memory")
@@ -115,8 +115,8 @@ fn swap_after<R: Abort + Wait>(
     tag: u32,
     freed: u32,
 )
-    requires free { IsFree sys.now pass.old }
-    ensures free { IsFree sys.now pass.new }
+    requires free { HoldsNoCell sys.now pass.old }
+    ensures free { HoldsNoCell sys.now pass.new }
 {
     wait_for(rt, &progress.calls, calls);
     let Ok(()) = swap(rt, alloc, sys, pass, 0, tag, freed) else {
@@ -134,8 +134,8 @@ pub(super) fn swap_all<R: Abort + Wait>(
     mut pass: Walk,
     progress: &Progress,
 ) -> Walk
-    requires free { IsFree sys.now pass }
-    ensures free { IsFree sys.now result }
+    requires free { HoldsNoCell sys.now pass }
+    ensures free { HoldsNoCell sys.now result }
 {
     swap_after(rt, alloc, sys, &mut pass, progress, 100, 0, 0);
     swap_after(rt, alloc, sys, &mut pass, progress, 850, 1, 1);

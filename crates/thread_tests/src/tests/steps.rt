@@ -3,7 +3,7 @@ ghost use Rattle.std.specs.Prelude.{◌≡◌, ◌<◌, ◌≤◌, IsTrue, IfOk,
 ghost use Rattle.k42_limits.specs.declared.TheConstants.{PROCESSORS};
 ghost use Rattle.k42_kinds.specs.LayoutLaws.{IsReached};
 ghost use Rattle.k42_board.specs.Seen.{inside_in};
-ghost use Rattle.thread_tests.specs.Ready.{IsFree, IsServing, IsLayoutOf};
+ghost use Rattle.thread_tests.specs.Ready.{HoldsNoCell, IsServing, IsLayoutOf};
 
 use crate::tests::crews::Walk;
 use co_any::AnyLayout;
@@ -56,12 +56,12 @@ fn step_at<L: Layout>(
     inside: &Inside,
     op: &Op,
 ) -> Result<Option<u64>, Memory>
-    requires free { IsFree sys.now pass.old }
+    requires free { HoldsNoCell sys.now pass.old }
     requires serving { IsServing pass.old.view }
     requires inside { (inside.now ≡ inside_in pass.old.view) × (inside.now.object < 16) }
     requires layout { IsLayoutOf L.object sys.now.layouts inside.now.object layout.now × (L.tag_of layout.now ≡ inside.now.layout) × (inside.now.layout ≤ 2) }
     requires takes { IsTrue ((L.object layout.now).takes op.now) }
-    ensures free { OnOk result (IsFree sys.now pass.new) }
+    ensures free { OnOk result (HoldsNoCell sys.now pass.new) }
     ensures serving { OnOk result (IsServing pass.new.view) }
 {
     layouts_are_lawful(sys);
@@ -99,9 +99,9 @@ fn try_step(
     pass: &mut Walk,
     op: &Op,
 ) -> Result<Option<u64>, Memory>
-    requires free { IsFree sys.now pass.old }
+    requires free { HoldsNoCell sys.now pass.old }
     requires serving { IsServing pass.old.view }
-    ensures free { OnOk result (IsFree sys.now pass.new) }
+    ensures free { OnOk result (HoldsNoCell sys.now pass.new) }
     ensures serving { OnOk result (IsServing pass.new.view) }
 {
     let inside = pass.inside();
@@ -120,9 +120,9 @@ pub(super) fn step<R: Abort + Wait>(
     pass: &mut Walk,
     op: &Op,
 ) -> Result<u64, Memory>
-    requires free { IsFree sys.now pass.old }
+    requires free { HoldsNoCell sys.now pass.old }
     requires serving { IsServing pass.old.view }
-    ensures free { OnOk result (IsFree sys.now pass.new) }
+    ensures free { OnOk result (HoldsNoCell sys.now pass.new) }
     ensures serving { OnOk result (IsServing pass.new.view) }
 {
     let backoff = Backoff::new();

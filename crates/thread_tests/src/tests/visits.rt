@@ -1,7 +1,7 @@
 //! Activities in which an object is called.
 ghost use Rattle.std.specs.Prelude.{◌≡◌, ◌<◌, true, false, length, is_some, OnOk, IfOk};
 ghost use Rattle.phase_core.specs.Stages.{is_missed, is_at_mediator};
-ghost use Rattle.thread_tests.specs.Ready.{IsFree, IsIn, IsServing};
+ghost use Rattle.thread_tests.specs.Ready.{HoldsNoCell, IsIn, IsServing};
 
 use crate::tests::crews::Walk;
 use crate::tests::steps::step;
@@ -19,8 +19,8 @@ use std::sync::Wait;
 
 /// Begins an activity.
 fn come_in(rt: &impl Abort, sys: &Sys<AnyLayout>, pass: &mut Walk)
-    requires free { IsFree sys.now pass.old }
-    ensures free { IsFree sys.now pass.new }
+    requires free { HoldsNoCell sys.now pass.old }
+    ensures free { HoldsNoCell sys.now pass.new }
     ensures entered { IsIn pass.new.view }
 {
     assert!(rt; pass.is_idle() && pass.activities() < 1_048_576);
@@ -35,10 +35,10 @@ fn fill_in<R: Wait>(
     pass: &mut Walk,
     object: u32,
 ) -> Result<bool, Memory>
-    requires free { IsFree sys.now pass.old }
+    requires free { HoldsNoCell sys.now pass.old }
     requires active { is_some pass.old.view.turn.active ≡ true }
     requires missed { (is_missed pass.old.view.visitor.place object ≡ true) × (object < length sys.now.layouts) }
-    ensures free { OnOk result (IsFree sys.now pass.new) }
+    ensures free { OnOk result (HoldsNoCell sys.now pass.new) }
     ensures served { IfOk result (λ served. served ≡ true → IsServing pass.new.view) }
     ensures out { IfOk result (λ served. served ≡ false → IsIn pass.new.view) }
 {
@@ -48,10 +48,10 @@ fn fill_in<R: Wait>(
 
 /// Knocks at the mediator, and answers whether it has let the call in.
 fn knock_at(sys: &Sys<AnyLayout>, pass: &mut Walk, object: u32) -> bool
-    requires free { IsFree sys.now pass.old }
+    requires free { HoldsNoCell sys.now pass.old }
     requires active { is_some pass.old.view.turn.active ≡ true }
     requires sent { (is_at_mediator pass.old.view.visitor.place object ≡ true) × (object < length sys.now.layouts) }
-    ensures free { IsFree sys.now pass.new }
+    ensures free { HoldsNoCell sys.now pass.new }
     ensures served { result ≡ true → IsServing pass.new.view }
     ensures out { result ≡ false → IsIn pass.new.view }
 {
@@ -66,10 +66,10 @@ fn call<R: Wait>(
     pass: &mut Walk,
     object: u32,
 ) -> Result<bool, Memory>
-    requires free { IsFree sys.now pass.old }
+    requires free { HoldsNoCell sys.now pass.old }
     requires entered { IsIn pass.old.view }
     requires there { object < length sys.now.layouts }
-    ensures free { OnOk result (IsFree sys.now pass.new) }
+    ensures free { OnOk result (HoldsNoCell sys.now pass.new) }
     ensures served { IfOk result (λ served. served ≡ true → IsServing pass.new.view) }
     ensures out { IfOk result (λ served. served ≡ false → IsIn pass.new.view) }
 {
@@ -82,9 +82,9 @@ fn call<R: Wait>(
 
 /// Ends a call that is in a row.
 fn go_out(sys: &Sys<AnyLayout>, pass: &mut Walk)
-    requires free { IsFree sys.now pass.old }
+    requires free { HoldsNoCell sys.now pass.old }
     requires served { IsServing pass.old.view }
-    ensures free { IsFree sys.now pass.new }
+    ensures free { HoldsNoCell sys.now pass.new }
     ensures out { IsIn pass.new.view }
 {
     finish_call(sys, pass);
@@ -92,9 +92,9 @@ fn go_out(sys: &Sys<AnyLayout>, pass: &mut Walk)
 
 /// Ends the activity.
 fn go_home(sys: &Sys<AnyLayout>, pass: &mut Walk)
-    requires free { IsFree sys.now pass.old }
+    requires free { HoldsNoCell sys.now pass.old }
     requires out { IsIn pass.old.view }
-    ensures free { IsFree sys.now pass.new }
+    ensures free { HoldsNoCell sys.now pass.new }
 {
     leave(sys, pass);
 }
@@ -109,10 +109,10 @@ fn stay<R: Abort + Wait>(
     object: u32,
     op: &Op,
 ) -> Result<Option<u64>, Memory>
-    requires free { IsFree sys.now pass.old }
+    requires free { HoldsNoCell sys.now pass.old }
     requires entered { IsIn pass.old.view }
     requires there { object < length sys.now.layouts }
-    ensures free { OnOk result (IsFree sys.now pass.new) }
+    ensures free { OnOk result (HoldsNoCell sys.now pass.new) }
 {
     let mut stamp = None;
     if call(rt, alloc, sys, pass, object)? {
@@ -132,8 +132,8 @@ fn visit<R: Abort + Wait>(
     object: u32,
     op: &Op,
 ) -> Result<Option<u64>, Memory>
-    requires free { IsFree sys.now pass.old }
-    ensures free { OnOk result (IsFree sys.now pass.new) }
+    requires free { HoldsNoCell sys.now pass.old }
+    ensures free { OnOk result (HoldsNoCell sys.now pass.new) }
 {
     assert!(rt; object < sys.objects());
     come_in(rt, sys, pass);
@@ -149,8 +149,8 @@ pub(super) fn visit_once<R: Abort + Wait>(
     object: u32,
     op: &Op,
 ) -> Result<u64, Memory>
-    requires free { IsFree sys.now pass.old }
-    ensures free { OnOk result (IsFree sys.now pass.new) }
+    requires free { HoldsNoCell sys.now pass.old }
+    ensures free { OnOk result (HoldsNoCell sys.now pass.new) }
 {
     let backoff = Backoff::new();
     for _ in rt.forever() {

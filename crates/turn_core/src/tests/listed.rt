@@ -1,3 +1,4 @@
+//! Long lists of events, each with whether it is possible, and the states to which they come.
 use super::{Asked, astray};
 use crate::stamps::last_stamp;
 use crate::*;

@@ -1,7 +1,7 @@
 //! Activities with one call, and the words that they find.
 ghost use Rattle.std.specs.Prelude.{◌≡◌, ◌<◌, true, false, length, is_some};
 ghost use Rattle.phase_core.specs.declared.caller.Place.TheVariants.{Missed, AtMediator};
-ghost use Rattle.word_tests.specs.Ready.{IsFree, IsIn, IsServing};
+ghost use Rattle.word_tests.specs.Ready.{HoldsNoCell, IsIn, IsServing};
 
 use crate::tests::crews::Walk;
 use co_any::AnyLayout;
@@ -13,8 +13,8 @@ use std::process::Abort;
 
 /// Begins an activity, and answers the word that was found.
 fn enter(rt: &impl Abort, sys: &Sys<AnyLayout>, pass: &mut Walk) -> u64
-    requires free { IsFree sys.now pass.old }
-    ensures free { IsFree sys.now pass.new }
+    requires free { HoldsNoCell sys.now pass.old }
+    ensures free { HoldsNoCell sys.now pass.new }
     ensures entered { IsIn pass.new.view }
 {
     assert!(rt; pass.is_idle() && pass.activities() < 1_048_576);
@@ -23,10 +23,10 @@ fn enter(rt: &impl Abort, sys: &Sys<AnyLayout>, pass: &mut Walk) -> u64
 
 /// Installs the entry that was found empty, and answers whether the call is in the row then.
 fn install(sys: &Sys<AnyLayout>, pass: &mut Walk, object: u32, incarnation: u32) -> bool
-    requires free { IsFree sys.now pass.old }
+    requires free { HoldsNoCell sys.now pass.old }
     requires active { is_some pass.old.view.turn.active ≡ true }
     requires missed { (pass.old.view.visitor.place ≡ Missed object incarnation) × (object < length sys.now.layouts) }
-    ensures free { IsFree sys.now pass.new }
+    ensures free { HoldsNoCell sys.now pass.new }
     ensures served { result ≡ true → IsServing pass.new.view }
     ensures out { result ≡ false → IsIn pass.new.view }
 {
@@ -41,10 +41,10 @@ fn install(sys: &Sys<AnyLayout>, pass: &mut Walk, object: u32, incarnation: u32)
 
 /// Knocks at the mediator, and answers whether the call was let in.
 fn knock(sys: &Sys<AnyLayout>, pass: &mut Walk, object: u32) -> bool
-    requires free { IsFree sys.now pass.old }
+    requires free { HoldsNoCell sys.now pass.old }
     requires active { is_some pass.old.view.turn.active ≡ true }
     requires sent { (pass.old.view.visitor.place ≡ AtMediator object) × (object < length sys.now.layouts) }
-    ensures free { IsFree sys.now pass.new }
+    ensures free { HoldsNoCell sys.now pass.new }
     ensures served { result ≡ true → IsServing pass.new.view }
     ensures out { result ≡ false → IsIn pass.new.view }
 {
@@ -65,10 +65,10 @@ struct Found {
 
 /// Looks the object up, and goes on until it is in the row or outside of the call.
 fn look_up(sys: &Sys<AnyLayout>, pass: &mut Walk, object: u32) -> Found
-    requires free { IsFree sys.now pass.old }
+    requires free { HoldsNoCell sys.now pass.old }
     requires entered { IsIn pass.old.view }
     requires there { object < length sys.now.layouts }
-    ensures free { IsFree sys.now pass.new }
+    ensures free { HoldsNoCell sys.now pass.new }
     ensures served { result.served ≡ true → IsServing pass.new.view }
     ensures out { result.served ≡ false → IsIn pass.new.view }
 {
@@ -83,9 +83,9 @@ fn look_up(sys: &Sys<AnyLayout>, pass: &mut Walk, object: u32) -> Found
 
 /// Ends a call that is in a row.
 fn end(sys: &Sys<AnyLayout>, pass: &mut Walk)
-    requires free { IsFree sys.now pass.old }
+    requires free { HoldsNoCell sys.now pass.old }
     requires serving { IsServing pass.old.view }
-    ensures free { IsFree sys.now pass.new }
+    ensures free { HoldsNoCell sys.now pass.new }
     ensures entered { IsIn pass.new.view }
 {
     if pass.inside().tracked {
@@ -97,8 +97,8 @@ fn end(sys: &Sys<AnyLayout>, pass: &mut Walk)
 
 /// An activity without a call.
 pub(super) fn visit(rt: &impl Abort, sys: &Sys<AnyLayout>, pass: &mut Walk)
-    requires free { IsFree sys.now pass.old }
-    ensures free { IsFree sys.now pass.new }
+    requires free { HoldsNoCell sys.now pass.old }
+    ensures free { HoldsNoCell sys.now pass.new }
 {
     enter(rt, sys, pass);
     leave_step(sys, pass);
@@ -111,8 +111,8 @@ pub(super) fn go_in(
     pass: &mut Walk,
     object: u32,
 ) -> (u64, u64)
-    requires free { IsFree sys.now pass.old }
-    ensures free { IsFree sys.now pass.new }
+    requires free { HoldsNoCell sys.now pass.old }
+    ensures free { HoldsNoCell sys.now pass.new }
     ensures serving { IsServing pass.new.view }
 {
     assert!(rt; object < sys.objects());
@@ -124,9 +124,9 @@ pub(super) fn go_in(
 
 /// Ends both.
 pub(super) fn go_out(sys: &Sys<AnyLayout>, pass: &mut Walk)
-    requires free { IsFree sys.now pass.old }
+    requires free { HoldsNoCell sys.now pass.old }
     requires serving { IsServing pass.old.view }
-    ensures free { IsFree sys.now pass.new }
+    ensures free { HoldsNoCell sys.now pass.new }
 {
     end(sys, pass);
     leave_step(sys, pass);
@@ -139,8 +139,8 @@ pub(super) fn look(
     pass: &mut Walk,
     object: u32,
 ) -> (u64, u64)
-    requires free { IsFree sys.now pass.old }
-    ensures free { IsFree sys.now pass.new }
+    requires free { HoldsNoCell sys.now pass.old }
+    ensures free { HoldsNoCell sys.now pass.new }
 {
     let words = go_in(rt, sys, pass, object);
     go_out(sys, pass);

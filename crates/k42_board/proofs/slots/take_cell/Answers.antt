@@ -3,7 +3,7 @@ use Rattle.std.specs.Prelude.{Some, None}
 use Rattle.atomic_table.specs.Table.{rest}
 use Rattle.k42_board.specs.Views.{pass_in}
 use Rattle.k42_board.specs.Steps.{Seated, on_pass}
-use Rattle.k42_board.specs.Taking.{lifted_view, taken_view, given_view}
+use Rattle.k42_board.specs.Taking.{lifted_view, taken_view, cell_given_view}
 use Rattle.k42_board.specs.Words.{slot_of}
 use Rattle.k42_board.specs.declared.view.View.TheVariants.{Crew}
 use Rattle.k42_board.proofs.CellsAllowed.{lift_seat, lifted_seat, give_seat, slot_out, slot_result, exchanged, same_content, take_is, given_is, given_known, taken_whole, take_possible_always}
@@ -46,7 +46,7 @@ taken g c =
     let same = same_content c.exchange.result
     (slot_result c.load.new.seat.me (lifted_view u.0 v) (slot_of c.args.cell) (Some u.0) out c.exchange.result x.2) c.in-Some.is in
     let now = exchanged c.load.new.seat.me (lifted_view u.0 v) (slot_of c.args.cell) (Some u.0) out c.exchange.new.seat.me None x.3 in (
-      (c.load-2.ensures.2).0 ∙ (λ k. (on_pass given_view (now k).0, rest (now k).1)) ∙ (λ k. (Crew (taken_view (same k) v ∷ []), [])),
+      (c.load-2.ensures.2).0 ∙ (λ k. (on_pass cell_given_view (now k).0, rest (now k).1)) ∙ (λ k. (Crew (taken_view (same k) v ∷ []), [])),
       sym (ap (λ z. z.number) same) ∙ u.1 ∙ cell_of_lock c.args.cell few,
     )
 

@@ -12,7 +12,7 @@ use Rattle.k42_board.specs.Words.{lock_word}
 use Rattle.k42_board.specs.declared.view.PassView.{PassView}
 use Rattle.k42_mediator.specs.Entries.{IsNext}
 use Rattle.k42_mediator.specs.Marks.{cell_marked}
-use Rattle.k42_mediator.specs.Taken.{released, IsReady}
+use Rattle.k42_mediator.specs.Taken.{released, MayPutBack}
 use Rattle.k42_mediator.proofs.AfterMark.{kept_waiting, holds_nothing, marks_next, marked_now, mark_ready}
 use Rattle.k42_mediator.proofs.marking.mark.Goals as goal
 
@@ -40,7 +40,7 @@ give_next-requires-clause-ready g c κs within =
     let taken : c.take-cell.new.pass.view ≡ taken_view cell (locked_view n 0 v) =
     c.take-cell.ensures.knows ∙ ap (taken_view cell) (c.lock-found.ensures.knows ∙ ap (λ h. locked_view n h v) c.if-found-ne0.false) in
     let drawn = c.draw_mark.ensures.knows ∙ ap (λ (w : PassView _). drawn_at (cell ∷ []) (entry_mark w cell.number c.args.act answer) w) taken in
-    subst (λ (w : PassView _). IsReady F c.args.sys.now.layouts id w c.draw_mark.new.cell) (sym drawn)
+    subst (λ (w : PassView _). MayPutBack F c.args.sys.now.layouts id w c.draw_mark.new.cell) (sym drawn)
     (mark_ready v n cell c.take-cell.ensures.number c.args.act answer c.requires.may.act_is F c.layouts_are_lawful.ensures c.args.sys.now.layouts id c.draw_mark.new.cell
     c.cell_number-number.ensures.few
     (subst (λ (w : PassView _). IsTold w.notes cell c.draw_mark.new.cell) drawn c.draw_mark.ensures.told))

@@ -37,30 +37,30 @@ give_back-requires-clause-once g c κs within =
     let few : procs ≤ 8 = subst (λ p. p ≤ 8) c.procs-procs.ensures.is c.procs-procs.ensures.few in
     let first : numbers_of c.take_row.new.cells.items ≡ row_cells procs o i =
     c.take_row.ensures.numbers ∙ ap (λ (xs : List (Content _)). numbers_of xs ++ row_cells procs o i) c.in_ok-cells.ensures.items in
-    ap names_once (c.hand_on-done.ensures.numbers ∙ c.take_row-2.ensures.numbers ∙ ap (λ ns. ns ++ row_cells procs o (i + 1)) first) ∙ two_rows_once procs o i few
+    ap names_once (c.move_and_draw-done.ensures.numbers ∙ c.take_row-2.ensures.numbers ∙ ap (λ ns. ns ++ row_cells procs o (i + 1)) first) ∙ two_rows_once procs o i few
 
 pub returns-clause-done : goal.returns-clause-done
 returns-clause-done g c =
-    let p0 = c.args.pass.now in let p1 = c.take_row.new.pass in let p2 = c.take_row-2.new.pass in let p3 = c.hand_on-done.new.pass in let p4 = c.give_back.new.pass in
+    let p0 = c.args.pass.now in let p1 = c.take_row.new.pass in let p2 = c.take_row-2.new.pass in let p3 = c.move_and_draw-done.new.pass in let p4 = c.give_back.new.pass in
     let ns = numbers_of c.take_row-2.new.cells.items in
     let took = same_twice p0 p1 p2 c.take_row.ensures.same c.take_row-2.ensures.same in
     let chain : released ns p2.view ≡ hears p2.view.heard (released [] p0.view) =
     c.take_row-2.ensures.released
     ∙ ap (hears p2.view.heard) (c.take_row.ensures.released ∙ ap (λ (xs : List (Content _)). hears p1.view.heard (released (numbers_of xs) p0.view)) c.in_ok-cells.ensures.items) in
-    let back : p4.view ≡ released ns p3.view = c.give_back.ensures.released ∙ ap (λ ms. released ms p3.view) c.hand_on-done.ensures.numbers in
+    let back : p4.view ≡ released ns p3.view = c.give_back.ensures.released ∙ ap (λ ms. released ms p3.view) c.move_and_draw-done.ensures.numbers in
     let settled = c.moved_row-row.ensures.settled in
-    on_ok c.hand_on-done.result
+    on_ok c.move_and_draw-done.result
     (has_done p0 p2 p3 p4 ns took chain settled.back settled.told c.give_back.ensures.same back (g.L.Layout.act_of c.args.to.now) (g.L.Layout.tag_of c.args.to.now))
-    c.hand_on-done.ensures.handed
+    c.move_and_draw-done.ensures.handed
 
 pub returns-clause-memory : goal.returns-clause-memory
 returns-clause-memory g c =
-    let p0 = c.args.pass.now in let p1 = c.take_row.new.pass in let p2 = c.take_row-2.new.pass in let p3 = c.hand_on-done.new.pass in let p4 = c.give_back.new.pass in
+    let p0 = c.args.pass.now in let p1 = c.take_row.new.pass in let p2 = c.take_row-2.new.pass in let p3 = c.move_and_draw-done.new.pass in let p4 = c.give_back.new.pass in
     let ns = numbers_of c.take_row-2.new.cells.items in
     let took = same_twice p0 p1 p2 c.take_row.ensures.same c.take_row-2.ensures.same in
     let chain : released ns p2.view ≡ hears p2.view.heard (released [] p0.view) =
     c.take_row-2.ensures.released
     ∙ ap (hears p2.view.heard) (c.take_row.ensures.released ∙ ap (λ (xs : List (Content _)). hears p1.view.heard (released (numbers_of xs) p0.view)) c.in_ok-cells.ensures.items) in
-    let back : p4.view ≡ released ns p3.view = c.give_back.ensures.released ∙ ap (λ ms. released ms p3.view) c.hand_on-done.ensures.numbers in
+    let back : p4.view ≡ released ns p3.view = c.give_back.ensures.released ∙ ap (λ ms. released ms p3.view) c.move_and_draw-done.ensures.numbers in
     let settled = c.moved_row-row.ensures.settled in
-    on_err c.hand_on-done.result (has_kept p0 p2 p3 p4 ns took chain settled.back settled.told c.give_back.ensures.same back) c.hand_on-done.ensures.memory
+    on_err c.move_and_draw-done.result (has_kept p0 p2 p3 p4 ns took chain settled.back settled.told c.give_back.ensures.same back) c.move_and_draw-done.ensures.memory

@@ -10,7 +10,7 @@ use Rattle.k42_board.specs.Taking.{locked_view, unlocked_view}
 use Rattle.k42_board.specs.Words.{local_word, lock_word}
 use Rattle.k42_board.specs.declared.view.PassView.{PassView}
 use Rattle.k42_tables.specs.Filling.{HasRepresented}
-use Rattle.k42_tables.specs.Missing.{IsRooted, HasEnded, place_named, cell_named}
+use Rattle.k42_tables.specs.Missing.{IsRooted, HasEndedCall, place_named, cell_named}
 use Rattle.k42_tables.specs.Entries.{IfInstalled}
 use Rattle.k42_tables.specs.Serving.{IsServed}
 use Rattle.k42_tables.specs.Walks.{WalksAside}
@@ -54,7 +54,7 @@ returns-in_default-clause-memory g c =
     let end : WalksAside F declared id x c.end_call.new.pass.view =
     walk_at F declared id c.represent.new.pass.seat x c.end_call.new.pass.view seat''
     (end_walk F declared c.represent.new.pass.seat x c.end_call.new.pass.view c.end_call.result c.end_call.ensures.event) in
-    let out : HasEnded v c.end_call.new.pass.view = ended_there v x c.end_call.new.pass.view c.end_call.result there.there c.end_call.ensures.knows in
+    let out : HasEndedCall v c.end_call.new.pass.view = ended_there v x c.end_call.new.pass.view c.end_call.result there.there c.end_call.ensures.knows in
     record {
       walk = walk_on F declared id v c.lock-holder.new.pass.view c.end_call.new.pass.view to_lock (walk_on F declared id c.lock-holder.new.pass.view x c.end_call.new.pass.view through end);
       out = out;

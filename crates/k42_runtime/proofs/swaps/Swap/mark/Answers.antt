@@ -1,7 +1,7 @@
 use Rattle.std.proofs.Common.{rules, ◌≡◌, ℕ, refl, sym, ap, ◌∙◌, subst}
 use Rattle.k42_board.specs.Views.{word_begun}
 use Rattle.k42_board.specs.declared.view.PassView.{PassView}
-use Rattle.k42_mediator.specs.Marks.{IsMark, IsHeldBy, HasMarked}
+use Rattle.k42_mediator.specs.Marks.{IsMarkAnswer, IsHeldBy, HasMarked}
 use Rattle.k42_runtime.specs.Swaps.{act_asked, HasFoundCell, HasStepped, graces_due, IsEndBy}
 use Rattle.k42_runtime.specs.Systems.{SystemSeen, IsPassHere, IsAtRest, layouts_in}
 use Rattle.k42_runtime.specs.Phases.{end_in}
@@ -45,7 +45,7 @@ returns-in-Held c =
     let old = c.args.pass.now in let new = c.mark.new.pass in
     let F = layouts_in (record { sys = c.system.inside.sys; plan = c.system.inside.plan }) in
     let held : IsHeldBy F c.system.inside.sys.layouts c.in-Held.holder old new =
-    subst (λ answer. IsMark F c.system.inside.sys.layouts answer c.act-act.result old new) c.in-Held.is c.mark.ensures in
+    subst (λ answer. IsMarkAnswer F c.system.inside.sys.layouts answer c.act-act.result old new) c.in-Held.is c.mark.ensures in
     record {
       here = search rules;
       stage = search rules;

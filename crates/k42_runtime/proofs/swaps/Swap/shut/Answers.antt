@@ -11,10 +11,10 @@ use Rattle.k42_runtime.proofs.swaps.Swap.shut.Goals as goal
 
 pub returns-in-Moved : goal.returns-in-Moved
 returns-in-Moved c =
-    stepped_before c.args.system.now c.args.self.now c.args.self.now c.hand_on.new.self c.args.pass.now c.try_move.new.pass c.hand_on.new.pass
-    (moves_on c.args.self.now c.args.pass.now c.try_move.new.pass c.requires.stage c.try_move.ensures.same c.try_move.ensures.knows) c.hand_on.result
+    stepped_before c.args.system.now c.args.self.now c.args.self.now c.transfer_or_abandon.new.self c.args.pass.now c.try_move.new.pass c.transfer_or_abandon.new.pass
+    (moves_on c.args.self.now c.args.pass.now c.try_move.new.pass c.requires.stage c.try_move.ensures.same c.try_move.ensures.knows) c.transfer_or_abandon.result
     (λ cause e. moved_free c.try_move.new.pass.view.heard c.args.pass.now.view c.try_move.new.pass.view c.try_move.ensures.knows (sym c.try_move.ensures.answer ∙ c.in-Moved.is))
-    c.hand_on.ensures
+    c.transfer_or_abandon.ensures
 
 never : Shut ≡ New → ⊥
 never e = cc

@@ -1,5 +1,5 @@
-use Rattle.rule_tests.specs.Ready.{IsFree}
+use Rattle.rule_tests.specs.Ready.{HoldsNoCell}
 use Rattle.rule_tests.proofs.tests.graces.go_on.Given as goal
 
 abbrev pub invariant-loop : goal.invariant-loop
-invariant-loop g l = IsFree l.sys l.pass
+invariant-loop g l = HoldsNoCell l.sys l.pass

@@ -1,5 +1,5 @@
-use Rattle.thread_tests.specs.Ready.{IsFree}
+use Rattle.thread_tests.specs.Ready.{HoldsNoCell}
 use Rattle.thread_tests.proofs.tests.phases.shut.Given as goal
 
 abbrev pub invariant-loop : goal.invariant-loop
-invariant-loop g l = IsFree l.sys l.pass
+invariant-loop g l = HoldsNoCell l.sys l.pass

@@ -1,5 +1,5 @@
-use Rattle.thread_tests.specs.Ready.{IsFree, IsServing}
+use Rattle.thread_tests.specs.Ready.{HoldsNoCell, IsServing}
 use Rattle.thread_tests.proofs.tests.steps.step.Given as goal
 
 abbrev pub invariant-loop : goal.invariant-loop
-invariant-loop g l = IsFree l.sys l.pass × IsServing l.pass.view
+invariant-loop g l = HoldsNoCell l.sys l.pass × IsServing l.pass.view

@@ -12,7 +12,7 @@ use Rattle.k42_mediator.specs.Transfers.{HasKept}
 use Rattle.k42_runtime.specs.Swaps.{SwapSeen, act_asked, graces_due}
 use Rattle.k42_runtime.specs.Systems.{SystemSeen, IsPassHere, IsAtRest, layouts_in}
 use Rattle.k42_runtime.proofs.SwapEnds.{on_error, gave_up, abandoned_caller, abandoned_graces, few}
-use Rattle.k42_runtime.proofs.swaps.Swap.hand_on.Goals as goal
+use Rattle.k42_runtime.proofs.swaps.Swap.transfer_or_abandon.Goals as goal
 
 pub returns-then-is_err : goal.returns-then-is_err
 returns-then-is_err c =

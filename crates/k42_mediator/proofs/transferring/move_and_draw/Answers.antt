@@ -8,11 +8,11 @@ use Rattle.k42_board.specs.Plan.{layouts_on}
 use Rattle.k42_board.specs.declared.cell.Content.{Content}
 use Rattle.k42_board.specs.declared.view.PassView.{PassView}
 use Rattle.k42_mediator.specs.Parts.{parts_from, AreKept, filled}
-use Rattle.k42_mediator.specs.Taken.{AreReady}
+use Rattle.k42_mediator.specs.Taken.{MayPutAllBack}
 use Rattle.k42_mediator.proofs.RowHanded.{ready_handed, done_next, has_handed}
 use Rattle.k42_mediator.proofs.RowMoved.{filled_numbers}
 use Rattle.k42_mediator.proofs.RowReady.{HasRows, has_rows, live, long, whole, from_numbers, old_numbers, new_numbers, numbers_same, ready_again, may_hand, written_back, told_numbers}
-use Rattle.k42_mediator.proofs.transferring.hand_on.Goals as goal
+use Rattle.k42_mediator.proofs.transferring.move_and_draw.Goals as goal
 
 pub move_state-requires-clause-known : goal.move_state-requires-clause-known
 move_state-requires-clause-known g c κs within =
@@ -175,7 +175,7 @@ returns-clause-ready g c =
     let to = c.args.to.now in let act = g.L.Layout.act_of to in let tag : ℕ = g.L.Layout.tag_of to in
     let entry = entry_hand v (numbers_of (take F.procs cells)) (numbers_of (drop F.procs cells)) act (Swapped (i + 1)) in
     let knows : c.draw_done.new.pass.view ≡ handed_at (take F.procs cells) (drop F.procs cells) entry tag v = c.draw_done.ensures.knows in
-    subst (λ (w : PassView _). AreReady F declared c.draw_done.new.pass.seat w c.draw_done.new.cells.items) (sym knows)
+    subst (λ (w : PassView _). MayPutAllBack F declared c.draw_done.new.pass.seat w c.draw_done.new.cells.items) (sym knows)
     (ready_handed F laws declared agrees v o i items layout has cells numbers entry tag c.draw_done.new.pass.seat c.draw_done.new.cells.items
     (subst (λ (w : PassView _). AreTold w.notes cells c.draw_done.new.cells.items) knows c.draw_done.ensures.told))
 
