@@ -2,9 +2,7 @@
 #![tactic(auto)]
 
 use k42_crews::{Work, close, may_call, may_swap, start, work_all};
-use k42_kinds::{KindName, LayoutName, Op};
-use k42_memory::Memory;
-use k42_runtime::{ObjectPlan, Pass, Plan, System};
+use k42_runtime::{KindName, LayoutName, Memory, ObjectPlan, Op, Pass, Plan, System};
 use std::alloc::Global;
 use std::process::ExitCode;
 use std::sync::Wait;
