@@ -1,8 +1,10 @@
 -- The passes of a system that has started are free, and free passes in order may be closed.
-use Rattle.std.proofs.Common.{◌≡◌, ℕ, zero, suc, ◌+◌, true, List, [], ◌∷◌, ◌++◌, Option, Some, None, length, refl, sym, ap, subst, arith}
-use Rattle.std.specs.List.{slice_get}
+use Rattle.std.proofs.Common.{◌≡◌, ◌∙◌, ℕ, zero, suc, ◌+◌, true, List, [], ◌∷◌, ◌++◌, Option, Some, None, length, map, refl, sym, ap, subst, add-zero, zero-add, arith}
+use Rattle.std.specs.List.{slice_get, range_with_len}
 use Rattle.std.specs.Option.{option_to_list}
 use Rattle.std.specs.Prelude.{IfSome}
+use Rattle.std.proofs.lemmas.List.{length-map}
+use Rattle.std.proofs.lemmas.List.FromFn.{length-range_with_len}
 use Rattle.std.proofs.lemmas.Option.{same_Some}
 use Rattle.co_any.specs.declared.part.AnyPart.{AnyPart}
 use Rattle.k42_board.specs.Seen.{PassSeen, is_at_rest}
@@ -14,7 +16,7 @@ use Rattle.k42_runtime.specs.Swaps.{SwapSeen, IsAtStage, is_over}
 use Rattle.k42_runtime.specs.Systems.{SystemSeen, IsAtRest, HasStarted}
 use Rattle.k42_runtime.specs.declared.swaps.Stage.{Stage}
 use Rattle.k42_runtime.specs.declared.swaps.Stage.TheVariants as stages
-use Rattle.k42_crews.specs.Ready.{IsFree, AreFree, AreInOrder}
+use Rattle.k42_crews.specs.Ready.{IsFree, AreFree, AreAll, callers_of}
 
 abbrev Pass : Type 0
 Pass = PassSeen AnyPart
@@ -44,20 +46,52 @@ started_free plan system passes is =
     all_free system passes (λ i pass at.
     let first = is.each i pass at in record { here = first.here; rests = ap (λ (v : PassView AnyPart). is_at_rest v) first.new })
 
-each_at : (system : SystemSeen) (first : ℕ) (passes : List Pass) → AreFree system passes → AreInOrder first passes
-    → (i : ℕ) (pass : Pass) → slice_get passes i ≡ Some pass → IsPassAtRest system.sys (first + i) pass
-each_at system first [] free order i pass at = absurd (cc)
-each_at system first (here ∷ passes) free order zero pass at =
-    subst (λ (p : Pass). IsPassAtRest system.sys (first + 0) p) (same_Some here pass at)
-    (record { ours = free.0.here.ours.table; number = let n = order.0 in omega (arith, n); rests = free.0.rests })
-each_at system first (here ∷ passes) free order (suc i) pass at =
-    subst (λ n. IsPassAtRest system.sys n pass) (let same : first + 1 + i ≡ first + suc i = omega arith in same)
-    (each_at system (first + 1) passes free.1 order.1 i pass at)
+-- passes that are counted up from a first one
+counted_up : (first : ℕ) (passes : List Pass) → ((i : ℕ) (pass : Pass) → slice_get passes i ≡ Some pass → pass.view.number ≡ first + i)
+    → callers_of passes ≡ range_with_len first (length passes)
+counted_up first [] each = refl
+counted_up first (pass ∷ passes) each =
+    let here : pass.view.number ≡ first = each 0 pass refl ∙ add-zero first in
+    let others : callers_of passes ≡ range_with_len (first + 1) (length passes) =
+    counted_up (first + 1) passes (λ i other at. each (suc i) other at ∙ (let same : first + suc i ≡ first + 1 + i = omega arith in same)) in
+    cc
 
-pub may_close : (system : SystemSeen) (passes : List Pass) → length passes ≡ length system.plan.callers → AreFree system passes → AreInOrder 0 passes → MayClose system passes
-may_close system passes many free order = record {
-  many = many;
-  each = λ i pass at. subst (λ n. IsPassAtRest system.sys n pass) (let same : 0 + i ≡ i = omega arith in same) (each_at system 0 passes free order i pass at);
+pub started_all : (plan : PlanSeen) (system : SystemSeen) (passes : List Pass) → HasStarted plan system passes → AreAll system passes
+started_all plan system passes is =
+    let up = counted_up 0 passes (λ i pass at. ap (λ (v : PassView AnyPart). v.number) (is.each i pass at).new ∙ sym (zero-add i)) in
+    let many : length passes ≡ length system.plan.callers = is.many ∙ sym (ap (λ (p : PlanSeen). length p.callers) is.plan_is) in
+    subst (λ n. callers_of passes ≡ range_with_len 0 n) many up
+
+number_at : (first n : ℕ) (passes : List Pass) → callers_of passes ≡ range_with_len first n → (i : ℕ) (pass : Pass) → slice_get passes i ≡ Some pass
+    → pass.view.number ≡ first + i
+number_at first n [] all i pass at = absurd (cc)
+number_at first zero (here ∷ passes) all i pass at = absurd (cc)
+number_at first (suc n) (here ∷ passes) all zero pass at =
+    let same : here ≡ pass = same_Some here pass at in let number : here.view.number ≡ first = cc in
+    ap (λ (p : Pass). p.view.number) (sym same) ∙ number ∙ sym (add-zero first)
+number_at first (suc n) (here ∷ passes) all (suc i) pass at =
+    let others : callers_of passes ≡ range_with_len (first + 1) n = cc in
+    number_at (first + 1) n passes others i pass at ∙ (let same : first + 1 + i ≡ first + suc i = omega arith in same)
+
+free_at : (system : SystemSeen) (passes : List Pass) → AreFree system passes → (i : ℕ) (pass : Pass) → slice_get passes i ≡ Some pass → IsFree system pass
+free_at system [] free i pass at = absurd (cc)
+free_at system (here ∷ passes) free zero pass at = subst (λ (p : Pass). IsFree system p) (same_Some here pass at) free.0
+free_at system (here ∷ passes) free (suc i) pass at = free_at system passes free.1 i pass at
+
+pub many_all : (system : SystemSeen) (passes : List Pass) → AreAll system passes → length passes ≡ length system.plan.callers
+many_all system passes all =
+    sym (length-map passes (λ (p : Pass). p.view.number)) ∙ ap (λ (numbers : List ℕ). length numbers) all ∙ length-range_with_len 0 (length system.plan.callers)
+
+pub may_close : (system : SystemSeen) (passes : List Pass) → AreFree system passes → AreAll system passes → MayClose system passes
+may_close system passes free all = record {
+  many = many_all system passes all;
+  each = λ i pass at.
+      let is = free_at system passes free i pass at in
+      record {
+        ours = is.here.ours.table;
+        number = number_at 0 (length system.plan.callers) passes all i pass at ∙ zero-add i;
+        rests = is.rests;
+      };
 }
 
 -- a swap that is over has left its pass with nothing under way

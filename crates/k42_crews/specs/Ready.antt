@@ -1,7 +1,10 @@
 -- Passes between two of their calls.
-use Rattle.std.specs.Prelude.{◌≡◌, ℕ, ◌+◌, ⊤, List, [], ◌∷◌}
+use Rattle.std.specs.Prelude.{◌≡◌, ℕ, ◌<◌, ⊤, List, [], ◌∷◌, length, map}
+use Rattle.std.specs.List.{range_with_len}
 use Rattle.co_any.specs.declared.part.AnyPart.{AnyPart}
+use Rattle.k42_board.specs.Generations.{MOST}
 use Rattle.k42_board.specs.Seen.{PassSeen}
+use Rattle.k42_board.specs.declared.view.PassView.{PassView}
 use Rattle.k42_runtime.specs.Systems.{SystemSeen, IsPassHere, IsAtRest, IsAtWork}
 
 -- the pass is one of the system, and has nothing under way
@@ -19,7 +22,25 @@ pub record IsIn (system : SystemSeen) (pass : PassSeen AnyPart) : Type 0 where
   pub here : IsPassHere system pass
   pub works : IsAtWork pass.view
 
--- they are those of the next callers
-abbrev pub AreInOrder : ℕ → List (PassSeen AnyPart) → Type 0
-AreInOrder first [] = ⊤
-AreInOrder first (pass ∷ passes) = (pass.view.number ≡ first) × AreInOrder (first + 1) passes
+-- it is free, and that of the same caller
+pub record StaysFree (system : SystemSeen) (old new : PassSeen AnyPart) : Type 0 where
+  pub free : IsFree system new
+  pub caller : new.view.number ≡ old.view.number
+
+-- whose passes they are
+abbrev pub callers_of : List (PassSeen AnyPart) → List ℕ
+callers_of passes = map (λ pass. pass.view.number) passes
+
+-- they are those of all callers of the system, in order
+abbrev pub AreAll : SystemSeen → List (PassSeen AnyPart) → Type 0
+AreAll system passes = callers_of passes ≡ range_with_len 0 (length system.plan.callers)
+
+-- it may begin one activity and make one call more
+pub record MayCall {P : Type 0} (v : PassView P) : Type 0 where
+  pub entries : length v.taker.mine < MOST
+  pub activities : v.activities < MOST
+
+-- it may swap once more
+pub record MaySwap {P : Type 0} (v : PassView P) : Type 0 where
+  pub entries : length v.taker.mine < MOST
+  pub graces : v.graces < MOST

@@ -2,7 +2,9 @@
 #![tactic(auto)]
 
 mod crews;
+mod once;
 mod threads;
 
 pub use crews::{close, last, may_call, may_swap, start};
+pub use once::{call_once, swap_once};
 pub use threads::{Work, work_all};

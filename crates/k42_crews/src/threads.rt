@@ -1,7 +1,11 @@
 //! Each pass on a thread of its own.
-ghost use Rattle.std.specs.Prelude.{◌≡◌, length, OnOk};
+ghost use Rattle.std.specs.Prelude.{◌≡◌, length, ⊤, OnOk};
 ghost use Rattle.std.specs.Thread.{IsSync};
-ghost use Rattle.k42_crews.specs.Ready.{IsFree, AreFree};
+ghost use Rattle.co_any.specs.declared.part.AnyPart.{AnyPart};
+ghost use Rattle.k42_board.specs.Seen.{PassSeen};
+ghost use Rattle.k42_crews.specs.Crews.{EachBecomes};
+ghost use Rattle.k42_crews.specs.Ready.{IsFree, AreFree, StaysFree, callers_of};
+ghost use Rattle.k42_runtime.specs.Systems.{SystemSeen};
 
 use k42_memory::Memory;
 use k42_runtime::{Pass, System};
@@ -11,7 +15,10 @@ use std::thread::{Threads, join_mut};
 
 /// What is done with each pass of a crew.
 pub trait Work {
-    /// Ends with nothing under way, unless there was no memory.
+    /// What a pass has become of itself once the work with it is done. Nothing is said where this is left out.
+    ghost becomes: { Self → SystemSeen → PassSeen AnyPart → PassSeen AnyPart → Type 0 } = { λ work system old new. ⊤ };
+
+    /// Ends with nothing under way, even where there was no memory.
     fn work<R: Wait>(
         &self,
         rt: &R,
@@ -20,10 +27,12 @@ pub trait Work {
         pass: &mut Pass,
     ) -> Result<(), Memory>
         requires { IsFree system.now pass.old }
-        ensures { OnOk result (IsFree system.now pass.new) };
+        ensures free { StaysFree system.now pass.old pass.new }
+        ensures done { OnOk result (becomes self.now system.now pass.old pass.new) };
 }
 
-/// Does the work with each pass, on a thread of its own.
+/// Does the work with each pass once, on a thread of its own. Where there was no memory for some of it, all passes are
+/// there still, in their order and with nothing under way: the system may be gone on with, or closed.
 #[cycle(crew)]
 pub fn work_all<R: Threads + Wait + Sync, W: Work + Sync>(
     rt: &R,
@@ -33,8 +42,9 @@ pub fn work_all<R: Threads + Wait + Sync, W: Work + Sync>(
     passes: &mut [Pass],
 ) -> Result<(), Memory>
     requires { AreFree system.now passes.old }
-    ensures many { length passes.new ≡ length passes.old }
-    ensures free { OnOk result (AreFree system.now passes.new) }
+    ensures free { AreFree system.now passes.new }
+    ensures callers { callers_of passes.new ≡ callers_of passes.old }
+    ensures done { OnOk result (EachBecomes (W.becomes work.now system.now) passes.old passes.new) }
 {
     let Some((pass, others)) = passes.split_first_mut() else {
         return Ok(());
@@ -56,17 +66,19 @@ fn work_both<R: Threads + Wait + Sync, W: Work + Sync>(
 ) -> (Result<(), Memory>, Result<(), Memory>)
     requires one { IsFree system.now pass.old }
     requires others { AreFree system.now others.old }
-    ensures many { length others.new ≡ length others.old }
-    ensures one { OnOk result.0 (IsFree system.now pass.new) }
-    ensures others { OnOk result.1 (AreFree system.now others.new) }
+    ensures one { StaysFree system.now pass.old pass.new }
+    ensures one_done { OnOk result.0 (W.becomes work.now system.now pass.old pass.new) }
+    ensures others { AreFree system.now others.new }
+    ensures callers { callers_of others.new ≡ callers_of others.old }
+    ensures others_done { OnOk result.1 (EachBecomes (W.becomes work.now system.now) others.old others.new) }
 {
     let mut one = || -> Result<(), Memory>
         requires { IsSync R.row × IsSync W.row × IsFree system.now pass.now }
-        ensures { OnOk result (IsFree system.entry.now pass.exit.now) }
+        ensures { StaysFree system.entry.now pass.entry.now pass.exit.now × OnOk result (W.becomes work.entry.now system.entry.now pass.entry.now pass.exit.now) }
     { work.work(rt, alloc, system, pass) };
     let mut rest = || -> Result<(), Memory>
         requires { IsSync R.row × IsSync W.row × AreFree system.now others.now }
-        ensures { (length others.exit.now ≡ length others.entry.now) × OnOk result (AreFree system.entry.now others.exit.now) }
+        ensures { AreFree system.entry.now others.exit.now × (callers_of others.exit.now ≡ callers_of others.entry.now) × OnOk result (EachBecomes (W.becomes work.entry.now system.entry.now) others.entry.now others.exit.now) }
     { work_all(rt, alloc, system, work, others) };
     join_mut(rt, &mut one, &mut rest)
 }
