@@ -1,10 +1,8 @@
 //! Two threads count hits, and a third has the counter gathered in one place meanwhile.
 #![tactic(auto)]
 
-use k42_crews::{Work, close, may_call, may_swap, start, work_all};
-use k42_kinds::{KindName, LayoutName, Op};
-use k42_memory::Memory;
-use k42_runtime::{ObjectPlan, Pass, Plan, System};
+use k42_crews::{Work, call_once, close, start, swap_once, work_all};
+use k42_runtime::{KindName, LayoutName, Memory, ObjectPlan, Op, Pass, Plan, System};
 use std::alloc::Global;
 use std::process::ExitCode;
 use std::sync::Wait;
@@ -16,7 +14,7 @@ const HITS: u32 = 0;
 struct Hits;
 
 impl Work for Hits {
-    /// The first pass swaps, and each other calls.
+    /// The first pass swaps, and each other counts two hits.
     fn work<R: Wait>(
         &self,
         rt: &R,
@@ -24,16 +22,11 @@ impl Work for Hits {
         system: &System,
         pass: &mut Pass,
     ) -> Result<(), Memory> {
-        let add = Op::Add(1);
         if pass.caller() == 0 {
-            if may_swap(pass) && HITS < system.objects() {
-                system.swap(rt, alloc, pass, HITS, LayoutName::Shared)?;
-            }
-        } else if may_call(pass) && system.takes(HITS, &add) {
-            system.enter(pass);
-            let reply = system.call(rt, alloc, pass, HITS, add);
-            system.leave(pass);
-            reply?;
+            swap_once(rt, alloc, system, pass, HITS, LayoutName::Shared)?;
+        } else {
+            call_once(rt, alloc, system, pass, HITS, Op::Add(1))?;
+            call_once(rt, alloc, system, pass, HITS, Op::Add(1))?;
         }
         Ok(())
     }
