@@ -1,5 +1,5 @@
 //! The words of a program.
-ghost use Rattle.std.specs.Prelude.{◌≡◌, List, [], ◌∷◌, drop, map, Some, string_bytes, IfOk};
+ghost use Rattle.std.specs.Prelude.{◌≡◌, [], ◌∷◌, drop, map, Some, string_bytes, IfOk};
 ghost use Rattle.std.specs.Vec.Iter.{into_iter_items};
 ghost use Rattle.k42_input.specs.CommandLine.{words_said};
 

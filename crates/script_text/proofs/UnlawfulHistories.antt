@@ -1,5 +1,5 @@
 -- Histories that are not lawful for a script: for each part of the definition one that breaks this part.
-use Rattle.std.proofs.Common.{◌≡◌, ℕ, List, [], ◌∷◌, map, refl, ap, arith}
+use Rattle.std.proofs.Common.{ℕ, List, [], ◌∷◌, map, refl, ap, arith}
 use Rattle.std.specs.Prelude.{codes}
 use Rattle.k42_kinds.specs.declared.operation.KindName.TheVariants.{Counter}
 use Rattle.k42_kinds.specs.declared.operation.LayoutName.TheVariants.{Shared, Spread}
