@@ -31,7 +31,7 @@ pub fn k42_called<R: Threads + Wait + Sync, S: Source, K: Sink, G: Gate + Sync>(
     // What the status says, for the words behind the program's name, of what was read, written and
     // kept.
     ensures says { (words : List (List ℕ)) → words_said said ≡ Some words →
-        (program.Says (asked.form_of words)
+        program.Says (asked.form_of words)
         (record {
           left = S.left source.old;
           left_after = S.left source.new;
@@ -42,9 +42,11 @@ pub fn k42_called<R: Threads + Wait + Sync, S: Source, K: Sink, G: Gate + Sync>(
           write_faults = K.faults sink.old;
           write_faults_after = K.faults sink.new;
         }) kept.new result
-        × (is_some kept.new ≡ program.keeps (asked.form_of words) result))
-        ⊎ ((result ≡ Status.Memory) × (source.new ≡ source.old) × (sink.new ≡ sink.old)
-        × (kept.new ≡ None)) }
+        ⊎ ((result ≡ Status.Memory) × (source.new ≡ source.old) × (sink.new ≡ sink.old)) }
+    // A history is kept exactly where a run was done and its output written whole.
+    ensures kept { (words : List (List ℕ)) → words_said said ≡ Some words →
+        (is_some kept.new ≡ program.keeps (asked.form_of words) result)
+        ⊎ ((result ≡ Status.Memory) × (kept.new ≡ None)) }
     // Where there was no memory for the words, nothing is read or written.
     ensures memory { words_said said ≡ None →
         (result ≡ Status.Memory) × (source.new ≡ source.old) × (sink.new ≡ sink.old)

@@ -1,7 +1,6 @@
 -- What marks a fault stands where the faulty entry does, and the verdict is told in words.
-use Rattle.std.proofs.Common.{◌≡◌, ◌≢◌, ℕ, ◌+◌, ◌-◌, ◌*◌, ◌<◌, ◌≤◌, Bool, true, false, List, [], ◌++◌, length, take, refl, sym, ap, ◌∙◌, inl, inr, arith}
-use Rattle.std.specs.Prelude.{codes, nat_le, Option, Some, None, slice_get}
-use Rattle.std.specs.Option.{option_map_or}
+use Rattle.std.proofs.Common.{◌≡◌, ◌≢◌, ℕ, ◌+◌, ◌-◌, ◌*◌, ◌<◌, ◌≤◌, true, List, [], ◌++◌, length, take, refl, sym, ap, ◌∙◌, inl, inr, arith}
+use Rattle.std.specs.Prelude.{codes, nat_le, Some, slice_get}
 use Rattle.std.specs.Fmt.{decimal, digits}
 use Rattle.std.proofs.lemmas.Bool.{cases_Bool}
 use Rattle.std.proofs.lemmas.Bool.Decides.{nat_tests}
@@ -22,7 +21,7 @@ use Rattle.record_picture.specs.Picture.{ground, entries, picture}
 use Rattle.record_picture.specs.Pieces.{numbered}
 use Rattle.record_picture.specs.Placed.{StandsIn}
 use Rattle.record_picture.specs.Style.{style}
-use Rattle.record_picture.specs.Verdicts.{rule_words, verdict_text}
+use Rattle.record_picture.specs.Verdicts.{rule_words}
 use Rattle.record_picture.specs.Windows.{shown}
 use Rattle.record_picture.specs.declared.verdict.Verdict.{Verdict}
 use Rattle.record_picture.specs.declared.verdict.Verdict.TheVariants.{Lawful, Unlawful}

@@ -1,5 +1,5 @@
 -- What marks a fault, as the check computes it: refused.
-use Rattle.std.proofs.Common.{ℕ, ◌<◌, [], arith}
+use Rattle.std.proofs.Common.{ℕ, [], arith}
 use Rattle.record_picture.specs.Marked.{Area, LiesWithin, EndsLeftOf, FramesBox, VeilsBehind, box_area}
 
 -- the frame around the box in column 0 and lane 0

@@ -34,7 +34,15 @@ fn ended<R: Threads + Wait + Sync>(
     let mut source = MemSource::new(input.to_vec(alloc)?, 4096, reads.to_vec(alloc)?);
     let mut sink = MemSink::new(alloc, 4096, 4096, writes.to_vec(alloc)?)?;
     let mut kept = None;
-    let status = k42_called(rt, alloc, said, &mut source, &mut sink, &FreeGate, &mut kept);
+    let status = k42_called(
+        rt,
+        alloc,
+        said,
+        &mut source,
+        &mut sink,
+        &FreeGate,
+        &mut kept,
+    );
     Ok((status, sink.taken().len()))
 }
 
