@@ -1,3 +1,2 @@
 //! The words of the command line, as both programs take them from the system.
-ghost use Rattle.std.specs.Prelude.{◌≡◌, List, [], ◌∷◌, drop, map, Some, string_bytes, IfOk};
 ghost use Rattle.std.specs.Prelude.{◌≡◌, [], ◌∷◌, drop, map, Some, string_bytes, IfOk};
