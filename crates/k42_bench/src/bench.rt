@@ -1,6 +1,5 @@
 //! How the library is used: a system is started, its passes call and swap on threads, and it is closed.
-ghost use Rattle.std.specs.Prelude.{OnOk};
-ghost use Rattle.k42_crews.specs.Ready.{IsFree};
+ghost use Rattle.k42_crews.specs.Ready.{IsFree, StaysFree};
 
 use crate::load::{Load, op_of};
 use k42_crews::{Work, close, may_call, may_swap, start, work_all};
@@ -40,7 +39,7 @@ fn call_often<R: Wait>(
     load: &Load,
 ) -> Result<(), Memory>
     requires { IsFree system.now pass.old }
-    ensures { OnOk result (IsFree system.now pass.new) }
+    ensures { StaysFree system.now pass.old pass.new }
 {
     for number in 0..LIMIT - 1 {
         let Some(op) = op_of(load, pass.caller(), number) else {
@@ -66,7 +65,7 @@ fn swap_often<R: Wait>(
     load: &Load,
 ) -> Result<(), Memory>
     requires { IsFree system.now pass.old }
-    ensures { OnOk result (IsFree system.now pass.new) }
+    ensures { StaysFree system.now pass.old pass.new }
 {
     for number in 0..load.swaps {
         if !may_swap(pass) || system.objects() == 0 {
