@@ -1,0 +1,78 @@
+use crate::tests::crews::{Three, closed, counters};
+use crate::tests::polls::{both, stopped, swap_with, swapped, waits};
+use crate::tests::steps::{come_in, go_home, step_to};
+use k42_kinds::{Answer, LayoutName};
+use k42_runtime::{Cause, Swapped};
+use std::test::Fail;
+
+mod crews;
+mod polls;
+mod steps;
+
+#[test]
+fn two_swaps_wait_each_for_its_cause_and_end_together(rt: HostRuntime) -> Result<(), Fail> {
+    let alloc = rt.alloc();
+    let Some((system, crew)) = counters(alloc, 2)? else {
+        return Err("no system")?;
+    };
+    let Three {
+        mut zero,
+        one,
+        two,
+    } = crew;
+    come_in(&rt, &system, &mut zero);
+    let first = swap_with(&rt, alloc, &system, one, 0);
+    let first = waits(&rt, &system, first, Cause::Left { proc: 0, left: 1 })?;
+    let second = swap_with(&rt, alloc, &system, two, 1);
+    let second = waits(&rt, &system, second, Cause::RoleHeld { holder: 1 })?;
+    go_home(&system, &mut zero);
+    let (one, two) = both(&rt, &system, first, second)?;
+    assert!(rt; one.result == Ok(Swapped::Done(1)));
+    assert!(rt; two.result == Ok(Swapped::Done(1)));
+    let Some(history) = closed(alloc, system, zero, one.pass, two.pass)? else {
+        return Err("no history")?;
+    };
+    assert_eq!(rt; history.entries().len(), 2);
+    Ok(())
+}
+
+#[test]
+fn a_swap_that_is_stopped_is_stepped_on_by_hand(rt: HostRuntime) -> Result<(), Fail> {
+    let alloc = rt.alloc();
+    let Some((system, crew)) = counters(alloc, 1)? else {
+        return Err("no system")?;
+    };
+    let Three {
+        mut zero,
+        one,
+        two,
+    } = crew;
+    come_in(&rt, &system, &mut zero);
+    let future = swap_with(&rt, alloc, &system, one, 0);
+    let future = waits(&rt, &system, future, Cause::Left { proc: 0, left: 1 })?;
+    let (mut swap, mut one) = stopped(&system, future);
+    go_home(&system, &mut zero);
+    step_to(&rt, alloc, &system, &mut swap, &mut one, Swapped::Done(1));
+    let Some(history) = closed(alloc, system, zero, one, two)? else {
+        return Err("no history")?;
+    };
+    let answers = history.entries().first().map(|entry| entry.answer);
+    assert_eq!(rt; answers, Some(Answer::Swapped(1)));
+    Ok(())
+}
+
+#[test]
+fn a_swap_by_a_future_is_a_swap(rt: HostRuntime) -> Result<(), Fail> {
+    let alloc = rt.alloc();
+    let Some((system, crew)) = counters(alloc, 1)? else {
+        return Err("no system")?;
+    };
+    let Three { zero, one, two } = crew;
+    let end = swapped(&rt, alloc, &system, one, 0, LayoutName::Spread)?;
+    assert!(rt; end.result == Ok(Swapped::Done(1)));
+    let Some(history) = closed(alloc, system, zero, end.pass, two)? else {
+        return Err("no history")?;
+    };
+    assert_eq!(rt; history.entries().len(), 1);
+    Ok(())
+}

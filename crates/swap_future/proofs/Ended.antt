@@ -1,0 +1,37 @@
+-- A swap that a future has ended from its beginning has ended as one that was waited for.
+use Rattle.std.proofs.Common.{◌≡◌, ⊎_elim, inl, inr, ℕ, Result, Ok, Err, sym, ◌∙◌}
+use Rattle.k42_board.specs.declared.view.PassView.{PassView}
+use Rattle.k42_runtime.specs.Swaps.{HasAbandoned, HasEnded, EndsWithoutMemory}
+use Rattle.k42_runtime.specs.Systems.{SystemSeen, layouts_in, SystemPass, SystemPart}
+use Rattle.k42_runtime.specs.declared.swaps.Stage.TheVariants.{New}
+use Rattle.k42_runtime.specs.declared.swaps.Swapped.{Swapped}
+use Rattle.k42_kinds.specs.declared.entry.To.{To}
+use Rattle.swap_future.specs.Polling.{Ends, new_swap}
+
+unchanged : (old new : PassView SystemPart) → new ≡ old → new ≡ record old { rows = new.rows; granted = new.granted }
+unchanged old new same = same ∙ (λ j. record old { rows = (sym same j).rows; granted = (sym same j).granted })
+
+module _ (system : SystemSeen) (object : ℕ) (to : To) (old new : SystemPass) where
+  pub ended_as_waited : {E : Type 0} (result : Result Swapped E) → Ends system (new_swap object to) old result new → HasEnded system object to result old new
+  ended_as_waited (Ok end) is = record {
+    here = is.here;
+    rests = is.rests;
+    seat = is.seat;
+    caller = is.caller;
+    graces = is.graces;
+    told = is.told;
+    ended = is.ended;
+    memory = tt;
+  }
+  ended_as_waited (Err error) is = record {
+    here = is.here;
+    rests = is.rests;
+    seat = is.seat;
+    caller = is.caller;
+    graces = is.graces;
+    told = tt;
+    ended = tt;
+    memory =
+        ⊎_elim (λ (u : (New ≡ New) × (new.view ≡ old.view)). inl (unchanged old.view new.view u.1))
+        (λ (u : HasAbandoned (layouts_in system) system.sys.layouts old.seat object to old.view new.view). inr u) is.memory;
+  }
