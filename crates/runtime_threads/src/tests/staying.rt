@@ -1,6 +1,6 @@
 //! Three passes call, and a fourth in one long activity, while a fifth waits with its swap for the end of that activity.
-ghost use Rattle.std.specs.Prelude.{◌≡◌, false, OnOk};
-ghost use Rattle.k42_crews.specs.Ready.{IsFree, IsIn};
+ghost use Rattle.std.specs.Prelude.{◌≡◌, false};
+ghost use Rattle.k42_crews.specs.Ready.{IsFree, IsIn, StaysFree};
 ghost use Rattle.runtime_threads.specs.Ready.{IsSwapping};
 
 use crate::tests::crews::wait_for;
@@ -47,7 +47,8 @@ impl LongStay {
         pass: &mut Pass,
     ) -> Result<(), Memory>
         requires { IsIn system.now pass.old }
-        ensures { IsIn system.now pass.new }
+        ensures inside { IsIn system.now pass.new }
+        ensures caller { pass.new.view.number ≡ pass.old.view.number }
     {
         for _ in 0..CALLS {
             if !may_call(pass) || !system.takes(0, &Op::Add(1)) {
@@ -67,7 +68,7 @@ impl LongStay {
         pass: &mut Pass,
     ) -> Result<(), Memory>
         requires { IsFree system.now pass.old }
-        ensures { IsFree system.now pass.new }
+        ensures { StaysFree system.now pass.old pass.new }
     {
         if !may_call(pass) {
             return Ok(());
@@ -92,7 +93,7 @@ impl LongStay {
         pass: &mut Pass,
     ) -> Result<(), Memory>
         requires { IsFree system.now pass.old }
-        ensures { IsFree system.now pass.new }
+        ensures { StaysFree system.now pass.old pass.new }
     {
         wait_for(rt, &self.held, 1);
         for _ in 0..CALLS {
@@ -117,7 +118,7 @@ impl LongStay {
         swap: &mut Swap,
     ) -> Result<(), Memory>
         requires swapping { IsSwapping system.now swap.old pass.old }
-        ensures free { IsFree system.now pass.new }
+        ensures free { StaysFree system.now pass.old pass.new }
     {
         let backoff = Backoff::new();
         for _ in rt.forever() {
@@ -144,7 +145,7 @@ impl LongStay {
         pass: &mut Pass,
     ) -> Result<(), Memory>
         requires { IsFree system.now pass.old }
-        ensures { IsFree system.now pass.new }
+        ensures { StaysFree system.now pass.old pass.new }
     {
         wait_for(rt, &self.open, 1);
         if !may_swap(pass) || system.objects() == 0 {

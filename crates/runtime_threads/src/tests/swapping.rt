@@ -1,6 +1,5 @@
 //! Four passes call while a fifth swaps the object to and fro until they are done.
-ghost use Rattle.std.specs.Prelude.{OnOk};
-ghost use Rattle.k42_crews.specs.Ready.{IsFree};
+ghost use Rattle.k42_crews.specs.Ready.{IsFree, StaysFree};
 
 use crate::tests::asking::asked_by;
 use crate::tests::crews::wait_for;
@@ -44,7 +43,7 @@ impl ToAndFro {
         pass: &mut Pass,
     ) -> Result<(), Memory>
         requires { IsFree system.now pass.old }
-        ensures { OnOk result (IsFree system.now pass.new) }
+        ensures { StaysFree system.now pass.old pass.new }
     {
         for number in 0..CALLS {
             if number == CALLS / 2 {
@@ -75,7 +74,7 @@ impl ToAndFro {
         pass: &mut Pass,
     ) -> Result<(), Memory>
         requires { IsFree system.now pass.old }
-        ensures { OnOk result (IsFree system.now pass.new) }
+        ensures { StaysFree system.now pass.old pass.new }
     {
         let backoff = Backoff::new();
         for number in 0..1_000_000 {

@@ -1,5 +1,5 @@
-use Rattle.k42_crews.specs.Ready.{IsFree}
+use Rattle.k42_crews.specs.Ready.{StaysFree}
 use Rattle.runtime_threads.proofs.tests.swapping.ToAndFro.ask_all.Given as goal
 
 abbrev pub invariant-loop-number : goal.invariant-loop-number
-invariant-loop-number g l = IsFree l.system l.pass
+invariant-loop-number g l = StaysFree l.system l.initial.pass l.pass
