@@ -1,2 +1,120 @@
-//! Inputs that are cut, records that are found in them, and the numbers of the statuses.
+//! Inputs that are cut, records that are found in them, the words of programs, and the numbers of the statuses.
 use crate::command_line::words_of;
+use crate::judging::{RecordFound, record_in};
+use crate::separation::{line_count, separate};
+use crate::status::Status;
+use k42_limits::INPUT_BYTES;
+use script_text::parse;
+use std::alloc::Global;
+use std::env::Args;
+use std::io;
+use std::io::ErrorKind;
+use std::test::Fail;
+
+#[test]
+fn the_first_line_of_three_dashes_separates(rt: HostRuntime) -> Result<(), Fail> {
+    let cases: [(&[u8], &[u8], &[u8]); 9] = [
+        (b"", b"", b""),
+        (b"procs 1\n", b"procs 1\n", b""),
+        (b"procs 1\n---\nend 0\n", b"procs 1\n", b"end 0\n"),
+        (b"---\nend 0\n", b"", b"end 0\n"),
+        (b"procs 1\n---", b"procs 1\n", b""),
+        (b"a\n---\nb\n---\nc", b"a\n", b"b\n---\nc"),
+        (
+            b"a---\n---b\n --- \n----\n",
+            b"a---\n---b\n --- \n----\n",
+            b"",
+        ),
+        (b"a\n--- \n--", b"a\n--- \n--", b""),
+        (b"\n---\n\n", b"\n", b"\n"),
+    ];
+    for (input, script, text) in cases {
+        let parts = separate(input);
+        assert_eq!(rt; parts.script, script, "the script in {input:?}");
+        assert_eq!(rt; parts.text, text, "the record in {input:?}");
+    }
+    Ok(())
+}
+
+#[test]
+fn a_last_piece_without_a_line_feed_is_a_line(rt: HostRuntime) -> Result<(), Fail> {
+    let cases: [(&[u8], usize); 5] = [(b"", 0), (b"a", 1), (b"a\n", 1), (b"a\nb", 2), (b"\n\n", 2)];
+    for (text, lines) in cases {
+        assert_eq!(rt; line_count(text), lines, "the lines of {text:?}");
+    }
+    Ok(())
+}
+
+#[test]
+fn statuses_have_the_numbers_0_to_6(rt: HostRuntime) {
+    let statuses = [
+        Status::Ok,
+        Status::Unlawful,
+        Status::Usage,
+        Status::Refused,
+        Status::ReadFault,
+        Status::WriteFault,
+        Status::Memory,
+    ];
+    let mut number = 0;
+    for status in statuses {
+        assert_eq!(rt; status.number(), number, "of {status:?}");
+        number += 1;
+    }
+}
+
+/// How many entries the record has that stands in the input, or the line at which it is none.
+fn record_of(alloc: Global, input: &[u8]) -> Result<Result<usize, u32>, Fail> {
+    if input.len() > INPUT_BYTES {
+        return Err(Fail::from("a byte too many"));
+    }
+    let parts = separate(input);
+    let script = parse(alloc, parts.script)?;
+    match record_in(alloc, &script, input, parts.text)? {
+        RecordFound::Spelled(written) => Ok(Ok(written.lines.len())),
+        RecordFound::Misspelt(line) => Ok(Err(line)),
+    }
+}
+
+#[test]
+fn a_record_is_found_or_the_line_at_which_it_is_none(rt: HostRuntime) -> Result<(), Fail> {
+    let cases: [(&[u8], Result<usize, u32>); 4] = [
+        (b"procs 1\n---\nk42 record 1\nend 0\n", Ok(0)),
+        (b"procs 1\n", Err(1)),
+        (b"procs 1\n---\nk42 record 1\nend 1\n", Err(2)),
+        (b"procs 1\n---\nk42 record 1\nend 0\n---\n", Err(3)),
+    ];
+    for (input, found) in cases {
+        assert_eq!(rt; record_of(rt.alloc(), input)?, found, "in {input:?}");
+    }
+    Ok(())
+}
+
+/// The words of a command line, as the system hands them over.
+fn handed_over(alloc: Global, line: &str) -> Result<Args, Fail> {
+    let mut words = Vec::new(alloc);
+    for word in line.split_whitespace() {
+        words.push(word.to_string(alloc)?)?;
+    }
+    Ok(words.into_iter())
+}
+
+#[test]
+fn words_are_told_where_there_is_memory(rt: HostRuntime) -> Result<(), Fail> {
+    let cases = [("k42 run 2", 2), ("k42 check", 1), ("k42", 0), ("", 0)];
+    for (line, count) in cases {
+        let words = words_of(rt.alloc(), Ok(handed_over(rt.alloc(), line)?))?;
+        assert_eq!(rt; words.len(), count, "of {line:?}");
+    }
+    Ok(())
+}
+
+#[test]
+fn words_that_are_not_to_be_had_are_one_empty_word(rt: HostRuntime) -> Result<(), Fail> {
+    for cause in [ErrorKind::InvalidData, ErrorKind::Other] {
+        let words = words_of(rt.alloc(), Err(io::Error::from(cause)))?;
+        assert_eq!(rt; words.len(), 1);
+        assert_eq!(rt; words[0].len(), 0);
+    }
+    Ok(())
+}
