@@ -1,10 +1,18 @@
--- A swap between two of its steps.
-use Rattle.std.specs.Prelude.{◌≡◌, false, length}
+-- A swap between two of its steps, and a pass that adds.
+use Rattle.std.specs.Prelude.{◌≡◌, ◌+◌, false, length}
+use Rattle.k42_kinds.specs.declared.operation.Op.TheVariants.{Add}
+use Rattle.k42_runtime.specs.Calls.{IsAsked}
 use Rattle.k42_runtime.specs.Swaps.{SwapSeen, IsAtStage, is_over}
 use Rattle.k42_runtime.specs.Systems.{SystemSeen, IsPassHere, SystemPass}
+use Rattle.k42_crews.specs.Ready.{MayCall}
 
 -- the pass is one of the system, and as the last step of the swap left it, which was not its last
 pub record IsSwapping (system : SystemSeen) (swap : SwapSeen) (pass : SystemPass) : Type 0 where
   pub here : IsPassHere system pass
   pub stage : IsAtStage swap.stage (length system.plan.objects) swap pass
   pub going : is_over swap.stage ≡ false
+
+-- if the pass could add one to the first object, it has one entry more
+abbrev pub HasAdded : SystemSeen → SystemPass → SystemPass → Type 0
+HasAdded system old new =
+    MayCall old.view → IsAsked system.plan 0 (Add 1) → length new.view.taker.mine ≡ length old.view.taker.mine + 1

@@ -1,8 +1,9 @@
-//! Five passes, each on a thread of its own.
+//! Five passes and sixteen, each on a thread of its own.
 ghost use Rattle.std.specs.Prelude.{OnOk};
 ghost use Rattle.k42_crews.specs.Ready.{AreFree};
 
 use crate::tests::crews::five;
+use crate::tests::sixteen::{entries_of_all, entries_of_many};
 use crate::tests::staying::LongStay;
 use crate::tests::swapping::{CALLS, ToAndFro};
 use k42_crews::{close, may_call, work_all};
@@ -18,6 +19,7 @@ use std::thread::Threads;
 
 mod asking;
 mod crews;
+mod sixteen;
 mod staying;
 mod swapping;
 
@@ -140,5 +142,18 @@ fn a_long_activity_holds_back_a_swap_and_no_call(rt: HostRuntime) -> Result<(), 
     assert_eq!(rt; entries.len(), 1202);
     let before = entries.iter().filter(|entry| entry.incarnation == 0);
     assert_eq!(rt; before.count(), 1201);
+    Ok(())
+}
+
+#[test]
+fn sixteen_passes_are_closed(rt: HostRuntime) -> Result<(), Fail> {
+    assert_eq!(rt; entries_of_all(&rt, rt.alloc())?, Some(16));
+    Ok(())
+}
+
+#[test]
+fn a_pass_makes_more_than_131072_calls(rt: HostRuntime) -> Result<(), Fail> {
+    let entries = entries_of_many(&rt, rt.alloc(), 131_073)?;
+    assert_eq!(rt; entries, Some(131_088));
     Ok(())
 }

@@ -1,62 +1,68 @@
 //! A gate that holds lines until others were reached or answered.
 use crossbeam_utils::Backoff;
 use k42_workers::Gate;
-use std::sync::atomic::{AtomicU32, Ordering};
+use std::sync::atomic::{AtomicU32, AtomicU64, Ordering};
 
 /// How many turns a line is held at most.
 const TURNS: u32 = 10_000_000;
 
-/// The bits of some lines.
-pub fn lines(numbers: &[u32]) -> u32 {
+/// The bits of some lines, all below 64.
+pub fn lines(numbers: &[u32]) -> u64 {
     numbers.iter().fold(0, |bits, &number| bits | bit(number))
 }
 
-fn bit(line: u32) -> u32 {
-    1u32.wrapping_shl(line)
+fn bit(line: u32) -> u64 {
+    1u64.wrapping_shl(line)
 }
 
 /// Until when a line is held.
 #[derive(Clone, Copy)]
 pub enum Until {
     /// All of these lines were reached.
-    Reached(u32),
+    Reached(u64),
     /// One of these lines was answered.
-    Answered(u32),
+    Answered(u64),
 }
 
-/// A line, and until when it is held before it is carried out.
+/// Lines, and until when each is held before it is carried out.
 #[derive(Clone, Copy)]
 pub struct Hold {
-    pub line: u32,
+    pub lines: u64,
     pub until: Until,
 }
 
 /// A gate with some holds, and what it was told so far.
 #[derive(Drop)]
 pub struct Holding {
-    holds: [Hold; 3],
-    reached: AtomicU32,
-    answered: AtomicU32,
+    holds: [Hold; 2],
+    reached: AtomicU64,
+    answered: AtomicU64,
     late: AtomicU32,
 }
 
+/// No line is held.
+pub const NOTHING: Hold = Hold {
+    lines: 0,
+    until: Until::Reached(0),
+};
+
 impl Holding {
-    pub fn new(holds: [Hold; 3]) -> Holding {
+    pub fn new(holds: [Hold; 2]) -> Holding {
         Holding {
             holds,
-            reached: AtomicU32::new(0),
-            answered: AtomicU32::new(0),
+            reached: AtomicU64::new(0),
+            answered: AtomicU64::new(0),
             late: AtomicU32::new(0),
         }
     }
 
     /// The lines that were reached.
-    pub fn reached(&self) -> u32 {
+    pub fn reached(&self) -> u64 {
         self.reached.load(Ordering::SeqCst)
     }
 
     /// The lines that were answered.
-    pub fn answered(&self) -> u32 {
+    pub fn answered(&self) -> u64 {
         self.answered.load(Ordering::SeqCst)
     }
 
@@ -75,7 +81,7 @@ impl Holding {
     fn hold(&self, until: Until) {
         let backoff = Backoff::new();
         for _ in 0..TURNS {
-            if self.is_over(until) {
+            if self.is_over(until) || self.late() > 0 {
                 return;
             }
             backoff.snooze();
@@ -92,7 +98,7 @@ impl Gate for Holding {
         }
         self.reached.fetch_or(bit(line), Ordering::SeqCst);
         for hold in &self.holds {
-            if hold.line == line {
+            if hold.lines & bit(line) != 0 {
                 self.hold(hold.until);
             }
         }

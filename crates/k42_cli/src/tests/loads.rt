@@ -1,5 +1,5 @@
 //! Loads: generated scripts that are run and summed up.
-use super::gates::{Hold, Holding, Until, lines};
+use super::gates::{Hold, Holding, NOTHING, Until, lines};
 use super::run_under;
 use k42_input::Status;
 use k42_workers::FreeGate;
@@ -30,22 +30,13 @@ fn the_longest_load_tells_the_same_each_time(rt: HostRuntime) -> Result<(), Fail
 
 #[test]
 fn the_workers_of_a_load_run_side_by_side(rt: HostRuntime) -> Result<(), Fail> {
-    // The first lines of the workers 0 and 1.
-    let both = Until::Reached(lines(&[6, 9]));
+    let first = lines(&[6, 9, 12, 15]);
     let gate = Holding::new([
         Hold {
-            line: 6,
-            until: both,
+            lines: first,
+            until: Until::Reached(first),
         },
-        Hold {
-            line: 9,
-            until: both,
-        },
-        // There is no line 0.
-        Hold {
-            line: 0,
-            until: both,
-        },
+        NOTHING,
     ]);
     let ran = run_under(&rt, rt.alloc(), "load 8", b"", &gate)?;
     let all = lines(&[6, 7, 9, 10, 12, 13, 15, 16]);

@@ -1,5 +1,5 @@
 //! Workers that run side by side, held at lines by a gate.
-use super::gates::{Hold, Holding, Until, lines};
+use super::gates::{Hold, Holding, NOTHING, Until, lines};
 use super::{Ran, run_under};
 use k42_input::Status;
 use k42_workers::FreeGate;
@@ -22,18 +22,14 @@ const TWO_SWAP: &[u8] =
 
 /// Both workers are at their adds before either is made, and the second asks for the value behind both.
 fn adds_meet() -> Holding {
-    let both = Until::Reached(lines(&[4, 7]));
+    let both = lines(&[4, 7]);
     Holding::new([
         Hold {
-            line: 4,
-            until: both,
+            lines: both,
+            until: Until::Reached(both),
         },
         Hold {
-            line: 7,
-            until: both,
-        },
-        Hold {
-            line: 8,
+            lines: lines(&[8]),
             until: Until::Answered(lines(&[4])),
         },
     ])
@@ -41,20 +37,35 @@ fn adds_meet() -> Holding {
 
 /// The swaps come while the activity is open, and it goes on once one of them was answered.
 fn swaps_meet() -> Holding {
-    let added = Until::Answered(lines(&[9]));
+    let swaps = lines(&[4, 6]);
     Holding::new([
         Hold {
-            line: 4,
-            until: added,
+            lines: swaps,
+            until: Until::Answered(lines(&[9])),
         },
         Hold {
-            line: 6,
-            until: added,
+            lines: lines(&[10]),
+            until: Until::Answered(swaps),
         },
+    ])
+}
+
+/// Sixteen workers add on eight processors.
+const SIXTEEN_ADD: &[u8] =
+    b"procs 8\nobject hits counter spread\nworker w0 0\nhits add 1\nworker w1 1\nhits add 1\nworker w2 2\nhits add 1\nworker w3 3\nhits add 1\n\
+worker w4 4\nhits add 1\nworker w5 5\nhits add 1\nworker w6 6\nhits add 1\nworker w7 7\nhits add 1\n\
+worker w8 0\nhits add 1\nworker w9 1\nhits add 1\nworker w10 2\nhits add 1\nworker w11 3\nhits add 1\n\
+worker w12 4\nhits add 1\nworker w13 5\nhits add 1\nworker w14 6\nhits add 1\nworker w15 7\nhits add 1\n";
+
+/// All of them are at their adds before one is made.
+fn sixteen_meet() -> Holding {
+    let all = lines(&[4, 6, 8, 10, 12, 14, 16, 18, 20, 22, 24, 26, 28, 30, 32, 34]);
+    Holding::new([
         Hold {
-            line: 10,
-            until: Until::Answered(lines(&[4, 6])),
+            lines: all,
+            until: Until::Reached(all),
         },
+        NOTHING,
     ])
 }
 
@@ -91,6 +102,20 @@ fn two_workers_reach_their_first_lines_side_by_side(rt: HostRuntime) -> Result<(
         let found = judged(&rt, rt.alloc(), TWO_ADD, &ran.text)?;
         assert_eq!(rt; found.text.as_slice(), b"lawful 4\n".as_slice());
         assert_eq!(rt; found.kept, None);
+    }
+    Ok(())
+}
+
+#[test]
+fn sixteen_workers_reach_their_first_lines_side_by_side(rt: HostRuntime) -> Result<(), Fail> {
+    for line in ["run", "run 2"] {
+        let gate = sixteen_meet();
+        let ran = run_under(&rt, rt.alloc(), line, SIXTEEN_ADD, &gate)?;
+        assert_eq!(rt; ran.status, Status::Ok);
+        assert_eq!(rt; gate.answered(), gate.reached());
+        assert_eq!(rt; gate.late(), 0);
+        let found = judged(&rt, rt.alloc(), SIXTEEN_ADD, &ran.text)?;
+        assert_eq!(rt; found.text.as_slice(), b"lawful 16\n".as_slice());
     }
     Ok(())
 }

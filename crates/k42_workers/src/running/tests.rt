@@ -1,12 +1,18 @@
 //! Scripts that are run: their answers, their numbers, and what their gate is told.
+ghost use Rattle.script_text.specs.Sound.{IsSound};
+
 use super::run_script;
 use crate::gate::{FreeGate, Gate};
 use crossbeam_utils::Backoff;
 use k42_kinds::{Answer, Reply};
 use load_totals::{Summary, summary};
-use script_text::{ParseEnd, generate, parse};
+use script_text::{ParseEnd, Script, generate, parse};
+use std::alloc::Global;
+use std::process::Abort;
+use std::sync::Wait;
 use std::sync::atomic::{AtomicU32, Ordering};
 use std::test::Fail;
+use std::thread::Threads;
 
 /// An add, a swap and a get, by one worker.
 const SWAPPED: &[u8] =
@@ -15,6 +21,13 @@ const SWAPPED: &[u8] =
 /// Two workers add and get on two processors.
 const TWO_WORKERS: &[u8] =
     b"procs 2\nobject hits counter spread\nworker a 0\nhits add 5\nhits get\nworker b 1\nhits add 7\nhits get\n";
+
+/// Sixteen workers add on eight processors.
+const SIXTEEN_WORKERS: &[u8] =
+    b"procs 8\nobject hits counter spread\nworker w0 0\nhits add 1\nworker w1 1\nhits add 1\nworker w2 2\nhits add 1\nworker w3 3\nhits add 1\n\
+worker w4 4\nhits add 1\nworker w5 5\nhits add 1\nworker w6 6\nhits add 1\nworker w7 7\nhits add 1\n\
+worker w8 0\nhits add 1\nworker w9 1\nhits add 1\nworker w10 2\nhits add 1\nworker w11 3\nhits add 1\n\
+worker w12 4\nhits add 1\nworker w13 5\nhits add 1\nworker w14 6\nhits add 1\nworker w15 7\nhits add 1\n";
 
 #[test]
 fn a_get_after_a_swap_has_what_was_added_before(rt: HostRuntime) -> Result<(), Fail> {
@@ -78,22 +91,43 @@ fn a_load_of_a_thousand_steps_swaps_three_times(rt: HostRuntime) -> Result<(), F
     Ok(())
 }
 
-/// Holds the first line of each of two workers until both are there, for so many turns at most.
+/// Holds the first lines of the workers until all are there, for so many turns at most.
 #[derive(Drop)]
 struct Meeting {
+    first: u64,
+    all: u32,
     there: AtomicU32,
     late: AtomicU32,
 }
 
+impl Meeting {
+    /// A gate for workers whose first lines have these numbers, all below 64.
+    fn at_lines(first: &[u32]) -> Meeting {
+        Meeting {
+            first: first
+                .iter()
+                .fold(0, |bits, &line| bits | 1u64.wrapping_shl(line)),
+            all: first.len() as u32,
+            there: AtomicU32::new(0),
+            late: AtomicU32::new(0),
+        }
+    }
+
+    /// Whether a worker has waited in vain.
+    fn is_late(&self) -> bool {
+        self.late.load(Ordering::SeqCst) > 0
+    }
+}
+
 impl Gate for Meeting {
     fn at(&self, _worker: u32, line: u32, before: bool) {
-        if !before || (line != 4 && line != 7) {
+        if !before || self.first & 1u64.wrapping_shl(line) == 0 {
             return;
         }
         self.there.fetch_add(1, Ordering::SeqCst);
         let backoff = Backoff::new();
         for _ in 0..10_000_000 {
-            if self.there.load(Ordering::SeqCst) == 2 {
+            if self.there.load(Ordering::SeqCst) >= self.all || self.is_late() {
                 return;
             }
             backoff.snooze();
@@ -102,19 +136,43 @@ impl Gate for Meeting {
     }
 }
 
+/// Runs the script under a gate that holds these lines, and counts its entries.
+fn entries_held_at<R: Threads + Abort + Wait + Sync>(
+    rt: &R,
+    alloc: Global,
+    script: &Script,
+    first: &[u32],
+) -> Result<usize, Fail>
+    requires { IsSound script.now }
+{
+    let gate = Meeting::at_lines(first);
+    let history = run_script(rt, alloc, script, &gate)?;
+    assert_eq!(rt; gate.there.load(Ordering::SeqCst), gate.all);
+    assert!(rt; !gate.is_late());
+    Ok(history.entries().len())
+}
+
 #[test]
-fn two_workers_reach_their_first_lines_side_by_side(rt: HostRuntime) -> Result<(), Fail> {
-    let Ok(script) = parse(rt.alloc(), TWO_WORKERS) else {
-        return Err("no script")?;
-    };
-    let gate = Meeting {
-        there: AtomicU32::new(0),
-        late: AtomicU32::new(0),
-    };
-    let history = run_script(&rt, rt.alloc(), &script, &gate)?;
-    assert_eq!(rt; gate.there.load(Ordering::SeqCst), 2);
-    assert_eq!(rt; gate.late.load(Ordering::SeqCst), 0);
-    assert_eq!(rt; history.entries().len(), 4);
+fn workers_reach_their_first_lines_side_by_side(rt: HostRuntime) -> Result<(), Fail> {
+    let sixteen = [4, 6, 8, 10, 12, 14, 16, 18, 20, 22, 24, 26, 28, 30, 32, 34];
+    for (bytes, first, due) in [
+        (TWO_WORKERS, [4u32, 7].as_slice(), 4),
+        (SIXTEEN_WORKERS, sixteen.as_slice(), 16),
+    ] {
+        let Ok(script) = parse(rt.alloc(), bytes) else {
+            return Err("no script")?;
+        };
+        let entries = entries_held_at(&rt, rt.alloc(), &script, first)?;
+        assert_eq!(rt; entries, due);
+    }
+    Ok(())
+}
+
+#[test]
+fn the_workers_of_a_load_reach_their_first_lines_side_by_side(rt: HostRuntime) -> Result<(), Fail> {
+    let script = generate(rt.alloc(), 8)?;
+    let entries = entries_held_at(&rt, rt.alloc(), &script, [6, 9, 12, 15].as_slice())?;
+    assert_eq!(rt; entries, 8);
     Ok(())
 }
 

@@ -6,7 +6,9 @@ use crate::tests::crews::{Walk, last, start};
 use crate::tests::phases::{swap, wait_free};
 use co_any::AnyLayout;
 use k42_memory::Memory;
+use k42_quiesce::collect;
 use k42_rule::{Row, Sys, pop_row, push_row};
+use std::alloc::Global;
 use std::process::Abort;
 use std::sync::Wait;
 use std::test::Fail;
@@ -49,5 +51,65 @@ fn a_row_that_one_pass_pushed_is_freed_by_another(rt: HostRuntime) -> Result<(),
     wait_free(&rt, &sys, &mut other, 1);
     assert!(rt; other.rows().is_empty());
     wait_free(&rt, &sys, &mut one, 0);
+    Ok(())
+}
+
+/// Swaps the first object so often, and hands each old row over. Each grace but the first frees the row before.
+fn hand_many<R: Abort + Wait>(
+    rt: &R,
+    alloc: Global,
+    sys: &Sys<AnyLayout>,
+    pass: &mut Walk,
+    rows: u32,
+) -> Result<(), Memory>
+    requires free { IsFree sys.now pass.old }
+    ensures free { OnOk result (IsFree sys.now pass.new) }
+{
+    for number in 0..rows {
+        swap(
+            rt,
+            alloc,
+            sys,
+            pass,
+            0,
+            1 - number % 2,
+            u32::from(number > 0),
+        )?;
+        push(rt, sys, pass)?;
+    }
+    Ok(())
+}
+
+/// Collects so many rows, and frees those of them that were not freed yet.
+fn collect_due<R: Abort + Wait>(
+    rt: &R,
+    sys: &Sys<AnyLayout>,
+    pass: &mut Walk,
+    rows: u32,
+    freed: u32,
+)
+    requires free { IsFree sys.now pass.old }
+    ensures free { IsFree sys.now pass.new }
+{
+    assert_eq!(rt; collect(rt, sys, pass), rows);
+    wait_free(rt, sys, pass, freed);
+    assert!(rt; pass.rows().is_empty());
+}
+
+#[test]
+fn a_collect_takes_the_rows_that_there_is_room_for(rt: HostRuntime) -> Result<(), Fail> {
+    // A pass starts with room for 64 rows, and a collect leaves room for one. Only the youngest row was not freed yet.
+    for (rows, rest) in [(64, 1), (100, 37)] {
+        let (sys, mut passes) = start(rt.alloc())?;
+        let (Some(mut other), Some(mut one)) = (last(&sys, &mut passes), last(&sys, &mut passes))
+        else {
+            return Err("no passes")?;
+        };
+        hand_many(&rt, rt.alloc(), &sys, &mut one, rows)?;
+        assert!(rt; one.rows().is_empty());
+        collect_due(&rt, &sys, &mut other, 63, 0);
+        collect_due(&rt, &sys, &mut other, rest, 1);
+        collect_due(&rt, &sys, &mut one, 0, 0);
+    }
     Ok(())
 }
