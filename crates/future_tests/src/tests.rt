@@ -15,11 +15,7 @@ fn two_swaps_wait_each_for_its_cause_and_end_together(rt: HostRuntime) -> Result
     let Some((system, crew)) = counters(alloc, 2)? else {
         return Err("no system")?;
     };
-    let Three {
-        mut zero,
-        one,
-        two,
-    } = crew;
+    let Three { mut zero, one, two } = crew;
     come_in(&rt, &system, &mut zero);
     let first = swap_with(&rt, alloc, &system, one, 0);
     let first = waits(&rt, &system, first, Cause::Left { proc: 0, left: 1 })?;
@@ -42,11 +38,7 @@ fn a_swap_that_is_stopped_is_stepped_on_by_hand(rt: HostRuntime) -> Result<(), F
     let Some((system, crew)) = counters(alloc, 1)? else {
         return Err("no system")?;
     };
-    let Three {
-        mut zero,
-        one,
-        two,
-    } = crew;
+    let Three { mut zero, one, two } = crew;
     come_in(&rt, &system, &mut zero);
     let future = swap_with(&rt, alloc, &system, one, 0);
     let future = waits(&rt, &system, future, Cause::Left { proc: 0, left: 1 })?;

@@ -190,7 +190,7 @@ later_rule (inr fault) = omega (arith, fault.numbered)
 later_rule (inl fault) =
     let here : fault.place ≡ 0 = omega (arith, fault.numbered) in
     let kept : BreaksFirst (KeepsAt counting (record added { stamp = 3; line = 6 } ∷ []) 0) all_rules 8 =
-        subst (λ (place : ℕ). BreaksFirst (KeepsAt counting (record added { stamp = 3; line = 6 } ∷ []) place) all_rules 8) here fault.broken in
+    subst (λ (place : ℕ). BreaksFirst (KeepsAt counting (record added { stamp = 3; line = 6 } ∷ []) place) all_rules 8) here fault.broken in
     elim kept [
       | inl stamps ↦ omega (arith, stamps.0)
       | inr behind ↦ omega (arith, behind.0 (record added { stamp = 3; line = 6 }) refl)

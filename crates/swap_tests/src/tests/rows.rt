@@ -62,8 +62,8 @@ fn hand_many<R: Abort + Wait>(
     pass: &mut Walk,
     rows: u32,
 ) -> Result<(), Memory>
-    requires free { IsFree sys.now pass.old }
-    ensures free { OnOk result (IsFree sys.now pass.new) }
+    requires free { HoldsNoCell sys.now pass.old }
+    ensures free { OnOk result (HoldsNoCell sys.now pass.new) }
 {
     for number in 0..rows {
         swap(
@@ -88,8 +88,8 @@ fn collect_due<R: Abort + Wait>(
     rows: u32,
     freed: u32,
 )
-    requires free { IsFree sys.now pass.old }
-    ensures free { IsFree sys.now pass.new }
+    requires free { HoldsNoCell sys.now pass.old }
+    ensures free { HoldsNoCell sys.now pass.new }
 {
     assert_eq!(rt; collect(rt, sys, pass), rows);
     wait_free(rt, sys, pass, freed);

@@ -1,5 +1,5 @@
-use Rattle.swap_tests.specs.Ready.{IsFree}
+use Rattle.swap_tests.specs.Ready.{HoldsNoCell}
 use Rattle.swap_tests.proofs.tests.rows.hand_many.Given as goal
 
 abbrev pub invariant-loop-number : goal.invariant-loop-number
-invariant-loop-number g l = IsFree l.sys l.pass
+invariant-loop-number g l = HoldsNoCell l.sys l.pass
