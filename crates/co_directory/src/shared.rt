@@ -9,7 +9,9 @@ ghost use Rattle.co_directory.specs.Directories.{IsOneMap, shared};
 ghost use Rattle.co_directory.specs.SharedLaws.{shared_steps, shared_steps_all};
 
 use crate::indexed::{IndexedNames, step_indexed};
-use k42_kinds::{Act, DirectoryState, Kind, Layout, LayoutName, Op, Reach, Reply, To, step_directory};
+use k42_kinds::{
+    Act, DirectoryState, Kind, Layout, LayoutName, Op, Reach, Reply, To, step_directory,
+};
 use k42_memory::Memory;
 use std::alloc::Global;
 
@@ -77,7 +79,11 @@ impl Layout for SharedDirectory {
         step_indexed(&mut parts[0], op)
     }
 
-    fn export(&self, alloc: Global, parts: &mut Vec<IndexedNames>) -> Result<DirectoryState, Memory> {
+    fn export(
+        &self,
+        alloc: Global,
+        parts: &mut Vec<IndexedNames>,
+    ) -> Result<DirectoryState, Memory> {
         parts[0].state(alloc)
     }
 

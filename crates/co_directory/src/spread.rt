@@ -9,7 +9,9 @@ ghost use Rattle.co_directory.specs.SpreadLaws.{spread_steps, spread_steps_all, 
 
 use crate::copies::{bind_in_all, copied, copies, unbind_in_all};
 use crate::indexed::reply_with;
-use k42_kinds::{Act, DirectoryState, Kind, Layout, LayoutName, Op, Reach, Reply, To, step_directory};
+use k42_kinds::{
+    Act, DirectoryState, Kind, Layout, LayoutName, Op, Reach, Reply, To, step_directory,
+};
 use k42_memory::Memory;
 use std::alloc::Global;
 
@@ -101,7 +103,11 @@ impl Layout for SpreadDirectory {
         }
     }
 
-    fn export(&self, alloc: Global, parts: &mut Vec<DirectoryState>) -> Result<DirectoryState, Memory> {
+    fn export(
+        &self,
+        alloc: Global,
+        parts: &mut Vec<DirectoryState>,
+    ) -> Result<DirectoryState, Memory> {
         copied(alloc, &parts[0])
     }
 

@@ -117,9 +117,11 @@ module _ (script : Script) (written : Record) (window : Window) where
     unfolding fault_at
     veiled =
         let columns : ℕ = length (shown window written.lines) in
-        let lanes : ℕ = length script.workers in
-        (veil (place + 1) (columns - (place + 1)) lanes, veil-behind place columns lanes,
-        stands-in_fault (stands-behind (fault_frame place line.worker) (stands-itself (veil (place + 1) (columns - (place + 1)) lanes))))
+        let lanes : ℕ = length script.workers in (
+          veil (place + 1) (columns - (place + 1)) lanes,
+          veil-behind place columns lanes,
+          stands-in_fault (stands-behind (fault_frame place line.worker) (stands-itself (veil (place + 1) (columns - (place + 1)) lanes))),
+        )
 
 -- ---- where nothing is marked
 
