@@ -101,13 +101,13 @@ struct Meeting {
 }
 
 impl Meeting {
-    /// A gate for workers whose first lines have these numbers, all below 64.
-    fn at_lines(first: &[u32]) -> Meeting {
+    /// A gate for so many workers, whose first lines have these numbers, all below 64.
+    fn at_lines(first: &[u32], all: u32) -> Meeting {
         Meeting {
             first: first
                 .iter()
                 .fold(0, |bits, &line| bits | 1u64.wrapping_shl(line)),
-            all: first.len() as u32,
+            all,
             there: AtomicU32::new(0),
             late: AtomicU32::new(0),
         }
@@ -136,16 +136,17 @@ impl Gate for Meeting {
     }
 }
 
-/// Runs the script under a gate that holds these lines, and counts its entries.
+/// Runs the script under a gate that holds these lines of so many workers, and counts its entries.
 fn entries_held_at<R: Threads + Abort + Wait + Sync>(
     rt: &R,
     alloc: Global,
     script: &Script,
     first: &[u32],
+    all: u32,
 ) -> Result<usize, Fail>
     requires { IsSound script.now }
 {
-    let gate = Meeting::at_lines(first);
+    let gate = Meeting::at_lines(first, all);
     let history = run_script(rt, alloc, script, &gate)?;
     assert_eq!(rt; gate.there.load(Ordering::SeqCst), gate.all);
     assert!(rt; !gate.is_late());
@@ -155,14 +156,14 @@ fn entries_held_at<R: Threads + Abort + Wait + Sync>(
 #[test]
 fn workers_reach_their_first_lines_side_by_side(rt: HostRuntime) -> Result<(), Fail> {
     let sixteen = [4, 6, 8, 10, 12, 14, 16, 18, 20, 22, 24, 26, 28, 30, 32, 34];
-    for (bytes, first, due) in [
-        (TWO_WORKERS, [4u32, 7].as_slice(), 4),
-        (SIXTEEN_WORKERS, sixteen.as_slice(), 16),
+    for (bytes, first, all, due) in [
+        (TWO_WORKERS, [4u32, 7].as_slice(), 2, 4),
+        (SIXTEEN_WORKERS, sixteen.as_slice(), 16, 16),
     ] {
         let Ok(script) = parse(rt.alloc(), bytes) else {
             return Err("no script")?;
         };
-        let entries = entries_held_at(&rt, rt.alloc(), &script, first)?;
+        let entries = entries_held_at(&rt, rt.alloc(), &script, first, all)?;
         assert_eq!(rt; entries, due);
     }
     Ok(())
@@ -171,7 +172,7 @@ fn workers_reach_their_first_lines_side_by_side(rt: HostRuntime) -> Result<(), F
 #[test]
 fn the_workers_of_a_load_reach_their_first_lines_side_by_side(rt: HostRuntime) -> Result<(), Fail> {
     let script = generate(rt.alloc(), 8)?;
-    let entries = entries_held_at(&rt, rt.alloc(), &script, [6, 9, 12, 15].as_slice())?;
+    let entries = entries_held_at(&rt, rt.alloc(), &script, [6, 9, 12, 15].as_slice(), 4)?;
     assert_eq!(rt; entries, 8);
     Ok(())
 }
