@@ -14,7 +14,7 @@ from transcripts import TOP
 KEPT = pathlib.Path("dist") / "x86_64-linux"
 CHANGED = pathlib.Path("crates") / "k42_kinds" / "src" / "lib.rt"
 TOOLS = ("awk", "bash", "cat", "diff", "dirname", "find", "grep", "paste", "sed", "sha256sum", "sort", "uname", "xargs")
-SECONDS = 1
+SECONDS, TIMES = 1, 3
 NO_KIT = 127
 
 
@@ -66,9 +66,11 @@ class Tried:
             (["./k42", "load", "1000"], b"", load),
             (["./k42-view"], both, picture),
         ):
-            run, seconds = self.run(words, given)
-            if (run.returncode, run.stdout, run.stderr) != (0, due, b""):
-                yield f"{' '.join(words)} of a kept program ends with {run.returncode} and says {run.stderr}"
+            runs = [self.run(words, given) for _ in range(TIMES)]
+            for run, _ in runs:
+                if (run.returncode, run.stdout, run.stderr) != (0, due, b""):
+                    yield f"{' '.join(words)} of a kept program ends with {run.returncode} and says {run.stderr}"
+            seconds = min(seconds for _, seconds in runs)
             if seconds > SECONDS:
                 yield f"{' '.join(words)} of a kept program takes {seconds:.1f} seconds"
 
