@@ -1,4 +1,4 @@
-//! Tests of the library on one thread, or two where one waits for the other. They stand apart, so that what they test is proved once.
+//! Tests of the library on one thread. They stand apart, so that what they test is proved once.
 #![tactic(auto)]
 
 #[cfg(test)]

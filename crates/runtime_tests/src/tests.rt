@@ -4,8 +4,7 @@ use crate::tests::ending::{destroy_once, find_gone, free_once, swap_once, swap_t
 use crate::tests::holding::{
     be_let_in, be_shut_out, be_waited_for, hold, see_added, wait_for_cell,
 };
-use crate::tests::steps::{call_to, come_in, swap_to};
-use crate::tests::together::{call_at_a_held_cell, call_at_a_shut_object};
+use crate::tests::steps::{call_to, swap_to};
 use crate::tests::waiting::{find, free_in_turn, swap_beside};
 use k42_kinds::{Act, Answer, Entry, KindName, LayoutName, Op, Reply, To};
 use k42_runtime::{ObjectPlan, Plan, PlanFault};
@@ -16,7 +15,6 @@ mod ending;
 mod holding;
 mod steps;
 mod table;
-mod together;
 mod waiting;
 
 /// Whether the entries have just these answers, in this order.
@@ -192,55 +190,5 @@ fn a_call_names_the_caller_that_holds_its_cell(rt: HostRuntime) -> Result<(), Fa
     let mut add = call_to(&rt, &system, 0, Op::Add(5));
     wait_for_cell(&rt, alloc, &system, &mut zero, &mut one, cell, &mut add)?;
     see_added(&rt, alloc, &system, &mut one)?;
-    Ok(())
-}
-
-#[test]
-fn a_call_waits_for_the_cell_that_another_holds(rt: HostRuntime) -> Result<(), Fail> {
-    let alloc = rt.alloc();
-    let Some((system, crew)) = counters(alloc, 1)? else {
-        return Err("no system")?;
-    };
-    let Three {
-        mut zero,
-        mut one,
-        ..
-    } = crew;
-    let cell = hold(&rt, alloc, &system, &mut one)?;
-    come_in(&rt, &system, &mut zero);
-    let add = Op::Add(5);
-    let reply = call_at_a_held_cell(&rt, alloc, &system, &mut zero, &mut one, cell, add)?;
-    assert_eq!(rt; reply, Reply::Done);
-    see_added(&rt, alloc, &system, &mut one)?;
-    Ok(())
-}
-
-#[test]
-fn a_call_waits_for_the_swap_that_keeps_its_object_shut(rt: HostRuntime) -> Result<(), Fail> {
-    let alloc = rt.alloc();
-    let Some((system, crew)) = counters(alloc, 1)? else {
-        return Err("no system")?;
-    };
-    let Three {
-        mut zero,
-        mut one,
-        mut two,
-    } = crew;
-    let mut swap = swap_to(&rt, &system, &one, 0, LayoutName::Shared);
-    be_waited_for(
-        &rt, alloc, &system, &mut zero, &mut one, &mut two, &mut swap,
-    )?;
-    come_in(&rt, &system, &mut zero);
-    let reply = call_at_a_shut_object(
-        &rt,
-        alloc,
-        &system,
-        &mut zero,
-        &mut one,
-        &mut two,
-        &mut swap,
-        Op::Get,
-    )?;
-    assert_eq!(rt; reply, Reply::Number(0));
     Ok(())
 }
