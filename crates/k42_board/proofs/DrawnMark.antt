@@ -22,7 +22,7 @@ use Rattle.k42_stamp.specs.Laws.{AreLaws}
 use Rattle.k42_stamp.specs.Layouts.{Layouts}
 use Rattle.k42_stamp.specs.Parts.{act_moves, reach_of}
 use Rattle.k42_joined.specs.Answers.{IsTrueOf}
-use Rattle.k42_joined.specs.Drawing.{IsDrawnAs, FoundOver}
+use Rattle.k42_joined.specs.Drawing.{IsDrawnAs}
 use Rattle.k42_joined.specs.Effects.{effect}
 use Rattle.k42_joined.specs.Event.{AtCells}
 use Rattle.k42_joined.specs.Found.{tells_over}

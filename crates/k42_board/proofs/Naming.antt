@@ -1,16 +1,17 @@
 -- A row that a pass holds gets a seat of its own, or a pass takes in the seat of a row.
-use Rattle.std.proofs.Common.{◌≡◌, ◌≢◌, ℕ, zero, suc, ◌+◌, ◌-◌, ◌<◌, ◌≤◌, ◌⊎◌, Bool, true, false, cond, eqb, ◌&&◌, List, [], ◌∷◌, ◌++◌, Some, length, get_or, set, take, drop, inl, inr, sym, refl, ap, ◌∙◌, subst, ⊎_elim, arith, length-set}
+use Rattle.std.proofs.Common.{◌≡◌, ◌≢◌, ℕ, zero, suc, ◌+◌, ◌-◌, ◌<◌, ◌≤◌, ◌⊎◌, Bool, true, false, cond, eqb, ◌&&◌, List, [], ◌∷◌, ◌++◌, Some, length, get_or, set, min, take, inl, inr, sym, refl, ap, ◌∙◌, subst, ⊎_elim, arith, length-set}
 use Rattle.std.specs.List.{slice_get}
 use Rattle.std.proofs.lemmas.Bool.{and_parts, eqb-true, eq-eqb}
-use Rattle.std.proofs.lemmas.List.{take-append-le}
-use Rattle.std.proofs.lemmas.Option.{same_Some}
+use Rattle.std.proofs.lemmas.List.{drop_all, drop_more, length-append, take-append-drop, take-append-le, take_all, take_min}
+use Rattle.std.proofs.lemmas.Option.{same_Some, slice_get-get_or, slice_get_within}
+use Rattle.std.proofs.Math.Seq.{get_or-append_seam, take-append_seam}
 use Rattle.atomic_table.specs.Table.{State, Splits, Joins}
 use Rattle.atomic_table.proofs.Lists.{at_set, set_else, set_again}
 use Rattle.k42_places.specs.Places.{EachPlace}
-use Rattle.k42_places.proofs.Appended.{at_push}
+use Rattle.k42_places.proofs.Appended.{at_push, slice_get-append_left, slice_get-append_seam}
 use Rattle.k42_stamp.specs.Layouts.{Layouts}
 use Rattle.k42_joined.specs.Plain.{Joined}
-use Rattle.k42_board.specs.Queueing.{is_row, oldest, with_oldest, with_newest, keeps_younger, names_oldest, takes_back, takes_in, AreGranted}
+use Rattle.k42_board.specs.Queueing.{is_row, newest, older, with_again, with_newest, keeps_older, names_newest, takes_back, takes_in, AreGranted}
 use Rattle.k42_board.specs.Phases.{IsOld, IsGranted}
 use Rattle.k42_board.specs.Rule.{Beside, AreOnce, NamesRows, KnowsPass, Knows, Rule, Ruled}
 use Rattle.k42_board.specs.Seen.{IsSeatOf}
@@ -119,16 +120,19 @@ module _ {L P : Type 0} (tag_of : L → ℕ) (s : Joined L) (beside : Beside P) 
   other_names j (Named row) same knows = (knows.0, same row knows.1)
   other_names j Spent same knows = tt
 
--- the rows of a list are those of its first part, or there are no more
-in_take : {A : Type 0} (n : ℕ) (xs : List A) (i : ℕ) (a : A) → slice_get (take (n - 1) xs) i ≡ Some a → (x : A) → slice_get (take n (x ∷ xs)) (suc i) ≡ Some a
-in_take zero xs i a e x = absurd (none_there i a e) where
-  none_there : {A : Type 0} (i : ℕ) (a : A) → slice_get [] i ≡ Some a → ⊥
-  none_there i a e = cc
-in_take (suc n) xs i a e x = subst (λ k. slice_get (take k xs) i ≡ Some a) (omega arith) e
+none_there : {A : Type 0} (i : ℕ) (a : A) → slice_get [] i ≡ Some a → ⊥
+none_there i a e = cc
+
+-- what stands among the first elements stands there also if there are more behind
+in_front : {A : Type 0} (n : ℕ) (xs ys : List A) (i : ℕ) (a : A) → slice_get (take n xs) i ≡ Some a → slice_get (take n (xs ++ ys)) i ≡ Some a
+in_front zero xs ys i a e = e
+in_front (suc n) [] ys i a e = absurd (none_there i a e)
+in_front (suc n) (x ∷ xs) ys zero a e = e
+in_front (suc n) (x ∷ xs) ys (suc i) a e = in_front n xs ys i a e
 
 module _ {S L P : Type 0} (F : Layouts S L P) (declared : List L) (callers id : ℕ) (v : PassView P) where
-  module _ (row : Row) (rest : List Row) (rows_are : v.rows ≡ row ∷ rest) where
-    split : Splits (Rule F declared) id (Crew (v ∷ [])) (Crew (record v { rows = rest; granted = v.granted - 1 } ∷ [])) (Named row)
+  module _ (row : Row) (rest : List Row) (rows_are : v.rows ≡ rest ++ row ∷ []) where
+    split : Splits (Rule F declared) id (Crew (v ∷ [])) (Crew (record v { rows = rest; granted = min v.granted (length rest) } ∷ [])) (Named row)
     split table r at = record {
       state = r.state;
       sound = r.sound;
@@ -145,7 +149,7 @@ module _ {S L P : Type 0} (F : Layouts S L P) (declared : List L) (callers id : 
       parts = r.parts;
       seats = λ j view e.
           ⊎_elim
-          (λ new. subst (λ (z : ℕ × View P). Knows F.tag_of r.state (beside_named r.beside names) z.0 z.1) (λ i. (sym (new.0 ∙ length-set table.views id (Crew (w ∷ []))) i, new.1 i)) (old 0 row here, renamed_here row last r.beside.row_seat))
+          (λ new. subst (λ (z : ℕ × View P). Knows F.tag_of r.state (beside_named r.beside names) z.0 z.1) (λ i. (sym (new.0 ∙ length-set table.views id (Crew (w ∷ []))) i, new.1 i)) (old (length rest) row here, renamed_here row last r.beside.row_seat))
           (λ before.
           ⊎_elim
           (λ is. subst (λ (z : ℕ × View P). Knows F.tag_of r.state (beside_named r.beside names) z.0 z.1) (λ i. (sym is.0 i, is.1 i)) left)
@@ -160,16 +164,16 @@ module _ {S L P : Type 0} (F : Layouts S L P) (declared : List L) (callers id : 
       names = renamed row (length table.views) r.beside.row_seat
 
       w : PassView P
-      w = record v { rows = rest; granted = v.granted - 1 }
+      w = record v { rows = rest; granted = min v.granted (length rest) }
 
       k : KnowsPass F.tag_of r.state r.beside id v
       k = known F declared table r id v at
 
-      here : slice_get v.rows 0 ≡ Some row
-      here = ap (λ (l : List Row). slice_get l 0) rows_are
+      here : slice_get v.rows (length rest) ≡ Some row
+      here = ap (λ (l : List Row). slice_get l (length rest)) rows_are ∙ slice_get-append_seam rest row []
 
-      later : (place : ℕ) (other : Row) → slice_get rest place ≡ Some other → slice_get v.rows (suc place) ≡ Some other
-      later place other e = ap (λ (l : List Row). slice_get l (suc place)) rows_are ∙ e
+      before : (place : ℕ) (other : Row) → slice_get rest place ≡ Some other → slice_get v.rows place ≡ Some other
+      before place other e = ap (λ (l : List Row). slice_get l place) rows_are ∙ slice_get-append_left rest (row ∷ []) place other e
 
       old : EachPlace (λ place other. IsOld r.state.phases other) v.rows
       old = k.phases.rows.old
@@ -180,17 +184,20 @@ module _ {S L P : Type 0} (F : Layouts S L P) (declared : List L) (callers id : 
         names_rest = record {
           named = λ place other e.
               renamed_else row (length table.views) r.beside.row_seat other
-              (λ same. let one = k.names.once (suc place) 0 other (later place other e) (here ∙ ap Some (sym same)) in absurd (omega (arith, one)))
-              ∙ k.names.named (suc place) other (later place other e);
-          once = λ i j other e f. let one = k.names.once (suc i) (suc j) other (later i other e) (later j other f) in omega (arith, one);
+              (λ same.
+              let one = k.names.once place (length rest) other (before place other e) (here ∙ ap Some (sym same)) in
+              let within = slice_get_within rest place other e in absurd (omega (arith, one, within)))
+              ∙ k.names.named place other (before place other e);
+          once = λ i j other e f. k.names.once i j other (before i other e) (before j other f);
         }
 
         mine : KnowsPass F.tag_of r.state (beside_named r.beside names) id w
         mine =
-            with_rows F.tag_of r.state r.beside names id v rest (v.granted - 1) k names_rest (λ place other e. old (suc place) other (later place other e))
+            with_rows F.tag_of r.state r.beside names id v rest (min v.granted (length rest)) k names_rest (λ place other e. old place other (before place other e))
             (λ place other e.
-            k.phases.rows.granted (suc place) other
-            (ap (λ (l : List Row). slice_get (take v.granted l) (suc place)) rows_are ∙ in_take v.granted rest place other e row))
+            k.phases.rows.granted place other
+            (ap (λ (l : List Row). slice_get (take v.granted l) place) rows_are
+            ∙ in_front v.granted rest (row ∷ []) place other (ap (λ l. slice_get l place) (sym (take_min v.granted rest)) ∙ e)))
 
         each : (place : ℕ) (x : PassView P) → slice_get (w ∷ []) place ≡ Some x → KnowsPass F.tag_of r.state (beside_named r.beside names) id x
         each zero x e = subst (KnowsPass F.tag_of r.state (beside_named r.beside names) id) (same_Some w x e) mine
@@ -198,9 +205,9 @@ module _ {S L P : Type 0} (F : Layouts S L P) (declared : List L) (callers id : 
 
       other_same : (j : ℕ) → j ≢ id → (other : Row) → r.beside.row_seat other ≡ j → names other ≡ j
       other_same j not other is =
-          renamed_else row (length table.views) r.beside.row_seat other (λ same. not (sym is ∙ ap r.beside.row_seat same ∙ k.names.named 0 row here)) ∙ is
+          renamed_else row (length table.views) r.beside.row_seat other (λ same. not (sym is ∙ ap r.beside.row_seat same ∙ k.names.named (length rest) row here)) ∙ is
 
-    pub splits_row : Splits (Ruled F declared callers) id (Crew (v ∷ [])) (Crew (record v { rows = rest; granted = v.granted - 1 } ∷ [])) (Named row)
+    pub splits_row : Splits (Ruled F declared callers) id (Crew (v ∷ [])) (Crew (record v { rows = rest; granted = min v.granted (length rest) } ∷ [])) (Named row)
     unfolding split
     splits_row table ruled at = record { rule = split table ruled.rule at; many = ruled.many }
 
@@ -281,51 +288,43 @@ module _ {S L P : Type 0} (F : Layouts S L P) (declared : List L) (callers id : 
     joins_row table ruled at apart at_other = record { rule = join table ruled.rule at apart at_other; many = ruled.many }
 
   -- as its newest
-  pub joins_newest : (other : ℕ) (row : Row) → v.granted ≤ length v.rows
-      → Joins (Ruled F declared callers) id (Crew (v ∷ [])) other (Named row) (Crew (with_newest row v ∷ [])) Spent
-  joins_newest other row few =
-      joins_row other row (v.rows ++ row ∷ []) v.granted
+  joins_behind : (other : ℕ) (row : Row) (granted : ℕ)
+      → (EachPlace (λ place x. IsGranted v.visitor.noted x) (take v.granted v.rows) → EachPlace (λ place x. IsGranted v.visitor.noted x) (take granted (v.rows ++ row ∷ [])))
+      → Joins (Ruled F declared callers) id (Crew (v ∷ [])) other (Named row) (Crew (record v { rows = v.rows ++ row ∷ []; granted = granted } ∷ [])) Spent
+  joins_behind other row granted =
+      joins_row other row (v.rows ++ row ∷ []) granted
       (λ i x e. ⊎_elim (λ old. inr (i, old.1)) (λ new. inl (sym new.1)) (at_push v.rows row i x e))
       (λ once absent i j x e f.
       ⊎_elim
       (λ one. ⊎_elim (λ two. once i j x one.1 two.1) (λ two. absurd (absent i (one.1 ∙ ap Some (sym two.1)))) (at_push v.rows row j x f))
       (λ one. ⊎_elim (λ two. absurd (absent j (two.1 ∙ ap Some (sym one.1)))) (λ two. one.0 ∙ sym two.0) (at_push v.rows row j x f))
       (at_push v.rows row i x e))
-      (λ grants place x e. grants place x (sym (ap (λ (l : List Row). slice_get l place) (take-append-le v.granted v.rows (row ∷ []) few)) ∙ e))
 
-  -- as its oldest, which is granted as it was before
-  pub joins_oldest : (other : ℕ) (row : Row) (more : ℕ) → (0 < v.granted + more → IsGranted v.visitor.noted row) → (more ≡ 0 → v.granted ≡ 0) → more ≤ 1
-      → Joins (Ruled F declared callers) id (Crew (v ∷ [])) other (Named row) (Crew (with_oldest row more v ∷ [])) Spent
-  joins_oldest other row more granted none most =
-      joins_row other row (row ∷ v.rows) (v.granted + more) among once grants where
-        among : (i : ℕ) (x : Row) → slice_get (row ∷ v.rows) i ≡ Some x → (x ≡ row) ⊎ ((place : ℕ) × (slice_get v.rows place ≡ Some x))
-        among zero x e = inl (sym (same_Some row x e))
-        among (suc i) x e = inr (i, e)
+  same_front : (row : Row) → v.granted ≤ length v.rows
+      → EachPlace (λ place x. IsGranted v.visitor.noted x) (take v.granted v.rows) → EachPlace (λ place x. IsGranted v.visitor.noted x) (take v.granted (v.rows ++ row ∷ []))
+  same_front row few grants place x e = grants place x (sym (ap (λ (l : List Row). slice_get l place) (take-append-le v.granted v.rows (row ∷ []) few)) ∙ e)
 
-        once : AreOnce v.rows → ((place : ℕ) → slice_get v.rows place ≢ Some row) → AreOnce (row ∷ v.rows)
-        once rows absent zero zero x e f = refl
-        once rows absent zero (suc j) x e f = absurd (absent j (f ∙ sym e))
-        once rows absent (suc i) zero x e f = absurd (absent i (e ∙ sym f))
-        once rows absent (suc i) (suc j) x e f = ap suc (rows i j x e f)
+  pub joins_newest : (other : ℕ) (row : Row) → v.granted ≤ length v.rows
+      → Joins (Ruled F declared callers) id (Crew (v ∷ [])) other (Named row) (Crew (with_newest row v ∷ [])) Spent
+  joins_newest other row few = joins_behind other row v.granted (same_front row few)
 
-        as_many : (g : ℕ) → suc g ≡ v.granted + more → (more ≡ 0 → v.granted ≡ 0) → v.granted ≡ g
-        as_many g is all = by_more more refl where
-          by_more : (m : ℕ) → more ≡ m → v.granted ≡ g
-          by_more zero e = let none = all e in absurd (omega (arith, is, e, none))
-          by_more (suc m) e = omega (arith, is, e, most)
-
-        granted_at : (g : ℕ) → g ≡ v.granted + more → EachPlace (λ place x. IsGranted v.visitor.noted x) (take v.granted v.rows)
-            → EachPlace (λ place x. IsGranted v.visitor.noted x) (take g (row ∷ v.rows))
-        granted_at zero is grants place x e = absurd (none_there place x e) where
-          none_there : (i : ℕ) (a : Row) → slice_get [] i ≡ Some a → ⊥
-          none_there i a e = cc
-        granted_at (suc g) is grants zero x e = subst (IsGranted v.visitor.noted) (same_Some row x e) (granted (omega (arith, is)))
-        granted_at (suc g) is grants (suc place) x e =
-            grants place x
-            (ap (λ n. slice_get (take n v.rows) place) (let all : more ≡ 0 → v.granted ≡ 0 = none in as_many g is all) ∙ e)
-
-        grants : EachPlace (λ place x. IsGranted v.visitor.noted x) (take v.granted v.rows) → EachPlace (λ place x. IsGranted v.visitor.noted x) (take (v.granted + more) (row ∷ v.rows))
-        grants = granted_at (v.granted + more) refl
+  -- again, and it is granted if all others are
+  pub joins_again : (other : ℕ) (row : Row) (more : ℕ) → more ≤ 1 → v.granted ≤ length v.rows
+      → (0 < more → (v.granted ≡ length v.rows) × IsGranted v.visitor.noted row)
+      → Joins (Ruled F declared callers) id (Crew (v ∷ [])) other (Named row) (Crew (with_again row more v ∷ [])) Spent
+  joins_again other row more most few all = joins_behind other row (v.granted + more) (by_more more most all) where
+    by_more : (m : ℕ) → m ≤ 1 → (0 < m → (v.granted ≡ length v.rows) × IsGranted v.visitor.noted row)
+        → EachPlace (λ place x. IsGranted v.visitor.noted x) (take v.granted v.rows) → EachPlace (λ place x. IsGranted v.visitor.noted x) (take (v.granted + m) (v.rows ++ row ∷ []))
+    by_more zero le more grants place x e = same_front row few grants place x (subst (λ n. slice_get (take n (v.rows ++ row ∷ [])) place ≡ Some x) (omega arith) e)
+    by_more (suc zero) le more grants place x e =
+        let is : v.granted ≡ length v.rows = (more (omega arith)).0 in
+        ⊎_elim
+        (λ old. grants place x (ap (λ (l : List Row). slice_get l place) (take_all v.granted v.rows (omega (arith, is))) ∙ old.1))
+        (λ new. subst (IsGranted v.visitor.noted) new.1 (more (omega arith)).1)
+        (at_push v.rows row place x
+        (ap (λ (l : List Row). slice_get l place)
+        (sym (take_all (v.granted + 1) (v.rows ++ row ∷ []) (let long = length-append v.rows (row ∷ []) in omega (arith, is, long)))) ∙ e))
+    by_more (suc (suc m)) le more grants place x e = absurd (omega (arith, le))
 
 set_same : (words : List ℕ) (i : ℕ) → set words i (get_or words i 0) ≡ words
 set_same [] i = refl
@@ -340,37 +339,50 @@ module _ {S L P : Type 0} (F : Layouts S L P) (declared : List L) (id : ℕ) (v 
   pub stays_so : Stays F declared 0 (λ n. n) (λ found x. x) id v
   stays_so = record { from = λ table r at. subst (λ (t : State (Slot P) (View P)). (after : Rule F declared t) × (after.state ≡ r.state)) (λ i. record { words = sym (set_same table.words 0) i; homes = table.homes; views = sym (set_again table.views id (Crew (v ∷ [])) at) i }) (r, refl) }
 
-pub parts_of : (rows : List Row) → 0 < length rows → rows ≡ oldest rows ∷ drop 1 rows
-parts_of [] lt = absurd (omega arith)
-parts_of (row ∷ rows) lt = refl
+-- a list of rows is its older ones and the newest
+
+pub parts_of : (rows : List Row) → 0 < length rows → rows ≡ older rows ++ newest rows ∷ []
+parts_of rows lt =
+    sym (take-append-drop (length rows - 1) rows)
+    ∙ ap (λ l. older rows ++ l)
+    (drop_more rows (length rows - 1) (record { object = 0; incarnation = 0 }) (omega (arith, lt))
+    ∙ ap (λ l. newest rows ∷ l) (drop_all (length rows - 1 + 1) rows (omega arith)))
+
+pub older_is : (rest : List Row) (row : Row) (rows : List Row) → rows ≡ rest ++ row ∷ [] → older rows ≡ rest
+older_is rest row rows are =
+    let long = ap length are ∙ length-append rest (row ∷ []) in
+    let less : length rows - 1 ≡ length rest = omega (arith, long) in
+    (λ j. take (less j) (are j)) ∙ take-append_seam rest (row ∷ [])
+
+pub newest_is : (rest : List Row) (row : Row) (rows : List Row) → rows ≡ rest ++ row ∷ [] → newest rows ≡ row
+newest_is rest row rows are =
+    let long = ap length are ∙ length-append rest (row ∷ []) in
+    let less : length rows - 1 ≡ length rest = omega (arith, long) in
+    (λ j. get_or (are j) (less j) (record { object = 0; incarnation = 0 })) ∙ get_or-append_seam rest row [] (record { object = 0; incarnation = 0 })
 
 -- the same for seats
 
 module _ {S L P : Type 0} (F : Layouts S L P) (declared : List L) (callers id : ℕ) (v : PassView P) (me : Seated P) (is : IsSeatOf me v) where
-  pub splits_oldest : 0 < length v.rows → Splits (Ruled F declared callers) id me.0 (keeps_younger me.0) (names_oldest me.0)
-  splits_oldest lt =
-      subst (λ (m : Seated P). Splits (Ruled F declared callers) id m.0 (keeps_younger m.0) (names_oldest m.0)) (sym is)
-      (splits_row F declared callers id v (oldest v.rows) (drop 1 v.rows) (parts_of v.rows lt))
+  pub splits_newest : 0 < length v.rows → Splits (Ruled F declared callers) id me.0 (keeps_older me.0) (names_newest me.0)
+  splits_newest lt =
+      subst (λ (m : Seated P). Splits (Ruled F declared callers) id m.0 (keeps_older m.0) (names_newest m.0)) (sym is)
+      (splits_row F declared callers id v (newest v.rows) (older v.rows) (parts_of v.rows lt))
 
   module _ (other : ℕ) (row : Row) (own : Seated P) (named : own ≡ (Named row, [])) where
-    pub joins_back : (more : ℕ) → (0 < v.granted + more → IsGranted v.visitor.noted row) → (more ≡ 0 → v.granted ≡ 0) → more ≤ 1
+    pub joins_back : (more : ℕ) → more ≤ 1 → v.granted ≤ length v.rows → (0 < more → (v.granted ≡ length v.rows) × IsGranted v.visitor.noted row)
         → Joins (Ruled F declared callers) id me.0 other own.0 (takes_back more me.0 own.0) Spent
-    joins_back more granted none most =
+    joins_back more most few all =
         subst (λ (z : Seated P × Seated P). Joins (Ruled F declared callers) id z.0.0 other z.1.0 (takes_back more z.0.0 z.1.0) Spent)
-        (λ i. (sym is i, sym named i)) (joins_oldest F declared callers id v other row more granted none most)
+        (λ i. (sym is i, sym named i)) (joins_again F declared callers id v other row more most few all)
 
     pub joins_in : v.granted ≤ length v.rows → Joins (Ruled F declared callers) id me.0 other own.0 (takes_in me.0 own.0) Spent
     joins_in few =
         subst (λ (z : Seated P × Seated P). Joins (Ruled F declared callers) id z.0.0 other z.1.0 (takes_in z.0.0 z.1.0) Spent)
         (λ i. (sym is i, sym named i)) (joins_newest F declared callers id v other row few)
 
-pub oldest_is : (rows : List Row) (row : Row) → 0 < length rows → row ≡ get_or rows 0 row → row ≡ oldest rows
-oldest_is [] row lt is = absurd (omega arith)
-oldest_is (first ∷ rows) row lt is = is
-
-pub granted_oldest : {P : Type 0} (v : PassView P) → AreGranted v 0 → 0 < v.granted → 0 < length v.rows → IsGranted v.visitor.noted (oldest v.rows)
-granted_oldest v are more lt = are 0 (oldest v.rows) (first_taken v.granted v.rows more lt) where
-  first_taken : (n : ℕ) (rows : List Row) → 0 < n → 0 < length rows → slice_get (take n rows) 0 ≡ Some (oldest rows)
-  first_taken zero rows more lt = absurd (omega arith)
-  first_taken (suc n) [] more lt = absurd (omega arith)
-  first_taken (suc n) (row ∷ rows) more lt = refl
+-- the newest row is granted where all are
+pub granted_newest : {P : Type 0} (v : PassView P) → AreGranted v 0 → length v.rows ≤ v.granted → 0 < length v.rows → IsGranted v.visitor.noted (newest v.rows)
+granted_newest v are all lt =
+    are (length v.rows - 1) (newest v.rows)
+    (ap (λ (l : List Row). slice_get l (length v.rows - 1)) (take_all v.granted v.rows all)
+    ∙ slice_get-get_or v.rows (length v.rows - 1) (record { object = 0; incarnation = 0 }) (omega (arith, lt)))

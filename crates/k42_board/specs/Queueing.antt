@@ -1,5 +1,5 @@
 -- The queue of retired rows: each row's pops so far and its places in the queue are together as many as its pushes.
-use Rattle.std.specs.Prelude.{◌≡◌, ℕ, ◌+◌, ◌-◌, ◌*◌, ◌≤◌, ◌==◌, ◌&&◌, Bool, true, false, List, [], ◌∷◌, ◌++◌, count_by, sum_by, drop, length, take}
+use Rattle.std.specs.Prelude.{◌≡◌, ℕ, ◌+◌, ◌-◌, ◌*◌, ◌≤◌, ◌==◌, ◌&&◌, Bool, true, false, List, [], ◌∷◌, ◌++◌, count_by, get_or, sum_by, length, min, take}
 use mathlib.Core.Option.{some}
 use lib.ListN.{get_elem?}
 use Rattle.atomic_table.specs.Seated.{TableId}
@@ -105,15 +105,19 @@ IsTied table v = (v.tied ≡ true) × (table_of v ≡ table)
 
 -- what becomes of the seats of a pass and of a row
 
-abbrev pub oldest : List Row → Row
-oldest [] = record { object = 0; incarnation = 0 }
-oldest (row ∷ rows) = row
+abbrev pub newest : List Row → Row
+newest rows = get_or rows (length rows - 1) (record { object = 0; incarnation = 0 })
 
-abbrev pub without_oldest : {P : Type 0} → PassView P → PassView P
-without_oldest v = record v { rows = drop 1 v.rows; granted = v.granted - 1 }
+abbrev pub older : List Row → List Row
+older rows = take (length rows - 1) rows
 
-abbrev pub with_oldest : {P : Type 0} → Row → ℕ → PassView P → PassView P
-with_oldest row more v = record v { rows = row ∷ v.rows; granted = v.granted + more }
+-- of the rows that are left those are granted which were
+abbrev pub without_newest : {P : Type 0} → PassView P → PassView P
+without_newest v = record v { rows = older v.rows; granted = min v.granted (length (older v.rows)) }
+
+-- the row is back, and so many more are granted
+abbrev pub with_again : {P : Type 0} → Row → ℕ → PassView P → PassView P
+with_again row more v = record v { rows = v.rows ++ row ∷ []; granted = v.granted + more }
 
 abbrev pub with_newest : {P : Type 0} → Row → PassView P → PassView P
 with_newest row v = record v { rows = v.rows ++ row ∷ [] }
@@ -122,14 +126,14 @@ abbrev pub row_named : {P : Type 0} → View P → Row
 row_named (Named row) = row
 row_named view = record { object = 0; incarnation = 0 }
 
-abbrev pub keeps_younger : {P : Type 0} → View P → View P
-keeps_younger view = on_pass without_oldest view
+abbrev pub keeps_older : {P : Type 0} → View P → View P
+keeps_older view = on_pass without_newest view
 
-abbrev pub names_oldest : {P : Type 0} → View P → View P
-names_oldest view = Named (oldest (pass_in view).rows)
+abbrev pub names_newest : {P : Type 0} → View P → View P
+names_newest view = Named (newest (pass_in view).rows)
 
 abbrev pub takes_back : {P : Type 0} → ℕ → View P → View P → View P
-takes_back more view named = on_pass (with_oldest (row_named named) more) view
+takes_back more view named = on_pass (with_again (row_named named) more) view
 
 abbrev pub takes_in : {P : Type 0} → View P → View P → View P
 takes_in view named = on_pass (with_newest (row_named named)) view
@@ -145,16 +149,16 @@ MOST_ROWS = OBJECTS * LAST_INCARNATION
 abbrev pub HoldsFew : {P : Type 0} → PassView P → ℕ → Type 0
 HoldsFew v found = length v.rows ≤ MOST_ROWS
 
--- what a pass is after it has pushed its oldest row, or popped one
+-- what a pass is after it has pushed its newest row, or popped one
 
 pub record HasPushed {P : Type 0} (old new : PassSeen P) : Type 0 where
   pub table : new.table ≡ old.table
   pub seat : new.seat ≡ old.seat
-  pub knows : new.view ≡ without_oldest old.view
+  pub knows : new.view ≡ without_newest old.view
   pub room : new.room ≡ old.room
   pub row_room : new.row_room ≡ old.row_room + 1
   pub queue : new.queue ≡ old.queue
-  pub pushed : new.pushed ≡ old.pushed ++ oldest old.view.rows ∷ []
+  pub pushed : new.pushed ≡ old.pushed ++ newest old.view.rows ∷ []
   pub popped : new.popped ≡ old.popped
 
 pub record HasPopped {P : Type 0} (old new : PassSeen P) : Type 0 where

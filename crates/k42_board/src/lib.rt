@@ -33,7 +33,7 @@ pub use grace_words::{
 pub use hand_words::{hand_word, number_at};
 pub use plays::{Deal, Gather};
 pub use queueing::{
-    Another, Lane, Line, Pop, Post, Push, Rows, name_oldest, take_back, take_in, tie_root,
+    Another, Lane, Line, Pop, Post, Push, Rows, name_newest, take_back, take_in, tie_root,
 };
 pub use receipts::{tell_all, tell_cell};
 pub use retired::{Carried, Retired, Slip};

@@ -2,7 +2,7 @@
 ghost use Rattle.std.specs.Prelude.{◌≡◌, ◌<◌, ◌≤◌, [], true, false, if◌then◌else◌, length};
 ghost use Rattle.atomic_table.specs.Seated.{TableId};
 ghost use Rattle.crossbeam_queue.specs.SegTies.{IsSegPassOf};
-ghost use Rattle.k42_board.specs.Queueing.{IsTied, AreGranted, HoldsFew, oldest, row_named, without_oldest, with_oldest, with_newest};
+ghost use Rattle.k42_board.specs.Queueing.{IsTied, AreGranted, HoldsFew, newest, row_named, without_newest, with_again, with_newest};
 ghost use Rattle.k42_board.specs.Phases.{IsGranted};
 ghost use Rattle.k42_board.specs.Seen.{IsSeatOf};
 ghost use Rattle.k42_board.specs.Views.{pass_in};
@@ -152,11 +152,11 @@ impl<P: Drop> Play<Option<Content<P>>, View<P>> for Count {
 struct Name;
 
 impl<P> atomic_table::Split<View<P>> for Name {
-    ghost use Rattle.k42_board.specs.Queueing.{keeps_younger, names_oldest};
+    ghost use Rattle.k42_board.specs.Queueing.{keeps_older, names_newest};
 
-    ghost left = { keeps_younger };
+    ghost left = { keeps_older };
 
-    ghost right = { names_oldest };
+    ghost right = { names_newest };
 }
 
 struct TakeBack;
@@ -192,21 +192,21 @@ impl<P> Join<View<P>> for TakeIn {
     ghost spent = { Spent };
 }
 
-/// Splits a seat off for the oldest row that the pass holds.
-pub fn name_oldest<L: Layout>(board: &Board<L>, seat: &mut BoardSeat<L>) -> BoardSeat<L>
+/// Splits a seat off for the newest row that the pass holds.
+pub fn name_newest<L: Layout>(board: &Board<L>, seat: &mut BoardSeat<L>) -> BoardSeat<L>
     requires ours { (seat.old.table_id ≡ board.now.shared.table_id) × (board.now.shared.table_id.words ≡ many_words) }
     requires pass { IsSeatOf seat.old.me (pass_in seat.old.me.0) }
     requires holds { 0 < length (pass_in seat.old.me.0).rows }
     ensures ours { (seat.new.table_id ≡ seat.old.table_id) × (seat.new.id ≡ seat.old.id) }
-    ensures told { IsSeatOf seat.new.me (without_oldest (pass_in seat.old.me.0)) }
-    ensures named { (result.table_id ≡ seat.old.table_id) × (result.me ≡ (Named (oldest (pass_in seat.old.me.0).rows), [])) }
+    ensures told { IsSeatOf seat.new.me (without_newest (pass_in seat.old.me.0)) }
+    ensures named { (result.table_id ≡ seat.old.table_id) × (result.me ≡ (Named (newest (pass_in seat.old.me.0).rows), [])) }
     ensures granted { AreGranted (pass_in seat.old.me.0) 0 }
 {
     board.shared.load::<See>(seat, 0);
     board.shared.split_seat::<Name>(seat)
 }
 
-/// Joins the seat of a row to that of a pass, which holds the row as its oldest.
+/// Joins the seat of a row to that of a pass, which holds the row as its newest again.
 pub fn take_back<L: Layout>(
     board: &Board<L>,
     seat: &mut BoardSeat<L>,
@@ -216,10 +216,11 @@ pub fn take_back<L: Layout>(
     requires ours { (seat.old.table_id ≡ board.now.shared.table_id) × (board.now.shared.table_id.words ≡ many_words) }
     requires pass { IsSeatOf seat.old.me (pass_in seat.old.me.0) }
     requires row { (named.table_id ≡ board.now.shared.table_id) × (named.me ≡ (Named (row_named named.me.0), [])) }
-    requires none { granted ≡ false → (pass_in seat.old.me.0).granted ≡ 0 }
+    requires few { (pass_in seat.old.me.0).granted ≤ length (pass_in seat.old.me.0).rows }
+    requires all { granted ≡ true → (pass_in seat.old.me.0).granted ≡ length (pass_in seat.old.me.0).rows }
     requires granted { granted ≡ true → IsGranted (pass_in seat.old.me.0).visitor.noted (row_named named.me.0) }
     ensures ours { (seat.new.table_id ≡ seat.old.table_id) × (seat.new.id ≡ seat.old.id) }
-    ensures told { IsSeatOf seat.new.me (with_oldest (row_named named.me.0) (if granted then 1 else 0) (pass_in seat.old.me.0)) }
+    ensures told { IsSeatOf seat.new.me (with_again (row_named named.me.0) (if granted then 1 else 0) (pass_in seat.old.me.0)) }
 {
     if granted {
         board.shared.join_seat::<TakeBackGranted>(seat, named);
@@ -228,7 +229,7 @@ pub fn take_back<L: Layout>(
     }
 }
 
-/// The same, and it holds the row as its newest.
+/// Joins the seat of a row to that of a pass, which holds the row as its newest.
 pub fn take_in<L: Layout>(board: &Board<L>, seat: &mut BoardSeat<L>, named: BoardSeat<L>)
     requires ours { (seat.old.table_id ≡ board.now.shared.table_id) × (board.now.shared.table_id.words ≡ many_words) }
     requires pass { IsSeatOf seat.old.me (pass_in seat.old.me.0) }

@@ -1,43 +1,67 @@
 -- One more row is handed over.
-use Rattle.std.proofs.Common.{◌≡◌, ℕ, zero, suc, ◌+◌, ◌-◌, ◌<◌, List, [], ◌∷◌, ◌++◌, drop, length, take, refl, sym, ap, ◌∙◌, subst, arith, append_assoc}
-use Rattle.std.proofs.lemmas.List.{length-drop}
-use Rattle.k42_board.specs.Queueing.{HasPushed, oldest, without_oldest}
+use Rattle.std.proofs.Common.{◌≡◌, ℕ, zero, suc, ◌<◌, List, [], ◌∷◌, ◌++◌, drop, length, reverse, take, refl, sym, ap, ◌∙◌, subst, arith, append_assoc}
+use Rattle.std.proofs.lemmas.List.{append-nil, length-append, reverse-append, take_min}
+use Rattle.k42_board.specs.Queueing.{HasPushed, newest, older, without_newest}
 use Rattle.k42_board.specs.Seen.{SysSeen, PassSeen, IsPassOf}
 use Rattle.k42_board.specs.declared.view.PassView.{PassView}
 use Rattle.k42_board.specs.declared.view.Row.{Row}
+use Rattle.k42_board.proofs.Naming.{parts_of}
 use Rattle.k42_quiesce.specs.Collecting.{HasHandedOver}
 
-drop_one : (k : ℕ) (rows : List Row) → drop 1 (drop k rows) ≡ drop (suc k) rows
-drop_one zero rows = refl
-drop_one (suc k) [] = refl
-drop_one (suc k) (row ∷ rows) = drop_one k rows
+none_of : (n : ℕ) → ◌≡◌ {A = List Row} (take n []) []
+none_of zero = refl
+none_of (suc n) = refl
 
-take_one : (k : ℕ) (rows : List Row) → k < length rows → take (suc k) rows ≡ take k rows ++ oldest (drop k rows) ∷ []
-take_one k [] lt = absurd (omega (arith, lt))
-take_one zero (row ∷ rows) lt = refl
-take_one (suc k) (row ∷ rows) lt = ap (λ xs. row ∷ xs) (take_one k rows (omega (arith, lt)))
+-- numbers that take the same of a list take the same of its front
+front : (g h : ℕ) (xs ys : List Row) → take g (xs ++ ys) ≡ take h (xs ++ ys) → take g xs ≡ take h xs
+front g h [] ys e = none_of g ∙ sym (none_of h)
+front zero zero (x ∷ xs) ys e = refl
+front zero (suc h) (x ∷ xs) ys e = absurd (cc)
+front (suc g) zero (x ∷ xs) ys e = absurd (cc)
+front (suc g) (suc h) (x ∷ xs) ys e = ap (λ l. x ∷ l) (front g h xs ys (ap (drop 1) e))
+
+pub handed_none : {P : Type 0} (old : PassSeen P) → HasHandedOver old old
+handed_none old = record {
+  handed = [];
+  rows = sym (append-nil old.view.rows);
+  pushed = sym (append-nil old.pushed);
+  knows = refl;
+  granted = refl;
+  row_room = omega arith;
+  table = refl;
+  seat = refl;
+  room = refl;
+  queue = refl;
+  popped = refl;
+}
 
 module _ {P : Type 0} (old mid new : PassSeen P) (pushed : HasPushed mid new) where
-  handed_next : (k : ℕ) → HasHandedOver k old mid → 0 < length mid.view.rows → HasHandedOver (k + 1) old new
-  handed_next k is some =
-      let rows : mid.view.rows ≡ drop k old.view.rows = ap (λ (v : PassView P). v.rows) is.knows in
-      let long : length mid.view.rows ≡ length old.view.rows - k = ap length rows ∙ length-drop k old.view.rows in
-      let next : suc k ≡ k + 1 = omega arith in
-      let less : old.view.granted - k - 1 ≡ old.view.granted - (k + 1) = omega arith in
+  handed_next : HasHandedOver old mid → 0 < length mid.view.rows → HasHandedOver old new
+  handed_next is some =
+      let row : Row = newest mid.view.rows in
+      let parts : mid.view.rows ≡ older mid.view.rows ++ row ∷ [] = parts_of mid.view.rows some in
+      let left : new.view.rows ≡ older mid.view.rows = ap (λ (v : PassView P). v.rows) pushed.knows in
       record {
-        few = omega (arith, some, long);
-        pushed =
-            pushed.pushed ∙ ap (λ xs. xs ++ oldest mid.view.rows ∷ []) is.pushed
-            ∙ append_assoc old.pushed (take k old.view.rows) (oldest mid.view.rows ∷ [])
-            ∙ ap (λ xs. old.pushed ++ (take k old.view.rows ++ oldest xs ∷ [])) rows
-            ∙ ap (λ xs. old.pushed ++ xs) (sym (take_one k old.view.rows (omega (arith, some, long))))
-            ∙ ap (λ n. old.pushed ++ take n old.view.rows) next;
+        handed = is.handed ++ row ∷ [];
+        rows =
+            is.rows ∙ ap (λ xs. xs ++ reverse is.handed) parts
+            ∙ append_assoc (older mid.view.rows) (row ∷ []) (reverse is.handed)
+            ∙ (λ j. sym left j ++ sym (reverse-append is.handed (row ∷ [])) j);
+        pushed = pushed.pushed ∙ ap (λ xs. xs ++ row ∷ []) is.pushed ∙ append_assoc old.pushed is.handed (row ∷ []);
         knows =
-            pushed.knows ∙ ap (λ (v : PassView P). without_oldest v) is.knows
-            ∙ ap (λ xs. record old.view { rows = xs; granted = old.view.granted - k - 1 }) (drop_one k old.view.rows)
-            ∙ ap (λ n. record old.view { rows = drop n old.view.rows; granted = old.view.granted - k - 1 }) next
-            ∙ ap (λ n. record old.view { rows = drop (k + 1) old.view.rows; granted = n }) less;
-        row_room = let before = is.row_room in let after = pushed.row_room in omega (arith, before, after);
+            pushed.knows ∙ ap (λ (v : PassView P). without_newest v) is.knows
+            ∙ (λ j. record old.view {
+              rows = sym left j;
+              granted = sym (ap (λ (v : PassView P). v.granted) pushed.knows) j;
+            });
+        granted =
+            (λ j. take (ap (λ (v : PassView P). v.granted) pushed.knows j) (left j)) ∙ take_min mid.view.granted (older mid.view.rows)
+            ∙ front mid.view.granted old.view.granted (older mid.view.rows) (row ∷ [])
+            (subst (λ xs. take mid.view.granted xs ≡ take old.view.granted xs) parts is.granted)
+            ∙ ap (take old.view.granted) (sym left);
+        row_room =
+            let before = is.row_room in let after = pushed.row_room in let more = length-append is.handed (row ∷ []) in
+            omega (arith, before, after, more);
         table = pushed.table ∙ is.table;
         seat = pushed.seat ∙ is.seat;
         room = pushed.room ∙ is.room;
@@ -45,21 +69,16 @@ module _ {P : Type 0} (old mid new : PassSeen P) (pushed : HasPushed mid new) wh
         popped = pushed.popped ∙ is.popped;
       }
 
-  pub handed_one : {L : Type 0} (sys : SysSeen L) → IsPassOf sys mid → HasHandedOver (length old.view.rows - length mid.view.rows) old mid
-      → 0 < length mid.view.rows → IsPassOf sys new × HasHandedOver (length old.view.rows - length new.view.rows) old new
-  handed_one sys ours is some =
-      let k : ℕ = length old.view.rows - length mid.view.rows in
-      let rows = ap (λ (v : PassView P). length v.rows) is.knows ∙ length-drop k old.view.rows in
-      let fewer = ap (λ (v : PassView P). length v.rows) pushed.knows ∙ length-drop 1 mid.view.rows in
-      let few = is.few in
-      let more : k + 1 ≡ length old.view.rows - length new.view.rows = omega (arith, rows, fewer, some, few) in (
-        record {
-          table = pushed.table ∙ ours.table;
-          proc = subst (λ n. n < sys.procs) (sym (ap (λ (v : PassView P). v.turn.proc) pushed.knows)) ours.proc;
-          waits = ap (λ (v : PassView P). length v.turn.waits) pushed.knows ∙ ours.waits;
-          objects = ap (λ (v : PassView P). length v.visitor.noted) pushed.knows ∙ ours.objects;
-          spans = ap (λ (v : PassView P). length v.visitor.freeing) pushed.knows ∙ ours.spans;
-          queue = pushed.queue ∙ ours.queue;
-        },
-        subst (λ n. HasHandedOver n old new) more (handed_next k is some),
-      )
+  pub handed_one : {L : Type 0} (sys : SysSeen L) → IsPassOf sys mid → HasHandedOver old mid → 0 < length mid.view.rows
+      → IsPassOf sys new × HasHandedOver old new
+  handed_one sys ours is some = (
+    record {
+      table = pushed.table ∙ ours.table;
+      proc = subst (λ n. n < sys.procs) (sym (ap (λ (v : PassView P). v.turn.proc) pushed.knows)) ours.proc;
+      waits = ap (λ (v : PassView P). length v.turn.waits) pushed.knows ∙ ours.waits;
+      objects = ap (λ (v : PassView P). length v.visitor.noted) pushed.knows ∙ ours.objects;
+      spans = ap (λ (v : PassView P). length v.visitor.freeing) pushed.knows ∙ ours.spans;
+      queue = pushed.queue ∙ ours.queue;
+    },
+    handed_next is some,
+  )

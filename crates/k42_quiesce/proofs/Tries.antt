@@ -1,5 +1,5 @@
 -- A grace that is stepped again and again.
-use Rattle.std.proofs.Common.{◌≡◌, ℕ, ◌+◌, true, false, List, ◌∷◌, Option, Some, None, refl, sym, ap, ◌∙◌, subst}
+use Rattle.std.proofs.Common.{◌≡◌, ℕ, ◌+◌, true, false, List, Option, Some, None, refl, sym, ap, ◌∙◌, subst}
 use Rattle.gen_core.specs.Events.{is_looking, is_quiet}
 use Rattle.gen_core.specs.declared.state.GraceAt.{GraceAt}
 use Rattle.gen_core.specs.declared.state.GraceAt.TheVariants.{Looking}

@@ -1,15 +1,17 @@
 -- Rows on their way through the queue, for the pass that hands them on or takes them in.
-use Rattle.std.specs.Prelude.{◌≡◌, ℕ, ◌+◌, ◌-◌, ◌≤◌, ◌++◌, List, drop, length, take}
+use Rattle.std.specs.Prelude.{◌≡◌, ◌+◌, ◌++◌, List, length, reverse, take}
 use Rattle.k42_board.specs.Seen.{PassSeen}
 use Rattle.k42_board.specs.declared.view.Row.{Row}
 
--- the pass has pushed so many of its rows, the oldest first
-pub record HasHandedOver {P : Type 0} (count : ℕ) (old new : PassSeen P) : Type 0 where
-  pub few : count ≤ length old.view.rows
-  pub pushed : new.pushed ≡ old.pushed ++ take count old.view.rows
-  pub knows :
-      new.view ≡ record old.view { rows = drop count old.view.rows; granted = old.view.granted - count }
-  pub row_room : new.row_room ≡ old.row_room + count
+-- the pass has pushed the newest ones of its rows, the newest first
+pub record HasHandedOver {P : Type 0} (old new : PassSeen P) : Type 0 where
+  pub handed : List Row
+  pub rows : old.view.rows ≡ new.view.rows ++ reverse handed
+  pub pushed : new.pushed ≡ old.pushed ++ handed
+  pub knows : new.view ≡ record old.view { rows = new.view.rows; granted = new.view.granted }
+  -- of the rows that are left those are granted which were
+  pub granted : take new.view.granted new.view.rows ≡ take old.view.granted new.view.rows
+  pub row_room : new.row_room ≡ old.row_room + length handed
   pub table : new.table ≡ old.table
   pub seat : new.seat ≡ old.seat
   pub room : new.room ≡ old.room

@@ -1,5 +1,5 @@
 //! Rows are handed over to whoever collects them.
-ghost use Rattle.std.specs.Prelude.{◌≡◌, ◌<◌, ℕ, List, length, OnOk, OnErr};
+ghost use Rattle.std.specs.Prelude.{◌≡◌, ◌<◌, List, [], length, OnOk, OnErr};
 ghost use Rattle.k42_board.specs.Seen.{IsPassOf};
 ghost use Rattle.k42_board.specs.declared.view.Row.{Row};
 ghost use Rattle.k42_quiesce.specs.Collecting.{HasHandedOver, HasCollected};
@@ -9,11 +9,12 @@ use k42_memory::Memory;
 use k42_rule::{Pass, Sys, pop_row, push_row};
 use std::sync::Wait;
 
-/// Pushes the rows that the pass holds, the oldest first. Where there is no memory for one, it and the younger ones stay.
+/// Pushes the rows that the pass holds, the newest first. Where there is no memory for one, it and the older ones stay.
 pub fn hand_over<L: Layout, R: Wait>(rt: &R, sys: &Sys<L>, pass: &mut Pass<L>) -> Result<(), Memory>
     requires ours { IsPassOf sys.now pass.old }
-    ensures ok { OnOk result (HasHandedOver (length pass.old.view.rows) pass.old pass.new) }
-    ensures err { OnErr result ((count : ℕ) × (count < length pass.old.view.rows) × HasHandedOver count pass.old pass.new) }
+    ensures handed { HasHandedOver pass.old pass.new }
+    ensures ok { OnOk result (pass.new.view.rows ≡ []) }
+    ensures err { OnErr result (0 < length pass.new.view.rows) }
 {
     while !pass.rows().is_empty() {
         push_row(rt, sys, pass)?;

@@ -5,31 +5,30 @@ ghost use Rattle.k42_board.specs.Seen.{IsPassOf, IsSamePass};
 
 use crate::pass::Pass;
 use crate::sys::Sys;
-use k42_board::{Pop, Push, Slip, name_oldest, take_back, take_in};
+use k42_board::{Pop, Push, Slip, name_newest, take_back, take_in};
 use k42_kinds::Layout;
 use k42_memory::Memory;
 use std::sync::Wait;
 
-/// Hands on the oldest row that the pass holds. Where there is no memory it holds the row as before.
+/// Hands on the newest row that the pass holds. Where there is no memory it holds the row as before.
 pub fn push_row<L: Layout, R: Wait>(rt: &R, sys: &Sys<L>, pass: &mut Pass<L>) -> Result<(), Memory>
     requires ours { IsPassOf sys.now pass.old }
     requires holds { 0 < length pass.old.view.rows }
     ensures ok { OnOk result (HasPushed pass.old pass.new) }
     ensures err { OnErr result (IsSamePass pass.old pass.new × (pass.new.view ≡ pass.old.view)) }
 {
-    let granted = pass.granted > 0;
-    let seat = name_oldest(&sys.board, &mut pass.seat);
-    let row = pass.rows.remove(0);
-    pass.granted = pass.granted.saturating_sub(1);
+    let seat = name_newest(&sys.board, &mut pass.seat);
+    let row = pass.rows.take_last();
+    // Whether the row is granted, and so are all others.
+    let granted = pass.granted > pass.rows.len();
+    pass.granted = pass.granted.min(pass.rows.len());
     let slip = Slip::of(row, seat);
     let Err(slip) = sys.lane.line.push_as::<Push, R>(rt, &mut pass.post, slip) else {
         return Ok(());
     };
     let (row, seat) = slip.into_parts();
     take_back(&sys.board, &mut pass.seat, seat, granted);
-    let Ok(()) = pass.rows.insert(0, row) else {
-        unreachable!()
-    };
+    pass.rows.push_reserved(row);
     pass.granted += usize::from(granted);
     Err(Memory)
 }

@@ -1,7 +1,6 @@
 -- A swap that has ended, between the collecting of rows and their handing over.
 use Rattle.std.proofs.Common.{◌≡◌, ⊎_elim, inl, inr, ℕ, ◌+◌, ◌≤◌, ◌<◌, List, [], ◌++◌, Result, Ok, Err, length, take, sym, ap, ◌∙◌, subst, arith}
 use Rattle.std.specs.Prelude.{◌⊎◌}
-use Rattle.std.specs.Result.{OnOk, OnErr}
 use Rattle.std.proofs.Math.Seq.{take-length}
 use Rattle.phase_core.specs.Plain.{Visitor}
 use Rattle.phase_core.specs.Stages.{is_out}
@@ -34,16 +33,11 @@ pub record HasRows {P : Type 0} (old new : PassSeen P) : Type 0 where
 pub has_collected : {P : Type 0} (rows : List Row) (old new : PassSeen P) → HasCollected rows old new → HasRows old new
 has_collected rows old new is = record { seat = is.seat; rows = old.view.rows ++ rows; granted = old.view.granted; knows = is.knows }
 
-pub handed_some : {P A E : Type 0} (result : Result A E) (old new : PassSeen P) → OnOk result (HasHandedOver (length old.view.rows) old new)
-    → OnErr result ((count : ℕ) × (count < length old.view.rows) × HasHandedOver count old new) → (count : ℕ) × HasHandedOver count old new
-handed_some (Ok value) old new ok err = (length old.view.rows, ok)
-handed_some (Err error) old new ok err = (err.0, err.2)
+pub has_handed : {P : Type 0} (old new : PassSeen P) → HasHandedOver old new → HasRows old new
+has_handed old new is = record { seat = is.seat; rows = _; granted = _; knows = is.knows }
 
-pub has_handed : {P : Type 0} (count : ℕ) (old new : PassSeen P) → HasHandedOver count old new → HasRows old new
-has_handed count old new is = record { seat = is.seat; rows = _; granted = _; knows = is.knows }
-
-pub handed_here : (system : SystemSeen) (count : ℕ) (mid new : SystemPass) → HasHandedOver count mid new → IsPassHere system mid → IsPassHere system new
-handed_here system count mid new handed here = record {
+pub handed_here : (system : SystemSeen) (mid new : SystemPass) → HasHandedOver mid new → IsPassHere system mid → IsPassHere system new
+handed_here system mid new handed here = record {
   ours = record {
     table = handed.table ∙ here.ours.table;
     proc = subst (λ (v : PassView SystemPart). v.turn.proc < system.sys.procs) (sym handed.knows) here.ours.proc;

@@ -13,7 +13,7 @@ use std::process::Abort;
 use std::sync::Wait;
 use std::test::Fail;
 
-/// Pushes the oldest row that the pass holds.
+/// Pushes the newest row that the pass holds.
 fn push<R: Abort + Wait>(rt: &R, sys: &Sys<AnyLayout>, pass: &mut Walk) -> Result<(), Memory>
     requires free { HoldsNoCell sys.now pass.old }
     ensures free { OnOk result (HoldsNoCell sys.now pass.new) }

@@ -1,4 +1,4 @@
-use Rattle.std.proofs.Common.{◌≡◌, length, arith, ap}
+use Rattle.std.proofs.Common.{length, arith, ap}
 use Rattle.k42_board.specs.Queueing.{row_named}
 use Rattle.k42_board.specs.Plan.{layouts_on}
 use Rattle.k42_board.specs.Steps.{Seated}
@@ -15,7 +15,7 @@ join_seat-requires g c =
       ap (λ (m : Seated _). m.1) c.requires.row.1,
       (let wide = c.requires.ours.1 in omega (arith, wide)),
       joins_back F key.layouts.items (length key.callers.items) _ (pass_in c.args.seat.now.me.0) c.args.seat.now.me c.requires.pass _ (row_named c.args.named.me.0) c.args.named.me c.requires.row.1
-          1 (λ more. c.requires.granted c.if-granted.true) (λ none. absurd (cc)) (omega arith),
+          1 (omega arith) c.requires.few (λ more. (c.requires.all c.if-granted.true, c.requires.granted c.if-granted.true)),
     )
 
 pub join_seat-requires-else-granted : goal.join_seat-requires-else-granted
@@ -27,5 +27,5 @@ join_seat-requires-else-granted g c =
       ap (λ (m : Seated _). m.1) c.requires.row.1,
       (let wide = c.requires.ours.1 in omega (arith, wide)),
       joins_back F key.layouts.items (length key.callers.items) _ (pass_in c.args.seat.now.me.0) c.args.seat.now.me c.requires.pass _ (row_named c.args.named.me.0) c.args.named.me c.requires.row.1
-          0 (λ more. absurd (let none : (pass_in c.args.seat.now.me.0).granted ≡ 0 = c.requires.none c.if-granted.false in omega (arith, more, none))) (λ none. c.requires.none c.if-granted.false) (omega arith),
+          0 (omega arith) c.requires.few (λ more. absurd (omega (arith, more))),
     )

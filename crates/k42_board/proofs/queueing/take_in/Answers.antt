@@ -1,4 +1,4 @@
-use Rattle.std.proofs.Common.{ℕ, length, arith, ap, ◌∙◌, subst}
+use Rattle.std.proofs.Common.{ℕ, length, arith, ap, ◌∙◌}
 use mathlib.Core.Option.{none}
 use Rattle.atomic_table.specs.Table.{step}
 use Rattle.k42_board.specs.Queueing.{HoldsFew, row_named, takes_in, with_newest}

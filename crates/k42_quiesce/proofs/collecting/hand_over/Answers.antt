@@ -1,6 +1,9 @@
 use Rattle.std.proofs.Common.{rules, ◌<◌, length}
-use Rattle.k42_quiesce.proofs.HandedRows.{handed_one}
+use Rattle.k42_quiesce.proofs.HandedRows.{handed_none, handed_one}
 use Rattle.k42_quiesce.proofs.collecting.hand_over.Goals as goal
+
+pub loop-pass-init : goal.loop-pass-init
+loop-pass-init g c = (c.requires.ours, handed_none _)
 
 pub loop-pass-preserved : goal.loop-pass-preserved
 loop-pass-preserved g c =

@@ -1,7 +1,7 @@
 use Rattle.std.proofs.Common.{subst}
 use Rattle.k42_runtime.specs.Phases.{last_step}
 use Rattle.k42_runtime.specs.Swaps.{SwapSeen, HasStepped}
-use Rattle.k42_runtime.proofs.SwapRows.{has_collected, handed_some, has_handed, handed_here, ended_now, ended_still}
+use Rattle.k42_runtime.proofs.SwapRows.{has_collected, has_handed, handed_here, ended_now, ended_still}
 use Rattle.k42_runtime.proofs.SwapWaits.{new_swap}
 use Rattle.k42_runtime.proofs.system.System.swap_to.Goals as goal
 
@@ -12,8 +12,7 @@ returns g c =
     let swap : SwapSeen = new_swap c.args.object c.args.to in
     let stepped : HasStepped system (last_step result) swap t first last =
     subst (λ s. HasStepped system (last_step result) s t first last) c.new-swap.ensures c.carry_out-end.ensures in
-    let handed = handed_some c.hand_over.result last new c.hand_over.ensures.ok c.hand_over.ensures.err in
     ended_still system c.args.object c.args.to result old first last new
-    (has_collected c.collect.ensures.collected.0 old first c.collect.ensures.collected.2) (has_handed handed.0 last new handed.1)
-    (handed_here system handed.0 last new handed.1 c.carry_out-end.ensures.here)
+    (has_collected c.collect.ensures.collected.0 old first c.collect.ensures.collected.2) (has_handed last new c.hand_over.ensures.handed)
+    (handed_here system last new c.hand_over.ensures.handed c.carry_out-end.ensures.here)
     (ended_now system c.args.object c.args.to t first last result stepped)

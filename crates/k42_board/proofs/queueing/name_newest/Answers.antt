@@ -7,8 +7,8 @@ use Rattle.k42_board.specs.Seen.{IsSeatOf}
 use Rattle.k42_board.specs.Steps.{Seated, on_pass}
 use Rattle.k42_board.specs.Views.{pass_in}
 use Rattle.k42_board.proofs.Moves.{seat_stays_allowed}
-use Rattle.k42_board.proofs.Naming.{stays_so, finds_granted, splits_oldest}
-use Rattle.k42_board.proofs.queueing.name_oldest.Goals as goal
+use Rattle.k42_board.proofs.Naming.{stays_so, finds_granted, splits_newest}
+use Rattle.k42_board.proofs.queueing.name_newest.Goals as goal
 
 pub load-requires : goal.load-requires
 load-requires g c =
@@ -27,5 +27,5 @@ split_seat-requires g c =
     c.load.ensures.2.0 ∙ ap (λ (m : Seated _). (on_pass (λ v. v) m.0, m.1)) c.requires.pass in (
       c.load.ensures.0 ∙ c.requires.ours.0,
       (let wide = c.requires.ours.1 in omega (arith, wide)),
-      splits_oldest F key.layouts.items (length key.callers.items) _ (pass_in before.0) c.load.new.seat.me now c.requires.holds,
+      splits_newest F key.layouts.items (length key.callers.items) _ (pass_in before.0) c.load.new.seat.me now c.requires.holds,
     )
