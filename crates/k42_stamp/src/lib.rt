@@ -6,7 +6,7 @@ mod merging;
 mod rests;
 
 pub use laws::{draw_keeps, hand_begins, merged_is_legal};
-pub use merging::{Room, merge, merge_into};
+pub use merging::{Room, merge, merge_into, take_alone};
 
 #[cfg(test)]
 mod tests;

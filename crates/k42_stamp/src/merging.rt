@@ -110,18 +110,23 @@ fn rests_of(mut rests: Vec<Rest>, lists: Vec<Vec<Entry>>) -> Vec<Rest>
     rests
 }
 
-/// The entries of all lists in the order of stamp, object, cell and caller, numbered anew from 1. A list that alone has
-/// entries is not copied.
-pub fn merge_into(room: Room, mut lists: Vec<Vec<Entry>>) -> Vec<Entry>
+/// The list at that place, which alone has entries, numbered anew from 1. It is not copied.
+pub fn take_alone(place: usize, mut lists: Vec<Vec<Entry>>) -> Vec<Entry>
+    requires lists { AreLists (map vec_items lists.items) }
+    requires alone { IsAlone (map vec_items lists.items) place }
+    ensures { IsMerged (map vec_items lists.items) result.items }
+{
+    let mut list = lists.swap_remove(place);
+    number(&mut list);
+    list
+}
+
+/// The entries of all lists in the order of stamp, object, cell and caller, numbered anew from 1.
+pub fn merge_into(room: Room, lists: Vec<Vec<Entry>>) -> Vec<Entry>
     requires lists { AreLists (map vec_items lists.items) }
     requires room { HasRoom room (map vec_items lists.items) }
     ensures { IsMerged (map vec_items lists.items) result.items }
 {
-    if let Some(place) = only_place(lists.as_slice()) {
-        let mut list = lists.swap_remove(place);
-        number(&mut list);
-        return list;
-    }
     let Room { rests, mut entries } = room;
     let mut rests = rests_of(rests, lists);
     move_all(&mut rests, &mut entries);
@@ -139,11 +144,14 @@ fn total_of(lists: &[Vec<Entry>]) -> Option<usize>
     total_of(others)?.checked_add(list.len())
 }
 
-/// The same, with room of its own.
+/// The same, with room of its own, which it needs only where several lists have entries.
 pub fn merge(alloc: Global, lists: Vec<Vec<Entry>>) -> Result<Vec<Entry>, Memory>
     requires { AreLists (map vec_items lists.items) }
     ensures { IfOk result (λ merged. IsMerged (map vec_items lists.items) merged.items) }
 {
+    if let Some(place) = only_place(lists.as_slice()) {
+        return Ok(take_alone(place, lists));
+    }
     let Some(total) = total_of(lists.as_slice()) else {
         return Err(Memory);
     };

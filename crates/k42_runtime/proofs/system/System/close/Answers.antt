@@ -7,8 +7,8 @@ use Rattle.k42_runtime.specs.Systems.{SystemSeen, layouts_in}
 use Rattle.k42_runtime.proofs.Closed.{TraceLaw, at_rest, closed, listed, numbered}
 use Rattle.k42_runtime.proofs.system.System.close.Goals as goal
 
-pub room_for-requires-clause-numbered : goal.room_for-requires-clause-numbered
-room_for-requires-clause-numbered c =
+pub way_for-requires-clause-numbered : goal.way_for-requires-clause-numbered
+way_for-requires-clause-numbered c =
     subst (AreNumbered 0) (sym c.as_slice.ensures.value) (numbered c.args.self.sys c.args.passes.items c.requires.each)
 
 pub finish-requires-after_bounds : goal.finish-requires-after_bounds
@@ -16,8 +16,8 @@ finish-requires-after_bounds c κs =
     let may : MayClose (record { sys = c.self.inside.sys; plan = c.self.inside.plan }) c.args.passes.items = subst (λ system. MayClose system c.args.passes.items) (sym c.self.view_is) c.requires in
     at_rest (record { sys = c.self.inside.sys; plan = c.self.inside.plan }) c.args.passes.items c.self.invariant may
 
-pub merge_into-requires-clause-lists : goal.merge_into-requires-clause-lists
-merge_into-requires-clause-lists c =
+pub merged-requires-clause-lists : goal.merged-requires-clause-lists
+merged-requires-clause-lists c =
     let same : map vec_items c.in-Ok-finish.lists.items ≡ lists_in c.args.passes.items = search rules in
     let from : AreListsFrom 0 (lists_in c.args.passes.items) = search rules in
     subst AreLists (sym same) (listed (lists_in c.args.passes.items) from)
@@ -29,6 +29,6 @@ returns-in-Ok-finish-clause-ok c =
     let from : AreListsFrom 0 lists = search rules in
     let last : AreLastLists (layouts_in system) system.sys.layouts (length system.sys.callers) lists = search rules in
     let same : map vec_items c.in-Ok-finish.lists.items ≡ lists = search rules in
-    let merged : IsMerged lists c.merge_into.result.items = subst (λ ls. IsMerged ls c.merge_into.result.items) same c.merge_into.ensures in
+    let merged : IsMerged lists c.merged.result.items = subst (λ ls. IsMerged ls c.merged.result.items) same c.merged.ensures in
     rw (← c.self.view_is)
-    (closed system c.self.invariant (subst TraceLaw c.procs.ensures.is c.trace_at_rest_is_a_history.ensures) lists c.merge_into.result.items from last merged)
+    (closed system c.self.invariant (subst TraceLaw c.procs.ensures.is c.trace_at_rest_is_a_history.ensures) lists c.merged.result.items from last merged)
