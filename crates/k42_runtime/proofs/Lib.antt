@@ -16,3 +16,4 @@ pub mod CallTaken
 pub mod CallInside
 pub mod CallMade
 pub mod CallWaited
+pub mod AloneLists
