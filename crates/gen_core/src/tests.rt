@@ -19,6 +19,33 @@ fn does(state: &mut GenState, event: GenEvent) -> bool
     apply(state, &event)
 }
 
+// Whether the caller of the one processor has nothing coming, and is so.
+fn is_at(caller: &GenCaller, active: Option<u32>, grace: GraceAt, wait: u32) -> bool {
+    let waits = caller.waits.as_slice() == [wait].as_slice();
+    caller.proc == 0
+        && caller.active == active
+        && caller.grace == grace
+        && caller.coming.is_none()
+        && waits
+}
+
+// Whether the grace of caller 1 looks at the one processor, in whose former generation caller 0 is active.
+fn is_waited_for(state: &GenState) -> bool {
+    let flipped = GenProc {
+        generation: 1,
+        entered: 0,
+        exits_even: 0,
+        exits_odd: 0,
+    };
+    let [zero, one] = state.callers.as_slice() else {
+        return false;
+    };
+    state.procs.as_slice() == [flipped].as_slice()
+        && state.role == Some(1)
+        && is_at(zero, Some(0), GraceAt::Idle, 0)
+        && is_at(one, None, GraceAt::Looking(0), 1)
+}
+
 #[test]
 fn a_grace_waits_for_the_caller_that_entered_before_it(rt: HostRuntime) -> Result<(), Fail> {
     let callers = vec![in rt.alloc(); 0, 0]?;
@@ -27,11 +54,9 @@ fn a_grace_waits_for_the_caller_that_entered_before_it(rt: HostRuntime) -> Resul
     assert!(rt; does(&mut state, GenEvent::TakeRole(1)));
     assert!(rt; does(&mut state, GenEvent::LookAhead(1)));
     assert!(rt; does(&mut state, GenEvent::Flip(1)));
-    assert_eq!(rt; state.procs[0].generation, 1);
-    assert_eq!(rt; state.procs[0].entered, 0);
-    assert_eq!(rt; state.callers[1].waits.as_slice(), [1].as_slice());
+    assert!(rt; is_waited_for(&state));
     assert!(rt; does(&mut state, GenEvent::Look(1)));
-    assert_eq!(rt; state.callers[1].grace, GraceAt::Looking(0));
+    assert!(rt; is_waited_for(&state));
     assert!(rt; does(&mut state, GenEvent::Leave(0)));
     assert!(rt; does(&mut state, GenEvent::Look(1)));
     assert_eq!(rt; state.callers[1].grace, GraceAt::Quiet);

@@ -1,5 +1,5 @@
-//! The order of entries that bear one stamp.
-ghost use Rattle.std.specs.Prelude.{◌≡◌, map, vec_items, IfOk};
+//! The order of entries that bear one stamp, and a merge of many.
+ghost use Rattle.std.specs.Prelude.{◌≡◌, ◌≤◌, map, vec_items, IfOk};
 ghost use Rattle.k42_stamp.specs.Lists.{IsListOf, AreLists};
 
 use crate::*;
@@ -76,5 +76,27 @@ fn entries_of_one_stamp_are_ordered_by_object_cell_and_caller(rt: HostRuntime) -
         .map(|entry| (entry.object, entry.cell, entry.caller));
     assert!(rt; told.eq(due));
     assert!(rt; merged.iter().map(|entry| entry.stamp).eq(1..=11));
+    Ok(())
+}
+
+/// So many stamps, of which each is two above the one before it.
+fn every_second(alloc: Global, first: u64, count: u64) -> Result<Vec<(u64, u32, u32)>, Memory>
+    requires first { first ≤ 2 }
+    requires count { count ≤ 1_048_576 }
+{
+    let mut stamps = Vec::new(alloc);
+    for place in 0..count {
+        stamps.push((first + 2 * place, 0, 0))?;
+    }
+    Ok(stamps)
+}
+
+#[test]
+fn more_than_1048576_entries_are_merged(rt: HostRuntime) -> Result<(), Fail> {
+    let odd = every_second(rt.alloc(), 1, 524_289)?;
+    let even = every_second(rt.alloc(), 2, 524_289)?;
+    let callers: [&[(u64, u32, u32)]; 4] = [odd.as_slice(), &[], even.as_slice(), &[]];
+    let merged = merge(rt.alloc(), lists_of(rt.alloc(), &callers)?)?;
+    assert!(rt; merged.iter().map(|entry| entry.stamp).eq(1..=1_048_578));
     Ok(())
 }

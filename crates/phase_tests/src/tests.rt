@@ -188,12 +188,14 @@ fn numbers(state: &PhaseState, o: usize) -> Option<(u32, u32, u32, u32)> {
     }
 }
 
-// A caller installs what it missed.
-const CALLED: &[(Step, bool)] = &[
+// A caller misses an empty entry.
+const MISSED: &[(Step, bool)] = &[
     (Step::Turn(GenEvent::Enter(0)), true),
     (Step::LookUp(0, 0), true),
-    (Step::Install(0, 0), true),
 ];
+
+// And installs it.
+const INSTALLED: &[(Step, bool)] = &[(Step::Install(0, 0), true)];
 
 // A swap begins, and may not block before a grace.
 const INTERPOSED: &[(Step, bool)] = &[
@@ -214,7 +216,9 @@ fn a_call_is_direct_until_a_swap_interposes_and_then_counted(rt: HostRuntime) ->
     let layouts = vec![in rt.alloc(); 0]?;
     let callers = vec![in rt.alloc(); 0, 0]?;
     let mut state = PhaseState::new(rt.alloc(), 1, layouts, callers)?;
-    assert_eq!(rt; answered(&mut state, rt.alloc(), CALLED)?, 3);
+    assert_eq!(rt; answered(&mut state, rt.alloc(), MISSED)?, 2);
+    assert_eq!(rt; place(&state, 0), Some(Place::Missed(0, 0)));
+    assert_eq!(rt; answered(&mut state, rt.alloc(), INSTALLED)?, 1);
     assert_eq!(rt; place(&state, 0), Some(Place::Direct(0, 0)));
     assert_eq!(rt; answered(&mut state, rt.alloc(), INTERPOSED)?, 3);
     let mediator = LocalEntry {

@@ -1,20 +1,14 @@
 //! Plans that are refused, and calls, swaps and destroys that meet on one thread.
 use crate::tests::crews::{Three, closed, counters};
-use crate::tests::ending::{destroy_once, find_gone, free_once, swap_once, swap_twice};
-use crate::tests::holding::{
-    be_let_in, be_shut_out, be_waited_for, hold, see_added, wait_for_cell,
-};
-use crate::tests::steps::{call_to, swap_to};
+use crate::tests::ending::{destroy_once, find_gone, free_once, swap_and_keep_none, swap_twice};
 use crate::tests::waiting::{find, free_in_turn, swap_beside};
-use k42_kinds::{Act, Answer, Entry, KindName, LayoutName, Op, Reply, To};
+use k42_kinds::{Act, Answer, Entry, KindName, LayoutName, Reply, To};
 use k42_runtime::{ObjectPlan, Plan, PlanFault};
 use std::test::Fail;
 
 mod crews;
 mod ending;
-mod holding;
 mod steps;
-mod table;
 mod waiting;
 
 /// Whether the entries have just these answers, in this order.
@@ -97,7 +91,7 @@ fn a_row_that_a_swap_handed_over_is_freed_by_another_pass(rt: HostRuntime) -> Re
         mut one,
         ..
     } = crew;
-    swap_once(&rt, alloc, &system, &mut zero)?;
+    swap_and_keep_none(&rt, alloc, &system, &mut zero)?;
     free_once(&rt, &system, &mut one, &mut zero);
     Ok(())
 }
@@ -142,53 +136,5 @@ fn a_destroyed_object_is_gone(rt: HostRuntime) -> Result<(), Fail> {
     assert!(rt; are_answered(history.entries(), due.as_slice()));
     let second = history.entries().get(1).map(|entry| entry.act);
     assert_eq!(rt; second, Some(Act::Swap(To::Dead)));
-    Ok(())
-}
-
-#[test]
-fn a_call_at_a_shut_object_is_held_up_until_it_is_open(rt: HostRuntime) -> Result<(), Fail> {
-    let alloc = rt.alloc();
-    let Some((system, crew)) = counters(alloc, 1)? else {
-        return Err("no system")?;
-    };
-    let Three {
-        mut zero,
-        mut one,
-        mut two,
-    } = crew;
-    let mut swap = swap_to(&rt, &system, &one, 0, LayoutName::Shared);
-    be_waited_for(
-        &rt, alloc, &system, &mut zero, &mut one, &mut two, &mut swap,
-    )?;
-    let mut get = call_to(&rt, &system, 0, Op::Get);
-    be_shut_out(&rt, alloc, &system, &mut zero, &mut two, &mut get)?;
-    be_let_in(
-        &rt, alloc, &system, &mut zero, &mut one, &mut swap, &mut get,
-    )?;
-    let Some(history) = closed(alloc, system, zero, one, two)? else {
-        return Err("no history")?;
-    };
-    let due = [Answer::Swapped(1), Answer::Replied(Reply::Number(0))];
-    assert!(rt; are_answered(history.entries(), due.as_slice()));
-    let last = history.entries().get(1).map(|entry| entry.incarnation);
-    assert_eq!(rt; last, Some(1));
-    Ok(())
-}
-
-#[test]
-fn a_call_names_the_caller_that_holds_its_cell(rt: HostRuntime) -> Result<(), Fail> {
-    let alloc = rt.alloc();
-    let Some((system, crew)) = counters(alloc, 1)? else {
-        return Err("no system")?;
-    };
-    let Three {
-        mut zero,
-        mut one,
-        ..
-    } = crew;
-    let cell = hold(&rt, alloc, &system, &mut one)?;
-    let mut add = call_to(&rt, &system, 0, Op::Add(5));
-    wait_for_cell(&rt, alloc, &system, &mut zero, &mut one, cell, &mut add)?;
-    see_added(&rt, alloc, &system, &mut one)?;
     Ok(())
 }

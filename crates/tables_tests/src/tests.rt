@@ -118,8 +118,7 @@ fn meet_at_a_cell<L: Layout, R: Abort + Wait>(
         &mut second,
         Filled::Elsewhere { word: 0x11 },
     )?;
-    let own = Tried::Filled(Filled::Installed { cell: 1 });
-    try_in(rt, alloc, &sys, &mut third, own)?;
+    fill_in(rt, alloc, &sys, &mut third, Filled::Installed { cell: 1 })?;
     look_again(rt, &sys, &mut second, 0);
     finish_call(&sys, &mut second);
     Ok(())

@@ -1,8 +1,9 @@
 //! Rows that are handed over, and objects that are destroyed.
 ghost use Rattle.k42_crews.specs.Ready.{IsFree};
 
-use crate::tests::steps::{destroy, reclaim, swap, visit};
+use crate::tests::steps::{destroy, reclaim};
 use crate::tests::waiting::find;
+use k42_crews::{call_once, swap_once};
 use k42_kinds::{LayoutName, Op, Reply};
 use k42_memory::Memory;
 use k42_runtime::{Pass, Swapped, System};
@@ -11,7 +12,7 @@ use std::process::Abort;
 use std::sync::Wait;
 
 /// Swaps once, and leaves no row with the pass.
-pub(super) fn swap_once<R: Abort + Wait>(
+pub(super) fn swap_and_keep_none<R: Abort + Wait>(
     rt: &R,
     alloc: Global,
     system: &System,
@@ -21,8 +22,8 @@ pub(super) fn swap_once<R: Abort + Wait>(
     ensures free { IsFree system.now pass.new }
 {
     assert_eq!(rt;
-        swap(rt, alloc, system, pass, 0, LayoutName::Spread)?,
-        Swapped::Done(1)
+        swap_once(rt, alloc, system, pass, 0, LayoutName::Spread)?,
+        Some(Swapped::Done(1))
     );
     assert!(rt; pass.rows().is_empty());
     Ok(())
@@ -40,9 +41,9 @@ pub(super) fn swap_twice<R: Abort + Wait>(
     requires free { IsFree system.now pass.old }
     ensures free { IsFree system.now pass.new }
 {
-    swap_once(rt, alloc, system, pass)?;
-    let end = swap(rt, alloc, system, pass, second, LayoutName::Shared)?;
-    assert_eq!(rt; end, Swapped::Done(number));
+    swap_and_keep_none(rt, alloc, system, pass)?;
+    let end = swap_once(rt, alloc, system, pass, second, LayoutName::Shared)?;
+    assert_eq!(rt; end, Some(Swapped::Done(number)));
     Ok(())
 }
 
@@ -67,7 +68,8 @@ pub(super) fn destroy_once<R: Abort + Wait>(
     requires free { IsFree system.now pass.old }
     ensures free { IsFree system.now pass.new }
 {
-    assert_eq!(rt; visit(rt, alloc, system, pass, 0, Op::Add(5))?, Reply::Done);
+    let added = call_once(rt, alloc, system, pass, 0, Op::Add(5))?;
+    assert_eq!(rt; added, Some(Reply::Done));
     assert_eq!(rt; destroy(rt, alloc, system, pass, 0)?, Swapped::Done(1));
     find(rt, alloc, system, pass, Reply::Gone)
 }
@@ -83,8 +85,8 @@ pub(super) fn find_gone<R: Abort + Wait>(
     ensures free { IsFree system.now pass.new }
 {
     assert_eq!(rt;
-        swap(rt, alloc, system, pass, 0, LayoutName::Spread)?,
-        Swapped::Gone
+        swap_once(rt, alloc, system, pass, 0, LayoutName::Spread)?,
+        Some(Swapped::Gone)
     );
     assert_eq!(rt; destroy(rt, alloc, system, pass, 0)?, Swapped::Gone);
     Ok(())

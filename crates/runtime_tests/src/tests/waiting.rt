@@ -3,9 +3,8 @@ ghost use Rattle.std.specs.Prelude.{OnOk};
 ghost use Rattle.k42_crews.specs.Ready.{IsFree, IsIn};
 ghost use Rattle.runtime_tests.specs.Ready.{IsSwapping};
 
-use crate::tests::steps::{
-    call, come_in, end_swap, go_home, reclaim, swap, swap_to, try_swap, visit,
-};
+use crate::tests::steps::{call, come_in, end_swap, go_home, reclaim, swap_to, try_swap};
+use k42_crews::{call_once, swap_once};
 use k42_kinds::{LayoutName, Op, Reply};
 use k42_memory::Memory;
 use k42_runtime::{Cause, Pass, Step, Swap, Swapped, System};
@@ -47,7 +46,7 @@ fn get_and_leave<R: Abort + Wait>(
 }
 
 /// The swap finds one activity open.
-pub(super) fn find_left(
+fn find_left(
     rt: &impl Abort,
     alloc: Global,
     system: &System,
@@ -73,14 +72,14 @@ fn find_busy<R: Abort + Wait>(
     ensures free { IsFree system.now pass.new }
 {
     assert_eq!(rt;
-        swap(rt, alloc, system, pass, 0, LayoutName::Spread)?,
-        Swapped::Busy(1)
+        swap_once(rt, alloc, system, pass, 0, LayoutName::Spread)?,
+        Some(Swapped::Busy(1))
     );
     Ok(())
 }
 
 /// The swap ends now, as the first of its object.
-pub(super) fn find_done(
+fn find_done(
     rt: &impl Abort,
     alloc: Global,
     system: &System,
@@ -143,6 +142,7 @@ pub(super) fn find<R: Abort + Wait>(
     requires free { IsFree system.now pass.old }
     ensures free { IsFree system.now pass.new }
 {
-    assert_eq!(rt; visit(rt, alloc, system, pass, 0, Op::Get)?, due);
+    let found = call_once(rt, alloc, system, pass, 0, Op::Get)?;
+    assert_eq!(rt; found, Some(due));
     Ok(())
 }

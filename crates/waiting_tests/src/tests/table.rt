@@ -1,7 +1,7 @@
 //! Calls that stay inside a row, made at the table of a system.
 ghost use Rattle.std.specs.Prelude.{◌<◌, [], ◌∷◌};
 ghost use Rattle.k42_crews.specs.Ready.{IsIn};
-ghost use Rattle.runtime_tests.specs.Ready.{IsInRow};
+ghost use Rattle.waiting_tests.specs.Ready.{IsInRow};
 
 use k42_mediator::{Knocked, knock};
 use k42_rule::{lock, unlock};

@@ -1,8 +1,8 @@
 use Rattle.std.proofs.Common.{ℕ, ◌+◌, ◌*◌, ◌%◌, refl, sym, subst}
 use Rattle.k42_board.specs.Seen.{SysSeen}
 use Rattle.k42_board.specs.Taking.{MayLock}
-use Rattle.runtime_tests.proofs.Held.{may_lock_first}
-use Rattle.runtime_tests.proofs.tests.table.hold_first.Goals as goal
+use Rattle.waiting_tests.proofs.Held.{may_lock_first}
+use Rattle.waiting_tests.proofs.tests.table.hold_first.Goals as goal
 use Rattle.k42_runtime.specs.Systems.{SystemLayout}
 
 pub lock-requires-clause-may : goal.lock-requires-clause-may

@@ -1,52 +1,46 @@
-//! Calls that are held up: by a swap that keeps the object shut, and by a caller that holds a cell.
-ghost use Rattle.std.specs.Prelude.{◌<◌, [], ◌∷◌, IfOk, OnOk};
+//! A swap that keeps its object shut while it waits for a caller inside, and a call that it holds up.
+ghost use Rattle.std.specs.Prelude.{[], OnOk};
 ghost use Rattle.k42_crews.specs.Ready.{IsFree, IsIn};
-ghost use Rattle.runtime_tests.specs.Ready.{IsCallOf, IsInRow, IsSwapping};
+ghost use Rattle.waiting_tests.specs.Ready.{IsCallOf, IsInRow, IsSwapping};
 
-use crate::tests::steps::{call, come_in, go_home, try_call, try_swap};
-use crate::tests::table::{end_call, hold_cell, knock_in, let_go};
-use crate::tests::waiting::{find_done, find_left};
-use k42_kinds::{Op, Reply};
+use crate::tests::steps::{come_in, end_swap, find_answered, find_held_up, go_home, try_swap};
+use crate::tests::table::{end_call, knock_in};
+use k42_kinds::Reply;
 use k42_memory::Memory;
-use k42_runtime::{Call, CallCause, CallStep, Cause, Pass, Step, Swap, System};
+use k42_runtime::{Call, CallCause, Cause, Pass, Step, Swap, Swapped, System};
 use std::alloc::Global;
 use std::process::Abort;
-use std::sync::Wait;
 
-/// The call is held up so.
-fn find_held_up(
+/// The swap finds one activity open.
+fn find_left(
     rt: &impl Abort,
     alloc: Global,
     system: &System,
     pass: &mut Pass,
-    call: &mut Call,
-    cause: CallCause,
+    swap: &mut Swap,
 ) -> Result<(), Memory>
-    requires inside { IsIn system.now pass.old }
-    requires asked { IsCallOf system.now call.old }
-    ensures inside { IsIn system.now pass.new }
-    ensures asked { IsCallOf system.now call.new }
+    requires swapping { IsSwapping system.now swap.old pass.old }
+    ensures swapping { IsSwapping system.now swap.new pass.new }
 {
-    let step = try_call(rt, alloc, system, pass, call)?;
-    assert_eq!(rt; step, CallStep::Again(cause));
+    let step = try_swap(rt, alloc, system, pass, swap)?;
+    assert_eq!(rt; step, Step::Again(Cause::Left { proc: 0, left: 1 }));
     Ok(())
 }
 
-/// The call is answered so.
-fn find_answered(
+/// The swap ends now, as the first of its object.
+pub(super) fn find_done(
     rt: &impl Abort,
     alloc: Global,
     system: &System,
     pass: &mut Pass,
-    call: &mut Call,
-    reply: Reply,
+    swap: &mut Swap,
 ) -> Result<(), Memory>
-    requires inside { IsIn system.now pass.old }
-    requires asked { IsCallOf system.now call.old }
-    ensures inside { IsIn system.now pass.new }
+    requires swapping { IsSwapping system.now swap.old pass.old }
+    ensures free { OnOk result (IsFree system.now pass.new) }
 {
-    let step = try_call(rt, alloc, system, pass, call)?;
-    assert_eq!(rt; step, CallStep::Ended(reply));
+    let step = try_swap(rt, alloc, system, pass, swap)?;
+    assert_eq!(rt; step, Step::Ended(Swapped::Done(1)));
+    end_swap(rt, system, pass, swap);
     Ok(())
 }
 
@@ -140,75 +134,5 @@ pub(super) fn be_let_in(
     find_done(rt, alloc, system, one, swap)?;
     find_answered(rt, alloc, system, zero, get, Reply::Number(0))?;
     go_home(system, zero);
-    Ok(())
-}
-
-/// Calls once, and then holds the cell.
-pub(super) fn hold<R: Abort + Wait>(
-    rt: &R,
-    alloc: Global,
-    system: &System,
-    pass: &mut Pass,
-) -> Result<u32, Memory>
-    requires free { IsFree system.now pass.old }
-    ensures served { IfOk result (λ cell. IsInRow system.now (cell ∷ []) pass.new) }
-    ensures few { IfOk result (λ cell. cell < 256) }
-{
-    come_in(rt, system, pass);
-    assert_eq!(rt;
-        call(rt, alloc, system, pass, 0, Op::Get)?,
-        Reply::Number(0)
-    );
-    Ok(hold_cell(rt, system, pass, 0))
-}
-
-/// A call finds the cell held by the second pass, and is answered once that has let it go.
-pub(super) fn wait_for_cell(
-    rt: &impl Abort,
-    alloc: Global,
-    system: &System,
-    zero: &mut Pass,
-    one: &mut Pass,
-    cell: u32,
-    add: &mut Call,
-) -> Result<(), Memory>
-    requires zero { IsFree system.now zero.old }
-    requires one { IsInRow system.now (cell ∷ []) one.old }
-    requires few { cell < 256 }
-    requires asked { IsCallOf system.now add.old }
-    ensures zero { OnOk result (IsFree system.now zero.new) }
-    ensures one { OnOk result (IsIn system.now one.new) }
-{
-    come_in(rt, system, zero);
-    find_held_up(
-        rt,
-        alloc,
-        system,
-        zero,
-        add,
-        CallCause::CellHeld { holder: 1 },
-    )?;
-    let_go(system, one, cell);
-    find_answered(rt, alloc, system, zero, add, Reply::Done)?;
-    end_call(system, one);
-    go_home(system, zero);
-    Ok(())
-}
-
-/// Finds what was added.
-pub(super) fn see_added<R: Abort + Wait>(
-    rt: &R,
-    alloc: Global,
-    system: &System,
-    pass: &mut Pass,
-) -> Result<(), Memory>
-    requires inside { IsIn system.now pass.old }
-    ensures free { OnOk result (IsFree system.now pass.new) }
-{
-    assert_eq!(rt;
-        call(rt, alloc, system, pass, 0, Op::Get)?,
-        Reply::Number(5)
-    );
-    go_home(system, pass);
     Ok(())
 }

@@ -1,0 +1,153 @@
+//! What the passes of the tests do, within their bounds.
+ghost use Rattle.k42_crews.specs.Ready.{IsFree, IsIn};
+ghost use Rattle.waiting_tests.specs.Ready.{IsCallOf, IsSwapping};
+
+use k42_crews::{may_call, may_swap};
+use k42_kinds::{LayoutName, Op, Reply};
+use k42_memory::Memory;
+use k42_runtime::{Call, CallCause, CallStep, Pass, Step, Swap, System, To};
+use std::alloc::Global;
+use std::process::Abort;
+use std::sync::Wait;
+
+/// Begins an activity.
+pub(super) fn come_in(rt: &impl Abort, system: &System, pass: &mut Pass)
+    requires free { IsFree system.now pass.old }
+    ensures inside { IsIn system.now pass.new }
+{
+    assert!(rt; may_call(pass));
+    system.enter(pass);
+}
+
+/// Ends it.
+pub(super) fn go_home(system: &System, pass: &mut Pass)
+    requires inside { IsIn system.now pass.old }
+    ensures free { IsFree system.now pass.new }
+{
+    system.leave(pass);
+}
+
+/// Makes a call in an activity.
+pub(super) fn call<R: Abort + Wait>(
+    rt: &R,
+    alloc: Global,
+    system: &System,
+    pass: &mut Pass,
+    object: u32,
+    op: Op,
+) -> Result<Reply, Memory>
+    requires inside { IsIn system.now pass.old }
+    ensures inside { IsIn system.now pass.new }
+{
+    assert!(rt; system.takes(object, &op));
+    assert!(rt; may_call(pass));
+    system.call(rt, alloc, pass, object, op)
+}
+
+/// A call that has not begun.
+pub(super) fn call_to(rt: &impl Abort, system: &System, object: u32, op: Op) -> Call
+    ensures asked { IsCallOf system.now result }
+{
+    assert!(rt; system.takes(object, &op));
+    Call::new(object, op)
+}
+
+/// Tries a call that is not over.
+pub(super) fn try_call(
+    rt: &impl Abort,
+    alloc: Global,
+    system: &System,
+    pass: &mut Pass,
+    call: &mut Call,
+) -> Result<CallStep, Memory>
+    requires inside { IsIn system.now pass.old }
+    requires asked { IsCallOf system.now call.old }
+    ensures inside { IsIn system.now pass.new }
+    ensures asked { IsCallOf system.now call.new }
+{
+    assert!(rt; !call.ended());
+    assert!(rt; may_call(pass));
+    match call.step(alloc, system, pass) {
+        CallStep::Memory => Err(Memory),
+        step => Ok(step),
+    }
+}
+
+/// A swap of the pass that has not begun.
+pub(super) fn swap_to(
+    rt: &impl Abort,
+    system: &System,
+    pass: &Pass,
+    object: u32,
+    to: LayoutName,
+) -> Swap
+    requires free { IsFree system.now pass.now }
+    ensures new { IsSwapping system.now result pass.now }
+{
+    assert!(rt; object < system.objects());
+    assert!(rt; may_swap(pass));
+    Swap::new(object, To::Layout(to))
+}
+
+/// Steps a swap that is not over.
+pub(super) fn try_swap(
+    rt: &impl Abort,
+    alloc: Global,
+    system: &System,
+    pass: &mut Pass,
+    swap: &mut Swap,
+) -> Result<Step, Memory>
+    requires swapping { IsSwapping system.now swap.old pass.old }
+    ensures swapping { IsSwapping system.now swap.new pass.new }
+{
+    assert!(rt; !swap.ended());
+    match swap.step(alloc, system, pass) {
+        Step::Memory => Err(Memory),
+        step => Ok(step),
+    }
+}
+
+/// Leaves a swap that is over.
+pub(super) fn end_swap(rt: &impl Abort, system: &System, pass: &Pass, swap: &Swap)
+    requires swapping { IsSwapping system.now swap.now pass.now }
+    ensures free { IsFree system.now pass.now }
+{
+    assert!(rt; swap.ended());
+}
+
+/// The call is held up so.
+pub(super) fn find_held_up(
+    rt: &impl Abort,
+    alloc: Global,
+    system: &System,
+    pass: &mut Pass,
+    call: &mut Call,
+    cause: CallCause,
+) -> Result<(), Memory>
+    requires inside { IsIn system.now pass.old }
+    requires asked { IsCallOf system.now call.old }
+    ensures inside { IsIn system.now pass.new }
+    ensures asked { IsCallOf system.now call.new }
+{
+    let step = try_call(rt, alloc, system, pass, call)?;
+    assert_eq!(rt; step, CallStep::Again(cause));
+    Ok(())
+}
+
+/// The call is answered so.
+pub(super) fn find_answered(
+    rt: &impl Abort,
+    alloc: Global,
+    system: &System,
+    pass: &mut Pass,
+    call: &mut Call,
+    reply: Reply,
+) -> Result<(), Memory>
+    requires inside { IsIn system.now pass.old }
+    requires asked { IsCallOf system.now call.old }
+    ensures inside { IsIn system.now pass.new }
+{
+    let step = try_call(rt, alloc, system, pass, call)?;
+    assert_eq!(rt; step, CallStep::Ended(reply));
+    Ok(())
+}
