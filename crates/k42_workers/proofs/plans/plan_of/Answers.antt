@@ -5,7 +5,7 @@ use Rattle.k42_runtime.specs.Plans.{plan_fault}
 use Rattle.k42_runtime.specs.declared.plan.ObjectPlan.{ObjectPlan}
 use Rattle.k42_workers.specs.Plans.{object_plan, plan_of}
 use Rattle.k42_workers.proofs.Planned.{no_fault}
-use Rattle.k42_workers.proofs.running.plan_of.Goals as goal
+use Rattle.k42_workers.proofs.plans.plan_of.Goals as goal
 
 pub unreachable-requires : goal.unreachable-requires
 unreachable-requires c =

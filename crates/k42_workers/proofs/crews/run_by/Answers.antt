@@ -9,7 +9,7 @@ use Rattle.k42_runtime.specs.Histories.{HistorySeen}
 use Rattle.k42_workers.specs.Workers.{IsRunOf}
 use Rattle.k42_workers.proofs.Halved.{where_ok}
 use Rattle.k42_workers.proofs.Judged.{lawful, generations, judged_lawful}
-use Rattle.k42_workers.proofs.running.run_script.Goals as goal
+use Rattle.k42_workers.proofs.crews.run_by.Goals as goal
 
 pub returns-then-has_lines-clause-lawful : goal.returns-then-has_lines-clause-lawful
 returns-then-has_lines-clause-lawful g c = where_ok (λ (history : HistorySeen). IsRunOf c.args.script.now history.entries) (λ history. IsLawful c.args.script.now history.entries) (λ history run. lawful c.args.script.now history.entries run) c.run.result c.run.ensures.closed
