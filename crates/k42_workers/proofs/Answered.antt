@@ -34,6 +34,12 @@ none_there : (o : Option ℕ) → is_none o ≡ true → o ≡ None
 none_there None e = refl
 none_there (Some a) e = cc
 
+-- what a pass that has nothing under way is like
+pub at_rest : (v : PassView SystemPart) → IsAtRest v → IsBetween v × (v.turn.active ≡ None)
+at_rest v rests =
+    let parts = all_three (is_none v.turn.active) (graces.is_idle v.turn.grace) (swaps.is_idle v.visitor.swap) rests in
+    (record { grace = parts.1; swap = parts.2 }, none_there v.turn.active parts.0)
+
 pub rests_with : (v : PassView SystemPart) → IsBetween v → v.turn.active ≡ None → IsAtRest v
 rests_with v between idle = rw (idle, between.grace, between.swap) refl
 
@@ -41,14 +47,13 @@ length-deeds_from : (n : ℕ) (lines : List CallLine) → length (deeds_from n l
 length-deeds_from n [] = refl
 length-deeds_from n (line ∷ lines) = ap suc (length-deeds_from (n + 1) lines)
 
-line_in : Item → CallLine → CallLine
+abbrev pub line_in : Item → CallLine → CallLine
 line_in (Line line) other = line
 line_in Begin other = other
 line_in End other = other
 
 -- what holds of each line holds of the one that stands among the items
 pub line_at : (P : CallLine → Type 0) (items : List Item) (place : ℕ) (line : CallLine) → AllByRecursion P (call_lines items) → slice_get items place ≡ Some (Line line) → P line
-unfolding line_in
 line_at P [] place line each there = cc
 line_at P (Begin ∷ items) zero line each there = cc
 line_at P (Begin ∷ items) (suc place) line each there = line_at P items place line each there
@@ -62,21 +67,27 @@ pub many_under_way : (worker : WorkerLines) (place : ℕ) (inside : Bool) (stand
     → length standing.entries + length (call_lines (drop place worker.items)) ≡ length (call_lines worker.items)
 many_under_way worker place inside standing way =
     let rest = call_lines (drop place worker.items) in
-    omega (arith, ap length way.deeds, length-append (map deed_of standing.entries) (deeds_from (length standing.entries) rest), length-map standing.entries deed_of,
-    length-deeds_from (length standing.entries) rest, length-deeds_from 0 (call_lines worker.items))
+    omega (
+      arith,
+      ap length way.deeds,
+      length-append (map deed_of standing.entries) (deeds_from (length standing.entries) rest),
+      length-map standing.entries deed_of,
+      length-deeds_from (length standing.entries) rest,
+      length-deeds_from 0 (call_lines worker.items),
+    )
 
 module _ (system : SystemSeen) (number : ℕ) (worker : WorkerLines) where
   pub at_start : (pass : SystemPass) → IsFresh system number worker pass → IsReady system.plan worker → IsAt system number worker 0 false pass
   at_start pass fresh ready =
-      let parts = all_three (is_none pass.view.turn.active) (graces.is_idle pass.view.turn.grace) (swaps.is_idle pass.view.visitor.swap) fresh.rests in
+      let idle = at_rest pass.view fresh.rests in
       record {
         here = fresh.here;
-        between = record { grace = parts.1; swap = parts.2 };
+        between = idle.0;
         caller = fresh.caller;
         proc = fresh.proc;
         activities = omega (arith, fresh.activities);
         graces = omega (arith, fresh.graces);
-        way = under_way_at_start worker ready.matches (standing_of pass.view) fresh.entries (none_there pass.view.turn.active parts.0);
+        way = under_way_at_start worker ready.matches (standing_of pass.view) fresh.entries idle.1;
       }
 
   pub worked : (place : ℕ) (inside : Bool) (pass : SystemPass) → length worker.items ≤ place → IsAt system number worker place inside pass → HasWorked system number worker pass

@@ -1,5 +1,5 @@
 //! The lines of a worker, each carried out on its pass.
-ghost use Rattle.std.specs.Prelude.{◌≡◌, ◌<◌, Bool, None, OnOk, IfOk, length, if◌then◌else◌};
+ghost use Rattle.std.specs.Prelude.{◌≡◌, ◌<◌, Bool, true, None, OnOk, IfOk, length, is_some, if◌then◌else◌};
 ghost use Rattle.k42_kinds.specs.declared.entry.Act.TheVariants as acts;
 ghost use Rattle.k42_board.specs.Generations.{MOST};
 ghost use Rattle.k42_runtime.specs.Calls.{IsAsked};
@@ -25,6 +25,7 @@ pub fn open(system: &System, pass: &mut Pass)
     ensures opened { IsOpened (standing_of pass.old.view) (standing_of pass.new.view) }
     ensures caller { GoesOnAs pass.old.view pass.new.view }
     ensures graces { pass.new.view.graces ≡ pass.old.view.graces }
+    ensures stays { is_some pass.old.view.turn.active ≡ true → pass.new ≡ pass.old }
     ensures seat { pass.new.seat ≡ pass.old.seat }
     ensures free { IsNotHeldUp pass.old.view pass.new.view }
 {

@@ -13,16 +13,10 @@ use crate::rounds::run_rounds;
 use crate::tasks::WorkerTask;
 use k42_memory::Memory;
 use k42_runtime::{History, Pass, System};
-use k42_workers::{Crew, Gate, run_by};
+use k42_workers::{Gate, asks_something, begin_run, end_run, idle_run};
 use script_text::{Script, WorkerLines};
 use std::alloc::Global;
 use std::sync::Wait;
-
-/// A task for each worker, on this thread.
-struct TaskCrew<'a, R, G> {
-    rt: &'a R,
-    gate: &'a G,
-}
 
 /// A task for each worker, on its pass.
 fn tasks_of<'a>(
@@ -55,22 +49,22 @@ fn passes_of(alloc: Global, tasks: Vec<WorkerTask<'_>>) -> Result<Vec<Pass>, Mem
     Ok(passes)
 }
 
-impl<R: Wait, G: Gate> Crew for TaskCrew<'_, R, G> {
-    fn work_all(
-        &self,
-        alloc: Global,
-        system: &System,
-        workers: &[WorkerLines],
-        passes: Vec<Pass>,
-    ) -> Result<Vec<Pass>, Memory>
-        requires { MayWork system.now 0 workers.now passes.items }
-        ensures many { IfOk result (λ worked. length worked.items ≡ length passes.items) }
-        ensures worked { IfOk result (λ worked. HaveWorked system.now 0 workers.now worked.items) }
-    {
-        let mut tasks = tasks_of(alloc, system, workers, passes)?;
-        run_rounds(self.rt, alloc, system, self.gate, tasks.as_mut_slice())?;
-        passes_of(alloc, tasks)
-    }
+/// Carries out the workers' lines by tasks, and hands their passes back.
+fn work_all<R: Wait, G: Gate>(
+    rt: &R,
+    alloc: Global,
+    system: &System,
+    workers: &[WorkerLines],
+    gate: &G,
+    passes: Vec<Pass>,
+) -> Result<Vec<Pass>, Memory>
+    requires { MayWork system.now 0 workers.now passes.items }
+    ensures many { IfOk result (λ worked. length worked.items ≡ length passes.items) }
+    ensures worked { IfOk result (λ worked. HaveWorked system.now 0 workers.now worked.items) }
+{
+    let mut tasks = tasks_of(alloc, system, workers, passes)?;
+    run_rounds(rt, alloc, system, gate, tasks.as_mut_slice())?;
+    passes_of(alloc, tasks)
 }
 
 /// Runs the workers of a script as tasks on this thread, and gives the history of the closed system. The tasks make their
@@ -88,5 +82,10 @@ pub fn run_tasks<R: Wait, G: Gate>(
     ensures recorded { IfOk result (λ history. (version : ℕ) → IsLawfulRecord script.now (record_of script.now history.entries version)) }
     ensures generations { IfOk result (λ history. All (λ entry. HasGeneration entry.act entry.generation) history.entries) }
 {
-    run_by(alloc, script, &TaskCrew { rt, gate })
+    if !asks_something(script) {
+        return idle_run(alloc, script);
+    }
+    let (system, passes) = begin_run(alloc, script)?;
+    let passes = work_all(rt, alloc, &system, script.workers.as_slice(), gate, passes)?;
+    end_run(alloc, script, system, passes)
 }

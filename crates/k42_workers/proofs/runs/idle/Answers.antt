@@ -2,7 +2,7 @@ use Rattle.std.proofs.Common.{subst}
 use Rattle.k42_runtime.specs.Systems.{HasStarted}
 use Rattle.k42_workers.specs.Plans.{idle_plan}
 use Rattle.k42_workers.proofs.Ended.{started_at_rest, run_of_none, idle_closed}
-use Rattle.k42_workers.proofs.crews.rest.Goals as goal
+use Rattle.k42_workers.proofs.runs.idle.Goals as goal
 
 pub close-requires : goal.close-requires
 close-requires c =

@@ -1,0 +1,103 @@
+-- A call that is tried once: what it leaves when it is done, held up, or without memory.
+use Rattle.std.proofs.Common.{◌≡◌, ℕ, ◌+◌, ◌≤◌, Bool, true, false, Option, Some, None, [], ◌∷◌, ◌++◌, is_some, length, refl, sym, ap, ◌∙◌, subst, arith}
+use Rattle.std.specs.Prelude.{if◌then◌else◌}
+use Rattle.k42_kinds.specs.declared.entry.Act.{Act}
+use Rattle.k42_kinds.specs.declared.entry.Act.TheVariants.{Call}
+use Rattle.k42_kinds.specs.declared.entry.Entry.{Entry}
+use Rattle.k42_kinds.specs.declared.operation.Op.{Op}
+use Rattle.k42_kinds.specs.declared.operation.Reply.{Reply}
+use Rattle.k42_stamp.specs.Layouts.{Layouts}
+use Rattle.k42_board.specs.Seen.{Own}
+use Rattle.k42_board.specs.declared.view.PassView.{PassView}
+use Rattle.k42_runtime.specs.Calls.{CallSeen, HasCalled, HasNotCalled, HoldsUp, IsAsked}
+use Rattle.k42_runtime.specs.Systems.{SystemPart, SystemPass, SystemSeen, IsPassHere, IsAtRest, IsAtWork, KeepsElse, layouts_in}
+use Rattle.k42_runtime.specs.declared.calls.CallCause.{CallCause}
+use Rattle.k42_runtime.specs.declared.calls.CallCause.TheVariants as causes
+use Rattle.script_text.specs.Lawful.{Deed, IsNotGivenUp, deed_of}
+use Rattle.script_text.specs.declared.script.CallLine.{CallLine}
+use Rattle.k42_workers.specs.Lines.{Standing, AnswersLine, IsOpened, IsTimed, left_open}
+use Rattle.k42_workers.specs.Passes.{IsBetween, IsNotHeldUp, GoesOnAs, StaysAs, standing_of}
+use Rattle.task_workers.specs.Tries.{IsDone, IsHeldUp, IsGivenUp, activities_due}
+use Rattle.task_workers.specs.declared.tasks.TaskAt.TheVariants.{Calling}
+use Rattle.task_workers.specs.declared.tasks.TaskCause.TheVariants as held
+
+-- what holds a call up holds it up from before, where nothing has held its pass up in between
+holds_up_before : {S L : Type 0} (F : Layouts S L SystemPart) (declared : List L) (id : ℕ) (cause : CallCause) (object : ℕ) (old mid new : PassView SystemPart)
+    → IsNotHeldUp old mid → HoldsUp F declared id cause object mid new → HoldsUp F declared id cause object old new
+holds_up_before F declared id causes.Blocked object old mid new free is = (is.0, is.1 ∙ free.knocked, is.2)
+holds_up_before F declared id (causes.Elsewhere word) object old mid new free is = (is.0 ∙ ap (λ words. word ∷ words) free.stalls, is.1)
+holds_up_before F declared id (causes.CellHeld holder) object old mid new free is = (is.0 ∙ ap (λ words. (holder + 1) ∷ words) free.refused, is.1)
+
+same_active : (old new : PassView SystemPart) → KeepsElse old new → new.turn.active ≡ old.turn.active
+same_active old new keeps = ap (λ (own : Own). own.turn.active) keeps
+
+-- the activities of a call, once it has one
+opened_few : (active : Option ℕ) (old mid : PassView SystemPart) → (is_some active ≡ true → mid.activities ≡ old.activities) → mid.activities ≤ old.activities + 1
+    → mid.activities ≤ old.activities + activities_due active
+opened_few None old mid stays on = on
+opened_few (Some generation) old mid stays on = let same = stays refl in omega (arith, same)
+
+none_due : (active : Option ℕ) → is_some active ≡ true → activities_due active ≡ 0
+none_due None some = cc
+none_due (Some generation) some = refl
+
+module _ (system : SystemSeen) (line : CallLine) (inside : Bool) (call : CallSeen) (old mid : SystemPass)
+    (of : (line.object ≡ call.object) × (line.act ≡ Call call.op))
+    (opened : IsOpened (standing_of old.view) (standing_of mid.view)) (on : GoesOnAs old.view mid.view) (level : mid.view.graces ≡ old.view.graces)
+    (stays : is_some old.view.turn.active ≡ true → mid ≡ old) where
+  few : mid.view.activities ≤ old.view.activities + activities_due old.view.turn.active
+  few = opened_few old.view.turn.active old.view mid.view (λ some. ap (λ (pass : SystemPass). pass.view.activities) (stays some)) on.activities
+
+  pub call_done : (reply : Reply) (made new : SystemPass) → HasCalled call.object call.op reply mid.view made.view → IsBetween new.view
+      → standing_of new.view ≡ record (standing_of made.view) { active = if inside then made.view.turn.active else None } → StaysAs made.view new.view
+      → IsDone line inside (Calling call) old new
+  call_done reply made new called between left same =
+      let whole = called.whole in let entry = called.entry in
+      let was : made.view.turn.active ≡ Some opened.generation = same_active mid.view made.view called.keeps ∙ opened.active in
+      let drawn_in : entry.generation ≡ Some opened.generation = ap (λ (e : Entry). e.generation) whole ∙ opened.active in
+      let after : new.view.turn.active ≡ left_open inside opened.generation =
+      ap (λ (s : Standing). s.active) left ∙ ap (λ (active : Option ℕ). if inside then active else None) was in
+      let timed : IsTimed (Call call.op) inside (standing_of old.view) entry.generation new.view.turn.active =
+      record { generation = opened.generation; drawn_in = drawn_in; goes_on = opened.goes_on; left = after } in
+      record {
+        between = between;
+        answered = record {
+          entry = entry;
+          drawn = ap (λ (s : Standing). s.entries) left ∙ called.drawn ∙ ap (λ (mine : List Entry). mine ++ entry ∷ []) opened.entries;
+          deed = ap deed_of whole ∙ (λ j. record { index = length (opened.entries j); object = sym of.0 j; act = sym of.1 j });
+          processor = ap (λ (e : Entry). e.proc) whole ∙ on.proc;
+          kept = subst IsNotGivenUp (sym (ap (λ (e : Entry). e.answer) whole)) tt;
+          timed = subst (λ (act : Act). IsTimed act inside (standing_of old.view) entry.generation new.view.turn.active) (sym of.1) timed;
+        };
+        activities = let steady = ap (λ (own : Own). own.activities) called.keeps in let last = same.activities in omega (arith, few, steady, last);
+        graces = let steady = ap (λ (own : Own). own.graces) called.keeps in let last = same.graces in omega (arith, level, steady, last);
+      }
+
+  pub call_held : (cause : CallCause) (after : CallSeen) (new : SystemPass) → after ≡ record call { ended = false } → IsAsked system.plan call.object call.op
+      → IsNotHeldUp old.view mid.view → mid.seat ≡ old.seat → IsAtWork new.view → HasNotCalled mid.view new.view
+      → HoldsUp (layouts_in system) system.sys.layouts mid.seat cause call.object mid.view new.view
+      → IsHeldUp system line (held.Call cause) (Calling call) (Calling after) old new
+  call_held cause after new same asked free seat works not held_up =
+      subst (λ (seen : CallSeen). IsHeldUp system line (held.Call cause) (Calling call) (Calling seen) old new) (sym same) (record {
+        of = of;
+        may = (refl, asked, record { grace = works.grace; swap = works.swap });
+        held = holds_up_before (layouts_in system) system.sys.layouts old.seat cause call.object old.view mid.view new.view free
+            (subst (λ (id : ℕ). HoldsUp (layouts_in system) system.sys.layouts id cause call.object mid.view new.view) seat held_up);
+        stays = record {
+          generation = opened.generation;
+          active = same_active mid.view new.view not.keeps ∙ opened.active;
+          goes_on = opened.goes_on;
+          entries = not.same ∙ opened.entries;
+        };
+        activities =
+            let steady = ap (λ (own : Own). own.activities) not.keeps in
+            let due = none_due new.view.turn.active works.active in omega (arith, few, steady, due);
+        graces = let steady = ap (λ (own : Own). own.graces) not.keeps in omega (arith, level, steady);
+      })
+
+  pub call_given_up : (made new : SystemPass) → HasNotCalled mid.view made.view → IsAtRest new.view
+      → standing_of new.view ≡ record (standing_of made.view) { active = None } → IsGivenUp system line old new
+  call_given_up made new not rests left = subst (λ (act : Act). IsGivenUp system (record line { act = act }) old new) (sym of.1) (record {
+    rests = rests;
+    ended = ap (λ (s : Standing). s.entries) left ∙ not.same ∙ opened.entries;
+  })
