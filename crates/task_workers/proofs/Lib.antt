@@ -3,4 +3,5 @@ pub mod TriedSwaps
 pub mod LinesBegun
 pub mod LinesDone
 pub mod ItemsDone
+pub mod LinesTried
 pub mod Crewed

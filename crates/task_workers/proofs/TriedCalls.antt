@@ -1,5 +1,5 @@
 -- A call that is tried once: what it leaves when it is done, held up, or without memory.
-use Rattle.std.proofs.Common.{◌≡◌, ℕ, ◌+◌, ◌≤◌, Bool, true, false, Option, Some, None, [], ◌∷◌, ◌++◌, is_some, length, refl, sym, ap, ◌∙◌, subst, arith}
+use Rattle.std.proofs.Common.{◌≡◌, ℕ, ◌+◌, ◌≤◌, Bool, true, false, Option, Some, None, List, [], ◌∷◌, ◌++◌, is_some, length, refl, sym, ap, ◌∙◌, subst, arith}
 use Rattle.std.specs.Prelude.{if◌then◌else◌}
 use Rattle.k42_kinds.specs.declared.entry.Act.{Act}
 use Rattle.k42_kinds.specs.declared.entry.Act.TheVariants.{Call}
@@ -17,7 +17,7 @@ use Rattle.script_text.specs.Lawful.{Deed, IsNotGivenUp, deed_of}
 use Rattle.script_text.specs.declared.script.CallLine.{CallLine}
 use Rattle.k42_workers.specs.Lines.{Standing, AnswersLine, IsOpened, IsTimed, left_open}
 use Rattle.k42_workers.specs.Passes.{IsBetween, IsNotHeldUp, GoesOnAs, StaysAs, standing_of}
-use Rattle.task_workers.specs.Tries.{IsDone, IsHeldUp, IsGivenUp, activities_due}
+use Rattle.task_workers.specs.Tries.{IsDone, IsHeldUp, IsGivenUp, IsSame, activities_due}
 use Rattle.task_workers.specs.declared.tasks.TaskAt.TheVariants.{Calling}
 use Rattle.task_workers.specs.declared.tasks.TaskCause.TheVariants as held
 
@@ -40,6 +40,21 @@ opened_few (Some generation) old mid stays on = let same = stays refl in omega (
 none_due : (active : Option ℕ) → is_some active ≡ true → activities_due active ≡ 0
 none_due None some = cc
 none_due (Some generation) some = refl
+
+-- the pass of a call, and of one that was left again, is the same
+pub same_called : (system : SystemSeen) (old mid new : SystemPass) → GoesOnAs old.view mid.view → KeepsElse mid.view new.view → IsPassHere system new → IsSame system old new
+same_called system old mid new on keeps here = record {
+  here = here;
+  number = ap (λ (own : Own). own.number) keeps ∙ on.number;
+  proc = ap (λ (own : Own). own.turn.proc) keeps ∙ on.proc;
+}
+
+pub same_left : (system : SystemSeen) (old mid made new : SystemPass) → GoesOnAs old.view mid.view → KeepsElse mid.view made.view → StaysAs made.view new.view → IsPassHere system new → IsSame system old new
+same_left system old mid made new on keeps same here = record {
+  here = here;
+  number = same.number ∙ ap (λ (own : Own). own.number) keeps ∙ on.number;
+  proc = same.proc ∙ ap (λ (own : Own). own.turn.proc) keeps ∙ on.proc;
+}
 
 module _ (system : SystemSeen) (line : CallLine) (inside : Bool) (call : CallSeen) (old mid : SystemPass)
     (of : (line.object ≡ call.object) × (line.act ≡ Call call.op))

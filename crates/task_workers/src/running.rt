@@ -40,7 +40,7 @@ pub fn tasks_of<'a>(
 /// The passes of the tasks, in their order.
 fn passes_of(alloc: Global, tasks: Vec<WorkerTask<'_>>) -> Result<Vec<Pass>, Memory>
     requires { HaveEnded tasks.items }
-    ensures { IfOk result (λ passes. passes.items ≡ map (λ task. task.pass) tasks.items) }
+    ensures { IfOk result (λ passes. passes.items ≡ map (λ task. task.pass) tasks.entry.items) }
 {
     let mut passes = Vec::new(alloc);
     for task in tasks {
