@@ -1,7 +1,7 @@
 -- The tasks of a run: as they begin, through their rounds, and when all have ended.
 use Rattle.std.proofs.Common.{◌≡◌, ℕ, zero, suc, ◌+◌, ◌<◌, ◌≤◌, Bool, true, false, List, [], ◌∷◌, ◌++◌, length, drop, map, refl, sym, ap, ◌∙◌, subst, arith, add-one}
 use Rattle.std.specs.Prelude.{All, Some, slice_get}
-use Rattle.std.proofs.lemmas.List.{append-nil, append_assoc, length_push, map-append}
+use Rattle.std.proofs.lemmas.List.{append-nil, append_assoc, length-map, length_push, map-append}
 use Rattle.std.proofs.lemmas.Option.{same_Some, slice_get_within}
 use Rattle.std.proofs.Math.ListN.{drop_of_length-le}
 use Rattle.k42_places.proofs.Rests.{drop_at}
@@ -21,14 +21,6 @@ use Rattle.task_workers.specs.declared.tasks.TaskAt.TheVariants.{Between, Callin
 use Rattle.task_workers.specs.declared.tasks.WorkerTask.{WorkerTask}
 
 module _ (system : SystemSeen) where
-  -- what is said of a run in which no task was refused memory is not said where one was
-  pub fair_on : (before after : Bool) (task : WorkerTask) → (after ≡ false → before ≡ false) → IsFair system before task → IsFair system after task
-  fair_on before after task kept fair = record { task_is = fair.task_is; done = λ none. fair.done (kept none) }
-
-  pub are_fair_on : (before after : Bool) (tasks : List WorkerTask) → (after ≡ false → before ≡ false) → AreFair system before tasks → AreFair system after tasks
-  are_fair_on before after [] kept fair = tt
-  are_fair_on before after (task ∷ tasks) kept fair = (fair_on before after task kept fair.0, are_fair_on before after tasks kept fair.1)
-
   pub fair_push : (refused : Bool) (tasks : List WorkerTask) (task : WorkerTask) → AreFair system refused tasks → IsFair system refused task → AreFair system refused (tasks ++ task ∷ [])
   fair_push refused [] task fair last = (last, tt)
   fair_push refused (first ∷ tasks) task fair last = (fair.0, fair_push refused tasks task fair.1 last)
@@ -88,10 +80,10 @@ module _ (system : SystemSeen) where
 pub record IsFilled (system : SystemSeen) (workers : List WorkerLines) (tasks : List WorkerTask) (passes rest : List SystemPass) : Type 0 where
   pub left : rest ≡ drop (length tasks) passes
   pub own : map own_of tasks ++ owns_from (length tasks) (drop (length tasks) workers) ≡ owns_from 0 workers
-  pub fair : AreFair system false tasks
+  pub fair : (refused : Bool) → AreFair system refused tasks
 
 pub none_filled : (system : SystemSeen) (workers : List WorkerLines) (passes : List SystemPass) → IsFilled system workers [] passes passes
-none_filled system workers passes = record { left = refl; own = refl; fair = tt }
+none_filled system workers passes = record { left = refl; own = refl; fair = λ refused. tt }
 
 -- what stands first behind so many elements
 first_behind : {A : Type 0} (xs : List A) (n : ℕ) (x : A) (rest : List A) → x ∷ rest ≡ drop n xs → (slice_get xs n ≡ Some x) × (rest ≡ drop (suc n) xs)
@@ -148,7 +140,7 @@ module _ (system : SystemSeen) (workers : List WorkerLines) (tasks : List Worker
               ∙ ap (λ (o : Own). map own_of tasks ++ o ∷ owns_from (length tasks + 1) (drop (length tasks + 1) workers)) own
               ∙ ap (λ (ws : List WorkerLines). map own_of tasks ++ owns_from (length tasks) ws) (sym next)
               ∙ filled.own;
-          fair = fair_push system false tasks task filled.fair (record {
+          fair = λ refused. fair_push system refused tasks task (filled.fair refused) (record {
             task_is = is_task (may_begin system (length tasks) worker pass fresh ready);
             done = λ none ended. absurd (begun_not_ended task.at new ended);
           });
@@ -161,3 +153,15 @@ all_filled system workers tasks passes many filled =
     let past = none_behind passes (length tasks) filled.left in
     let none : drop (length tasks) workers ≡ [] = drop_of_length-le workers {i = length tasks} (omega (arith, many, past)) in
     sym (append-nil (map own_of tasks)) ∙ ap (λ (ws : List WorkerLines). map own_of tasks ++ owns_from (length tasks) ws) (sym none) ∙ filled.own
+
+length-owns_from : (first : ℕ) (workers : List WorkerLines) → length (owns_from first workers) ≡ length workers
+length-owns_from first [] = refl
+length-owns_from first (worker ∷ workers) = ap suc (length-owns_from (first + 1) workers)
+
+-- there is a task for each worker
+pub many_tasks : (workers : List WorkerLines) (tasks : List WorkerTask) → map own_of tasks ≡ owns_from 0 workers → length tasks ≡ length workers
+many_tasks workers tasks own = sym (length-map tasks own_of) ∙ ap length own ∙ length-owns_from 0 workers
+
+pub none_long : {A : Type 0} (xs : List A) → 0 ≡ length xs → xs ≡ []
+none_long [] e = refl
+none_long (x ∷ xs) e = cc
