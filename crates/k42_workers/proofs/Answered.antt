@@ -18,20 +18,11 @@ use Rattle.script_text.specs.declared.script.Item.TheVariants.{Begin, End, Line}
 use Rattle.script_text.specs.declared.script.WorkerLines.{WorkerLines}
 use Rattle.k42_board.specs.declared.view.PassView.{PassView}
 use Rattle.k42_runtime.specs.Systems.{SystemPart, SystemPass, SystemSeen, IsPassHere, IsAtRest}
-use Rattle.k42_workers.specs.Lines.{Follows}
+use Rattle.k42_workers.specs.Lines.{Standing, Follows}
 use Rattle.k42_workers.specs.Passes.{MayAskLine, IsReady, standing_of, IsBetween, RestsFor, MayFollow, GoesOnBy, IsFresh, HasWorked, MayWork}
 use Rattle.k42_workers.proofs.Halved.{pair_front, pair_back}
-use Rattle.k42_workers.proofs.Working.{IsUnderWay, under_way_at_start, under_way_on, done_at_end, idle_at_end}
-
--- So many items are behind the pass.
-pub record IsAt (system : SystemSeen) (number : ℕ) (worker : WorkerLines) (place : ℕ) (inside : Bool) (pass : SystemPass) : Type 0 where
-  pub here : IsPassHere system pass
-  pub between : IsBetween pass.view
-  pub caller : pass.view.number ≡ number
-  pub proc : pass.view.turn.proc ≡ worker.proc
-  pub activities : pass.view.activities + length (call_lines (drop place worker.items)) ≤ length (call_lines worker.items)
-  pub graces : pass.view.graces + length (call_lines (drop place worker.items)) ≤ length (call_lines worker.items)
-  pub way : IsUnderWay worker place inside (standing_of pass.view)
+use Rattle.k42_workers.specs.UnderWay.{IsUnderWay, IsAt}
+use Rattle.k42_workers.proofs.Working.{under_way_at_start, under_way_on, done_at_end, idle_at_end}
 
 all_three : (a b c : Bool) → (a && b && c) ≡ true → (a ≡ true) × (b ≡ true) × (c ≡ true)
 all_three true true true e = (refl, refl, refl)
@@ -43,21 +34,26 @@ none_there : (o : Option ℕ) → is_none o ≡ true → o ≡ None
 none_there None e = refl
 none_there (Some a) e = cc
 
-rests_with : (v : PassView SystemPart) → IsBetween v → v.turn.active ≡ None → IsAtRest v
+-- what a pass that has nothing under way is like
+pub at_rest : (v : PassView SystemPart) → IsAtRest v → IsBetween v × (v.turn.active ≡ None)
+at_rest v rests =
+    let parts = all_three (is_none v.turn.active) (graces.is_idle v.turn.grace) (swaps.is_idle v.visitor.swap) rests in
+    (record { grace = parts.1; swap = parts.2 }, none_there v.turn.active parts.0)
+
+pub rests_with : (v : PassView SystemPart) → IsBetween v → v.turn.active ≡ None → IsAtRest v
 rests_with v between idle = rw (idle, between.grace, between.swap) refl
 
 length-deeds_from : (n : ℕ) (lines : List CallLine) → length (deeds_from n lines) ≡ length lines
 length-deeds_from n [] = refl
 length-deeds_from n (line ∷ lines) = ap suc (length-deeds_from (n + 1) lines)
 
-line_in : Item → CallLine → CallLine
+abbrev pub line_in : Item → CallLine → CallLine
 line_in (Line line) other = line
 line_in Begin other = other
 line_in End other = other
 
 -- what holds of each line holds of the one that stands among the items
-line_at : (P : CallLine → Type 0) (items : List Item) (place : ℕ) (line : CallLine) → AllByRecursion P (call_lines items) → slice_get items place ≡ Some (Line line) → P line
-unfolding line_in
+pub line_at : (P : CallLine → Type 0) (items : List Item) (place : ℕ) (line : CallLine) → AllByRecursion P (call_lines items) → slice_get items place ≡ Some (Line line) → P line
 line_at P [] place line each there = cc
 line_at P (Begin ∷ items) zero line each there = cc
 line_at P (Begin ∷ items) (suc place) line each there = line_at P items place line each there
@@ -66,18 +62,32 @@ line_at P (End ∷ items) (suc place) line each there = line_at P items place li
 line_at P (Line own ∷ items) zero line each there = subst P (ap (λ item. line_in item own) (same_Some (Line own) (Line line) there)) each.0
 line_at P (Line own ∷ items) (suc place) line each there = line_at P items place line each.1 there
 
+-- there is an entry for each line that is behind the worker
+pub many_under_way : (worker : WorkerLines) (place : ℕ) (inside : Bool) (standing : Standing) → IsUnderWay worker place inside standing
+    → length standing.entries + length (call_lines (drop place worker.items)) ≡ length (call_lines worker.items)
+many_under_way worker place inside standing way =
+    let rest = call_lines (drop place worker.items) in
+    omega (
+      arith,
+      ap length way.deeds,
+      length-append (map deed_of standing.entries) (deeds_from (length standing.entries) rest),
+      length-map standing.entries deed_of,
+      length-deeds_from (length standing.entries) rest,
+      length-deeds_from 0 (call_lines worker.items),
+    )
+
 module _ (system : SystemSeen) (number : ℕ) (worker : WorkerLines) where
   pub at_start : (pass : SystemPass) → IsFresh system number worker pass → IsReady system.plan worker → IsAt system number worker 0 false pass
   at_start pass fresh ready =
-      let parts = all_three (is_none pass.view.turn.active) (graces.is_idle pass.view.turn.grace) (swaps.is_idle pass.view.visitor.swap) fresh.rests in
+      let idle = at_rest pass.view fresh.rests in
       record {
         here = fresh.here;
-        between = record { grace = parts.1; swap = parts.2 };
+        between = idle.0;
         caller = fresh.caller;
         proc = fresh.proc;
         activities = omega (arith, fresh.activities);
         graces = omega (arith, fresh.graces);
-        way = under_way_at_start worker ready.matches (standing_of pass.view) fresh.entries (none_there pass.view.turn.active parts.0);
+        way = under_way_at_start worker ready.matches (standing_of pass.view) fresh.entries idle.1;
       }
 
   pub worked : (place : ℕ) (inside : Bool) (pass : SystemPass) → length worker.items ≤ place → IsAt system number worker place inside pass → HasWorked system number worker pass
@@ -89,16 +99,13 @@ module _ (system : SystemSeen) (number : ℕ) (worker : WorkerLines) where
   }
 
   module _ (place : ℕ) (inside : Bool) (pass : SystemPass) (at : IsAt system number worker place inside pass) where
-    next_is : (item : Item) → slice_get worker.items place ≡ Some item → drop place worker.items ≡ item ∷ drop (suc place) worker.items
+    pub next_is : (item : Item) → slice_get worker.items place ≡ Some item → drop place worker.items ≡ item ∷ drop (suc place) worker.items
     next_is item found = let next : place + 1 ≡ suc place = omega arith in drop_at worker.items place item found ∙ ap (λ n. item ∷ drop n worker.items) next
 
     count : length pass.view.taker.mine + length (call_lines (drop place worker.items)) ≡ length (call_lines worker.items)
-    count =
-        let entries = pass.view.taker.mine in
-        let rest = deeds_from (length entries) (call_lines (drop place worker.items)) in
-        omega (arith, ap length at.way.deeds, length-append (map deed_of entries) rest, length-map entries deed_of, length-deeds_from (length entries) (call_lines (drop place worker.items)), length-deeds_from 0 (call_lines worker.items))
+    count = many_under_way worker place inside (standing_of pass.view) at.way
 
-    rests_for : (line : CallLine) (act : Act) → line.act ≡ act → drop place worker.items ≡ Line line ∷ drop (suc place) worker.items → RestsFor act pass.view
+    pub rests_for : (line : CallLine) (act : Act) → line.act ≡ act → drop place worker.items ≡ Line line ∷ drop (suc place) worker.items → RestsFor act pass.view
     rests_for line (Call op) is here = tt
     rests_for line (Swap to) is here = rests_with pass.view at.between (at.way.outside (outside inside refl (rw (here, is) at at.way.matches).0)).1
       where

@@ -19,6 +19,7 @@ use Rattle.script_text.specs.declared.script.WorkerLines.{WorkerLines}
 use Rattle.record_text.specs.Spelling.{HasGeneration}
 use Rattle.record_text.specs.Told.{blocks_from, blocks_of, AreInStep}
 use Rattle.k42_workers.specs.Lines.{Standing, IsLatest, GoesOn, left_open, IsTimedCall, IsTimed, AnswersLine, Follows}
+use Rattle.k42_workers.specs.UnderWay.{IsUnderWay, block_at}
 use Rattle.k42_workers.specs.Workers.{IsMadeBy, StayInStep, HasDoneLines}
 
 -- the entry at a place after one more was put behind the others
@@ -41,29 +42,8 @@ below_or_last (suc i) (suc n) less = elim (below_or_last i n (omega (arith, less
 ]
 
 module _ (worker : WorkerLines) where
-  -- the block of the line with this place
-  abbrev pub block_at : ℕ → ℕ
-  block_at place = get_or (blocks_of worker.items) place 0
-
-  -- So many items are behind the worker.
-  pub record IsUnderWay (place : ℕ) (inside : Bool) (standing : Standing) : Type 0 where
-    pub deeds : map deed_of standing.entries ++ deeds_from (length standing.entries) (call_lines (drop place worker.items)) ≡ deeds_from 0 (call_lines worker.items)
-    pub made : All (IsMadeBy worker) standing.entries
-    pub in_step : StayInStep (blocks_of worker.items) standing.entries
-    pub begun : ℕ
-    pub block : ℕ
-    pub done : List ℕ
-    pub blocks : blocks_of worker.items ≡ done ++ blocks_from begun block (drop place worker.items)
-    pub many : length done ≡ length standing.entries
-    pub matches : BlocksMatch inside (drop place worker.items) false
-    pub outside : inside ≡ false → (block ≡ 0) × (standing.active ≡ None)
-    pub within : block ≤ begun
-    pub earlier : (i : ℕ) → i < length standing.entries → block_at i ≤ begun
-    pub latest : (a : ℕ) → standing.active ≡ Some a → IsLatest a standing.entries
-    pub level : block ≢ 0 → (i : ℕ) (entry : Entry) (g : ℕ) → slice_get standing.entries i ≡ Some entry → block_at i ≡ block → entry.generation ≡ Some g → standing.active ≡ Some g
-
   -- before the first
-  pub under_way_at_start : BlocksMatch false worker.items false → (standing : Standing) → standing.entries ≡ [] → standing.active ≡ None → IsUnderWay 0 false standing
+  pub under_way_at_start : BlocksMatch false worker.items false → (standing : Standing) → standing.entries ≡ [] → standing.active ≡ None → IsUnderWay worker 0 false standing
   under_way_at_start matches standing none idle =
       let few : length standing.entries ≡ 0 = ap length none in
       let nothing : (i : ℕ) (entry : Entry) → slice_get standing.entries i ≡ Some entry → ⊥ = λ i entry there. omega (arith, few, slice_get_within standing.entries i entry there) in
@@ -85,7 +65,7 @@ module _ (worker : WorkerLines) where
       }
 
   -- behind the last
-  pub done_at_end : (place : ℕ) (inside : Bool) (standing : Standing) → length worker.items ≤ place → IsUnderWay place inside standing → HasDoneLines worker standing.entries
+  pub done_at_end : (place : ℕ) (inside : Bool) (standing : Standing) → length worker.items ≤ place → IsUnderWay worker place inside standing → HasDoneLines worker standing.entries
   done_at_end place inside standing past way =
       let none : drop place worker.items ≡ [] = drop_of_length-le worker.items {i = place} past in
       record {
@@ -95,14 +75,14 @@ module _ (worker : WorkerLines) where
       }
 
   -- and then no activity is open
-  pub idle_at_end : (place : ℕ) (inside : Bool) (standing : Standing) → length worker.items ≤ place → IsUnderWay place inside standing → standing.active ≡ None
+  pub idle_at_end : (place : ℕ) (inside : Bool) (standing : Standing) → length worker.items ≤ place → IsUnderWay worker place inside standing → standing.active ≡ None
   idle_at_end place inside standing past way =
       let none : drop place worker.items ≡ [] = drop_of_length-le worker.items {i = place} past in
       (way.outside (rw none at way.matches)).1
 
-  module _ (place : ℕ) (inside : Bool) (old : Standing) (way : IsUnderWay place inside old) where
+  module _ (place : ℕ) (inside : Bool) (old : Standing) (way : IsUnderWay worker place inside old) where
     -- a block is opened
-    begun_on : drop place worker.items ≡ Begin ∷ drop (suc place) worker.items → IsUnderWay (suc place) true old
+    begun_on : drop place worker.items ≡ Begin ∷ drop (suc place) worker.items → IsUnderWay worker (suc place) true old
     begun_on here =
         let matches : BlocksMatch inside (Begin ∷ drop (suc place) worker.items) false = rw here at way.matches in
         record {
@@ -123,10 +103,10 @@ module _ (worker : WorkerLines) where
         }
 
     -- and ended
-    ended_on : (new : Standing) → new ≡ record old { active = None } → drop place worker.items ≡ End ∷ drop (suc place) worker.items → IsUnderWay (suc place) false new
+    ended_on : (new : Standing) → new ≡ record old { active = None } → drop place worker.items ≡ End ∷ drop (suc place) worker.items → IsUnderWay worker (suc place) false new
     ended_on new closed here =
         let matches : BlocksMatch inside (End ∷ drop (suc place) worker.items) false = rw here at way.matches in
-        subst (IsUnderWay (suc place) false) (sym closed) (record {
+        subst (IsUnderWay worker (suc place) false) (sym closed) (record {
           deeds = rw here at way.deeds;
           made = way.made;
           in_step = way.in_step;
@@ -150,7 +130,7 @@ module _ (worker : WorkerLines) where
 
     -- and in the activity of its block
     levelled : (active : Option ℕ) → old.active ≡ active → (generation : ℕ) → GoesOn active old.entries generation → way.block ≢ 0
-        → (i : ℕ) (entry : Entry) (g : ℕ) → slice_get old.entries i ≡ Some entry → block_at i ≡ way.block → entry.generation ≡ Some g → g ≡ generation
+        → (i : ℕ) (entry : Entry) (g : ℕ) → slice_get old.entries i ≡ Some entry → block_at worker i ≡ way.block → entry.generation ≡ Some g → g ≡ generation
     levelled (Some a) now_active generation on some i entry g there same drawn = sym (same_Some a g (sym now_active ∙ way.level some i entry g there same drawn)) ∙ sym on
     levelled None now_active generation on some i entry g there same drawn = absurd (none-some g (sym now_active ∙ way.level some i entry g there same drawn))
 
@@ -163,11 +143,11 @@ module _ (worker : WorkerLines) where
     record IsPlaced (entry : Entry) (after : Option ℕ) : Type 0 where
       generation : HasGeneration entry.act entry.generation
       risen_to : (g : ℕ) → entry.generation ≡ Some g → IsLatest g old.entries
-      level_to : (g : ℕ) → entry.generation ≡ Some g → way.block ≢ 0 → (i : ℕ) (other : Entry) (f : ℕ) → slice_get old.entries i ≡ Some other → block_at i ≡ way.block → other.generation ≡ Some f → f ≡ g
+      level_to : (g : ℕ) → entry.generation ≡ Some g → way.block ≢ 0 → (i : ℕ) (other : Entry) (f : ℕ) → slice_get old.entries i ≡ Some other → block_at worker i ≡ way.block → other.generation ≡ Some f → f ≡ g
       left : inside ≡ false → after ≡ None
       open_in : (a : ℕ) → after ≡ Some a → entry.generation ≡ Some a
       stays_open : way.block ≢ 0 → (f : ℕ) → entry.generation ≡ Some f → after ≡ Some f
-      was_open : way.block ≢ 0 → (i : ℕ) (other : Entry) (f : ℕ) → slice_get old.entries i ≡ Some other → block_at i ≡ way.block → other.generation ≡ Some f → after ≡ Some f
+      was_open : way.block ≢ 0 → (i : ℕ) (other : Entry) (f : ℕ) → slice_get old.entries i ≡ Some other → block_at worker i ≡ way.block → other.generation ≡ Some f → after ≡ Some f
 
     shut : (b : Bool) → inside ≡ b → (g : ℕ) → inside ≡ false → left_open b g ≡ None
     shut true is g out = let no : true ≡ false = sym is ∙ out in cc
@@ -211,7 +191,7 @@ module _ (worker : WorkerLines) where
     placed (Swap to) entry after is call timed = placed_alone entry after (rw (is, timed.drawn_in) refl) call timed.drawn_in timed.left
 
     -- the block of the next line
-    block_next : (line : CallLine) → drop place worker.items ≡ Line line ∷ drop (suc place) worker.items → block_at (length old.entries) ≡ way.block
+    block_next : (line : CallLine) → drop place worker.items ≡ Line line ∷ drop (suc place) worker.items → block_at worker (length old.entries) ≡ way.block
     block_next line here =
         let rest = drop (suc place) worker.items in
         let blocks : blocks_of worker.items ≡ way.done ++ way.block ∷ blocks_from way.begun way.block rest = rw here at way.blocks in
@@ -235,20 +215,20 @@ module _ (worker : WorkerLines) where
     -- the new entry is in step with an earlier one
     step_here : (line : CallLine) (new : Standing) → (answers : AnswersLine line worker.proc inside old new) → drop place worker.items ≡ Line line ∷ drop (suc place) worker.items
         → (i j : ℕ) (first last : Entry) (former generation : ℕ) → slice_get old.entries i ≡ Some first → j ≡ length old.entries → last ≡ answers.entry → first.generation ≡ Some former → last.generation ≡ Some generation
-        → AreInStep (block_at i) (block_at j) former generation
+        → AreInStep (block_at worker i) (block_at worker j) former generation
     step_here line new answers here i j first last former generation there at is was drawn =
         let entry = answers.entry in
         let matches : BlocksMatch inside (Line line ∷ drop (suc place) worker.items) false = rw here at way.matches in
         let fits = placed line.act entry new.active (ap (λ (deed : Deed). deed.act) answers.deed) matches.0 answers.timed in
         let own : entry.generation ≡ Some generation = sym (ap (λ (e : Entry). e.generation) is) ∙ drawn in
-        let block : block_at j ≡ way.block = ap block_at at ∙ block_next line here in
+        let block : block_at worker j ≡ way.block = ap (block_at worker) at ∙ block_next line here in
         record {
           risen = fits.risen_to generation own i first there former was;
           level = λ some same. fits.level_to generation own (λ none. some (block ∙ none)) i first former there (same ∙ block) was;
         }
 
     -- a line is answered
-    answered_on : (line : CallLine) (new : Standing) → AnswersLine line worker.proc inside old new → drop place worker.items ≡ Line line ∷ drop (suc place) worker.items → IsUnderWay (suc place) inside new
+    answered_on : (line : CallLine) (new : Standing) → AnswersLine line worker.proc inside old new → drop place worker.items ≡ Line line ∷ drop (suc place) worker.items → IsUnderWay worker (suc place) inside new
     answered_on line new answers here =
         let entry = answers.entry in
         let rest = drop (suc place) worker.items in
@@ -282,7 +262,7 @@ module _ (worker : WorkerLines) where
           within = way.within;
           earlier = λ i less. elim (below_or_last i (length old.entries) (omega (arith, less, count))) [
             | inl below ↦ way.earlier i below
-            | inr last ↦ omega (arith, ap block_at last, block_here, way.within)
+            | inr last ↦ omega (arith, ap (block_at worker) last, block_here, way.within)
           ];
           latest = λ a now_active i one there g drawn. elim (found i one there) [
             | inl before ↦ fits.risen_to a (fits.open_in a now_active) i one before g drawn
@@ -295,12 +275,12 @@ module _ (worker : WorkerLines) where
         }
 
   -- whatever the item is
-  followed_on : (place : ℕ) (inside after : Bool) (item : Item) (old new : Standing) → drop place worker.items ≡ item ∷ drop (suc place) worker.items → IsUnderWay place inside old → Follows item worker.proc inside after old new → IsUnderWay (suc place) after new
+  followed_on : (place : ℕ) (inside after : Bool) (item : Item) (old new : Standing) → drop place worker.items ≡ item ∷ drop (suc place) worker.items → IsUnderWay worker place inside old → Follows item worker.proc inside after old new → IsUnderWay worker (suc place) after new
   followed_on place inside after Begin old new here way follows = rw (follows.0, follows.1) (begun_on place inside old way here)
   followed_on place inside after End old new here way follows = rw follows.0 (ended_on place inside old way new follows.1 here)
   followed_on place inside after (Line line) old new here way follows = rw follows.0 (answered_on place inside old way line new follows.1 here)
 
-  pub under_way_on : (place : ℕ) (inside after : Bool) (item : Item) (old new : Standing) → slice_get worker.items place ≡ Some item → IsUnderWay place inside old → Follows item worker.proc inside after old new → IsUnderWay (suc place) after new
+  pub under_way_on : (place : ℕ) (inside after : Bool) (item : Item) (old new : Standing) → slice_get worker.items place ≡ Some item → IsUnderWay worker place inside old → Follows item worker.proc inside after old new → IsUnderWay worker (suc place) after new
   under_way_on place inside after item old new found way follows =
       let next : place + 1 ≡ suc place = omega arith in
       followed_on place inside after item old new (drop_at worker.items place item found ∙ ap (λ n. item ∷ drop n worker.items) next) way follows

@@ -62,6 +62,12 @@ pub record StaysAs {P : Type 0} (old new : PassView P) : Type 0 where
   pub activities : new.activities ≡ old.activities
   pub graces : new.graces ≡ old.graces
 
+-- nothing has held it up
+pub record IsNotHeldUp {P : Type 0} (old new : PassView P) : Type 0 where
+  pub refused : new.refused ≡ old.refused
+  pub knocked : new.knocked ≡ old.knocked
+  pub stalls : new.stalls ≡ old.stalls
+
 -- a swap is made between two activities
 abbrev pub RestsFor : {P : Type 0} → Act → PassView P → Type 0
 RestsFor (Call op) v = ⊤

@@ -1,11 +1,11 @@
 //! The lines of a worker, each carried out on its pass.
-ghost use Rattle.std.specs.Prelude.{◌≡◌, ◌<◌, Bool, None, OnOk, IfOk, length, if◌then◌else◌};
+ghost use Rattle.std.specs.Prelude.{◌≡◌, ◌<◌, Bool, true, None, OnOk, IfOk, length, is_some, if◌then◌else◌};
 ghost use Rattle.k42_kinds.specs.declared.entry.Act.TheVariants as acts;
 ghost use Rattle.k42_board.specs.Generations.{MOST};
 ghost use Rattle.k42_runtime.specs.Calls.{IsAsked};
 ghost use Rattle.k42_runtime.specs.Systems.{IsPassHere, IsAtRest, IsAtWork};
 ghost use Rattle.k42_workers.specs.Lines.{AnswersLine, IsOpened, IsMade, Follows};
-ghost use Rattle.k42_workers.specs.Passes.{standing_of, IsBetween, HasFew, GoesOnAs, GoesOnBy, StaysAs, MayAnswer, MayFollow};
+ghost use Rattle.k42_workers.specs.Passes.{standing_of, IsBetween, HasFew, GoesOnAs, GoesOnBy, StaysAs, IsNotHeldUp, MayAnswer, MayFollow};
 
 use crate::gate::Gate;
 use k42_kinds::{Act, Op, To};
@@ -16,7 +16,7 @@ use std::alloc::Global;
 use std::sync::Wait;
 
 /// Begins an activity where none is open.
-fn open(system: &System, pass: &mut Pass)
+pub fn open(system: &System, pass: &mut Pass)
     requires here { IsPassHere system.now pass.old }
     requires between { IsBetween pass.old.view }
     requires few { HasFew pass.old.view }
@@ -25,6 +25,9 @@ fn open(system: &System, pass: &mut Pass)
     ensures opened { IsOpened (standing_of pass.old.view) (standing_of pass.new.view) }
     ensures caller { GoesOnAs pass.old.view pass.new.view }
     ensures graces { pass.new.view.graces ≡ pass.old.view.graces }
+    ensures stays { is_some pass.old.view.turn.active ≡ true → pass.new ≡ pass.old }
+    ensures seat { pass.new.seat ≡ pass.old.seat }
+    ensures free { IsNotHeldUp pass.old.view pass.new.view }
 {
     if !pass.is_active() {
         system.enter(pass);
@@ -46,7 +49,7 @@ pub fn leave_open(system: &System, pass: &mut Pass)
 }
 
 /// Ends the activity, but not in a block.
-fn leave_outside(system: &System, pass: &mut Pass, inside: bool)
+pub fn leave_outside(system: &System, pass: &mut Pass, inside: bool)
     requires here { IsPassHere system.now pass.old }
     requires works { IsAtWork pass.old.view }
     ensures here { IsPassHere system.now pass.new }

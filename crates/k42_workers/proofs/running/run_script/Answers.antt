@@ -1,30 +1,12 @@
-use Rattle.std.proofs.Common.{ℕ}
-use Rattle.std.specs.Prelude.{All}
-use Rattle.k42_kinds.specs.declared.entry.Entry.{Entry}
-use Rattle.script_text.specs.Lawful.{IsLawful}
-use Rattle.record_text.specs.Histories.{record_of}
-use Rattle.record_text.specs.Rules.{IsLawfulRecord}
-use Rattle.record_text.specs.Spelling.{HasGeneration}
-use Rattle.k42_runtime.specs.Histories.{HistorySeen}
-use Rattle.k42_workers.specs.Workers.{IsRunOf}
-use Rattle.k42_workers.proofs.Halved.{where_ok}
-use Rattle.k42_workers.proofs.Judged.{lawful, generations, judged_lawful}
+use Rattle.std.proofs.Common.{◌≡◌, length, ◌∙◌, ap, arith}
+use Rattle.k42_workers.specs.Passes.{HaveWorked}
+use Rattle.k42_workers.proofs.Ended.{whole}
 use Rattle.k42_workers.proofs.running.run_script.Goals as goal
 
-pub returns-then-has_lines-clause-lawful : goal.returns-then-has_lines-clause-lawful
-returns-then-has_lines-clause-lawful g c = where_ok (λ (history : HistorySeen). IsRunOf c.args.script.now history.entries) (λ history. IsLawful c.args.script.now history.entries) (λ history run. lawful c.args.script.now history.entries run) c.run.result c.run.ensures.closed
-
-pub returns-then-has_lines-clause-recorded : goal.returns-then-has_lines-clause-recorded
-returns-then-has_lines-clause-recorded g c = where_ok (λ (history : HistorySeen). IsRunOf c.args.script.now history.entries) (λ history. (version : ℕ) → IsLawfulRecord c.args.script.now (record_of c.args.script.now history.entries version)) (λ history run. judged_lawful c.args.script.now history.entries run) c.run.result c.run.ensures.closed
-
-pub returns-then-has_lines-clause-generations : goal.returns-then-has_lines-clause-generations
-returns-then-has_lines-clause-generations g c = where_ok (λ (history : HistorySeen). IsRunOf c.args.script.now history.entries) (λ history. All (λ (entry : Entry). HasGeneration entry.act entry.generation) history.entries) (λ history run. generations c.args.script.now history.entries run) c.run.result c.run.ensures.closed
-
-pub returns-else-has_lines-clause-lawful : goal.returns-else-has_lines-clause-lawful
-returns-else-has_lines-clause-lawful g c = where_ok (λ (history : HistorySeen). IsRunOf c.args.script.now history.entries) (λ history. IsLawful c.args.script.now history.entries) (λ history run. lawful c.args.script.now history.entries run) c.rest.result c.rest.ensures.closed
-
-pub returns-else-has_lines-clause-recorded : goal.returns-else-has_lines-clause-recorded
-returns-else-has_lines-clause-recorded g c = where_ok (λ (history : HistorySeen). IsRunOf c.args.script.now history.entries) (λ history. (version : ℕ) → IsLawfulRecord c.args.script.now (record_of c.args.script.now history.entries version)) (λ history run. judged_lawful c.args.script.now history.entries run) c.rest.result c.rest.ensures.closed
-
-pub returns-else-has_lines-clause-generations : goal.returns-else-has_lines-clause-generations
-returns-else-has_lines-clause-generations g c = where_ok (λ (history : HistorySeen). IsRunOf c.args.script.now history.entries) (λ history. All (λ (entry : Entry). HasGeneration entry.act entry.generation) history.entries) (λ history run. generations c.args.script.now history.entries run) c.rest.result c.rest.ensures.closed
+pub end_run-requires-clause-worked : goal.end_run-requires-clause-worked
+end_run-requires-clause-worked g c =
+    let made = c.in_ok-system in
+    let new = c.work_all.new.passes in
+    let same : length new ≡ length made.passes.items = c.work_all.ensures.many ∙ ap length c.as_mut_slice.ensures.value in
+    let worked : HaveWorked made.system 0 c.args.script.now.workers new = rw c.as_slice.ensures at c.in_ok-work_all.ensures.worked in
+    rw (whole new made.passes.items made.passes.len (omega (arith, same, made.passes.ok.0)) (omega (arith, made.passes.ok.0))) worked

@@ -1,4 +1,4 @@
-use Rattle.k42_workers.proofs.Answered.{IsAt}
+use Rattle.k42_workers.specs.UnderWay.{IsAt}
 use Rattle.k42_workers.proofs.workers.work.Given as goal
 
 abbrev pub invariant-loop-item : goal.invariant-loop-item
