@@ -47,7 +47,7 @@ module _ (system : SystemSeen) (task : WorkerTask) (ready : IsReady system.plan 
       followed place = record { item = item; next = next; done = refl; follows = follows }
 
       at_item : IsAt system new.view.number (worker_on new task.items.now) (task.done + 1) after new
-      at_item = subst (λ (z : ℕ × WorkerLines × ℕ). IsAt system z.0 z.1 z.2 after new) (λ j. (sym same.number j, same_worker j, sym (add-one {task.done}) j)) at
+      at_item = subst (λ (z : ℕ × WorkerLines × ℕ). IsAt system z.0 z.1 z.2 after new) (λ j. (sym same.number j, same_worker j, sym (add-one task.done) j)) at
 
       pub item_done : HasStepped system (step_behind (task.done + 1) (length task.items.now)) task (behind_item after (record task { pass = new }))
       item_done = by (nat_lt (task.done + 1) (length task.items.now)) refl

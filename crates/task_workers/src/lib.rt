@@ -6,5 +6,5 @@ mod rounds;
 mod running;
 mod tasks;
 
-pub use running::run_tasks;
+pub use running::{run_tasks, tasks_of};
 pub use tasks::{TaskAt, TaskCause, TaskStep, WorkerTask};

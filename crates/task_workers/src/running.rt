@@ -19,7 +19,7 @@ use std::alloc::Global;
 use std::sync::Wait;
 
 /// A task for each worker, on its pass.
-fn tasks_of<'a>(
+pub fn tasks_of<'a>(
     alloc: Global,
     system: &System,
     workers: &'a [WorkerLines],
