@@ -1,5 +1,5 @@
 use crate::tests::gates::{Counting, Listening};
-use crate::tests::steps::{beside_a_block, beside_a_refusal, two_swaps};
+use crate::tests::steps::{steps_are, swap_before_a_call};
 use k42_kinds::{Answer, Reply};
 use k42_runtime::History;
 use k42_workers::{FreeGate, asks_something, begin_run};
@@ -105,7 +105,13 @@ fn a_swap_tells_twice_that_one_activity_has_not_left(rt: HostRuntime) -> Result<
     }
     let (system, passes) = begin_run(rt.alloc(), &script)?;
     let mut tasks = tasks_of(rt.alloc(), &system, script.workers.as_slice(), passes)?;
-    assert!(rt; beside_a_block(&rt, rt.alloc(), &system, tasks.as_mut_slice()));
+    steps_are(
+        &rt,
+        rt.alloc(),
+        &system,
+        tasks.as_mut_slice(),
+        &steps::BESIDE_A_BLOCK,
+    );
     Ok(())
 }
 
@@ -119,7 +125,13 @@ fn a_second_swap_tells_who_has_the_role(rt: HostRuntime) -> Result<(), Fail> {
     }
     let (system, passes) = begin_run(rt.alloc(), &script)?;
     let mut tasks = tasks_of(rt.alloc(), &system, script.workers.as_slice(), passes)?;
-    assert!(rt; two_swaps(&rt, rt.alloc(), &system, tasks.as_mut_slice()));
+    steps_are(
+        &rt,
+        rt.alloc(),
+        &system,
+        tasks.as_mut_slice(),
+        &steps::TWO_SWAPS,
+    );
     Ok(())
 }
 
@@ -135,6 +147,6 @@ fn where_a_swap_is_refused_memory_the_object_is_open_and_the_other_task_ends(
     }
     let (system, passes) = begin_run(rt.alloc(), &script)?;
     let mut tasks = tasks_of(rt.alloc(), &system, script.workers.as_slice(), passes)?;
-    assert!(rt; beside_a_refusal(&rt, rt.alloc(), &system, tasks.as_mut_slice()));
+    swap_before_a_call(&rt, rt.alloc(), &system, tasks.as_mut_slice());
     Ok(())
 }

@@ -1,20 +1,21 @@
 -- What a step of a task brings: an item that was followed, a line that was held up or given up, or the end.
-use Rattle.std.proofs.Common.{◌≡◌, ◌⊎◌, inl, inr, ℕ, suc, ◌+◌, ◌<◌, ◌≤◌, Bool, true, false, Some, [], ◌∷◌, length, refl, sym, ap, ◌∙◌, subst, arith, add-one}
+use Rattle.std.proofs.Common.{◌≡◌, ◌⊎◌, inl, inr, ℕ, suc, ◌+◌, ◌<◌, ◌≤◌, Bool, true, false, Some, None, List, [], ◌∷◌, length, refl, sym, ap, ◌∙◌, subst, arith, add-one}
 use Rattle.std.specs.Prelude.{◌↔◌, if◌then◌else◌, nat_lt, slice_get}
+use Rattle.std.specs.Borrow.{Bor}
 use Rattle.std.proofs.lemmas.Bool.Decides.{nat_tests}
-use Rattle.std.proofs.lemmas.Option.{slice_get_within}
+use Rattle.std.proofs.lemmas.Option.{same_Some, slice_get_within}
 use Rattle.script_text.specs.declared.script.CallLine.{CallLine}
 use Rattle.script_text.specs.declared.script.Item.{Item}
-use Rattle.script_text.specs.declared.script.Item.TheVariants.{Line}
+use Rattle.script_text.specs.declared.script.Item.TheVariants.{Begin, End, Line}
 use Rattle.script_text.specs.declared.script.WorkerLines.{WorkerLines}
-use Rattle.k42_runtime.specs.Systems.{SystemPass, SystemSeen}
+use Rattle.k42_runtime.specs.Systems.{SystemPass, SystemSeen, IsAtRest, IsPassHere}
 use Rattle.k42_workers.specs.Lines.{Standing, Follows}
-use Rattle.k42_workers.specs.Passes.{GoesOnBy, HasWorked, IsBetween, IsReady, standing_of}
+use Rattle.k42_workers.specs.Passes.{GoesOnBy, HasWorked, IsBetween, IsReady, StaysAs, standing_of}
 use Rattle.k42_workers.specs.UnderWay.{IsAt}
 use Rattle.k42_workers.specs.Workers.{HasDoneLines}
-use Rattle.k42_workers.proofs.Answered.{at_next, worked}
+use Rattle.k42_workers.proofs.Answered.{at_next, at_rest, at_start, worked}
 use Rattle.task_workers.specs.Steps.{HadNone, HasDoneAll, HasFollowed, HasStepped, IsSameTask, at_behind, behind_item, is_last, step_behind}
-use Rattle.task_workers.specs.Tasks.{IsBetweenItems, IsOnWay, IsTask, has_ended, standing_in, worker_of, worker_on}
+use Rattle.task_workers.specs.Tasks.{MayBegin, IsBetweenItems, IsOnWay, IsTask, has_ended, standing_in, worker_of, worker_on}
 use Rattle.task_workers.specs.Tries.{IsDone, IsGivenUp, IsHeldUp, IsOfLine, IsSame}
 use Rattle.task_workers.specs.declared.tasks.TaskAt.{TaskAt}
 use Rattle.task_workers.specs.declared.tasks.TaskAt.TheVariants.{Between, Over}
@@ -22,13 +23,13 @@ use Rattle.task_workers.specs.declared.tasks.TaskCause.{TaskCause}
 use Rattle.task_workers.specs.declared.tasks.TaskStep.{TaskStep}
 use Rattle.task_workers.specs.declared.tasks.TaskStep.TheVariants.{Again, Going, Ended, Memory}
 use Rattle.task_workers.specs.declared.tasks.WorkerTask.{WorkerTask}
-use Rattle.task_workers.proofs.LinesBegun.{without_none}
+use Rattle.task_workers.proofs.LinesBegun.{between_at, without_none}
 use Rattle.task_workers.proofs.LinesDone.{answered, line_behind}
 
 module _ (system : SystemSeen) (task : WorkerTask) (ready : IsReady system.plan (worker_of task)) where
   module _ (new : SystemPass) (same : IsSame system task.pass new) where
     same_task : (done : ℕ) (inside : Bool) (at : TaskAt) → IsSameTask task (record task { pass = new; done = done; inside = inside; at = at })
-    same_task done inside at = record { items = refl; number = same.number; proc = same.proc; seat = same.seat }
+    same_task done inside at = record { items = refl; number = same.number; proc = same.proc }
 
     same_worker : worker_of task ≡ worker_on new task.items.now
     same_worker = ap (λ (proc : ℕ). record (worker_of task) { proc = proc }) (sym same.proc)
@@ -118,19 +119,35 @@ line_done system task ready line next at of way new same done =
     item_done system task ready new same (Line line) next task.inside (line_behind system task line next at of way new same done)
     (refl, answered system task line next at of way new same done)
 
--- no item is left
-pub none_left : (system : SystemSeen) (task : WorkerTask) → IsReady system.plan (worker_of task) → IsBetweenItems system task → length task.items.now ≤ task.done
-    → HasStepped system Ended task (record task { at = Over })
-none_left system task ready between past =
-    let at = between.at_item in
-    let done : HasWorked system task.pass.view.number (worker_of task) task.pass = worked system task.pass.view.number (worker_of task) task.done task.inside task.pass past at in
-    let all : task.done ≡ length task.items.now = let within = between.within in omega (arith, past, within) in
-    record {
-      task = record { here = at.here; ready = ready; way = done.rests };
-      same = record { items = refl; number = refl; proc = refl; seat = refl };
-      over = refl;
-      brought = (record { all = all; rests = done.rests; lines = done.done }, inr (record { none = all; pass = refl }));
-    }
+module _ (system : SystemSeen) (task : WorkerTask) (is_task : IsTask system task) (going : has_ended task.at ≡ false) where
+  -- a block is opened
+  pub begin_followed : slice_get task.items.now task.done ≡ Some Begin → HasStepped system (step_behind (task.done + 1) (length task.items.now)) task (behind_item true task)
+  begin_followed next =
+      let between = between_at system task task.at going is_task.way (λ line other. absurd (let no : Begin ≡ Line line = same_Some Begin (Line line) (sym next ∙ other) in cc)) in
+      item_followed system task is_task.ready between Begin next true task.pass (record { here = is_task.here; number = refl; proc = refl }) between.at_item.between
+      (record { number = refl; proc = refl; activities = refl; graces = refl }) (refl, refl)
+
+  -- or ended, with its activity
+  pub end_followed : slice_get task.items.now task.done ≡ Some End → (new : SystemPass) → IsPassHere system new → IsAtRest new.view
+      → standing_of new.view ≡ record (standing_of task.pass.view) { active = None } → StaysAs task.pass.view new.view
+      → HasStepped system (step_behind (task.done + 1) (length task.items.now)) task (behind_item false (record task { pass = new }))
+  end_followed next new here rests left same =
+      let between = between_at system task task.at going is_task.way (λ line other. absurd (let no : End ≡ Line line = same_Some End (Line line) (sym next ∙ other) in cc)) in
+      item_followed system task is_task.ready between End next false new (record { here = here; number = same.number; proc = same.proc }) (at_rest new.view rests).0 same (refl, left)
+
+  -- no item is left
+  pub none_left : length task.items.now ≤ task.done → HasStepped system Ended task (record task { at = Over })
+  none_left past =
+      let between = between_at system task task.at going is_task.way (λ line other. absurd (let less = slice_get_within task.items.now task.done (Line line) other in omega (arith, less, past))) in
+      let at = between.at_item in
+      let done : HasWorked system task.pass.view.number (worker_of task) task.pass = worked system task.pass.view.number (worker_of task) task.done task.inside task.pass past at in
+      let all : task.done ≡ length task.items.now = let within = between.within in omega (arith, past, within) in
+      record {
+        task = record { here = at.here; ready = is_task.ready; way = done.rests };
+        same = record { items = refl; number = refl; proc = refl };
+        over = refl;
+        brought = (record { all = all; rests = done.rests; lines = done.done }, inr (record { none = all; pass = refl }));
+      }
 
 -- the end comes just where all items are done
 pub ends_at_all : (system : SystemSeen) (result : TaskStep) (old new : WorkerTask) → HasStepped system result old new → (result ≡ Ended) ↔ (new.done ≡ length new.items.now)
@@ -138,3 +155,12 @@ ends_at_all system (Again cause) old new step = (λ e. cc, λ all. absurd (let l
 ends_at_all system Going old new step = (λ e. cc, λ all. absurd (let left = step.brought.1 in omega (arith, left, all)))
 ends_at_all system Ended old new step = (λ e. step.brought.0.all, λ all. refl)
 ends_at_all system Memory old new step = (λ e. cc, λ all. absurd (let left = step.brought.left in omega (arith, left, all)))
+
+-- a task on a fresh pass
+pub task_begun : (system : SystemSeen) (pass : SystemPass) (items : Bor (List Item)) → MayBegin system pass items.now
+    → IsTask system (record { pass = pass; items = items; done = 0; inside = false; at = Between })
+task_begun system pass items may = record {
+  here = may.fresh.here;
+  ready = may.ready;
+  way = record { at_item = at_start system pass.view.number (worker_on pass items.now) pass may.fresh may.ready; within = omega arith };
+}

@@ -3,4 +3,6 @@ pub mod TriedSwaps
 pub mod LinesBegun
 pub mod LinesDone
 pub mod ItemsDone
+pub mod LinesTried
+pub mod TaskLists
 pub mod Crewed

@@ -142,8 +142,8 @@ module _ (system : SystemSeen) (task : WorkerTask) (ready : IsReady system.plan 
   may_try at going way = tried (begun_at line at) (stays_going line at going) way
     where
       tried : (at : TaskAt) → is_under_way at ≡ true → IsOnWay system at task → HasFew task.pass.view × MayTry system at task.pass × IsOfLine line at
-      tried Between no way = cc
-      tried (Calling call) yes way =
+      tried Between under way = cc
+      tried (Calling call) under way =
           let same = same_line way.at_line.line line (slice_get task.items.now task.done) way.at_line.next next in
           let object = sym (ap (λ (one : CallLine). one.object) same) ∙ way.at_line.object_is in
           let act = sym (ap (λ (one : CallLine). one.act) same) ∙ way.at_line.act_is in (
@@ -151,7 +151,7 @@ module _ (system : SystemSeen) (task : WorkerTask) (ready : IsReady system.plan 
             (way.going, subst (λ (z : ℕ × Act). MayAsk system.plan z.0 z.1) (λ j. (object j, act j)) asked, way.between),
             (object, act),
           )
-      tried (Swapping swap) yes way =
+      tried (Swapping swap) under way =
           let same = same_line way.at_line.line line (slice_get task.items.now task.done) way.at_line.next next in
           let object = sym (ap (λ (one : CallLine). one.object) same) ∙ way.at_line.object_is in
           let act = sym (ap (λ (one : CallLine). one.act) same) ∙ way.at_line.act_is in (
@@ -159,7 +159,7 @@ module _ (system : SystemSeen) (task : WorkerTask) (ready : IsReady system.plan 
             (way.going, way.stage),
             (object, act),
           )
-      tried Over no way = cc
+      tried Over under way = cc
 
 -- an item that is no line is not under way
 pub between_at : (system : SystemSeen) (task : WorkerTask) (at : TaskAt) → has_ended at ≡ false → IsOnWay system at task

@@ -16,7 +16,7 @@ use Rattle.k42_workers.specs.Lines.{Standing, IsLatest, GoesOn, IsTimed, Answers
 use Rattle.k42_workers.specs.Passes.{standing_of}
 use Rattle.k42_workers.specs.UnderWay.{IsAt, IsUnderWay}
 use Rattle.k42_workers.proofs.Working.{under_way_on}
-use Rattle.task_workers.specs.Tasks.{IsAtLine, IsOnWay, IsWithin, has_ended, standing_in, without_own, worker_of, worker_on}
+use Rattle.task_workers.specs.Tasks.{IsAtLine, IsOnWay, IsWithin, has_ended, lines_behind, standing_in, without_own, worker_of, worker_on}
 use Rattle.task_workers.specs.Tries.{IsDone, IsHeldUp, IsOfLine, IsSame, MayTry, StaysUnderWay, activities_with, graces_with}
 use Rattle.task_workers.specs.declared.tasks.TaskAt.{TaskAt}
 use Rattle.task_workers.specs.declared.tasks.TaskAt.TheVariants.{Between, Calling, Swapping, Over}
@@ -122,13 +122,13 @@ module _ (system : SystemSeen) (task : WorkerTask) (line : CallLine) (next : sli
       between = done.between;
       caller = same.number;
       proc = same.proc;
-      activities = let left = on.within.activities_left in let few = done.activities in rw add-one at (fewer few left);
-      graces = let left = on.within.graces_left in let few = done.graces in rw add-one at (fewer few left);
+      activities = let left = on.within.activities_left in let few = done.activities in rw (← add-one task.done) (fewer new.view.activities (activities_with at task.pass.view) (lines_behind (task.done + 1) task.items.now) (lines_behind 0 task.items.now) few left);
+      graces = let left = on.within.graces_left in let few = done.graces in rw (← add-one task.done) (fewer new.view.graces (graces_with at task.pass.view) (lines_behind (task.done + 1) task.items.now) (lines_behind 0 task.items.now) few left);
       way = under_way_on (worker_of task) task.done task.inside task.inside (Line line) (standing_in task) (standing_of new.view) next on.way (refl, answered done);
     }
       where
-        fewer : {a b c d : ℕ} → a ≤ b → b + c ≤ d → a + c ≤ d
-        fewer few left = omega (arith, few, left)
+        fewer : (a b c d : ℕ) → a ≤ b → b + c ≤ d → a + c ≤ d
+        fewer a b c d few left = omega (arith, few, left)
 
     -- and one that was held up is under way still
     module _ (cause : TaskCause) (after : TaskAt) (held : IsHeldUp system line cause at after task.pass new) where

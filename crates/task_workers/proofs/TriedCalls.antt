@@ -1,5 +1,5 @@
 -- A call that is tried once: what it leaves when it is done, held up, or without memory.
-use Rattle.std.proofs.Common.{◌≡◌, ℕ, ◌+◌, ◌≤◌, Bool, true, false, Option, Some, None, [], ◌∷◌, ◌++◌, is_some, length, refl, sym, ap, ◌∙◌, subst, arith}
+use Rattle.std.proofs.Common.{◌≡◌, ℕ, ◌+◌, ◌≤◌, Bool, true, false, Option, Some, None, List, [], ◌∷◌, ◌++◌, is_some, length, refl, sym, ap, ◌∙◌, subst, arith}
 use Rattle.std.specs.Prelude.{if◌then◌else◌}
 use Rattle.k42_kinds.specs.declared.entry.Act.{Act}
 use Rattle.k42_kinds.specs.declared.entry.Act.TheVariants.{Call}
@@ -17,16 +17,9 @@ use Rattle.script_text.specs.Lawful.{Deed, IsNotGivenUp, deed_of}
 use Rattle.script_text.specs.declared.script.CallLine.{CallLine}
 use Rattle.k42_workers.specs.Lines.{Standing, AnswersLine, IsOpened, IsTimed, left_open}
 use Rattle.k42_workers.specs.Passes.{IsBetween, IsNotHeldUp, GoesOnAs, StaysAs, standing_of}
-use Rattle.task_workers.specs.Tries.{IsDone, IsHeldUp, IsGivenUp, activities_due}
+use Rattle.task_workers.specs.Tries.{IsDone, IsHeldUp, IsGivenUp, IsSame, activities_due}
 use Rattle.task_workers.specs.declared.tasks.TaskAt.TheVariants.{Calling}
 use Rattle.task_workers.specs.declared.tasks.TaskCause.TheVariants as held
-
--- what holds a call up holds it up from before, where nothing has held its pass up in between
-holds_up_before : {S L : Type 0} (F : Layouts S L SystemPart) (declared : List L) (id : ℕ) (cause : CallCause) (object : ℕ) (old mid new : PassView SystemPart)
-    → IsNotHeldUp old mid → HoldsUp F declared id cause object mid new → HoldsUp F declared id cause object old new
-holds_up_before F declared id causes.Blocked object old mid new free is = (is.0, is.1 ∙ free.knocked, is.2)
-holds_up_before F declared id (causes.Elsewhere word) object old mid new free is = (is.0 ∙ ap (λ words. word ∷ words) free.stalls, is.1)
-holds_up_before F declared id (causes.CellHeld holder) object old mid new free is = (is.0 ∙ ap (λ words. (holder + 1) ∷ words) free.refused, is.1)
 
 same_active : (old new : PassView SystemPart) → KeepsElse old new → new.turn.active ≡ old.turn.active
 same_active old new keeps = ap (λ (own : Own). own.turn.active) keeps
@@ -37,9 +30,20 @@ opened_few : (active : Option ℕ) (old mid : PassView SystemPart) → (is_some 
 opened_few None old mid stays on = on
 opened_few (Some generation) old mid stays on = let same = stays refl in omega (arith, same)
 
-none_due : (active : Option ℕ) → is_some active ≡ true → activities_due active ≡ 0
-none_due None some = cc
-none_due (Some generation) some = refl
+-- the pass of a call, and of one that was left again, is the same
+pub same_called : (system : SystemSeen) (old mid new : SystemPass) → GoesOnAs old.view mid.view → KeepsElse mid.view new.view → IsPassHere system new → IsSame system old new
+same_called system old mid new on keeps here = record {
+  here = here;
+  number = ap (λ (own : Own). own.number) keeps ∙ on.number;
+  proc = ap (λ (own : Own). own.turn.proc) keeps ∙ on.proc;
+}
+
+pub same_left : (system : SystemSeen) (old mid made new : SystemPass) → GoesOnAs old.view mid.view → KeepsElse mid.view made.view → StaysAs made.view new.view → IsPassHere system new → IsSame system old new
+same_left system old mid made new on keeps same here = record {
+  here = here;
+  number = same.number ∙ ap (λ (own : Own). own.number) keeps ∙ on.number;
+  proc = same.proc ∙ ap (λ (own : Own). own.turn.proc) keeps ∙ on.proc;
+}
 
 module _ (system : SystemSeen) (line : CallLine) (inside : Bool) (call : CallSeen) (old mid : SystemPass)
     (of : (line.object ≡ call.object) × (line.act ≡ Call call.op))
@@ -72,32 +76,3 @@ module _ (system : SystemSeen) (line : CallLine) (inside : Bool) (call : CallSee
         activities = let steady = ap (λ (own : Own). own.activities) called.keeps in let last = same.activities in omega (arith, few, steady, last);
         graces = let steady = ap (λ (own : Own). own.graces) called.keeps in let last = same.graces in omega (arith, level, steady, last);
       }
-
-  pub call_held : (cause : CallCause) (after : CallSeen) (new : SystemPass) → after ≡ record call { ended = false } → IsAsked system.plan call.object call.op
-      → IsNotHeldUp old.view mid.view → mid.seat ≡ old.seat → IsAtWork new.view → HasNotCalled mid.view new.view
-      → HoldsUp (layouts_in system) system.sys.layouts mid.seat cause call.object mid.view new.view
-      → IsHeldUp system line (held.Call cause) (Calling call) (Calling after) old new
-  call_held cause after new same asked free seat works not held_up =
-      subst (λ (seen : CallSeen). IsHeldUp system line (held.Call cause) (Calling call) (Calling seen) old new) (sym same) (record {
-        of = of;
-        may = (refl, asked, record { grace = works.grace; swap = works.swap });
-        held = holds_up_before (layouts_in system) system.sys.layouts old.seat cause call.object old.view mid.view new.view free
-            (subst (λ (id : ℕ). HoldsUp (layouts_in system) system.sys.layouts id cause call.object mid.view new.view) seat held_up);
-        stays = record {
-          generation = opened.generation;
-          active = same_active mid.view new.view not.keeps ∙ opened.active;
-          goes_on = opened.goes_on;
-          entries = not.same ∙ opened.entries;
-        };
-        activities =
-            let steady = ap (λ (own : Own). own.activities) not.keeps in
-            let due = none_due new.view.turn.active works.active in omega (arith, few, steady, due);
-        graces = let steady = ap (λ (own : Own). own.graces) not.keeps in omega (arith, level, steady);
-      })
-
-  pub call_given_up : (made new : SystemPass) → HasNotCalled mid.view made.view → IsAtRest new.view
-      → standing_of new.view ≡ record (standing_of made.view) { active = None } → IsGivenUp system line old new
-  call_given_up made new not rests left = subst (λ (act : Act). IsGivenUp system (record line { act = act }) old new) (sym of.1) (record {
-    rests = rests;
-    ended = ap (λ (s : Standing). s.entries) left ∙ not.same ∙ opened.entries;
-  })

@@ -39,7 +39,6 @@ pub record IsSameTask (old new : WorkerTask) : Type 0 where
   pub items : new.items.now ≡ old.items.now
   pub number : new.pass.view.number ≡ old.pass.view.number
   pub proc : new.pass.view.turn.proc ≡ old.pass.view.turn.proc
-  pub seat : new.pass.seat ≡ old.pass.seat
 
 -- its next line is under way, and was held up by this; it has drawn nothing
 pub record WasHeldUp (system : SystemSeen) (cause : TaskCause) (old new : WorkerTask) : Type 0 where

@@ -56,7 +56,6 @@ MayTry system at pass = ⊥
 -- the same caller of the same system
 pub record IsSame (system : SystemSeen) (old new : SystemPass) : Type 0 where
   pub here : IsPassHere system new
-  pub seat : new.seat ≡ old.seat
   pub number : new.view.number ≡ old.view.number
   pub proc : new.view.turn.proc ≡ old.view.turn.proc
 

@@ -1,5 +1,5 @@
 //! The line of a task: it begins, and is tried as far as it goes without waiting.
-ghost use Rattle.std.specs.Prelude.{◌≡◌, false, length};
+ghost use Rattle.std.specs.Prelude.{◌≡◌, Bool, false, length};
 ghost use Rattle.k42_runtime.specs.Calls.{IsAsked};
 ghost use Rattle.k42_runtime.specs.Swaps.{IsAtStage, is_over};
 ghost use Rattle.k42_runtime.specs.Systems.{IsPassHere};

@@ -58,18 +58,18 @@ fn round<G: Gate>(
     ensures ended { result.going ≡ false → HaveEnded tasks.new }
     ensures kept { result.refused ≡ false → refused ≡ false }
 {
-    let Some((task, others)) = tasks.split_first_mut() else {
-        return Found {
-            going: false,
-            refused,
-        };
+    let mut found = Found {
+        going: false,
+        refused,
     };
-    let one = turn(alloc, system, gate, task, refused);
-    let rest = round(alloc, system, gate, others, one.refused);
-    Found {
-        going: one.going || rest.going,
-        refused: rest.refused,
+    for index in 0..tasks.len() {
+        let one = turn(alloc, system, gate, &mut tasks[index], found.refused);
+        found = Found {
+            going: found.going || one.going,
+            refused: one.refused,
+        };
     }
+    found
 }
 
 /// Steps the tasks in rounds until all have ended. Where one was refused memory the others have gone on to their ends.

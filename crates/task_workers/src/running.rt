@@ -1,5 +1,5 @@
 //! A script is run by tasks.
-ghost use Rattle.std.specs.Prelude.{◌≡◌, ℕ, false, All, IfOk, length, map};
+ghost use Rattle.std.specs.Prelude.{◌≡◌, ℕ, Bool, false, All, IfOk, length, map};
 ghost use Rattle.script_text.specs.Lawful.{IsLawful};
 ghost use Rattle.script_text.specs.Sound.{IsSound};
 ghost use Rattle.record_text.specs.Histories.{record_of};
@@ -27,7 +27,7 @@ pub fn tasks_of<'a>(
 ) -> Result<Vec<WorkerTask<'a>>, Memory>
     requires { MayWork system.now 0 workers.now passes.items }
     ensures own { IfOk result (λ tasks. map own_of tasks.items ≡ owns_from 0 workers.now) }
-    ensures fair { IfOk result (λ tasks. AreFair system.now false tasks.items) }
+    ensures fair { IfOk result (λ tasks. (refused : Bool) → AreFair system.now refused tasks.items) }
 {
     let mut tasks = Vec::new(alloc);
     for pass in passes {
@@ -40,7 +40,7 @@ pub fn tasks_of<'a>(
 /// The passes of the tasks, in their order.
 fn passes_of(alloc: Global, tasks: Vec<WorkerTask<'_>>) -> Result<Vec<Pass>, Memory>
     requires { HaveEnded tasks.items }
-    ensures { IfOk result (λ passes. passes.items ≡ map (λ task. task.pass) tasks.items) }
+    ensures { IfOk result (λ passes. passes.items ≡ map (λ task. task.pass) tasks.entry.items) }
 {
     let mut passes = Vec::new(alloc);
     for task in tasks {

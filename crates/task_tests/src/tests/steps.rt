@@ -1,7 +1,6 @@
 //! Tasks that are stepped by hand.
-ghost use Rattle.std.specs.Prelude.{false};
-ghost use Rattle.task_workers.specs.Rounds.{AreFair};
-ghost use Rattle.task_workers.specs.Tasks.{IsTask};
+ghost use Rattle.std.specs.Prelude.{true};
+ghost use Rattle.task_workers.specs.Rounds.{IsFair, AreFair};
 
 use k42_runtime::{Cause, System};
 use k42_workers::FreeGate;
@@ -15,101 +14,86 @@ const LEFT: TaskStep = TaskStep::Again(TaskCause::Swap(Cause::Left { proc: 0, le
 /// Why the swap of worker 2 waits while worker 1 waits for its grace.
 const ROLE_HELD: TaskStep = TaskStep::Again(TaskCause::Swap(Cause::RoleHeld { holder: 1 }));
 
-/// A step, with its answer.
-fn step_to(
-    rt: &impl Abort,
-    alloc: Global,
-    system: &System,
-    task: &mut WorkerTask<'_>,
-    due: TaskStep,
-)
-    requires { IsTask system.now task.old }
-    ensures { IsTask system.now task.new }
+/// A step of the task.
+fn step(rt: &impl Abort, alloc: Global, system: &System, task: &mut WorkerTask<'_>) -> TaskStep
+    requires { IsFair system.now true task.old }
+    ensures { IsFair system.now true task.new }
 {
     assert!(rt; !task.ended());
-    let step = task.step(alloc, system, &FreeGate);
-    assert_eq!(rt; step, due);
+    task.step(alloc, system, &FreeGate)
 }
 
-/// Two tasks, of which the second swaps beside the block of the first.
-pub(super) fn beside_a_block(
+/// A step of the task at the place.
+fn step_at(
     rt: &impl Abort,
     alloc: Global,
     system: &System,
     tasks: &mut [WorkerTask<'_>],
-) -> bool
-    requires { AreFair system.now false tasks.old }
+    place: usize,
+) -> TaskStep
+    requires { AreFair system.now true tasks.old }
+    ensures { AreFair system.now true tasks.new }
 {
-    let Some((block, others)) = tasks.split_first_mut() else {
-        return false;
-    };
-    let Some((swap, _)) = others.split_first_mut() else {
-        return false;
-    };
-    step_to(rt, alloc, system, block, TaskStep::Going);
-    step_to(rt, alloc, system, swap, TaskStep::Going);
-    step_to(rt, alloc, system, block, TaskStep::Going);
-    step_to(rt, alloc, system, swap, LEFT);
-    step_to(rt, alloc, system, block, TaskStep::Going);
-    step_to(rt, alloc, system, swap, LEFT);
-    step_to(rt, alloc, system, block, TaskStep::Ended);
-    step_to(rt, alloc, system, swap, TaskStep::Going);
-    step_to(rt, alloc, system, swap, TaskStep::Ended);
-    true
+    assert!(rt; place < tasks.len());
+    step(rt, alloc, system, &mut tasks[place])
 }
 
-/// Three tasks, of which two swap at once beside the block of the first.
-pub(super) fn two_swaps(
+/// The tasks at these places make these steps, one after the other.
+pub(super) fn steps_are(
     rt: &impl Abort,
     alloc: Global,
     system: &System,
     tasks: &mut [WorkerTask<'_>],
-) -> bool
-    requires { AreFair system.now false tasks.old }
+    due: &[(usize, TaskStep)],
+)
+    requires { AreFair system.now true tasks.old }
+    ensures { AreFair system.now true tasks.new }
 {
-    let Some((block, others)) = tasks.split_first_mut() else {
-        return false;
-    };
-    let Some((one, others)) = others.split_first_mut() else {
-        return false;
-    };
-    let Some((other, _)) = others.split_first_mut() else {
-        return false;
-    };
-    step_to(rt, alloc, system, block, TaskStep::Going);
-    step_to(rt, alloc, system, block, TaskStep::Going);
-    step_to(rt, alloc, system, one, LEFT);
-    step_to(rt, alloc, system, other, ROLE_HELD);
-    step_to(rt, alloc, system, block, TaskStep::Ended);
-    step_to(rt, alloc, system, one, TaskStep::Ended);
-    step_to(rt, alloc, system, other, TaskStep::Ended);
-    true
-}
-
-/// The first task swaps, and the second calls. Whether the first one finds memory or not, the second goes on to its end.
-pub(super) fn beside_a_refusal(
-    rt: &impl Abort,
-    alloc: Global,
-    system: &System,
-    tasks: &mut [WorkerTask<'_>],
-) -> bool
-    requires { AreFair system.now false tasks.old }
-{
-    let Some((swap, others)) = tasks.split_first_mut() else {
-        return false;
-    };
-    let Some((call, _)) = others.split_first_mut() else {
-        return false;
-    };
-    assert!(rt; !swap.ended());
-    let step = swap.step(alloc, system, &FreeGate);
-    assert!(rt; step == TaskStep::Ended || step == TaskStep::Memory);
-    assert!(rt; swap.ended());
-    if step == TaskStep::Memory {
-        step_to(rt, alloc, system, call, TaskStep::Ended);
-        return true;
+    for (place, step) in due {
+        let told = step_at(rt, alloc, system, tasks, *place);
+        assert_eq!(rt; told, *step);
     }
-    assert!(rt; !call.ended());
-    let step = call.step(alloc, system, &FreeGate);
-    step == TaskStep::Ended || step == TaskStep::Memory
+}
+
+/// What the tasks of a block and of a swap beside it answer in their rounds.
+pub(super) const BESIDE_A_BLOCK: [(usize, TaskStep); 9] = [
+    (0, TaskStep::Going),
+    (1, TaskStep::Going),
+    (0, TaskStep::Going),
+    (1, LEFT),
+    (0, TaskStep::Going),
+    (1, LEFT),
+    (0, TaskStep::Ended),
+    (1, TaskStep::Going),
+    (1, TaskStep::Ended),
+];
+
+/// What two swaps answer beside a block.
+pub(super) const TWO_SWAPS: [(usize, TaskStep); 7] = [
+    (0, TaskStep::Going),
+    (0, TaskStep::Going),
+    (1, LEFT),
+    (2, ROLE_HELD),
+    (0, TaskStep::Ended),
+    (1, TaskStep::Ended),
+    (2, TaskStep::Ended),
+];
+
+/// The first task swaps, and the second calls. Where the first is refused memory, the second ends.
+pub(super) fn swap_before_a_call(
+    rt: &impl Abort,
+    alloc: Global,
+    system: &System,
+    tasks: &mut [WorkerTask<'_>],
+)
+    requires { AreFair system.now true tasks.old }
+{
+    let swapped = step_at(rt, alloc, system, tasks, 0);
+    let called = step_at(rt, alloc, system, tasks, 1);
+    if swapped == TaskStep::Memory {
+        assert_eq!(rt; called, TaskStep::Ended);
+    } else {
+        assert_eq!(rt; swapped, TaskStep::Ended);
+        assert!(rt; called == TaskStep::Ended || called == TaskStep::Memory);
+    }
 }
