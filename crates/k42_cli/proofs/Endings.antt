@@ -15,9 +15,9 @@ use Rattle.k42_input.proofs.CutVerdicts.{check_alike, check_cut, completes_check
 use Rattle.k42_input.proofs.ReadBytes.{ended, told_bytes, told_told}
 use Rattle.k42_runtime.specs.Histories.{HistorySeen}
 use Rattle.k42_cli.specs.Program.{usage_line, IsRunDue, IsDue, HasRead, Says, keeps, CompletesRun, Completes}
-use Rattle.k42_cli.specs.Words.{version_number, reads}
+use Rattle.k42_cli.specs.Words.{version_of, reads}
 use Rattle.k42_cli.specs.Outputs.{limit_of, IsShort, IsRecorded, IsWorkedOut, kept_after}
-use Rattle.k42_cli.specs.declared.words.Version.{Version}
+use Rattle.k42_cli.specs.declared.words.Way.{Way}
 use Rattle.k42_cli.specs.declared.words.Form.{Form}
 use Rattle.k42_cli.specs.declared.words.Form.TheVariants.{Run, Check, Load}
 use Rattle.k42_cli.specs.declared.output.Output.{Output}
@@ -35,12 +35,12 @@ due_alike version bytes others statuses.WriteFault output kept same due = absurd
 due_alike version bytes others statuses.Memory output kept same due = absurd due
 
 due_cut : (form : Form) (bytes : List ℕ) (status : Status) (output : List ℕ) (kept : Option HistorySeen) → IsDue (Some form) bytes status output kept → IsDue (Some form) (take (limit_of form) bytes) status output kept
-due_cut (Run version) bytes status output kept due = due_alike (version_number version) bytes (take byte_limit bytes) status output kept (sym (parsed-take bytes)) due
+due_cut (Run way) bytes status output kept due = due_alike (version_of way) bytes (take byte_limit bytes) status output kept (sym (parsed-take bytes)) due
 due_cut Check bytes status output kept due = (check_cut bytes status output due.0, due.1)
 due_cut (Load steps) bytes status output kept due = due
 
 due_whole : (form : Form) (all bytes : List ℕ) (status : Status) (output : List ℕ) (kept : Option HistorySeen) → all ≡ take (limit_of form) bytes → IsDue (Some form) all status output kept → IsDue (Some form) bytes status output kept
-due_whole (Run version) all bytes status output kept is due = due_alike (version_number version) all bytes status output kept (ap parsed is ∙ parsed-take bytes) due
+due_whole (Run way) all bytes status output kept is due = due_alike (version_of way) all bytes status output kept (ap parsed is ∙ parsed-take bytes) due
 due_whole Check all bytes status output kept is due = (check_alike bytes status output (subst (λ (input : List ℕ). IsCheckDue input status output) is due.0), due.1)
 due_whole (Load steps) all bytes status output kept is due = due
 
@@ -50,8 +50,8 @@ nothing_past_limit form bytes output status kept = (due_whole form (take (limit_
 
 has_read : (form : Form) (left left_after : Option (List ℕ)) (all : List ℕ) → TakesFirst (limit_of form) left left_after all → IsShort form all → (reads (Some form) ≡ false → left_after ≡ left) → HasRead form left left_after
 has_read (Load steps) left left_after all takes short unread = unread refl
-has_read (Run version) None left_after all takes short unread = tt
-has_read (Run version) (Some bytes) left_after all takes short unread = ended byte_limit bytes all left_after takes.0 takes.1 short
+has_read (Run way) None left_after all takes short unread = tt
+has_read (Run way) (Some bytes) left_after all takes short unread = ended byte_limit bytes all left_after takes.0 takes.1 short
 has_read Check None left_after all takes short unread = tt
 has_read Check (Some bytes) left_after all takes short unread = ended input_limit bytes all left_after takes.0 takes.1 short
 
@@ -76,7 +76,7 @@ completes_run version bytes statuses.WriteFault output kept due = absurd due
 completes_run version bytes statuses.Memory output kept due = absurd due
 
 completes_by : (form : Form) (bytes : List ℕ) (status : Status) (output : List ℕ) (kept : Option HistorySeen) → IsDue (Some form) bytes status output kept → Completes (Some form) bytes status
-completes_by (Run version) bytes status output kept due = completes_run (version_number version) bytes status output kept due
+completes_by (Run way) bytes status output kept due = completes_run (version_of way) bytes status output kept due
 completes_by Check bytes status output kept due = completes_check bytes status output due.0
 completes_by (Load steps) bytes status output kept due = inl due.0
 
@@ -89,7 +89,7 @@ due_told form left bytes others status output history told other due = by form t
     same e = subst (λ (l : Option (List ℕ)). IfSome l (λ before. before ≡ others)) e other
 
     by : (f : Form) → (reads (Some f) ≡ true → left ≡ Some bytes) → IsDue (Some f) others status output history → IsDue (Some f) bytes status output history
-    by (Run version) told due = subst (λ (b : List ℕ). IsDue (Some (Run version)) b status output history) (sym (same (told refl))) due
+    by (Run way) told due = subst (λ (b : List ℕ). IsDue (Some (Run way)) b status output history) (sym (same (told refl))) due
     by Check told due = subst (λ (b : List ℕ). IsDue (Some Check) b status output history) (sym (same (told refl))) due
     by (Load steps) told due = due
 
@@ -113,19 +113,19 @@ kept_none statuses.WriteFault history none = none
 kept_none statuses.Memory history none = none
 
 kept_is : (form : Form) (bytes : List ℕ) (status : Status) (output : List ℕ) (history : Option HistorySeen) → IsDue (Some form) bytes status output history → history ≡ kept_after status history None
-kept_is (Run version) bytes status output history due = kept_run (version_number version) bytes status output history due
+kept_is (Run way) bytes status output history due = kept_run (version_of way) bytes status output history due
 kept_is Check bytes status output history due = kept_none status history due.1
 kept_is (Load steps) bytes status output history due = sym (ap (λ (s : Status). kept_after s history None) due.0)
 
 -- whether a history is kept
-keeps_run : (version : Version) (bytes : List ℕ) (status : Status) (output : List ℕ) (history : Option HistorySeen) → IsRunDue (version_number version) bytes status output history → is_some (kept_after status history None) ≡ keeps (Some (Run version)) status
-keeps_run version bytes statuses.Ok output history due = ap is_some due.held
-keeps_run version bytes statuses.Refused output history due = refl
-keeps_run version bytes statuses.Unlawful output history due = absurd due
-keeps_run version bytes statuses.Usage output history due = absurd due
-keeps_run version bytes statuses.ReadFault output history due = absurd due
-keeps_run version bytes statuses.WriteFault output history due = absurd due
-keeps_run version bytes statuses.Memory output history due = absurd due
+keeps_run : (way : Way) (bytes : List ℕ) (status : Status) (output : List ℕ) (history : Option HistorySeen) → IsRunDue (version_of way) bytes status output history → is_some (kept_after status history None) ≡ keeps (Some (Run way)) status
+keeps_run way bytes statuses.Ok output history due = ap is_some due.held
+keeps_run way bytes statuses.Refused output history due = refl
+keeps_run way bytes statuses.Unlawful output history due = absurd due
+keeps_run way bytes statuses.Usage output history due = absurd due
+keeps_run way bytes statuses.ReadFault output history due = absurd due
+keeps_run way bytes statuses.WriteFault output history due = absurd due
+keeps_run way bytes statuses.Memory output history due = absurd due
 
 keeps_check : (status : Status) (history : Option HistorySeen) → history ≡ None → is_some (kept_after status history None) ≡ keeps (Some Check) status
 keeps_check statuses.Ok history none = ap is_some none
@@ -137,25 +137,25 @@ keeps_check statuses.WriteFault history none = refl
 keeps_check statuses.Memory history none = refl
 
 keeps_done : (form : Form) (bytes : List ℕ) (status : Status) (output : List ℕ) (history : Option HistorySeen) → IsDue (Some form) bytes status output history → is_some (kept_after status history None) ≡ keeps (Some form) status
-keeps_done (Run version) bytes status output history due = keeps_run version bytes status output history due
+keeps_done (Run way) bytes status output history due = keeps_run way bytes status output history due
 keeps_done Check bytes status output history due = keeps_check status history due.1
 keeps_done (Load steps) bytes status output history due = subst (λ (s : Status). is_some (kept_after s history None) ≡ keeps (Some (Load steps)) s) (sym due.0) (ap is_some due.1.held)
 
 -- after a write fault it is not
 keeps_fault : (form : Form) → false ≡ keeps (Some form) statuses.WriteFault
-keeps_fault (Run version) = refl
+keeps_fault (Run way) = refl
 keeps_fault Check = refl
 keeps_fault (Load steps) = refl
 
 -- nothing is due for a form with one of the other statuses
 none_due : {Y : Type 0} (form : Form) (bytes : List ℕ) (status : Status) (output : List ℕ) (kept : Option HistorySeen) → status ≢ statuses.Ok → status ≢ statuses.Unlawful → status ≢ statuses.Refused → IsDue (Some form) bytes status output kept → Y
-none_due (Run version) bytes statuses.Ok output kept a b c due = absurd (a refl)
-none_due (Run version) bytes statuses.Refused output kept a b c due = absurd (c refl)
-none_due (Run version) bytes statuses.Unlawful output kept a b c due = absurd due
-none_due (Run version) bytes statuses.Usage output kept a b c due = absurd due
-none_due (Run version) bytes statuses.ReadFault output kept a b c due = absurd due
-none_due (Run version) bytes statuses.WriteFault output kept a b c due = absurd due
-none_due (Run version) bytes statuses.Memory output kept a b c due = absurd due
+none_due (Run way) bytes statuses.Ok output kept a b c due = absurd (a refl)
+none_due (Run way) bytes statuses.Refused output kept a b c due = absurd (c refl)
+none_due (Run way) bytes statuses.Unlawful output kept a b c due = absurd due
+none_due (Run way) bytes statuses.Usage output kept a b c due = absurd due
+none_due (Run way) bytes statuses.ReadFault output kept a b c due = absurd due
+none_due (Run way) bytes statuses.WriteFault output kept a b c due = absurd due
+none_due (Run way) bytes statuses.Memory output kept a b c due = absurd due
 none_due Check bytes statuses.Ok output kept a b c due = absurd (a refl)
 none_due Check bytes statuses.Refused output kept a b c due = absurd (c refl)
 none_due Check bytes statuses.Unlawful output kept a b c due = absurd (b refl)
@@ -246,7 +246,7 @@ run_memory (Ok script) = inr refl
 run_memory (Err fault) = inr refl
 
 pub memory_completes : (form : Form) (bytes : List ℕ) → Completes (Some form) bytes statuses.Memory
-memory_completes (Run version) bytes = run_memory (parsed bytes)
+memory_completes (Run way) bytes = run_memory (parsed bytes)
 memory_completes Check bytes = check_memory (parsed (script_part bytes))
 memory_completes (Load steps) bytes = inr refl
 

@@ -156,3 +156,8 @@ run_of script sound history lawful plan judged has = record {
   spelled = text_there script sound history.entries lawful has;
   judged = judged;
 }
+
+pub run_where_ok : {E : Type 0} (script : Script) → IsSound script → (result : Result HistorySeen E) → IfOk result (λ history. IsLawful script history.entries) → IfOk result (λ history. history.plan ≡ plan_due script)
+    → IfOk result (λ history. (version : ℕ) → IsLawfulRecord script (record_of script history.entries version)) → IfOk result (λ history. All (λ entry. HasGeneration entry.act entry.generation) history.entries) → IfOk result (IsRun script)
+run_where_ok script sound (Ok history) lawful plan judged has = run_of script sound history lawful plan judged has
+run_where_ok script sound (Err error) lawful plan judged has = tt

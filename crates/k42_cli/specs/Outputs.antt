@@ -14,13 +14,13 @@ use Rattle.k42_input.specs.declared.status.Status.TheVariants as statuses
 
 -- the first byte that the input for a form may not have, counted from 1; a load has no input
 abbrev pub limit_of : Form → ℕ
-limit_of (Run version) = byte_limit
+limit_of (Run way) = byte_limit
 limit_of Check = input_limit
 limit_of (Load steps) = 0
 
 -- the input ended before its limit, where a form has one
 abbrev pub IsShort : Form → List ℕ → Type 0
-IsShort (Run version) bytes = length bytes < byte_limit
+IsShort (Run way) bytes = length bytes < byte_limit
 IsShort Check bytes = length bytes < input_limit
 IsShort (Load steps) bytes = ⊤
 

@@ -17,7 +17,7 @@ use Rattle.load_totals.specs.declared.totals.Summary.{Summary}
 use Rattle.k42_input.specs.Separation.{script_part}
 use Rattle.k42_input.specs.Dues.{IsRefusalDue, IsCheckDue, CompletesCheck}
 use Rattle.k42_input.specs.Ends.{Ends, IsQuiet, Told, IsConsumed, IsUnread, FailsToRead, LacksMemory}
-use Rattle.k42_cli.specs.Words.{version_number}
+use Rattle.k42_cli.specs.Words.{version_of}
 use Rattle.k42_cli.specs.declared.words.Form.{Form}
 use Rattle.k42_cli.specs.declared.words.Form.TheVariants.{Run, Check, Load}
 use Rattle.k42_input.specs.declared.status.Status.{Status}
@@ -25,7 +25,7 @@ use Rattle.k42_input.specs.declared.status.Status.TheVariants as statuses
 
 -- the line that names the forms
 abbrev pub usage_line : List ℕ
-usage_line = codes "usage: k42 run [2] | k42 check | k42 load N\n"
+usage_line = codes "usage: k42 run [2 | tasks] | k42 check | k42 load N\n"
 
 -- a word and a number behind it, each with a space in front
 abbrev pub counted : List ℕ → ℕ → List ℕ
@@ -76,8 +76,7 @@ IsRunDue version bytes _ output kept = ⊥
 -- The output that is due for what the words ask and for the bytes, the status with it, and the
 -- history that is then kept: that of a run, and else none.
 abbrev pub IsDue : Option Form → List ℕ → Status → List ℕ → Option HistorySeen → Type 0
-IsDue (Some (Run version)) bytes status output kept =
-    IsRunDue (version_number version) bytes status output kept
+IsDue (Some (Run way)) bytes status output kept = IsRunDue (version_of way) bytes status output kept
 IsDue (Some Check) bytes status output kept = IsCheckDue bytes status output × (kept ≡ None)
 IsDue (Some (Load steps)) bytes status output kept =
     (status ≡ statuses.Ok) × IsLoadDue steps output kept
@@ -86,7 +85,7 @@ IsDue None bytes status output kept =
 
 -- where the work was done its input was read to the end; that of a load was not touched
 abbrev pub HasRead : Form → Option (List ℕ) → Option (List ℕ) → Type 0
-HasRead (Run version) left left_after = IsConsumed left left_after
+HasRead (Run way) left left_after = IsConsumed left left_after
 HasRead Check left left_after = IsConsumed left left_after
 HasRead (Load steps) left left_after = left_after ≡ left
 
@@ -129,7 +128,7 @@ Says _ _ _ _ = ⊥
 
 -- a history is kept exactly where a run was done and its output written whole
 abbrev pub keeps : Option Form → Status → Bool
-keeps (Some (Run version)) statuses.Ok = true
+keeps (Some (Run way)) statuses.Ok = true
 keeps (Some (Load steps)) statuses.Ok = true
 keeps _ _ = false
 
@@ -142,7 +141,7 @@ CompletesRun (Err fault) status = (status ≡ statuses.Refused) ⊎ (status ≡ 
 -- that is refused is refused, a load is done, else memory ran out; and words that are no form name
 -- the forms.
 abbrev pub Completes : Option Form → List ℕ → Status → Type 0
-Completes (Some (Run version)) bytes status = CompletesRun (parsed bytes) status
+Completes (Some (Run way)) bytes status = CompletesRun (parsed bytes) status
 Completes (Some Check) bytes status = CompletesCheck (parsed (script_part bytes)) status
 Completes (Some (Load steps)) bytes status = (status ≡ statuses.Ok) ⊎ (status ≡ statuses.Memory)
 Completes None bytes status = status ≡ statuses.Usage

@@ -1,17 +1,18 @@
 -- What the words of the command line ask for.
-use Rattle.std.specs.Prelude.{ℕ, ◌≤◌, List, [], ◌∷◌, ◌&&◌, codes, Bool, true, false, ⊤, Option, Some, None, if◌then◌else◌}
+use Rattle.std.specs.Prelude.{ℕ, ◌≤◌, List, [], ◌∷◌, codes, Bool, true, false, ⊤, Option, Some, None, if◌then◌else◌}
 use Rattle.std.specs.Option.{option_map}
 use Rattle.std.specs.Str.{bytes_eq}
 use Rattle.script_text.specs.Numbers.{number_within}
-use Rattle.k42_cli.specs.declared.words.Version.{Version}
-use Rattle.k42_cli.specs.declared.words.Version.TheVariants.{One, Two}
+use Rattle.k42_cli.specs.declared.words.Way.{Way}
+use Rattle.k42_cli.specs.declared.words.Way.TheVariants.{One, Two, Tasks}
 use Rattle.k42_cli.specs.declared.words.Form.{Form}
 use Rattle.k42_cli.specs.declared.words.Form.TheVariants.{Run, Check, Load}
 
--- the number that a record of this version bears
-abbrev pub version_number : Version → ℕ
-version_number One = 1
-version_number Two = 2
+-- the number that the record of such a run bears
+abbrev pub version_of : Way → ℕ
+version_of One = 1
+version_of Two = 2
+version_of Tasks = 1
 
 -- `run` or `check`
 abbrev pub form_of_one : List ℕ → Option Form
@@ -27,10 +28,16 @@ most_steps = 10000
 abbrev pub load_of : List ℕ → Option Form
 load_of word = option_map Load (number_within 1 most_steps word)
 
--- `run 2` or `load N`
+-- the way to run that the word behind `run` says
+abbrev pub form_of_run : List ℕ → Option Form
+form_of_run word =
+    if bytes_eq word (codes "2") then Some (Run Two)
+    else if bytes_eq word (codes "tasks") then Some (Run Tasks) else None
+
+-- `run 2`, `run tasks` or `load N`
 abbrev pub form_of_two : List ℕ → List ℕ → Option Form
 form_of_two first second =
-    if bytes_eq first (codes "run") && bytes_eq second (codes "2") then Some (Run Two)
+    if bytes_eq first (codes "run") then form_of_run second
     else if bytes_eq first (codes "load") then load_of second else None
 
 -- the form that the words are, if they are one
@@ -41,7 +48,7 @@ form_of _ = None
 
 -- whether the input is read: a load and words that are no form need none
 abbrev pub reads : Option Form → Bool
-reads (Some (Run version)) = true
+reads (Some (Run way)) = true
 reads (Some Check) = true
 reads _ = false
 

@@ -18,7 +18,7 @@ use std::alloc::Global;
 use std::sync::Wait;
 use std::thread::Threads;
 
-const USAGE: &str = "usage: k42 run [2] | k42 check | k42 load N\n";
+const USAGE: &str = "usage: k42 run [2 | tasks] | k42 check | k42 load N\n";
 
 /// Reads the input of a form as far as it may go. A load has none.
 fn input_of<S: Source>(alloc: Global, form: Form, source: &mut S) -> Result<Vec<u8>, WorkEnd>
@@ -73,7 +73,8 @@ fn keep(status: Status, history: Option<History>, kept: &mut Option<History>)
 /// The program, for its words without its own name.
 ///
 /// `run` reads a script, runs its workers on threads, and writes the record of the run, and `run 2`
-/// its record of version 2. `check` reads a script, a line `---` and a record, and writes
+/// its record of version 2. `run tasks` does what `run` does, with all workers on this thread: each
+/// is a task, and the tasks go on by turns. `check` reads a script, a line `---` and a record, and writes
 /// `lawful N`, or the first line of the record that breaks a rule. `load N` runs the generated
 /// script of N steps, and writes five numbers that its history comes to. A script that is refused
 /// is answered by one line, `line N: CAUSE`. Other words are answered by the line that names the

@@ -17,6 +17,7 @@ mod library;
 mod loads;
 mod side_by_side;
 mod statuses;
+mod tasks;
 
 const RUN: &str = "run";
 
@@ -30,7 +31,7 @@ const ADD_AND_GET_RECORD: &[u8] =
 
 const NO_CALLS_RECORD: &[u8] = b"k42 record 1\nend 0\n";
 
-const USAGE_LINE: &[u8] = b"usage: k42 run [2] | k42 check | k42 load N\n";
+const USAGE_LINE: &[u8] = b"usage: k42 run [2 | tasks] | k42 check | k42 load N\n";
 
 /// A source that is at its end, and counts the reads.
 #[derive(Drop)]
@@ -147,6 +148,11 @@ fn words_that_are_no_form_read_nothing(rt: HostRuntime) -> Result<(), Fail> {
         "run x",
         "check x",
         "run 2 2",
+        "run task",
+        "run Tasks",
+        "run tasks 2",
+        "run 2 tasks",
+        "tasks",
         "load 8 8",
     ];
     for line in cases {

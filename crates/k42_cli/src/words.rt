@@ -8,24 +8,28 @@ use script_text::number_up_to;
 /// A load has 1 to this many steps.
 const MOST_STEPS: u64 = 10_000;
 
-/// The versions of a record.
+/// How the workers of a script are run, and in which version their record is written.
 #[derive(Clone, Copy, Debug, PartialEq, Eq)]
-pub enum Version {
+pub enum Way {
+    /// On threads, in version 1.
     One,
+    /// On threads, in version 2.
     Two,
+    /// As tasks on one thread, in version 1.
+    Tasks,
 }
 
-impl Version {
+impl Way {
     ghost use Rattle.record_text.specs.Spelling.{IsVersion};
 
     /// The number that the record bears.
-    pub fn number(self) -> u32
-        ensures number { result ≡ asked.version_number self }
+    pub fn version(self) -> u32
+        ensures number { result ≡ asked.version_of self }
         ensures known { IsVersion result }
     {
         match self {
-            Version::One => 1,
-            Version::Two => 2,
+            Way::One | Way::Tasks => 1,
+            Way::Two => 2,
         }
     }
 }
@@ -33,8 +37,8 @@ impl Version {
 /// What the words of the command line ask for.
 #[derive(Clone, Copy, Debug, PartialEq, Eq)]
 pub enum Form {
-    /// Run a script, and write its record in this version.
-    Run(Version),
+    /// Run a script in this way, and write its record.
+    Run(Way),
     /// Judge a record by its script.
     Check,
     /// Run the generated script of so many steps, and sum its history up.
@@ -46,7 +50,7 @@ fn form_of_one(word: &str) -> Option<Form>
     ensures known { IfSome result asked.IsKnown }
 {
     if word == "run" {
-        Some(Form::Run(Version::One))
+        Some(Form::Run(Way::One))
     } else if word == "check" {
         Some(Form::Check)
     } else {
@@ -73,12 +77,24 @@ fn load_of(word: &str) -> Option<Form>
     Some(Form::Load(steps_in(word)?))
 }
 
+/// A run in the way that the word says.
+fn form_of_run(word: &str) -> Option<Form>
+    ensures form { result ≡ asked.form_of_run word.now }
+    ensures known { IfSome result asked.IsKnown }
+{
+    match word {
+        "2" => Some(Form::Run(Way::Two)),
+        "tasks" => Some(Form::Run(Way::Tasks)),
+        _ => None,
+    }
+}
+
 fn form_of_two(first: &str, second: &str) -> Option<Form>
     ensures form { result ≡ asked.form_of_two first.now second.now }
     ensures known { IfSome result asked.IsKnown }
 {
     match first {
-        "run" if second == "2" => Some(Form::Run(Version::Two)),
+        "run" => form_of_run(second),
         "load" => load_of(second),
         _ => None,
     }

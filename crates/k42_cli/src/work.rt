@@ -2,38 +2,56 @@
 ghost use Rattle.std.specs.Prelude.{◌≡◌, ◌<◌, ◌≤◌, length, None, IfOk};
 ghost use Rattle.script_text.specs.Language.{byte_limit};
 ghost use Rattle.script_text.specs.Sound.{IsSound};
-ghost use Rattle.record_text.specs.Spelling.{IsVersion};
 ghost use Rattle.k42_input.specs.Dues.{IsCheckDue};
 ghost use Rattle.k42_input.specs.Verdicts.{input_limit};
 ghost use Rattle.k42_cli.specs.Program as program;
 ghost use Rattle.k42_cli.specs.Outputs.{IsRecorded, IsShort, limit_of};
-ghost use Rattle.k42_cli.specs.Words.{IsKnown};
+ghost use Rattle.k42_cli.specs.Words.{IsKnown, version_of};
 
 use crate::load::load;
 use crate::output::{Output, refusal};
-use crate::words::Form;
+use crate::words::{Form, Way};
 use k42_input::{Status, separate, verdict_in};
 use k42_memory::Memory;
+use k42_runtime::History;
 use k42_workers::{Gate, run_script};
 use record_text::print_history;
 use script_text::{ParseEnd, Script, parse};
 use std::alloc::Global;
 use std::sync::Wait;
 use std::thread::Threads;
+use task_workers::run_tasks;
+
+/// Runs the workers of the script in this way, and gives the history.
+fn history_of<R: Threads + Wait + Sync, G: Gate + Sync>(
+    rt: &R,
+    alloc: Global,
+    script: &Script,
+    way: Way,
+    gate: &G,
+) -> Result<History, Memory>
+    requires { IsSound script.now }
+    ensures { IfOk result (program.IsRun script.now) }
+{
+    match way {
+        Way::One | Way::Two => run_script(rt, alloc, script, gate),
+        Way::Tasks => run_tasks(rt, alloc, script, gate),
+    }
+}
 
 /// Runs the script, and gives its history and the text of its record.
 fn record<R: Threads + Wait + Sync, G: Gate + Sync>(
     rt: &R,
     alloc: Global,
     script: &Script,
-    version: u32,
+    way: Way,
     gate: &G,
 ) -> Result<Output, Memory>
-    requires sound { IsSound script.now }
-    requires version { IsVersion version }
-    ensures { IfOk result (IsRecorded script.now version) }
+    requires { IsSound script.now }
+    ensures { IfOk result (IsRecorded script.now (version_of way)) }
 {
-    let history = run_script(rt, alloc, script, gate)?;
+    let history = history_of(rt, alloc, script, way, gate)?;
+    let version = way.version();
     let text = print_history(alloc, script, history.entries(), version)?;
     Ok(Output {
         status: Status::Ok,
@@ -46,20 +64,19 @@ fn record<R: Threads + Wait + Sync, G: Gate + Sync>(
 fn run<R: Threads + Wait + Sync, G: Gate + Sync>(
     rt: &R,
     alloc: Global,
-    version: u32,
+    way: Way,
     bytes: Vec<u8>,
     gate: &G,
 ) -> Result<Output, Memory>
-    requires { IsVersion version }
-    ensures due { IfOk result (λ output.
-        program.IsRunDue version bytes.items output.status output.text.items output.history) }
+    ensures due { IfOk result (λ output. program.IsRunDue (version_of way) bytes.items
+        output.status output.text.items output.history) }
     ensures short { IfOk result (λ output.
         output.status ≡ Status.Ok → length bytes.items < byte_limit) }
 {
     let parsed = parse(alloc, &bytes);
     drop(bytes);
     match parsed {
-        Ok(script) => record(rt, alloc, &script, version, gate),
+        Ok(script) => record(rt, alloc, &script, way, gate),
         Err(ParseEnd::Fault(fault)) => refusal(alloc, &fault),
         Err(ParseEnd::Memory) => Err(Memory),
     }
@@ -104,7 +121,7 @@ pub fn work<R: Threads + Wait + Sync, G: Gate + Sync>(
     ensures short { IfOk result (λ output. output.status ≡ Status.Ok → IsShort form bytes.items) }
 {
     match form {
-        Form::Run(version) => run(rt, alloc, version.number(), bytes, gate),
+        Form::Run(way) => run(rt, alloc, way, bytes, gate),
         Form::Check => check(alloc, &bytes),
         Form::Load(steps) => load(rt, alloc, steps, gate),
     }

@@ -6,6 +6,9 @@ use std::sync::atomic::{AtomicU32, AtomicU64, Ordering};
 /// How many turns a line is held at most.
 const TURNS: u32 = 10_000_000;
 
+/// As many as threads need to begin, where nothing that is waited for may come.
+const FEW_TURNS: u32 = 100_000;
+
 /// The bits of some lines, all below 64.
 pub fn lines(numbers: &[u32]) -> u64 {
     numbers.iter().fold(0, |bits, &number| bits | bit(number))
@@ -35,6 +38,7 @@ pub struct Hold {
 #[derive(Drop)]
 pub struct Holding {
     holds: [Hold; 2],
+    turns: u32,
     reached: AtomicU64,
     answered: AtomicU64,
     late: AtomicU32,
@@ -48,8 +52,18 @@ pub const NOTHING: Hold = Hold {
 
 impl Holding {
     pub fn new(holds: [Hold; 2]) -> Holding {
+        Holding::for_turns(holds, TURNS)
+    }
+
+    /// A gate that holds no line for long.
+    pub fn briefly(holds: [Hold; 2]) -> Holding {
+        Holding::for_turns(holds, FEW_TURNS)
+    }
+
+    fn for_turns(holds: [Hold; 2], turns: u32) -> Holding {
         Holding {
             holds,
+            turns,
             reached: AtomicU64::new(0),
             answered: AtomicU64::new(0),
             late: AtomicU32::new(0),
@@ -80,7 +94,7 @@ impl Holding {
 
     fn hold(&self, until: Until) {
         let backoff = Backoff::new();
-        for _ in 0..TURNS {
+        for _ in 0..self.turns {
             if self.is_over(until) || self.late() > 0 {
                 return;
             }

@@ -13,7 +13,7 @@ use std::thread::Threads;
 const TWO_ADD: &[u8] =
     b"procs 2\nobject hits counter spread\nworker a 0\nhits add 5\nhits get\nworker b 1\nhits add 7\nhits get\n";
 
-const TWO_ADD_SHARED: &[u8] =
+pub const TWO_ADD_SHARED: &[u8] =
     b"procs 2\nobject hits counter shared\nworker a 0\nhits add 5\nhits get\nworker b 1\nhits add 7\nhits get\n";
 
 /// Two workers swap a counter while a third is in an activity.
@@ -70,7 +70,7 @@ fn sixteen_meet() -> Holding {
 }
 
 /// What `check` says of a record.
-fn judged<R: Threads + Wait + Sync>(
+pub fn judged<R: Threads + Wait + Sync>(
     rt: &R,
     alloc: Global,
     script: &[u8],

@@ -1,6 +1,6 @@
 ghost use Rattle.std.specs.Prelude.{◌≡◌, None};
 
-use super::ADD_AND_GET;
+use super::{ADD_AND_GET, USAGE_LINE};
 use crate::called::k42_called;
 use k42_input::Status;
 use k42_io::{MemSink, MemSource};
@@ -50,11 +50,13 @@ fn ended<R: Threads + Wait + Sync>(
 fn each_status_has_its_cause(rt: HostRuntime) -> Result<(), Fail> {
     let no_script: &[u8] = b"procs many\n";
     let unlawful: &[u8] = b"procs 1\n---\nk42 record 1\nend 1\n";
-    let cases: [(&str, &[u8], &[u64], &[u64], Status); 6] = [
+    let cases: [(&str, &[u8], &[u64], &[u64], Status); 8] = [
         ("k42 run", ADD_AND_GET, &[], &[], Status::Ok),
         ("k42 check", unlawful, &[], &[], Status::Unlawful),
         ("k42 walk", ADD_AND_GET, &[], &[], Status::Usage),
         ("k42 run 2", no_script, &[], &[], Status::Refused),
+        ("k42 run tasks", ADD_AND_GET, &[], &[], Status::Ok),
+        ("k42 run tasks", no_script, &[], &[], Status::Refused),
         ("k42 run", ADD_AND_GET, &[1], &[], Status::ReadFault),
         ("k42 run", ADD_AND_GET, &[], &[1], Status::WriteFault),
     ];
@@ -78,6 +80,6 @@ fn without_memory_for_the_words_nothing_is_written(rt: HostRuntime) -> Result<()
 fn words_that_are_not_utf8_are_answered_by_the_usage_line(rt: HostRuntime) -> Result<(), Fail> {
     let said = Err(io::Error::from(ErrorKind::InvalidData));
     let end = ended(&rt, rt.alloc(), said, ADD_AND_GET, &[], &[])?;
-    assert_eq!(rt; end, (Status::Usage, 44));
+    assert_eq!(rt; end, (Status::Usage, USAGE_LINE.len()));
     Ok(())
 }
