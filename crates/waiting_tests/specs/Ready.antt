@@ -3,7 +3,7 @@ use Rattle.std.specs.Prelude.{◌≡◌, ℕ, true, List, [], length, is_some}
 use Rattle.gen_core.specs.Events as graces
 use Rattle.phase_core.specs.Stages as swaps
 use Rattle.k42_board.specs.Phases.{is_served}
-use Rattle.k42_board.specs.Seen.{PassSeen, IsPassOf}
+use Rattle.k42_board.specs.Seen.{IsPassOf}
 use Rattle.k42_runtime.specs.Calls.{CallSeen, IsAsked}
 use Rattle.k42_runtime.specs.Swaps.{SwapSeen, IsAtStage}
 use Rattle.k42_runtime.specs.Systems.{SystemSeen, IsPassHere, SystemPass}

@@ -3,7 +3,7 @@ use crate::tests::crews::{Three, closed, counter};
 use crate::tests::held::{hold, see_added, wait_for_cell};
 use crate::tests::shut::{be_let_in, be_shut_out, be_waited_for};
 use crate::tests::steps::{call_to, come_in, swap_to};
-use crate::tests::together::{call_at_a_held_cell, call_at_a_shut_object};
+use crate::tests::together::{add_at_a_held_cell, get_at_a_shut_object};
 use k42_kinds::{Answer, Entry, LayoutName, Op, Reply};
 use std::test::Fail;
 
@@ -88,9 +88,7 @@ fn a_call_waits_for_the_cell_that_another_holds(rt: HostRuntime) -> Result<(), F
     } = crew;
     let cell = hold(&rt, alloc, &system, &mut one)?;
     come_in(&rt, &system, &mut zero);
-    let add = Op::Add(5);
-    let reply = call_at_a_held_cell(&rt, alloc, &system, &mut zero, &mut one, cell, add)?;
-    assert_eq!(rt; reply, Reply::Done);
+    add_at_a_held_cell(&rt, alloc, &system, &mut zero, &mut one, cell)?;
     see_added(&rt, alloc, &system, &mut one)?;
     Ok(())
 }
@@ -111,16 +109,8 @@ fn a_call_waits_for_the_swap_that_keeps_its_object_shut(rt: HostRuntime) -> Resu
         &rt, alloc, &system, &mut zero, &mut one, &mut two, &mut swap,
     )?;
     come_in(&rt, &system, &mut zero);
-    let reply = call_at_a_shut_object(
-        &rt,
-        alloc,
-        &system,
-        &mut zero,
-        &mut one,
-        &mut two,
-        &mut swap,
-        Op::Get,
+    get_at_a_shut_object(
+        &rt, alloc, &system, &mut zero, &mut one, &mut two, &mut swap,
     )?;
-    assert_eq!(rt; reply, Reply::Number(0));
     Ok(())
 }

@@ -1,6 +1,6 @@
 //! Systems on one processor, and the passes of their callers.
 ghost use Rattle.std.specs.Prelude.{IfOk, IfSome};
-ghost use Rattle.k42_crews.specs.Ready.{IsFree};
+ghost use Rattle.k42_crews.specs.Ready.{AreFree, IsFree};
 
 use k42_crews::{close, last, start};
 use k42_kinds::{KindName, LayoutName};
@@ -17,10 +17,8 @@ pub(super) struct Three {
 }
 
 /// A system of so many shared counters on one processor, and the passes of its three callers.
-pub(super) fn counters(alloc: Global, objects: u32) -> Result<Option<(System, Three)>, Memory>
-    ensures zero { IfOk result (λ made. IfSome made (λ crew. IsFree crew.0 crew.1.zero)) }
-    ensures one { IfOk result (λ made. IfSome made (λ crew. IsFree crew.0 crew.1.one)) }
-    ensures two { IfOk result (λ made. IfSome made (λ crew. IsFree crew.0 crew.1.two)) }
+fn started(alloc: Global, objects: u32) -> Result<Option<(System, Vec<Pass>)>, Memory>
+    ensures { IfOk result (λ made. IfSome made (λ crew. AreFree crew.0 crew.1.items)) }
 {
     let mut kinds = Vec::new(alloc);
     for _ in 0..objects {
@@ -30,18 +28,38 @@ pub(super) fn counters(alloc: Global, objects: u32) -> Result<Option<(System, Th
         })?;
     }
     let homes = vec![in alloc; 0, 0, 0]?;
-    let Ok(plan) = Plan::new(1, kinds, homes) else {
+    match Plan::new(1, kinds, homes) {
+        Ok(plan) => Ok(Some(start(alloc, plan)?)),
+        Err(_) => Ok(None),
+    }
+}
+
+/// Takes the passes of the last three callers.
+fn take_three(system: &System, passes: &mut Vec<Pass>) -> Option<Three>
+    requires { AreFree system.now passes.old.items }
+    ensures zero { IfSome result (λ crew. IsFree system.now crew.zero) }
+    ensures one { IfSome result (λ crew. IsFree system.now crew.one) }
+    ensures two { IfSome result (λ crew. IsFree system.now crew.two) }
+{
+    let two = last(system, passes)?;
+    let one = last(system, passes)?;
+    let zero = last(system, passes)?;
+    Some(Three { zero, one, two })
+}
+
+/// The same, with the passes apart.
+pub(super) fn counters(alloc: Global, objects: u32) -> Result<Option<(System, Three)>, Memory>
+    ensures zero { IfOk result (λ made. IfSome made (λ crew. IsFree crew.0 crew.1.zero)) }
+    ensures one { IfOk result (λ made. IfSome made (λ crew. IsFree crew.0 crew.1.one)) }
+    ensures two { IfOk result (λ made. IfSome made (λ crew. IsFree crew.0 crew.1.two)) }
+{
+    let Some((system, mut passes)) = started(alloc, objects)? else {
         return Ok(None);
     };
-    let (system, mut passes) = start(alloc, plan)?;
-    let (Some(two), Some(one), Some(zero)) = (
-        last(&system, &mut passes),
-        last(&system, &mut passes),
-        last(&system, &mut passes),
-    ) else {
-        return Ok(None);
-    };
-    Ok(Some((system, Three { zero, one, two })))
+    match take_three(&system, &mut passes) {
+        Some(crew) => Ok(Some((system, crew))),
+        None => Ok(None),
+    }
 }
 
 /// The history of the three.

@@ -27,21 +27,23 @@ pub(super) fn go_home(system: &System, pass: &mut Pass)
     system.leave(pass);
 }
 
-/// Makes a call in an activity.
-pub(super) fn call<R: Abort + Wait>(
+/// Makes a call in an activity, which is to be answered so.
+pub(super) fn ask<R: Abort + Wait>(
     rt: &R,
     alloc: Global,
     system: &System,
     pass: &mut Pass,
-    object: u32,
     op: Op,
-) -> Result<Reply, Memory>
+    due: Reply,
+) -> Result<(), Memory>
     requires inside { IsIn system.now pass.old }
     ensures inside { IsIn system.now pass.new }
 {
-    assert!(rt; system.takes(object, &op));
+    assert!(rt; system.takes(0, &op));
     assert!(rt; may_call(pass));
-    system.call(rt, alloc, pass, object, op)
+    let reply = system.call(rt, alloc, pass, 0, op)?;
+    assert_eq!(rt; reply, due);
+    Ok(())
 }
 
 /// Destroys an object.

@@ -3,7 +3,7 @@ ghost use Rattle.std.specs.Prelude.{OnOk};
 ghost use Rattle.k42_crews.specs.Ready.{IsFree, IsIn};
 ghost use Rattle.runtime_tests.specs.Ready.{IsSwapping};
 
-use crate::tests::steps::{call, come_in, end_swap, go_home, reclaim, swap_to, try_swap};
+use crate::tests::steps::{ask, come_in, end_swap, go_home, reclaim, swap_to, try_swap};
 use k42_crews::{call_once, swap_once};
 use k42_kinds::{LayoutName, Op, Reply};
 use k42_memory::Memory;
@@ -23,8 +23,7 @@ fn add_and_stay<R: Abort + Wait>(
     ensures inside { OnOk result (IsIn system.now pass.new) }
 {
     come_in(rt, system, pass);
-    assert_eq!(rt; call(rt, alloc, system, pass, 0, Op::Add(5))?, Reply::Done);
-    Ok(())
+    ask(rt, alloc, system, pass, Op::Add(5), Reply::Done)
 }
 
 /// Finds 5 in the activity, and ends it.
@@ -37,10 +36,7 @@ fn get_and_leave<R: Abort + Wait>(
     requires inside { IsIn system.now pass.old }
     ensures free { OnOk result (IsFree system.now pass.new) }
 {
-    assert_eq!(rt;
-        call(rt, alloc, system, pass, 0, Op::Get)?,
-        Reply::Number(5)
-    );
+    ask(rt, alloc, system, pass, Op::Get, Reply::Number(5))?;
     go_home(system, pass);
     Ok(())
 }

@@ -3,7 +3,7 @@ ghost use Rattle.std.specs.Prelude.{◌<◌, [], ◌∷◌, IfOk, OnOk};
 ghost use Rattle.k42_crews.specs.Ready.{IsFree, IsIn};
 ghost use Rattle.waiting_tests.specs.Ready.{IsCallOf, IsInRow};
 
-use crate::tests::steps::{call, come_in, find_answered, find_held_up, go_home};
+use crate::tests::steps::{ask, come_in, find_answered, find_held_up, go_home};
 use crate::tests::table::{end_call, hold_cell, let_go};
 use k42_kinds::{Op, Reply};
 use k42_memory::Memory;
@@ -24,10 +24,7 @@ pub(super) fn hold<R: Abort + Wait>(
     ensures few { IfOk result (λ cell. cell < 256) }
 {
     come_in(rt, system, pass);
-    assert_eq!(rt;
-        call(rt, alloc, system, pass, 0, Op::Get)?,
-        Reply::Number(0)
-    );
+    ask(rt, alloc, system, pass, Op::Get, Reply::Number(0))?;
     Ok(hold_cell(rt, system, pass, 0))
 }
 
@@ -74,10 +71,7 @@ pub(super) fn see_added<R: Abort + Wait>(
     requires inside { IsIn system.now pass.old }
     ensures free { OnOk result (IsFree system.now pass.new) }
 {
-    assert_eq!(rt;
-        call(rt, alloc, system, pass, 0, Op::Get)?,
-        Reply::Number(5)
-    );
+    ask(rt, alloc, system, pass, Op::Get, Reply::Number(5))?;
     go_home(system, pass);
     Ok(())
 }

@@ -5,7 +5,7 @@ ghost use Rattle.k42_crews.specs.Ready.{IsFree, IsIn};
 ghost use Rattle.waiting_tests.specs.Ready.{IsInRow, IsSwapping};
 
 use crate::tests::shut::find_done;
-use crate::tests::steps::{call, go_home};
+use crate::tests::steps::{ask, go_home};
 use crate::tests::table::{end_call, let_go};
 use crossbeam_utils::Backoff;
 use k42_kinds::{Op, Reply};
@@ -17,20 +17,34 @@ use std::sync::Wait;
 use std::sync::atomic::{AtomicU32, Ordering};
 use std::thread::{Threads, join_mut};
 
-/// Calls, and tells that it is about to.
-fn call_told<R: Abort + Wait>(
+/// Adds 5, and tells that it is about to.
+fn add_told<R: Abort + Wait>(
     rt: &R,
     alloc: Global,
     system: &System,
     pass: &mut Pass,
-    op: Op,
     told: &AtomicU32,
-) -> Result<Reply, Memory>
+) -> Result<(), Memory>
     requires inside { IsIn system.now pass.old }
     ensures inside { IsIn system.now pass.new }
 {
     told.store(1, Ordering::SeqCst);
-    call(rt, alloc, system, pass, 0, op)
+    ask(rt, alloc, system, pass, Op::Add(5), Reply::Done)
+}
+
+/// Finds 0, and tells that it is about to look.
+fn get_told<R: Abort + Wait>(
+    rt: &R,
+    alloc: Global,
+    system: &System,
+    pass: &mut Pass,
+    told: &AtomicU32,
+) -> Result<(), Memory>
+    requires inside { IsIn system.now pass.old }
+    ensures inside { IsIn system.now pass.new }
+{
+    told.store(1, Ordering::SeqCst);
+    ask(rt, alloc, system, pass, Op::Get, Reply::Number(0))
 }
 
 /// Waits until the call is under way, and so long that it is held up.
@@ -58,16 +72,15 @@ fn let_go_late<R: Wait>(rt: &R, system: &System, pass: &mut Pass, cell: u32, tol
     end_call(system, pass);
 }
 
-/// One pass calls while another holds the cell.
-pub(super) fn call_at_a_held_cell<R: Abort + Threads + Wait + Sync>(
+/// One pass adds while another holds the cell.
+pub(super) fn add_at_a_held_cell<R: Abort + Threads + Wait + Sync>(
     rt: &R,
     alloc: Global,
     system: &System,
     zero: &mut Pass,
     one: &mut Pass,
     cell: u32,
-    op: Op,
-) -> Result<Reply, Memory>
+) -> Result<(), Memory>
     requires zero { IsIn system.now zero.old }
     requires one { IsInRow system.now (cell ∷ []) one.old }
     requires few { cell < 256 }
@@ -75,16 +88,16 @@ pub(super) fn call_at_a_held_cell<R: Abort + Threads + Wait + Sync>(
     ensures one { IsIn system.now one.new }
 {
     let told = &AtomicU32::new(0);
-    let mut calls = || -> Result<Reply, Memory>
+    let mut adds = || -> Result<(), Memory>
         requires { IsSync R.row × IsIn system.now zero.now }
         ensures { IsIn system.entry.now zero.exit.now }
-    { call_told(rt, alloc, system, zero, op, told) };
+    { add_told(rt, alloc, system, zero, told) };
     let mut lets_go = || -> ()
         requires { IsSync R.row × IsInRow system.now (cell ∷ []) one.now × (cell < 256) }
         ensures { IsIn system.entry.now one.exit.now }
     { let_go_late(rt, system, one, cell, told) };
-    let (reply, ()) = join_mut(rt, &mut calls, &mut lets_go);
-    reply
+    let (added, ()) = join_mut(rt, &mut adds, &mut lets_go);
+    added
 }
 
 /// Ends the call for which the swap waits, and the swap, once another call waits for that.
@@ -108,8 +121,8 @@ fn open_late<R: Abort + Wait>(
     find_done(rt, alloc, system, one, swap)
 }
 
-/// One pass calls an object that the swap of a second one keeps shut, for a third one that is inside.
-pub(super) fn call_at_a_shut_object<R: Abort + Threads + Wait + Sync>(
+/// One pass asks an object that the swap of a second one keeps shut, for a third one that is inside.
+pub(super) fn get_at_a_shut_object<R: Abort + Threads + Wait + Sync>(
     rt: &R,
     alloc: Global,
     system: &System,
@@ -117,8 +130,7 @@ pub(super) fn call_at_a_shut_object<R: Abort + Threads + Wait + Sync>(
     one: &mut Pass,
     two: &mut Pass,
     swap: &mut Swap,
-    op: Op,
-) -> Result<Reply, Memory>
+) -> Result<(), Memory>
     requires zero { IsIn system.now zero.old }
     requires one { IsSwapping system.now swap.old one.old }
     requires two { IsInRow system.now [] two.old }
@@ -127,15 +139,15 @@ pub(super) fn call_at_a_shut_object<R: Abort + Threads + Wait + Sync>(
     ensures two { IsFree system.now two.new }
 {
     let told = &AtomicU32::new(0);
-    let mut calls = || -> Result<Reply, Memory>
+    let mut gets = || -> Result<(), Memory>
         requires { IsSync R.row × IsIn system.now zero.now }
         ensures { IsIn system.entry.now zero.exit.now }
-    { call_told(rt, alloc, system, zero, op, told) };
+    { get_told(rt, alloc, system, zero, told) };
     let mut opens = || -> Result<(), Memory>
         requires { IsSync R.row × IsSwapping system.now swap.now one.now × IsInRow system.now [] two.now }
         ensures { OnOk result (IsFree system.entry.now one.exit.now) × IsFree system.entry.now two.exit.now }
     { open_late(rt, alloc, system, one, two, swap, told) };
-    let (reply, opened) = join_mut(rt, &mut calls, &mut opens);
+    let (found, opened) = join_mut(rt, &mut gets, &mut opens);
     opened?;
-    reply
+    found
 }
