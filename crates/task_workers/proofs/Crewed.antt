@@ -14,20 +14,20 @@ use Rattle.k42_runtime.specs.Systems.{SystemPass, SystemSeen}
 use Rattle.k42_workers.specs.Passes.{HasWorked, IsFresh, IsReady, MayWork}
 use Rattle.k42_workers.proofs.Filtered.{All-found}
 use Rattle.k42_workers.specs.Workers.{HasDoneLines, IsMadeBy}
-use Rattle.task_workers.specs.Rounds.{AreFair, HaveEnded, IsFair, Own, own_of, owns_from}
+use Rattle.task_workers.specs.Rounds.{AreInRun, HaveEnded, IsInRun, Own, own_of, owns_from}
 use Rattle.task_workers.specs.Tasks.{IsTask, MayBegin, has_ended}
 use Rattle.task_workers.specs.declared.tasks.TaskAt.{TaskAt}
 use Rattle.task_workers.specs.declared.tasks.TaskAt.TheVariants.{Between, Calling, Swapping, Over}
 use Rattle.task_workers.specs.declared.tasks.WorkerTask.{WorkerTask}
 
 module _ (system : SystemSeen) where
-  pub fair_push : (refused : Bool) (tasks : List WorkerTask) (task : WorkerTask) → AreFair system refused tasks → IsFair system refused task → AreFair system refused (tasks ++ task ∷ [])
-  fair_push refused [] task fair last = (last, tt)
-  fair_push refused (first ∷ tasks) task fair last = (fair.0, fair_push refused tasks task fair.1 last)
+  pub in_run_push : (refused : Bool) (tasks : List WorkerTask) (task : WorkerTask) → AreInRun system refused tasks → IsInRun system refused task → AreInRun system refused (tasks ++ task ∷ [])
+  in_run_push refused [] task run last = (last, tt)
+  in_run_push refused (first ∷ tasks) task run last = (run.0, in_run_push refused tasks task run.1 last)
 
-  -- a task on a fresh pass
-  pub may_begin : (number : ℕ) (worker : WorkerLines) (pass : SystemPass) → IsFresh system number worker pass → IsReady system.plan worker → MayBegin system pass worker.items
-  may_begin number worker pass fresh ready = record {
+  -- a pass that is fresh for a worker is for a task with its items
+  fresh_for : (number : ℕ) (worker : WorkerLines) (pass : SystemPass) → IsFresh system number worker pass → IsReady system.plan worker → MayBegin system pass worker.items
+  fresh_for number worker pass fresh ready = record {
     fresh = record {
       here = fresh.here;
       rests = fresh.rests;
@@ -51,39 +51,45 @@ module _ (system : SystemSeen) where
         in_step = own.in_step;
       }
 
-  has_worked : (number : ℕ) (worker : WorkerLines) (task : WorkerTask) → own_of task ≡ record { items = worker.items; number = number; proc = worker.proc } → IsFair system false task
+  has_worked : (number : ℕ) (worker : WorkerLines) (task : WorkerTask) → own_of task ≡ record { items = worker.items; number = number; proc = worker.proc } → IsInRun system false task
       → has_ended task.at ≡ true → HasWorked system number worker task.pass
-  has_worked number worker task own fair ended =
-      let done = fair.done refl ended in
+  has_worked number worker task own run ended =
+      let done = run.done refl ended in
       record {
-        here = fair.task_is.here;
+        here = run.task_is.here;
         rests = done.rests;
         caller = ap (λ (o : Own). o.number) own;
         done = lines_of task.items.now task.pass.view.turn.proc worker task.pass.view.taker.mine (ap (λ (o : Own). o.items) own) (ap (λ (o : Own). o.proc) own) done.lines;
       }
 
-  pub have_worked : (first : ℕ) (workers : List WorkerLines) (tasks : List WorkerTask) → map own_of tasks ≡ owns_from first workers → AreFair system false tasks → HaveEnded tasks
+  pub have_worked : (first : ℕ) (workers : List WorkerLines) (tasks : List WorkerTask) → map own_of tasks ≡ owns_from first workers → AreInRun system false tasks → HaveEnded tasks
       → EachPair (λ i. HasWorked system (first + i)) workers (map (λ (task : WorkerTask). task.pass) tasks)
-  have_worked first [] tasks own fair ended i worker pass there theirs = cc
-  have_worked first (worker ∷ workers) [] own fair ended i one pass there theirs = cc
-  have_worked first (worker ∷ workers) (task ∷ tasks) own fair ended zero one pass there theirs =
+  have_worked first [] tasks own run ended i worker pass there theirs = cc
+  have_worked first (worker ∷ workers) [] own run ended i one pass there theirs = cc
+  have_worked first (worker ∷ workers) (task ∷ tasks) own run ended zero one pass there theirs =
       let parts = heads (own_of task) (record { items = worker.items; number = first; proc = worker.proc }) (map own_of tasks) (owns_from (first + 1) workers) own in
       let zeroth : first ≡ first + 0 = omega arith in
       subst (λ (z : ℕ × WorkerLines × SystemPass). HasWorked system z.0 z.1 z.2) (λ j. (zeroth j, same_Some worker one there j, same_Some task.pass pass theirs j))
-      (has_worked first worker task parts.head fair.0 ended.0)
-  have_worked first (worker ∷ workers) (task ∷ tasks) own fair ended (suc i) one pass there theirs =
+      (has_worked first worker task parts.head run.0 ended.0)
+  have_worked first (worker ∷ workers) (task ∷ tasks) own run ended (suc i) one pass there theirs =
       let parts = heads (own_of task) (record { items = worker.items; number = first; proc = worker.proc }) (map own_of tasks) (owns_from (first + 1) workers) own in
       let next : first + 1 + i ≡ first + suc i = omega arith in
-      subst (λ (n : ℕ). HasWorked system n one pass) next (have_worked (first + 1) workers tasks parts.tail fair.1 ended.1 i one pass there theirs)
+      subst (λ (n : ℕ). HasWorked system n one pass) next (have_worked (first + 1) workers tasks parts.tail run.1 ended.1 i one pass there theirs)
 
 -- So many tasks have begun, and these passes are left.
 pub record IsFilled (system : SystemSeen) (workers : List WorkerLines) (tasks : List WorkerTask) (passes rest : List SystemPass) : Type 0 where
   pub left : rest ≡ drop (length tasks) passes
   pub own : map own_of tasks ++ owns_from (length tasks) (drop (length tasks) workers) ≡ owns_from 0 workers
-  pub fair : (refused : Bool) → AreFair system refused tasks
+  pub in_run : (refused : Bool) → AreInRun system refused tasks
 
 pub none_filled : (system : SystemSeen) (workers : List WorkerLines) (passes : List SystemPass) → IsFilled system workers [] passes passes
-none_filled system workers passes = record { left = refl; own = refl; fair = λ refused. tt }
+none_filled system workers passes = record { left = refl; own = refl; in_run = λ refused. tt }
+
+-- where workers may work on their passes, a task may begin on each
+pub may_begin : (system : SystemSeen) (workers : List WorkerLines) (passes : List SystemPass) → MayWork system 0 workers passes
+    → (place : ℕ) (worker : WorkerLines) (pass : SystemPass) → slice_get workers place ≡ Some worker → slice_get passes place ≡ Some pass → MayBegin system pass worker.items
+may_begin system workers passes may place worker pass there here =
+    fresh_for system (0 + place) worker pass (may.fresh place worker pass there here) (All-found (IsReady system.plan) workers place worker may.ready there)
 
 -- what stands first behind so many elements
 first_behind : {A : Type 0} (xs : List A) (n : ℕ) (x : A) (rest : List A) → x ∷ rest ≡ drop n xs → (slice_get xs n ≡ Some x) × (rest ≡ drop (suc n) xs)
@@ -123,7 +129,6 @@ module _ (system : SystemSeen) (workers : List WorkerLines) (tasks : List Worker
         → IsFilled system workers (tasks ++ task ∷ []) passes rest
     one_filled task on items new is_task =
         let long : length (tasks ++ task ∷ []) ≡ suc (length tasks) = length_push tasks task ∙ add-one (length tasks) in
-        let ready = All-found (IsReady system.plan) workers (length tasks) worker may.ready there in
         let own : own_of task ≡ record { items = worker.items; number = length tasks; proc = worker.proc } =
         λ j. record {
           items = items j;
@@ -140,8 +145,8 @@ module _ (system : SystemSeen) (workers : List WorkerLines) (tasks : List Worker
               ∙ ap (λ (o : Own). map own_of tasks ++ o ∷ owns_from (length tasks + 1) (drop (length tasks + 1) workers)) own
               ∙ ap (λ (ws : List WorkerLines). map own_of tasks ++ owns_from (length tasks) ws) (sym next)
               ∙ filled.own;
-          fair = λ refused. fair_push system refused tasks task (filled.fair refused) (record {
-            task_is = is_task (may_begin system (length tasks) worker pass fresh ready);
+          in_run = λ refused. in_run_push system refused tasks task (filled.in_run refused) (record {
+            task_is = is_task (may_begin system workers passes may (length tasks) worker pass there at_pass.0);
             done = λ none ended. absurd (begun_not_ended task.at new ended);
           });
         }

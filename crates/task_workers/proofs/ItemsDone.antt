@@ -9,22 +9,22 @@ use Rattle.script_text.specs.declared.script.Item.{Item}
 use Rattle.script_text.specs.declared.script.Item.TheVariants.{Begin, End, Line}
 use Rattle.script_text.specs.declared.script.WorkerLines.{WorkerLines}
 use Rattle.k42_runtime.specs.Systems.{SystemPass, SystemSeen, IsAtRest, IsPassHere}
-use Rattle.k42_workers.specs.Lines.{Standing, Follows}
+use Rattle.k42_workers.specs.Lines.{Follows}
 use Rattle.k42_workers.specs.Passes.{GoesOnBy, HasWorked, IsBetween, IsReady, StaysAs, standing_of}
 use Rattle.k42_workers.specs.UnderWay.{IsAt}
 use Rattle.k42_workers.specs.Workers.{HasDoneLines}
 use Rattle.k42_workers.proofs.Answered.{at_next, at_rest, at_start, worked}
 use Rattle.task_workers.specs.Steps.{HadNone, HasDoneAll, HasFollowed, HasStepped, IsSameTask, at_behind, behind_item, is_last, step_behind}
-use Rattle.task_workers.specs.Tasks.{MayBegin, IsBetweenItems, IsOnWay, IsTask, has_ended, standing_in, worker_of, worker_on}
-use Rattle.task_workers.specs.Tries.{IsDone, IsGivenUp, IsHeldUp, IsOfLine, IsSame}
+use Rattle.task_workers.specs.Tasks.{MayBegin, IsBetweenItems, IsOnWay, IsTask, has_ended, worker_of, worker_on}
+use Rattle.task_workers.specs.Tries.{IsDone, IsGivenUp, IsHeldUp, IsOfLine, IsSame, begun_at}
 use Rattle.task_workers.specs.declared.tasks.TaskAt.{TaskAt}
 use Rattle.task_workers.specs.declared.tasks.TaskAt.TheVariants.{Between, Over}
 use Rattle.task_workers.specs.declared.tasks.TaskCause.{TaskCause}
 use Rattle.task_workers.specs.declared.tasks.TaskStep.{TaskStep}
 use Rattle.task_workers.specs.declared.tasks.TaskStep.TheVariants.{Again, Going, Ended, Memory}
 use Rattle.task_workers.specs.declared.tasks.WorkerTask.{WorkerTask}
-use Rattle.task_workers.proofs.LinesBegun.{between_at, without_none}
-use Rattle.task_workers.proofs.LinesDone.{answered, line_behind}
+use Rattle.task_workers.proofs.LinesBegun.{between_at}
+use Rattle.task_workers.proofs.LinesDone.{line_behind}
 
 module _ (system : SystemSeen) (task : WorkerTask) (ready : IsReady system.plan (worker_of task)) where
   module _ (new : SystemPass) (same : IsSame system task.pass new) where
@@ -39,7 +39,7 @@ module _ (system : SystemSeen) (task : WorkerTask) (ready : IsReady system.plan 
 
     module _ (item : Item) (next : slice_get task.items.now task.done ≡ Some item) (after : Bool)
         (at : IsAt system task.pass.view.number (worker_of task) (suc task.done) after new)
-        (follows : Follows item task.pass.view.turn.proc task.inside after (standing_in task) (standing_of new.view)) where
+        (follows : Follows item task.pass.view.turn.proc task.inside after (standing_of task.pass.view) (standing_of new.view)) where
       -- the task behind the item
       gone : TaskAt → WorkerTask
       gone place = record task { pass = new; done = task.done + 1; inside = after; at = place }
@@ -61,7 +61,7 @@ module _ (system : SystemSeen) (task : WorkerTask) (ready : IsReady system.plan 
                 task = record { here = same.here; ready = ready_still; way = record { at_item = at_item; within = omega (arith, left) } };
                 same = same_task (task.done + 1) after Between;
                 over = refl;
-                brought = (followed Between, left);
+                brought = (followed Between, refl, left);
               }
           by false is =
               let none : length task.items.now ≤ task.done + 1 = grind (arith, nat_tests, is) in
@@ -81,10 +81,10 @@ module _ (system : SystemSeen) (task : WorkerTask) (ready : IsReady system.plan 
         task = record { here = same.here; ready = ready_still; way = way };
         same = same_task task.done task.inside after;
         over = going;
-        brought = record { held = held.held; drawn = drawn; done = refl; left = slice_get_within task.items.now task.done (Line line) next };
+        brought = record { held = held.held; stays = held.stays; drawn = drawn; done = refl; left = slice_get_within task.items.now task.done (Line line) next };
       }
 
-      pub line_given_up : IsGivenUp system line task.pass new → HasStepped system Memory task (record task { pass = new; at = Over })
+      pub line_given_up : IsGivenUp system (begun_at line task.at) task.pass new → HasStepped system Memory task (record task { pass = new; at = Over })
       line_given_up given = record {
         task = record { here = same.here; ready = ready_still; way = given.rests };
         same = same_task task.done task.inside Over;
@@ -108,8 +108,7 @@ item_followed system task ready between item next after new same idle on follows
     let at = between.at_item in
     item_done system task ready new same item next after
     (at_next system task.pass.view.number (worker_of task) task.done task.inside task.pass at item after new next same.here idle on follows)
-    (subst (λ (standing : Standing). Follows item task.pass.view.turn.proc task.inside after standing (standing_of new.view))
-    (without_none task.inside (standing_of task.pass.view) (λ out. (at.way.outside out).1)) follows)
+    follows
 
 -- a line that was answered
 pub line_done : (system : SystemSeen) (task : WorkerTask) → IsReady system.plan (worker_of task) → (line : CallLine) (next : slice_get task.items.now task.done ≡ Some (Line line))
@@ -117,7 +116,7 @@ pub line_done : (system : SystemSeen) (task : WorkerTask) → IsReady system.pla
     → HasStepped system (step_behind (task.done + 1) (length task.items.now)) task (behind_item task.inside (record task { pass = new }))
 line_done system task ready line next at of way new same done =
     item_done system task ready new same (Line line) next task.inside (line_behind system task line next at of way new same done)
-    (refl, answered system task line next at of way new same done)
+    (refl, done.answered)
 
 module _ (system : SystemSeen) (task : WorkerTask) (is_task : IsTask system task) (going : has_ended task.at ≡ false) where
   -- a block is opened
@@ -152,7 +151,7 @@ module _ (system : SystemSeen) (task : WorkerTask) (is_task : IsTask system task
 -- the end comes just where all items are done
 pub ends_at_all : (system : SystemSeen) (result : TaskStep) (old new : WorkerTask) → HasStepped system result old new → (result ≡ Ended) ↔ (new.done ≡ length new.items.now)
 ends_at_all system (Again cause) old new step = (λ e. cc, λ all. absurd (let left = step.brought.left in omega (arith, left, all)))
-ends_at_all system Going old new step = (λ e. cc, λ all. absurd (let left = step.brought.1 in omega (arith, left, all)))
+ends_at_all system Going old new step = (λ e. cc, λ all. absurd (let left = step.brought.2 in omega (arith, left, all)))
 ends_at_all system Ended old new step = (λ e. step.brought.0.all, λ all. refl)
 ends_at_all system Memory old new step = (λ e. cc, λ all. absurd (let left = step.brought.left in omega (arith, left, all)))
 

@@ -1,5 +1,4 @@
 pub mod TriedCalls
-pub mod TriedSwaps
 pub mod LinesBegun
 pub mod LinesDone
 pub mod ItemsDone

@@ -8,18 +8,18 @@ use Rattle.k42_kinds.specs.declared.entry.Act.{Act}
 use Rattle.k42_kinds.specs.declared.entry.Act.TheVariants.{Call, Swap}
 use Rattle.k42_kinds.specs.declared.entry.To.{To}
 use Rattle.script_text.specs.Lawful.{call_lines}
-use Rattle.script_text.specs.Sound.{BlocksMatch, IsCall}
+use Rattle.script_text.specs.Sound.{IsCall}
 use Rattle.script_text.specs.declared.script.CallLine.{CallLine}
 use Rattle.script_text.specs.declared.script.Item.{Item}
 use Rattle.script_text.specs.declared.script.Item.TheVariants.{Line}
-use Rattle.k42_runtime.specs.Swaps.{graces_due}
-use Rattle.k42_runtime.specs.Systems.{SystemSeen}
+use Rattle.k42_board.specs.declared.view.PassView.{PassView}
+use Rattle.k42_runtime.specs.Systems.{SystemPart, SystemSeen}
 use Rattle.k42_workers.specs.Lines.{Standing}
 use Rattle.k42_workers.specs.Passes.{HasFew, IsReady, MayAnswer, MayAsk, MayAskLine, RestsFor, standing_of}
 use Rattle.k42_workers.specs.UnderWay.{IsAt, IsUnderWay}
 use Rattle.k42_workers.proofs.Answered.{line_at, line_in, many_under_way, may_follow}
-use Rattle.task_workers.specs.Tasks.{IsAtLine, IsBetweenItems, IsOnWay, IsWithin, has_ended, lines_behind, standing_in, without_own, worker_of}
-use Rattle.task_workers.specs.Tries.{IsOfLine, MayTry, activities_due, begun_at, started}
+use Rattle.task_workers.specs.Tasks.{IsBetweenItems, IsInLine, IsOnWay, IsWithin, has_ended, lines_behind, standing_in, without_own, worker_of}
+use Rattle.task_workers.specs.Tries.{IsOfLine, MayTry, activities_due, activities_with, begun_at, graces_with, started}
 use Rattle.task_workers.specs.declared.tasks.TaskAt.{TaskAt}
 use Rattle.task_workers.specs.declared.tasks.TaskAt.TheVariants.{Between, Calling, Swapping, Over}
 use Rattle.task_workers.specs.declared.tasks.WorkerTask.{WorkerTask}
@@ -41,7 +41,7 @@ outside_swap to false call = refl
 pub same_line : (one other : CallLine) (found : Option Item) → found ≡ Some (Line one) → found ≡ Some (Line other) → one ≡ other
 same_line one other found first second = ap (λ (item : Item). line_in item one) (same_Some (Line one) (Line other) (sym first ∙ second))
 
-abbrev is_under_way : TaskAt → Bool
+abbrev pub is_under_way : TaskAt → Bool
 is_under_way Between = false
 is_under_way (Calling call) = true
 is_under_way (Swapping swap) = true
@@ -56,6 +56,25 @@ stays_going line Between going = started_going line.object line.act
 stays_going line (Calling call) going = refl
 stays_going line (Swapping swap) going = refl
 stays_going line Over going = absurd (cc)
+
+-- where a call or a swap is under way, the next line is
+pub line_under_way : (system : SystemSeen) (task : WorkerTask) (at : TaskAt) → is_under_way at ≡ true → IsOnWay system at task → IsInLine system at task
+line_under_way system task Between under way = cc
+line_under_way system task (Calling call) under way = way
+line_under_way system task (Swapping swap) under way = way
+line_under_way system task Over under way = cc
+
+with_activities : (at : TaskAt) (v : PassView SystemPart) → v.activities ≤ activities_with at v
+with_activities Between v = omega arith
+with_activities (Calling call) v = omega arith
+with_activities (Swapping swap) v = omega arith
+with_activities Over v = omega arith
+
+with_graces : (at : TaskAt) (v : PassView SystemPart) → v.graces ≤ graces_with at v
+with_graces Between v = omega arith
+with_graces (Calling call) v = omega arith
+with_graces (Swapping swap) v = omega arith
+with_graces Over v = omega arith
 
 -- what the next line may need
 lines_next : (task : WorkerTask) (line : CallLine) → slice_get task.items.now task.done ≡ Some (Line line)
@@ -74,15 +93,6 @@ module _ (system : SystemSeen) (task : WorkerTask) (ready : IsReady system.plan 
     may : MayAnswer system.plan line task.pass.view
     may = may_follow system task.pass.view.number (worker_of task) task.done task.inside task.pass at (Line line) next ready
 
-    at_line : (object : ℕ) (act : Act) → line.object ≡ object → line.act ≡ act → IsAtLine task object act
-    at_line object act of is = record {
-      line = line;
-      next = next;
-      object_is = of;
-      act_is = is;
-      way = subst (IsUnderWay (worker_of task) task.done task.inside) (without_none task.inside (standing_of task.pass.view) (λ out. (at.way.outside out).1)) at.way;
-    }
-
     within : (activities graces : ℕ) → activities ≤ task.pass.view.activities + 1 → graces ≤ task.pass.view.graces + 1 → IsWithin task activities graces
     within activities graces one other =
         let more = lines_next task line next in
@@ -91,33 +101,36 @@ module _ (system : SystemSeen) (task : WorkerTask) (ready : IsReady system.plan 
           graces_left = let has = at.graces in omega (arith, has, more, other);
         }
 
-    matches : (inside : Bool) → BlocksMatch inside (drop task.done task.items.now) false → inside ≡ true → IsCall line.act
-    matches inside fits = (subst (λ items. BlocksMatch inside items false) (drop_at task.items.now task.done (Line line) next) fits).0
+    in_line : (at : TaskAt) → IsOfLine line at → MayTry system at task.pass → activities_with at task.pass.view ≤ task.pass.view.activities + 1
+        → graces_with at task.pass.view ≤ task.pass.view.graces + 1 → IsInLine system at task
+    in_line place of may one other = record {
+      line = line;
+      next = next;
+      of = of;
+      may = may;
+      way = subst (IsUnderWay (worker_of task) task.done task.inside) (without_none task.inside (standing_of task.pass.view) (λ out. (at.way.outside out).1)) at.way;
+      latest = λ op is. at.way.latest;
+      within = within (activities_with place task.pass.view) (graces_with place task.pass.view) one other;
+    }
 
     starts : (act : Act) → line.act ≡ act → IsOnWay system (started line.object act) task
-    starts (Call op) is = record {
-      at_line = at_line line.object (Call op) refl is;
-      going = refl;
-      between = at.between;
-      latest = at.way.latest;
-      within = within (task.pass.view.activities + activities_due task.pass.view.turn.active) task.pass.view.graces
-          (let few = due_few task.pass.view.turn.active in omega (arith, few)) (omega arith);
-    }
-    starts (Swap to) is = record {
-      at_line = at_line line.object (Swap to) refl is;
-      going = refl;
-      outside = outside_swap to task.inside (λ inside. subst IsCall is (matches task.inside at.way.matches inside));
-      stage = (
-        refl,
-        record {
-          rests = subst (λ act. RestsFor act task.pass.view) is may.rests;
-          there = subst (MayAsk system.plan line.object) is asked;
-          few_entries = may.few.entries;
-          few_graces = may.few.graces;
-        },
-      );
-      within = within task.pass.view.activities (task.pass.view.graces + 1) (omega arith) (omega arith);
-    }
+    starts (Call op) is =
+        in_line (started line.object (Call op)) (refl, is) (refl, subst (MayAsk system.plan line.object) is asked, at.between)
+        (let few = due_few task.pass.view.turn.active in omega (arith, few)) (omega arith)
+    starts (Swap to) is =
+        in_line (started line.object (Swap to)) (refl, is) (
+          refl,
+          (
+            refl,
+            record {
+              rests = subst (λ act. RestsFor act task.pass.view) is may.rests;
+              there = subst (MayAsk system.plan line.object) is asked;
+              few_entries = may.few.entries;
+              few_graces = may.few.graces;
+            },
+          ),
+        )
+        (omega arith) (omega arith)
 
   -- a line that begins is under way
   pub begun_way : (at : TaskAt) → has_ended at ≡ false → IsOnWay system at task → IsOnWay system (begun_at line at) task
@@ -126,45 +139,27 @@ module _ (system : SystemSeen) (task : WorkerTask) (ready : IsReady system.plan 
   begun_way (Swapping swap) going way = way
   begun_way Over going way = absurd (cc)
 
-  few_with : (object : ℕ) (act : Act) (activities graces : ℕ) → IsAtLine task object act → IsWithin task activities graces → task.pass.view.activities ≤ activities → task.pass.view.graces ≤ graces
-      → HasFew task.pass.view
-  few_with object act activities graces at_line within one other =
-      let many = many_under_way (worker_of task) task.done task.inside (standing_in task) at_line.way in
+  few_in : (at : TaskAt) → IsInLine system at task → HasFew task.pass.view
+  few_in at in_line =
+      let many = many_under_way (worker_of task) task.done task.inside (standing_in task) in_line.way in
       let more = lines_next task line next in let few = ready.few in
       record {
         entries = omega (arith, many, more, few);
-        activities = let left = within.activities_left in omega (arith, left, one, few);
-        graces = let left = within.graces_left in omega (arith, left, other, few);
+        activities = let left = in_line.within.activities_left in let one = with_activities at task.pass.view in omega (arith, left, one, few);
+        graces = let left = in_line.within.graces_left in let one = with_graces at task.pass.view in omega (arith, left, one, few);
       }
 
   -- and may be tried
   pub may_try : (at : TaskAt) → has_ended at ≡ false → IsOnWay system (begun_at line at) task → HasFew task.pass.view × MayTry system (begun_at line at) task.pass × IsOfLine line (begun_at line at)
-  may_try at going way = tried (begun_at line at) (stays_going line at going) way
-    where
-      tried : (at : TaskAt) → is_under_way at ≡ true → IsOnWay system at task → HasFew task.pass.view × MayTry system at task.pass × IsOfLine line at
-      tried Between under way = cc
-      tried (Calling call) under way =
-          let same = same_line way.at_line.line line (slice_get task.items.now task.done) way.at_line.next next in
-          let object = sym (ap (λ (one : CallLine). one.object) same) ∙ way.at_line.object_is in
-          let act = sym (ap (λ (one : CallLine). one.act) same) ∙ way.at_line.act_is in (
-            few_with call.object (Call call.op) (task.pass.view.activities + activities_due task.pass.view.turn.active) task.pass.view.graces way.at_line way.within (omega arith) (omega arith),
-            (way.going, subst (λ (z : ℕ × Act). MayAsk system.plan z.0 z.1) (λ j. (object j, act j)) asked, way.between),
-            (object, act),
-          )
-      tried (Swapping swap) under way =
-          let same = same_line way.at_line.line line (slice_get task.items.now task.done) way.at_line.next next in
-          let object = sym (ap (λ (one : CallLine). one.object) same) ∙ way.at_line.object_is in
-          let act = sym (ap (λ (one : CallLine). one.act) same) ∙ way.at_line.act_is in (
-            few_with swap.object (Swap swap.to) task.pass.view.activities (task.pass.view.graces + graces_due swap.stage swap.holder) way.at_line way.within (omega arith) (omega arith),
-            (way.going, way.stage),
-            (object, act),
-          )
-      tried Over under way = cc
+  may_try at going way =
+      let place = begun_at line at in let in_line = line_under_way system task place (stays_going line at going) way in
+      let same = same_line in_line.line line (slice_get task.items.now task.done) in_line.next next in
+      (few_in place in_line, in_line.may, subst (λ (one : CallLine). IsOfLine one place) same in_line.of)
 
 -- an item that is no line is not under way
 pub between_at : (system : SystemSeen) (task : WorkerTask) (at : TaskAt) → has_ended at ≡ false → IsOnWay system at task
     → ((line : CallLine) → slice_get task.items.now task.done ≡ Some (Line line) → ⊥) → IsBetweenItems system task
 between_at system task Between going way none = way
-between_at system task (Calling call) going way none = absurd (none way.at_line.line way.at_line.next)
-between_at system task (Swapping swap) going way none = absurd (none way.at_line.line way.at_line.next)
+between_at system task (Calling call) going way none = absurd (none way.line way.next)
+between_at system task (Swapping swap) going way none = absurd (none way.line way.next)
 between_at system task Over going way none = absurd (cc)

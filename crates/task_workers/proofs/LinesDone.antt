@@ -16,13 +16,13 @@ use Rattle.k42_workers.specs.Lines.{Standing, IsLatest, GoesOn, IsTimed, Answers
 use Rattle.k42_workers.specs.Passes.{standing_of}
 use Rattle.k42_workers.specs.UnderWay.{IsAt, IsUnderWay}
 use Rattle.k42_workers.proofs.Working.{under_way_on}
-use Rattle.task_workers.specs.Tasks.{IsAtLine, IsOnWay, IsWithin, has_ended, lines_behind, standing_in, without_own, worker_of, worker_on}
-use Rattle.task_workers.specs.Tries.{IsDone, IsHeldUp, IsOfLine, IsSame, MayTry, StaysUnderWay, activities_with, graces_with}
+use Rattle.task_workers.specs.Tasks.{IsInLine, IsOnWay, IsWithin, has_ended, lines_behind, standing_in, without_own, worker_of, worker_on}
+use Rattle.task_workers.specs.Tries.{IsDone, IsHeldUp, IsOfLine, IsSame, StaysUnderWay, activities_with, graces_with}
 use Rattle.task_workers.specs.declared.tasks.TaskAt.{TaskAt}
 use Rattle.task_workers.specs.declared.tasks.TaskAt.TheVariants.{Between, Calling, Swapping, Over}
 use Rattle.task_workers.specs.declared.tasks.TaskCause.{TaskCause}
 use Rattle.task_workers.specs.declared.tasks.WorkerTask.{WorkerTask}
-use Rattle.task_workers.proofs.LinesBegun.{outside_swap}
+use Rattle.task_workers.proofs.LinesBegun.{outside_swap, same_line}
 
 AreLatest : Option ℕ → List Entry → Type 0
 AreLatest active entries = (generation : ℕ) → active ≡ Some generation → IsLatest generation entries
@@ -88,20 +88,18 @@ drawn_without worker place true old new out same way = absurd (cc)
 drawn_without worker place false old new out same way = subst (λ (entries : List Entry). IsUnderWay worker place false (record { entries = entries; active = None })) (sym same) way
 
 module _ (system : SystemSeen) (task : WorkerTask) (line : CallLine) (next : slice_get task.items.now task.done ≡ Some (Line line)) where
-  record IsLineOn (at : TaskAt) : Type 0 where
-    way : IsUnderWay (worker_of task) task.done task.inside (standing_in task)
-    latest : (op : Op) → line.act ≡ Call op → (p : ℕ) → task.pass.view.turn.active ≡ Some p → IsLatest p task.pass.view.taker.mine
-    within : IsWithin task (activities_with at task.pass.view) (graces_with at task.pass.view)
-
-  line_on : (at : TaskAt) → IsOfLine line at → IsOnWay system at task → IsLineOn at
+  line_on : (at : TaskAt) → IsOfLine line at → IsOnWay system at task → IsInLine system at task
   line_on Between of way = absurd of
-  line_on (Calling call) of way = record { way = way.at_line.way; latest = λ op is. way.latest; within = way.within }
-  line_on (Swapping swap) of way = record { way = way.at_line.way; latest = λ op is. absurd (let no : Swap swap.to ≡ Call op = sym of.1 ∙ is in cc); within = way.within }
+  line_on (Calling call) of way = way
+  line_on (Swapping swap) of way = way
   line_on Over of way = absurd of
 
   module _ (at : TaskAt) (of : IsOfLine line at) (way : IsOnWay system at task) (new : SystemPass) (same : IsSame system task.pass new) where
-    on : IsLineOn at
+    on : IsInLine system at task
     on = line_on at of way
+
+    on_latest : (op : Op) → line.act ≡ Call op → (p : ℕ) → task.pass.view.turn.active ≡ Some p → IsLatest p task.pass.view.taker.mine
+    on_latest op is = on.latest op (ap (λ (one : CallLine). one.act) (same_line on.line line (slice_get task.items.now task.done) on.next next) ∙ is)
 
     -- a line that was answered is behind the task
     pub answered : IsDone line task.inside at task.pass new → AnswersLine line task.pass.view.turn.proc task.inside (standing_in task) (standing_of new.view)
@@ -113,7 +111,7 @@ module _ (system : SystemSeen) (task : WorkerTask) (line : CallLine) (next : sli
           deed = is.deed;
           processor = is.processor;
           kept = is.kept;
-          timed = timed_without line.act task.inside (standing_of task.pass.view) is.entry.generation new.view.turn.active on.latest is.timed;
+          timed = timed_without line.act task.inside (standing_of task.pass.view) is.entry.generation new.view.turn.active on_latest is.timed;
         }
 
     pub line_behind : IsDone line task.inside at task.pass new → IsAt system task.pass.view.number (worker_of task) (suc task.done) task.inside new
@@ -141,16 +139,6 @@ module _ (system : SystemSeen) (task : WorkerTask) (line : CallLine) (next : sli
       worker_same : worker_of task ≡ worker_on new task.items.now
       worker_same = ap (λ (proc : ℕ). record (worker_of task) { proc = proc }) (sym same.proc)
 
-      at_line : (object : ℕ) (act : Act) → line.object ≡ object → line.act ≡ act → IsUnderWay (worker_of task) task.done task.inside (without_own task.inside (standing_of new.view))
-          → IsAtLine (record task { pass = new; at = after }) object act
-      at_line object act object_is act_is goes = record {
-        line = line;
-        next = next;
-        object_is = object_is;
-        act_is = act_is;
-        way = subst (λ (w : WorkerLines). IsUnderWay w task.done task.inside (without_own task.inside (standing_of new.view))) worker_same goes;
-      }
-
       matches : (inside : Bool) → BlocksMatch inside (drop task.done task.items.now) false → inside ≡ true → IsCall line.act
       matches inside fits = (subst (λ items. BlocksMatch inside items false) (drop_at task.items.now task.done (Line line) next) fits).0
 
@@ -167,37 +155,33 @@ module _ (system : SystemSeen) (task : WorkerTask) (line : CallLine) (next : sli
       latest_in op is opened generation active =
           subst (λ (entries : List Entry). IsLatest generation entries) (sym opened.entries)
           (subst (λ (g : ℕ). IsLatest g task.pass.view.taker.mine) (same_Some opened.generation generation (sym opened.active ∙ active))
-          (risen task.pass.view.turn.active task.pass.view.taker.mine opened.generation (on.latest op is) opened.goes_on))
+          (risen task.pass.view.turn.active task.pass.view.taker.mine opened.generation (on_latest op is) opened.goes_on))
 
-      -- by what is under way then
-      under_way : (seen : TaskAt) → after ≡ seen → IsOnWay system seen (record task { pass = new; at = after })
-      under_way Between is = absurd (subst (IsOfLine line) is held.of)
-      under_way (Calling call) is =
-          let of : IsOfLine line (Calling call) = subst (IsOfLine line) is held.of in
-          let may : MayTry system (Calling call) new = subst (λ at. MayTry system at new) is held.may in
-          let stays : StaysUnderWay (Calling call) task.pass new = subst (λ at. StaysUnderWay at task.pass new) is held.stays in
-          record {
-            at_line = at_line call.object (Call call.op) of.0 of.1 (stays_way (Calling call) of stays);
-            going = may.0;
-            between = may.2;
-            latest = latest_in call.op of.1 stays;
-            within = subst (λ at. IsWithin (record task { pass = new; at = after }) (activities_with at new.view) (graces_with at new.view)) is within_after;
-          }
-      under_way (Swapping swap) is =
-          let of : IsOfLine line (Swapping swap) = subst (IsOfLine line) is held.of in
-          let may : MayTry system (Swapping swap) new = subst (λ at. MayTry system at new) is held.may in
-          let stays : StaysUnderWay (Swapping swap) task.pass new = subst (λ at. StaysUnderWay at task.pass new) is held.stays in
-          record {
-            at_line = at_line swap.object (Swap swap.to) of.0 of.1 (stays_way (Swapping swap) of stays);
-            going = may.0;
-            outside = outside_swap swap.to task.inside (λ inside. subst IsCall of.1 (matches task.inside on.way.matches inside));
-            stage = may.1;
-            within = subst (λ at. IsWithin (record task { pass = new; at = after }) (activities_with at new.view) (graces_with at new.view)) is within_after;
-          }
-      under_way Over is = absurd (subst (IsOfLine line) is held.of)
+      opened_in : (place : TaskAt) (op : Op) → IsOfLine line place → line.act ≡ Call op → StaysUnderWay place task.pass new → IsOpened (standing_of task.pass.view) (standing_of new.view)
+      opened_in Between op of is stays = absurd of
+      opened_in (Calling call) op of is stays = stays
+      opened_in (Swapping swap) op of is stays = absurd (let no : Swap swap.to ≡ Call op = sym of.1 ∙ is in cc)
+      opened_in Over op of is stays = absurd of
+
+      still_in_line : IsInLine system after (record task { pass = new; at = after })
+      still_in_line = record {
+        line = line;
+        next = next;
+        of = held.of;
+        may = held.may;
+        way = subst (λ (w : WorkerLines). IsUnderWay w task.done task.inside (without_own task.inside (standing_of new.view))) worker_same (stays_way after held.of held.stays);
+        latest = λ op is. latest_in op is (opened_in after op held.of is held.stays);
+        within = within_after;
+      }
 
       pub still_on : IsOnWay system after (record task { pass = new; at = after })
-      still_on = under_way after refl
+      still_on = by after held.of still_in_line
+        where
+          by : (place : TaskAt) → IsOfLine line place → IsInLine system place (record task { pass = new; at = after }) → IsOnWay system place (record task { pass = new; at = after })
+          by Between of in_line = absurd of
+          by (Calling call) of in_line = in_line
+          by (Swapping swap) of in_line = in_line
+          by Over of in_line = absurd of
 
       pub still_going : has_ended after ≡ false
       still_going = goes_on after held.of

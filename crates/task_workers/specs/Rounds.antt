@@ -1,5 +1,6 @@
 -- The tasks of a run.
-use Rattle.std.specs.Prelude.{◌≡◌, ℕ, ◌+◌, Bool, true, false, ⊤, List, [], ◌∷◌}
+use Rattle.std.specs.Prelude.{◌≡◌, ℕ, ◌+◌, Bool, true, false, List, [], ◌∷◌}
+use Rattle.std.specs.List.{AllByRecursion}
 use Rattle.script_text.specs.declared.script.Item.{Item}
 use Rattle.script_text.specs.declared.script.WorkerLines.{WorkerLines}
 use Rattle.k42_runtime.specs.Systems.{SystemSeen}
@@ -23,15 +24,13 @@ owns_from first (worker ∷ workers) =
     record { items = worker.items; number = first; proc = worker.proc } ∷ owns_from (first + 1) workers
 
 -- a task of the system, which has done all where it has ended, unless one was refused memory
-pub record IsFair (system : SystemSeen) (refused : Bool) (task : WorkerTask) : Type 0 where
+pub record IsInRun (system : SystemSeen) (refused : Bool) (task : WorkerTask) : Type 0 where
   pub task_is : IsTask system task
   pub done : refused ≡ false → has_ended task.at ≡ true → HasDoneAll task
 
-abbrev pub AreFair : SystemSeen → Bool → List WorkerTask → Type 0
-AreFair system refused [] = ⊤
-AreFair system refused (task ∷ tasks) = IsFair system refused task × AreFair system refused tasks
+abbrev pub AreInRun : SystemSeen → Bool → List WorkerTask → Type 0
+AreInRun system refused tasks = AllByRecursion (IsInRun system refused) tasks
 
 -- all have ended
 abbrev pub HaveEnded : List WorkerTask → Type 0
-HaveEnded [] = ⊤
-HaveEnded (task ∷ tasks) = (has_ended task.at ≡ true) × HaveEnded tasks
+HaveEnded tasks = AllByRecursion (λ task. has_ended task.at ≡ true) tasks

@@ -7,8 +7,8 @@ use Rattle.k42_runtime.specs.Systems.{SystemSeen, IsAtRest}
 use Rattle.k42_workers.specs.Lines.{Follows}
 use Rattle.k42_workers.specs.Passes.{standing_of}
 use Rattle.k42_workers.specs.Workers.{HasDoneLines}
-use Rattle.task_workers.specs.Tries.{HoldsUpLine, EndsWithoutMemory}
-use Rattle.task_workers.specs.Tasks.{worker_of, standing_in, has_ended, IsTask}
+use Rattle.task_workers.specs.Tries.{HoldsUpLine, StaysUnderWay, GivesUp, begun_at}
+use Rattle.task_workers.specs.Tasks.{worker_of, has_ended, IsTask}
 use Rattle.task_workers.specs.declared.tasks.TaskAt.{TaskAt}
 use Rattle.task_workers.specs.declared.tasks.TaskAt.TheVariants as tasks
 use Rattle.task_workers.specs.declared.tasks.TaskCause.{TaskCause}
@@ -43,6 +43,7 @@ pub record IsSameTask (old new : WorkerTask) : Type 0 where
 -- its next line is under way, and was held up by this; it has drawn nothing
 pub record WasHeldUp (system : SystemSeen) (cause : TaskCause) (old new : WorkerTask) : Type 0 where
   pub held : HoldsUpLine system cause new.at old.pass new.pass
+  pub stays : StaysUnderWay new.at old.pass new.pass
   pub drawn : new.pass.view.taker.mine ≡ old.pass.view.taker.mine
   pub done : new.done ≡ old.done
   pub left : new.done < length new.items.now
@@ -53,7 +54,7 @@ pub record HasFollowed (old new : WorkerTask) : Type 0 where
   pub next : slice_get old.items.now old.done ≡ Some item
   pub done : new.done ≡ old.done + 1
   pub follows :
-      Follows item old.pass.view.turn.proc old.inside new.inside (standing_in old) (standing_of new.pass.view)
+      Follows item old.pass.view.turn.proc old.inside new.inside (standing_of old.pass.view) (standing_of new.pass.view)
 
 -- all items are done: its pass is idle, and has just the entries of the worker's lines
 pub record HasDoneAll (task : WorkerTask) : Type 0 where
@@ -73,12 +74,12 @@ pub record HasGivenUp (system : SystemSeen) (old new : WorkerTask) : Type 0 wher
   pub done : new.done ≡ old.done
   pub left : new.done < length new.items.now
   pub rests : IsAtRest new.pass.view
-  pub ended : EndsWithoutMemory system line.act line.object old.pass new.pass
+  pub ended : GivesUp system (begun_at line old.at) old.pass new.pass
 
 -- what a step brings, by its answer
 abbrev pub HasBrought : SystemSeen → TaskStep → WorkerTask → WorkerTask → Type 0
 HasBrought system (steps.Again cause) old new = WasHeldUp system cause old new
-HasBrought system steps.Going old new = HasFollowed old new × (new.done < length new.items.now)
+HasBrought system steps.Going old new = HasFollowed old new × (new.at ≡ tasks.Between) × (new.done < length new.items.now)
 HasBrought system steps.Ended old new = HasDoneAll new × (HasFollowed old new ⊎ HadNone old new)
 HasBrought system steps.Memory old new = HasGivenUp system old new
 

@@ -1,11 +1,11 @@
 -- A line of a task: how it begins, how it is tried, and what holds it up.
-use Rattle.std.specs.Prelude.{◌≡◌, ◌⊎◌, ℕ, ◌+◌, ◌≤◌, Bool, false, length, Option, Some, None, Result, Ok, Err}
+use Rattle.std.specs.Prelude.{◌≡◌, ℕ, ◌+◌, ◌≤◌, Bool, false, length, Option, Some, None, Result, Ok, Err}
 use Rattle.k42_kinds.specs.declared.entry.Act.{Act}
 use Rattle.k42_kinds.specs.declared.entry.Act.TheVariants.{Call, Swap}
 use Rattle.k42_board.specs.declared.view.PassView.{PassView}
 use Rattle.script_text.specs.declared.script.CallLine.{CallLine}
 use Rattle.k42_runtime.specs.Calls.{IsAsked, HoldsUp}
-use Rattle.k42_runtime.specs.Swaps.{IsAtStage, HasAbandoned, IsHeldUpBy, IsNewlyFound, graces_due, is_over}
+use Rattle.k42_runtime.specs.Swaps.{IsAtStage, IsHeldUpBy, IsNewlyFound, StepsWithoutMemory, graces_due, is_over}
 use Rattle.k42_runtime.specs.Systems.{SystemSeen, SystemPass, SystemPart, IsPassHere, IsAtRest, layouts_in}
 use Rattle.k42_runtime.specs.declared.swaps.Stage.TheVariants.{New}
 use Rattle.k42_workers.specs.Lines.{AnswersLine, IsOpened}
@@ -75,10 +75,11 @@ StaysUnderWay (tasks.Swapping swap) old new = new.view.taker.mine ≡ old.view.t
 StaysUnderWay at old new = ⊥
 
 -- Without memory nothing was begun, or the swap was given up, which its one entry tells.
-abbrev pub EndsWithoutMemory : SystemSeen → Act → ℕ → SystemPass → SystemPass → Type 0
-EndsWithoutMemory system (Call op) object old new = new.view.taker.mine ≡ old.view.taker.mine
-EndsWithoutMemory system (Swap to) object old new =
-    (new.view ≡ old.view) ⊎ HasAbandoned (layouts_in system) system.sys.layouts old.seat object to old.view new.view
+abbrev pub GivesUp : SystemSeen → TaskAt → SystemPass → SystemPass → Type 0
+GivesUp system (tasks.Calling call) old new = new.view.taker.mine ≡ old.view.taker.mine
+GivesUp system (tasks.Swapping swap) old new =
+    StepsWithoutMemory (layouts_in system) system.sys.layouts old.seat swap.stage swap.object swap.to old.view new.view
+GivesUp system at old new = ⊥
 
 -- the line was answered, and nothing of it is under way
 pub record IsDone (line : CallLine) (inside : Bool) (at : TaskAt) (old new : SystemPass) : Type 0 where
@@ -98,13 +99,13 @@ pub record IsHeldUp (system : SystemSeen) (line : CallLine) (cause : TaskCause) 
   pub graces : graces_with at new.view ≤ graces_with old_at old.view
 
 -- there was no memory: its pass is idle
-pub record IsGivenUp (system : SystemSeen) (line : CallLine) (old new : SystemPass) : Type 0 where
+pub record IsGivenUp (system : SystemSeen) (old_at : TaskAt) (old new : SystemPass) : Type 0 where
   pub rests : IsAtRest new.view
-  pub ended : EndsWithoutMemory system line.act line.object old new
+  pub ended : GivesUp system old_at old new
 
 -- how a try of the line has come out
 abbrev pub HasTried : {E : Type 0} → SystemSeen → CallLine → Bool → Result (Option TaskCause) E → TaskAt → TaskAt → SystemPass → SystemPass
     → Type 0
 HasTried system line inside (Ok None) old_at at old new = IsDone line inside old_at old new
 HasTried system line inside (Ok (Some cause)) old_at at old new = IsHeldUp system line cause old_at at old new
-HasTried system line inside (Err error) old_at at old new = IsGivenUp system line old new
+HasTried system line inside (Err error) old_at at old new = IsGivenUp system old_at old new

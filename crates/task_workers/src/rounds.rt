@@ -1,6 +1,6 @@
 //! Rounds, in each of which every task makes a step that has not ended.
 ghost use Rattle.std.specs.Prelude.{◌≡◌, true, false, map, OnOk};
-ghost use Rattle.task_workers.specs.Rounds.{IsFair, AreFair, HaveEnded, own_of};
+ghost use Rattle.task_workers.specs.Rounds.{IsInRun, AreInRun, HaveEnded, own_of};
 ghost use Rattle.task_workers.specs.Tasks.{has_ended};
 
 use crate::tasks::{TaskStep, WorkerTask};
@@ -25,9 +25,9 @@ fn turn<G: Gate>(
     task: &mut WorkerTask<'_>,
     refused: bool,
 ) -> Found
-    requires { IsFair system.now refused task.old }
+    requires { IsInRun system.now refused task.old }
     ensures own { own_of task.new ≡ own_of task.old }
-    ensures fair { IsFair system.now result.refused task.new }
+    ensures in_run { IsInRun system.now result.refused task.new }
     ensures ended { result.going ≡ false → has_ended task.new.at ≡ true }
     ensures kept { result.refused ≡ false → refused ≡ false }
 {
@@ -52,9 +52,9 @@ fn round<G: Gate>(
     tasks: &mut [WorkerTask<'_>],
     refused: bool,
 ) -> Found
-    requires { AreFair system.now refused tasks.old }
+    requires { AreInRun system.now refused tasks.old }
     ensures own { map own_of tasks.new ≡ map own_of tasks.old }
-    ensures fair { AreFair system.now result.refused tasks.new }
+    ensures in_run { AreInRun system.now result.refused tasks.new }
     ensures ended { result.going ≡ false → HaveEnded tasks.new }
     ensures kept { result.refused ≡ false → refused ≡ false }
 {
@@ -80,10 +80,10 @@ pub(crate) fn run_rounds<R: Wait, G: Gate>(
     gate: &G,
     tasks: &mut [WorkerTask<'_>],
 ) -> Result<(), Memory>
-    requires { AreFair system.now false tasks.old }
+    requires { AreInRun system.now false tasks.old }
     ensures own { map own_of tasks.new ≡ map own_of tasks.old }
     ensures ended { HaveEnded tasks.new }
-    ensures fair { OnOk result (AreFair system.now false tasks.new) }
+    ensures in_run { OnOk result (AreInRun system.now false tasks.new) }
 {
     let mut refused = false;
     for _ in rt.forever() {

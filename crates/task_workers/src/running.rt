@@ -7,7 +7,7 @@ ghost use Rattle.record_text.specs.Rules.{IsLawfulRecord};
 ghost use Rattle.record_text.specs.Spelling.{HasGeneration};
 ghost use Rattle.k42_workers.specs.Passes.{HaveWorked, MayWork};
 ghost use Rattle.k42_workers.specs.Plans as due;
-ghost use Rattle.task_workers.specs.Rounds.{AreFair, HaveEnded, own_of, owns_from};
+ghost use Rattle.task_workers.specs.Rounds.{AreInRun, HaveEnded, own_of, owns_from};
 
 use crate::rounds::run_rounds;
 use crate::tasks::WorkerTask;
@@ -27,7 +27,7 @@ pub fn tasks_of<'a>(
 ) -> Result<Vec<WorkerTask<'a>>, Memory>
     requires { MayWork system.now 0 workers.now passes.items }
     ensures own { IfOk result (λ tasks. map own_of tasks.items ≡ owns_from 0 workers.now) }
-    ensures fair { IfOk result (λ tasks. (refused : Bool) → AreFair system.now refused tasks.items) }
+    ensures in_run { IfOk result (λ tasks. (refused : Bool) → AreInRun system.now refused tasks.items) }
 {
     let mut tasks = Vec::new(alloc);
     for pass in passes {

@@ -1,6 +1,6 @@
 //! Tasks that are stepped by hand.
 ghost use Rattle.std.specs.Prelude.{true};
-ghost use Rattle.task_workers.specs.Rounds.{IsFair, AreFair};
+ghost use Rattle.task_workers.specs.Rounds.{IsInRun, AreInRun};
 
 use k42_runtime::{Cause, System};
 use k42_workers::FreeGate;
@@ -16,8 +16,8 @@ const ROLE_HELD: TaskStep = TaskStep::Again(TaskCause::Swap(Cause::RoleHeld { ho
 
 /// A step of the task.
 fn step(rt: &impl Abort, alloc: Global, system: &System, task: &mut WorkerTask<'_>) -> TaskStep
-    requires { IsFair system.now true task.old }
-    ensures { IsFair system.now true task.new }
+    requires { IsInRun system.now true task.old }
+    ensures { IsInRun system.now true task.new }
 {
     assert!(rt; !task.ended());
     task.step(alloc, system, &FreeGate)
@@ -31,8 +31,8 @@ fn step_at(
     tasks: &mut [WorkerTask<'_>],
     place: usize,
 ) -> TaskStep
-    requires { AreFair system.now true tasks.old }
-    ensures { AreFair system.now true tasks.new }
+    requires { AreInRun system.now true tasks.old }
+    ensures { AreInRun system.now true tasks.new }
 {
     assert!(rt; place < tasks.len());
     step(rt, alloc, system, &mut tasks[place])
@@ -46,8 +46,8 @@ pub(super) fn steps_are(
     tasks: &mut [WorkerTask<'_>],
     due: &[(usize, TaskStep)],
 )
-    requires { AreFair system.now true tasks.old }
-    ensures { AreFair system.now true tasks.new }
+    requires { AreInRun system.now true tasks.old }
+    ensures { AreInRun system.now true tasks.new }
 {
     for (place, step) in due {
         let told = step_at(rt, alloc, system, tasks, *place);
@@ -86,7 +86,7 @@ pub(super) fn swap_before_a_call(
     system: &System,
     tasks: &mut [WorkerTask<'_>],
 )
-    requires { AreFair system.now true tasks.old }
+    requires { AreInRun system.now true tasks.old }
 {
     let swapped = step_at(rt, alloc, system, tasks, 0);
     let called = step_at(rt, alloc, system, tasks, 1);

@@ -10,7 +10,7 @@ use Rattle.task_workers.proofs.Crewed.{have_worked, many_tasks}
 use Rattle.task_workers.proofs.running.work_all.Goals as goal
 
 pub run_rounds-requires : goal.run_rounds-requires
-run_rounds-requires g c = rw c.as_mut_slice.ensures.value (c.in_ok-tasks.ensures.fair false)
+run_rounds-requires g c = rw c.as_mut_slice.ensures.value (c.in_ok-tasks.ensures.in_run false)
 
 pub returns-clause-many : goal.returns-clause-many
 returns-clause-many g c =
@@ -32,5 +32,5 @@ returns-clause-worked g c =
     let same = whole new made.items made.len (omega (arith, first, last, made.ok.0)) (omega (arith, made.ok.0)) in
     where_ok (λ worked. worked.items ≡ map (λ (task : WorkerTask). task.pass) new) (λ worked. HaveWorked system 0 workers worked.items)
     (λ worked is. subst (λ (passes : List SystemPass). HaveWorked system 0 workers passes) (sym is)
-    (have_worked system 0 workers new own c.in_ok-run_rounds.ensures.fair c.in_ok-run_rounds.ensures.ended))
+    (have_worked system 0 workers new own c.in_ok-run_rounds.ensures.in_run c.in_ok-run_rounds.ensures.ended))
     c.passes_of.result (rw same at c.passes_of.ensures)
