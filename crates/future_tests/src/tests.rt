@@ -1,12 +1,14 @@
 use crate::tests::crews::{Three, closed, counters};
 use crate::tests::polls::{both, stopped, swap_with, swapped, waits};
+use crate::tests::rolls::{is_held_up, roll_of, rolled};
 use crate::tests::steps::{come_in, go_home, step_to};
 use k42_kinds::{Answer, LayoutName};
-use k42_runtime::{Cause, Swapped};
+use k42_runtime::{Cause, Pass, Swapped, To};
 use std::test::Fail;
 
 mod crews;
 mod polls;
+mod rolls;
 mod steps;
 
 #[test]
@@ -66,5 +68,63 @@ fn a_swap_by_a_future_is_a_swap(rt: HostRuntime) -> Result<(), Fail> {
         return Err("no history")?;
     };
     assert_eq!(rt; history.entries().len(), 1);
+    Ok(())
+}
+
+/// The answers of a roll, each of which is there.
+fn are_answered(answers: &[Option<Swapped>], due: &[Swapped]) -> bool {
+    if answers.len() != due.len() {
+        return false;
+    }
+    for place in 0..due.len() {
+        if answers[place] != Some(due[place]) {
+            return false;
+        }
+    }
+    true
+}
+
+#[test]
+fn a_plan_is_carried_out_by_two_passes(rt: HostRuntime) -> Result<(), Fail> {
+    let alloc = rt.alloc();
+    let Some((system, passes)) = counters_for(alloc, 2, 2)? else {
+        return Err("no system")?;
+    };
+    let spread = To::Layout(LayoutName::Spread);
+    let shared = To::Layout(LayoutName::Shared);
+    let plan = vec![in alloc; (0, spread), (1, spread), (0, shared)]?;
+    let roll = roll_of(&rt, alloc, &system, passes, plan)?;
+    let end = rolled(&rt, &system, roll)?;
+    let due = [Swapped::Done(1), Swapped::Done(1), Swapped::Done(2)];
+    assert!(rt; are_answered(end.answers.as_slice(), due.as_slice()));
+    let Some(history) = close(alloc, system, end.passes)? else {
+        return Err("no history")?;
+    };
+    assert_eq!(rt; history.entries().len(), 3);
+    Ok(())
+}
+
+#[test]
+fn two_passes_of_a_plan_meet_at_one_object(rt: HostRuntime) -> Result<(), Fail> {
+    let alloc = rt.alloc();
+    let Some((system, crew)) = counters(alloc, 1)? else {
+        return Err("no system")?;
+    };
+    let Three {
+        mut zero,
+        one,
+        two,
+    } = crew;
+    come_in(&rt, &system, &mut zero);
+    let passes = two_of(alloc, &system, one, two)?;
+    let spread = To::Layout(LayoutName::Spread);
+    let plan = vec![in alloc; (0, spread), (0, spread)]?;
+    let roll = roll_of(&rt, alloc, &system, passes, plan)?;
+    let left = Some(Cause::Left { proc: 0, left: 1 });
+    let roll = is_held_up(&rt, &system, roll, (left, None))?;
+    go_home(&system, &mut zero);
+    let end = rolled(&rt, &system, roll)?;
+    let due = [Swapped::Done(1), Swapped::Busy(1)];
+    assert!(rt; are_answered(end.answers.as_slice(), due.as_slice()));
     Ok(())
 }

@@ -1,0 +1,8 @@
+use Rattle.swap_future.specs.Rolling.{IsRolling, HasGotOn, seen}
+use Rattle.swap_future.proofs.rolling.go_round.Given as goal
+
+abbrev pub invariant-loop-rolling : goal.invariant-loop-rolling
+invariant-loop-rolling l = IsRolling l.system (seen l.rolling) × HasGotOn l.system (seen l.initial.rolling) (seen l.rolling)
+
+abbrev pub decreases-loop-rolling : goal.decreases-loop-rolling
+decreases-loop-rolling l = l.rolling.left
