@@ -1,12 +1,11 @@
 -- What a roll of the tests needs.
 use Rattle.std.specs.Prelude.{ℕ, ◌+◌, ◌<◌, ◌≤◌, ⊤, List, [], ◌∷◌, length}
-use Rattle.co_any.specs.declared.part.AnyPart.{AnyPart}
 use Rattle.k42_board.specs.Generations.{MOST}
-use Rattle.k42_board.specs.Seen.{PassSeen}
-use Rattle.k42_runtime.specs.declared.swaps.To.{To}
+use Rattle.k42_kinds.specs.declared.entry.To.{To}
+use Rattle.k42_runtime.specs.Systems.{SystemPass}
 
 -- each pass has room for the swaps of so many items
-abbrev pub HaveRoom : ℕ → List (PassSeen AnyPart) → Type 0
+abbrev pub HaveRoom : ℕ → List SystemPass → Type 0
 HaveRoom items [] = ⊤
 HaveRoom items (pass ∷ passes) =
     (length pass.view.taker.mine + items ≤ MOST) × (pass.view.graces + items ≤ MOST) × HaveRoom items passes

@@ -2,21 +2,16 @@
 use Rattle.std.proofs.Common.{◌≡◌, ⊎_elim, inl, inr, ◌⊎◌, ℕ, ◌+◌, List, [], ◌∷◌, ◌++◌, Option, Some, None, IsSomeAnd, refl, sym, ap, subst, ◌∙◌}
 use Rattle.std.specs.Prelude.{slice_get}
 use Rattle.std.proofs.lemmas.List.{append-nil, append_assoc}
-use Rattle.co_any.specs.declared.part.AnyPart.{AnyPart}
-use Rattle.k42_board.specs.Seen.{PassSeen}
 use Rattle.k42_board.specs.declared.view.PassView.{PassView}
 use Rattle.k42_kinds.specs.declared.entry.Entry.{Entry}
 use Rattle.k42_runtime.specs.Swaps.{HasAbandoned}
-use Rattle.k42_runtime.specs.Systems.{SystemSeen, layouts_in}
+use Rattle.k42_runtime.specs.Systems.{SystemSeen, layouts_in, SystemPass, SystemPart}
 use Rattle.k42_runtime.specs.declared.swaps.Stage.TheVariants.{New}
 use Rattle.k42_runtime.specs.declared.swaps.Swapped.{Swapped}
-use Rattle.k42_runtime.specs.declared.swaps.To.{To}
+use Rattle.k42_kinds.specs.declared.entry.To.{To}
 use Rattle.swap_future.specs.Polling.{Ends, new_swap}
 use Rattle.swap_future.specs.Rolling.{Carries, first_flight, result_in}
 use Rattle.swap_future.specs.Told.{IsEntryOf, BeginWith, AreEntriesOf, HasDrawnFor}
-
-abbrev Pass : Type 0
-Pass = PassSeen AnyPart
 
 some_is : {A : Type 0} (o : Option A) (P : A → Type 0) → IsSomeAnd o P → (x : A) × (o ≡ Some x) × P x
 some_is (Some x) P is = (x, refl, is)
@@ -24,55 +19,72 @@ some_is None P is = absurd is
 
 module _ (system : SystemSeen) (plan : List (ℕ × To)) (answers : List (Option Swapped)) where
   -- one item's entry, and those of the others
-  one_more : (asked : ℕ × To) (items : List ℕ) (answer : Option Swapped) (old mid new : Pass) → Ends system (new_swap asked.0 asked.1) old (result_in answer) mid
+  one_more : (asked : ℕ × To) (items : List ℕ) (answer : Option Swapped) (old mid new : SystemPass) → Ends system (new_swap asked.0 asked.1) old (result_in answer) mid
       → HasDrawnFor plan answers items mid new
       → (entries : List Entry) × (new.view.taker.mine ≡ old.view.taker.mine ++ entries) × BeginWith asked answer (AreEntriesOf plan answers items) entries
   one_more asked items (Some end) old mid new ends rest = (
     ends.ended.entry ∷ rest.0,
     rest.1 ∙ ap (λ mine. mine ++ rest.0) ends.ended.drawn ∙ append_assoc old.view.taker.mine (ends.ended.entry ∷ []) rest.0,
-    (ends.ended.entry, rest.0, refl, record {
-      object = ap (λ (e : Entry). e.object) ends.ended.next.whole;
-      act = ap (λ (e : Entry). e.act) ends.ended.next.whole;
-      answer_is = ap (λ (e : Entry). e.answer) ends.ended.next.whole;
-    }, rest.2),
+    (
+      ends.ended.entry,
+      rest.0,
+      refl,
+      record {
+        object = ap (λ (e : Entry). e.object) ends.ended.next.whole;
+        act = ap (λ (e : Entry). e.act) ends.ended.next.whole;
+        answer_is = ap (λ (e : Entry). e.answer) ends.ended.next.whole;
+      },
+      rest.2,
+    ),
   )
   one_more asked items None old mid new ends rest =
       ⊎_elim
       (λ (u : (New ≡ New) × (mid.view ≡ old.view)).
-      (rest.0, rest.1 ∙ ap (λ (v : PassView AnyPart). v.taker.mine ++ rest.0) u.1, inl rest.2))
+      (rest.0, rest.1 ∙ ap (λ (v : PassView SystemPart). v.taker.mine ++ rest.0) u.1, inl rest.2))
       (λ (u : HasAbandoned (layouts_in system) system.sys.layouts old.seat asked.0 asked.1 old.view mid.view). (
         u.entry ∷ rest.0,
         rest.1 ∙ ap (λ mine. mine ++ rest.0) u.drawn ∙ append_assoc old.view.taker.mine (u.entry ∷ []) rest.0,
-        inr (u.entry, rest.0, refl, (_, record {
-          object = ap (λ (e : Entry). e.object) u.next.whole;
-          act = ap (λ (e : Entry). e.act) u.next.whole;
-          answer_is = ap (λ (e : Entry). e.answer) u.next.whole;
-        }), rest.2),
+        inr (
+          u.entry,
+          rest.0,
+          refl,
+          (
+            _,
+            record {
+              object = ap (λ (e : Entry). e.object) u.next.whole;
+              act = ap (λ (e : Entry). e.act) u.next.whole;
+              answer_is = ap (λ (e : Entry). e.answer) u.next.whole;
+            },
+          ),
+          rest.2,
+        ),
       ))
       ends.memory
 
-  with_first : (asked : ℕ × To) (item : ℕ) (items : List ℕ) (old mid new : Pass) → slice_get plan item ≡ Some asked
+  with_first : (asked : ℕ × To) (item : ℕ) (items : List ℕ) (old mid new : SystemPass) → slice_get plan item ≡ Some asked
       → IsSomeAnd (slice_get answers item) (λ answer. Ends system (new_swap asked.0 asked.1) old (result_in answer) mid)
       → HasDrawnFor plan answers items mid new → HasDrawnFor plan answers (item ∷ items) old new
   with_first asked item items old mid new at ends rest =
       let told = some_is (slice_get answers item) (λ answer. Ends system (new_swap asked.0 asked.1) old (result_in answer) mid) ends in
-      let more = one_more asked items told.0 old mid new told.2 rest in
-      (more.0, more.1,
-      subst (λ (o : Option (ℕ × To)). IsSomeAnd o (λ asked. IsSomeAnd (slice_get answers item) (λ answer. BeginWith asked answer (AreEntriesOf plan answers items) more.0))) (sym at)
-      (subst (λ (o : Option (Option Swapped)). IsSomeAnd o (λ answer. BeginWith asked answer (AreEntriesOf plan answers items) more.0)) (sym told.1) more.2))
+      let more = one_more asked items told.0 old mid new told.2 rest in (
+        more.0,
+        more.1,
+        subst (λ (o : Option (ℕ × To)). IsSomeAnd o (λ asked. IsSomeAnd (slice_get answers item) (λ answer. BeginWith asked answer (AreEntriesOf plan answers items) more.0))) (sym at)
+            (subst (λ (o : Option (Option Swapped)). IsSomeAnd o (λ answer. BeginWith asked answer (AreEntriesOf plan answers items) more.0)) (sym told.1) more.2),
+      )
 
-  nothing_more : (old new : Pass) → new ≡ old → HasDrawnFor plan answers [] old new
-  nothing_more old new same = ([], ap (λ (p : Pass). p.view.taker.mine) same ∙ sym (append-nil old.view.taker.mine), refl)
+  nothing_more : (old new : SystemPass) → new ≡ old → HasDrawnFor plan answers [] old new
+  nothing_more old new same = ([], ap (λ (p : SystemPass). p.view.taker.mine) same ∙ sym (append-nil old.view.taker.mine), refl)
 
-  flight_drawn : (asked : ℕ × To) (item : ℕ) (items : List ℕ) (old new : Pass) → slice_get plan item ≡ Some asked
+  flight_drawn : (asked : ℕ × To) (item : ℕ) (items : List ℕ) (old new : SystemPass) → slice_get plan item ≡ Some asked
       → Carries system plan answers items (Some (first_flight asked item)) old None new → HasDrawnFor plan answers (item ∷ items) old new
   flight_drawn asked item [] old new at is = with_first asked item [] old new new at is (nothing_more new new refl)
   flight_drawn asked item (next ∷ items) old new at is =
       let first = some_is (slice_get plan next) (λ asked. Carries system plan answers items (Some (first_flight asked next)) is.0 None new) is.2 in
       with_first asked item (next ∷ items) old is.0 new at is.1 (flight_drawn first.0 next items is.0 new first.1 first.2)
 
-  pub drawn_for : (items : List ℕ) (old new : Pass) → Carries system plan answers items None old None new → HasDrawnFor plan answers items old new
+  pub drawn_for : (items : List ℕ) (old new : SystemPass) → Carries system plan answers items None old None new → HasDrawnFor plan answers items old new
   drawn_for [] old new is = nothing_more old new is
   drawn_for (item ∷ items) old new is =
       let first = some_is (slice_get plan item) (λ asked. Carries system plan answers items (Some (first_flight asked item)) is.0 None new) is.2 in
-      subst (λ (pass : Pass). HasDrawnFor plan answers (item ∷ items) pass new) is.1 (flight_drawn first.0 item items is.0 new first.1 first.2)
+      subst (λ (pass : SystemPass). HasDrawnFor plan answers (item ∷ items) pass new) is.1 (flight_drawn first.0 item items is.0 new first.1 first.2)

@@ -2,20 +2,18 @@
 use Rattle.std.proofs.Common.{◌≡◌, ◌≢◌, ⊎_elim, inl, inr, ◌⊎◌, ℕ, suc, ◌+◌, ◌-◌, ◌<◌, ◌≤◌, true, false, ◌==◌, List, [], ◌∷◌, ◌++◌, Option, Some, None, Ok, Err, length, length-set, length-append, set, IsSomeAnd, refl, sym, ap, subst, ◌∙◌, arith}
 use Rattle.std.specs.Prelude.{slice_get, is_some, count_by}
 use Rattle.std.proofs.lemmas.Option.{same_Some, slice_get_within}
-use Rattle.co_any.specs.declared.part.AnyPart.{AnyPart}
 use Rattle.k42_board.specs.Generations.{MOST}
-use Rattle.k42_board.specs.Seen.{PassSeen}
 use Rattle.k42_board.specs.declared.view.PassView.{PassView}
 use Rattle.k42_places.proofs.Counts.{count_by-set_more, count_by-set_less, count_by-set_same, count_by_some}
 use Rattle.k42_places.proofs.Written.{at_set, slice_get-set_here, slice_get-set_else}
 use Rattle.k42_runtime.specs.Phases.{last_step}
 use Rattle.k42_runtime.specs.Swaps.{SwapSeen, HasAbandoned, HasStepped, graces_due}
-use Rattle.k42_runtime.specs.Systems.{SystemSeen, layouts_in}
+use Rattle.k42_runtime.specs.Systems.{SystemSeen, layouts_in, SystemPass, SystemPart}
 use Rattle.k42_runtime.specs.declared.swaps.Cause.{Cause}
 use Rattle.k42_runtime.specs.declared.swaps.Stage.TheVariants.{New}
 use Rattle.k42_runtime.specs.declared.swaps.Step.TheVariants.{Again}
 use Rattle.k42_runtime.specs.declared.swaps.Swapped.{Swapped}
-use Rattle.k42_runtime.specs.declared.swaps.To.{To}
+use Rattle.k42_kinds.specs.declared.entry.To.{To}
 use Rattle.swap_future.specs.Polling.{Ends}
 use Rattle.swap_future.specs.Rolling.{RollSeen, HasGotOn, IsRolling, IsLane, IsNotFlown, Agrees, Carries, GetsOn, EachLane, first_flight, items_of, result_in}
 use Rattle.swap_future.specs.declared.rolling.Flight.{Flight}
@@ -24,17 +22,14 @@ use Rattle.swap_future.proofs.Polled.{ends_by}
 use Rattle.swap_future.proofs.Rolls.{same_lane}
 use Rattle.swap_future.proofs.Waited.{not_moved}
 
-abbrev Pass : Type 0
-Pass = PassSeen AnyPart
-
 -- what a roll is when its pass at a place has taken an item, has this swap in flight, or has ended it with an answer
 abbrev pub with_taken : ℕ → Flight → RollSeen → RollSeen
 with_taken place f r = record r { taken = r.taken + 1; flights = set r.flights place (Some f) }
 
-abbrev pub with_flight : ℕ → Flight → Pass → RollSeen → RollSeen
+abbrev pub with_flight : ℕ → Flight → SystemPass → RollSeen → RollSeen
 with_flight place f pass r = record r { flights = set r.flights place (Some f); passes = set r.passes place pass }
 
-abbrev pub with_answer : ℕ → ℕ → Option Swapped → Pass → RollSeen → RollSeen
+abbrev pub with_answer : ℕ → ℕ → Option Swapped → SystemPass → RollSeen → RollSeen
 with_answer place item answer pass r = record r {
   left = r.left - 1;
   flights = set r.flights place None;
@@ -44,7 +39,7 @@ with_answer place item answer pass r = record r {
 
 module _ (system : SystemSeen) (a : RollSeen) (place : ℕ) (is : IsRolling system a) where
   -- the other places are as they were
-  other_lane : (answers : List (Option Swapped)) (f' : Option Flight) (pass' : Pass) (other : ℕ) (f g : Option Flight) (old new : Pass) → other ≢ place
+  other_lane : (answers : List (Option Swapped)) (f' : Option Flight) (pass' : SystemPass) (other : ℕ) (f g : Option Flight) (old new : SystemPass) → other ≢ place
       → slice_get a.flights other ≡ Some f → slice_get a.passes other ≡ Some old
       → slice_get (set a.flights place f') other ≡ Some g → slice_get (set a.passes place pass') other ≡ Some new → GetsOn system answers f old g new
   other_lane answers f' pass' other f g old new differs at_f at_old at_g at_new =
@@ -52,7 +47,7 @@ module _ (system : SystemSeen) (a : RollSeen) (place : ℕ) (is : IsRolling syst
       (sym (slice_get-set_else a.flights place other f' differs) ∙ at_g) (sym (slice_get-set_else a.passes place other pass' differs) ∙ at_new)
 
   -- the pass has no swap in flight, and there is an item left
-  module _ (pass : Pass) (asked : ℕ × To) (at_flight : slice_get a.flights place ≡ Some None) (at_pass : slice_get a.passes place ≡ Some pass)
+  module _ (pass : SystemPass) (asked : ℕ × To) (at_flight : slice_get a.flights place ≡ Some None) (at_pass : slice_get a.passes place ≡ Some pass)
       (next : slice_get a.plan a.taken ≡ Some asked) where
     abbrev taking : Flight
     taking = first_flight asked a.taken
@@ -63,23 +58,30 @@ module _ (system : SystemSeen) (a : RollSeen) (place : ℕ) (is : IsRolling syst
     few : a.taken < length a.plan
     few = slice_get_within a.plan a.taken asked next
 
-    later_lane : (f : Option Flight) (old : Pass) → IsLane system a f old → IsLane system (with_taken place taking a) f old
+    later_lane : (f : Option Flight) (old : SystemPass) → IsLane system a f old → IsLane system (with_taken place taking a) f old
     later_lane None old lane = (lane.0, lane.1, let n = lane.2 in omega (arith, n), let n = lane.3 in omega (arith, n))
     later_lane (Some f) old lane = (lane.0, let n = lane.1 in omega (arith, n), let n = lane.2 in omega (arith, n), let n = lane.3 in omega (arith, n))
 
     pub taken_lane : IsLane system (with_taken place taking a) (Some taking) pass
     taken_lane =
-        let lane = is.lanes place None pass at_flight at_pass in
-        (record {
-          here = lane.0;
-          stage = (refl, record {
-            rests = lane.1;
-            there = is.objects a.taken asked next;
-            few_entries = let n = lane.2 in let less = few in omega (arith, n, less);
-            few_graces = let n = lane.3 in let less = few in omega (arith, n, less);
-          });
-          going = refl;
-        }, omega arith, let n = lane.2 in omega (arith, n), let n = lane.3 in omega (arith, n))
+        let lane = is.lanes place None pass at_flight at_pass in (
+          record {
+            here = lane.0;
+            stage = (
+              refl,
+              record {
+                rests = lane.1;
+                there = is.objects a.taken asked next;
+                few_entries = let n = lane.2 in let less = few in omega (arith, n, less);
+                few_graces = let n = lane.3 in let less = few in omega (arith, n, less);
+              },
+            );
+            going = refl;
+          },
+          omega arith,
+          let n = lane.2 in omega (arith, n),
+          let n = lane.3 in omega (arith, n),
+        )
 
     flying_less : (q : ℕ) (g : Flight) → slice_get a.flights q ≡ Some (Some g) → g.item < a.taken
     flying_less q g at =
@@ -117,7 +119,7 @@ module _ (system : SystemSeen) (a : RollSeen) (place : ℕ) (is : IsRolling syst
           ⊎_elim
           (λ (t : (other ≡ place) × (Some taking ≡ f)).
           let same : pass ≡ old = same_Some pass old (sym at_pass ∙ ap (λ p. slice_get a.passes p) (sym t.0) ∙ at_old) in
-          subst (λ (x : Option Flight × Pass). IsLane system (with_taken place taking a) x.0 x.1) (λ j. (t.1 j, same j)) taken_lane)
+          subst (λ (x : Option Flight × SystemPass). IsLane system (with_taken place taking a) x.0 x.1) (λ j. (t.1 j, same j)) taken_lane)
           (λ (t : (other ≢ place) × (slice_get a.flights other ≡ Some f)). later_lane f old (is.lanes other f old t.1 at_old))
           (at_set a.flights place other (Some taking) f at_f);
       apart = apart_now;
@@ -128,7 +130,7 @@ module _ (system : SystemSeen) (a : RollSeen) (place : ℕ) (is : IsRolling syst
       pass,
       refl,
       subst (λ (o : Option (ℕ × To)). IsSomeAnd o (λ asked. Carries system a.plan answers [] (Some (first_flight asked a.taken)) pass (Some taking) pass)) (sym next)
-      (not_moved system answers (Some taking) pass),
+          (not_moved system answers (Some taking) pass),
     )
 
     pub got_taken : HasGotOn system a (with_taken place taking a)
@@ -153,7 +155,7 @@ module _ (system : SystemSeen) (a : RollSeen) (place : ℕ) (is : IsRolling syst
           let flight : None ≡ f = same_Some None f (sym at_flight ∙ ap (λ p. slice_get a.flights p) (sym t.0) ∙ at_f) in
           let was : pass ≡ old = same_Some pass old (sym at_pass ∙ ap (λ p. slice_get a.passes p) (sym t.0) ∙ at_old) in
           let now : pass ≡ new = same_Some pass new (sym at_pass ∙ ap (λ p. slice_get a.passes p) (sym t.0) ∙ at_new) in
-          subst (λ (x : List ℕ × Option Flight × Pass × Option Flight × Pass). Carries system a.plan answers x.0 x.1 x.2 x.3 x.4)
+          subst (λ (x : List ℕ × Option Flight × SystemPass × Option Flight × SystemPass). Carries system a.plan answers x.0 x.1 x.2 x.3 x.4)
           (λ j. ((sym (item_of_taker place a.taken) ∙ ap (λ p. items_of p a.taken (place ∷ [])) (sym t.0)) j, flight j, was j, t.1 j, now j))
           (taken_carries answers))
           (λ (t : (other ≢ place) × (slice_get a.flights other ≡ Some g)).
@@ -173,14 +175,14 @@ module _ (system : SystemSeen) (a : RollSeen) (place : ℕ) (is : IsRolling syst
       omega (arith, flying, left, taken)
 
   -- it has this swap in flight, of which a step was made
-  module _ (f : Flight) (t : SwapSeen) (old new : Pass) (at_flight : slice_get a.flights place ≡ Some (Some f)) (at_pass : slice_get a.passes place ≡ Some old) where
+  module _ (f : Flight) (t : SwapSeen) (old new : SystemPass) (at_flight : slice_get a.flights place ≡ Some (Some f)) (at_pass : slice_get a.passes place ≡ Some old) where
     lane : IsLane system a (Some f) old
     lane = is.lanes place (Some f) old at_flight at_pass
 
     flight_here : (other : ℕ) (g : Option Flight) → other ≡ place → slice_get a.flights other ≡ Some g → Some f ≡ g
     flight_here other g same at = same_Some (Some f) g (sym at_flight ∙ ap (λ p. slice_get a.flights p) (sym same) ∙ at)
 
-    pass_here : (other : ℕ) (pass : Pass) → other ≡ place → slice_get a.passes other ≡ Some pass → old ≡ pass
+    pass_here : (other : ℕ) (pass : SystemPass) → other ≡ place → slice_get a.passes other ≡ Some pass → old ≡ pass
     pass_here other pass same at = same_Some old pass (sym at_pass ∙ ap (λ p. slice_get a.passes p) (sym same) ∙ at)
 
     module _ (cause : Cause) (step : HasStepped system (Again cause) f.swap t old new) where
@@ -215,7 +217,7 @@ module _ (system : SystemSeen) (a : RollSeen) (place : ℕ) (is : IsRolling syst
         lanes = λ other g pass at_g at_new.
             ⊎_elim
             (λ (u : (other ≡ place) × (Some waiting ≡ g)).
-            subst (λ (x : Option Flight × Pass). IsLane system a x.0 x.1) (λ j. (u.1 j, set_here a.passes place other new pass u.0 at_new j)) waits_lane)
+            subst (λ (x : Option Flight × SystemPass). IsLane system a x.0 x.1) (λ j. (u.1 j, set_here a.passes place other new pass u.0 at_new j)) waits_lane)
             (λ (u : (other ≢ place) × (slice_get a.flights other ≡ Some g)).
             is.lanes other g pass u.1 (sym (slice_get-set_else a.passes place other new u.0) ∙ at_new))
             (at_set a.flights place other (Some waiting) g at_g);
@@ -238,7 +240,7 @@ module _ (system : SystemSeen) (a : RollSeen) (place : ℕ) (is : IsRolling syst
         each = λ answers agrees other g was h now at_g at_was at_h at_now.
             ⊎_elim
             (λ (u : (other ≡ place) × (Some waiting ≡ h)).
-            subst (λ (x : Option Flight × Pass × Option Flight × Pass). GetsOn system answers x.0 x.1 x.2 x.3)
+            subst (λ (x : Option Flight × SystemPass × Option Flight × SystemPass). GetsOn system answers x.0 x.1 x.2 x.3)
             (λ j. (flight_here other g u.0 at_g j, pass_here other was u.0 at_was j, u.1 j, set_here a.passes place other new now u.0 at_now j))
             (refl, cause ∷ [], refl, (f.swap, old, (refl, refl), step)))
             (λ (u : (other ≢ place) × (slice_get a.flights other ≡ Some h)).
@@ -259,7 +261,7 @@ module _ (system : SystemSeen) (a : RollSeen) (place : ℕ) (is : IsRolling syst
           let more = ap length is.ended.drawn in omega (arith, more, length-append old.view.taker.mine (is.ended.entry ∷ []))
       one_drawn None is =
           ⊎_elim
-          (λ (u : (f.swap.stage ≡ New) × (new.view ≡ old.view)). let same = ap (λ (v : PassView AnyPart). length v.taker.mine) u.1 in omega (arith, same))
+          (λ (u : (f.swap.stage ≡ New) × (new.view ≡ old.view)). let same = ap (λ (v : PassView SystemPart). length v.taker.mine) u.1 in omega (arith, same))
           (λ (u : HasAbandoned (layouts_in system) system.sys.layouts old.seat f.swap.object f.swap.to old.view new.view).
           let more = ap length u.drawn in omega (arith, more, length-append old.view.taker.mine (u.entry ∷ [])))
           is.memory
@@ -289,7 +291,7 @@ module _ (system : SystemSeen) (a : RollSeen) (place : ℕ) (is : IsRolling syst
         lanes = λ other g pass at_g at_new.
             ⊎_elim
             (λ (u : (other ≡ place) × (None ≡ g)).
-            subst (λ (x : Option Flight × Pass). IsLane system a x.0 x.1) (λ j. (u.1 j, set_here a.passes place other new pass u.0 at_new j)) ended_lane)
+            subst (λ (x : Option Flight × SystemPass). IsLane system a x.0 x.1) (λ j. (u.1 j, set_here a.passes place other new pass u.0 at_new j)) ended_lane)
             (λ (u : (other ≢ place) × (slice_get a.flights other ≡ Some g)).
             is.lanes other g pass u.1 (sym (slice_get-set_else a.passes place other new u.0) ∙ at_new))
             (at_set a.flights place other None g at_g);
@@ -322,7 +324,7 @@ module _ (system : SystemSeen) (a : RollSeen) (place : ℕ) (is : IsRolling syst
         each = λ answers agrees other g was h now at_g at_was at_h at_now.
             ⊎_elim
             (λ (u : (other ≡ place) × (None ≡ h)).
-            subst (λ (x : Option Flight × Pass × Option Flight × Pass). GetsOn system answers x.0 x.1 x.2 x.3)
+            subst (λ (x : Option Flight × SystemPass × Option Flight × SystemPass). GetsOn system answers x.0 x.1 x.2 x.3)
             (λ j. (flight_here other g u.0 at_g j, pass_here other was u.0 at_was j, u.1 j, set_here a.passes place other new now u.0 at_now j))
             (subst (λ (o : Option (Option Swapped)). IsSomeAnd o (λ answer. Ends system f.swap old (result_in answer) new)) (sym (its_answer answers agrees)) ends))
             (λ (u : (other ≢ place) × (slice_get a.flights other ≡ Some h)).

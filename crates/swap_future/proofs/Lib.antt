@@ -1,3 +1,4 @@
+pub mod AtHand
 pub mod Drawn
 pub mod Ended
 pub mod Events

@@ -2,27 +2,22 @@
 use Rattle.std.proofs.Common.{◌≡◌, ◌≢◌, ⊎_elim, inl, inr, ◌⊎◌, ℕ, suc, ◌+◌, ◌-◌, ◌<◌, ◌≤◌, true, false, ◌==◌, List, [], ◌∷◌, ◌++◌, Option, Some, None, length, length-set, length-append, set, IsSomeAnd, refl, sym, ap, subst, ◌∙◌, arith}
 use Rattle.std.specs.Prelude.{slice_get, is_some, count_by}
 use Rattle.std.proofs.lemmas.Option.{same_Some, slice_get_within}
-use Rattle.co_any.specs.declared.part.AnyPart.{AnyPart}
-use Rattle.k42_board.specs.Seen.{PassSeen}
 use Rattle.k42_places.proofs.Written.{at_set, slice_get-set_here, slice_get-set_else}
-use Rattle.k42_runtime.specs.Systems.{SystemSeen}
+use Rattle.k42_runtime.specs.Systems.{SystemSeen, SystemPass}
 use Rattle.k42_runtime.specs.declared.swaps.Swapped.{Swapped}
-use Rattle.k42_runtime.specs.declared.swaps.To.{To}
+use Rattle.k42_kinds.specs.declared.entry.To.{To}
 use Rattle.swap_future.specs.Rolling.{RollSeen, HasGotOn, HasRolled, Agrees, IsNotFlown, Carries, GetsOn, items_of}
 use Rattle.swap_future.specs.declared.rolling.Flight.{Flight}
 use Rattle.swap_future.proofs.Places.{there, each_append, items_of-append}
 use Rattle.swap_future.proofs.Waited.{not_moved, carries_then}
 
-abbrev Pass : Type 0
-Pass = PassSeen AnyPart
-
 module _ (system : SystemSeen) where
   -- one place, seen twice
-  pub same_lane : (answers : List (Option Swapped)) (f g : Option Flight) (old new : Pass) (flights : List (Option Flight)) (passes : List Pass) (place : ℕ)
+  pub same_lane : (answers : List (Option Swapped)) (f g : Option Flight) (old new : SystemPass) (flights : List (Option Flight)) (passes : List SystemPass) (place : ℕ)
       → slice_get flights place ≡ Some f → slice_get passes place ≡ Some old → slice_get flights place ≡ Some g → slice_get passes place ≡ Some new
       → GetsOn system answers f old g new
   same_lane answers f g old new flights passes place at_f at_old at_g at_new =
-      subst (λ (x : Option Flight × Pass). GetsOn system answers f old x.0 x.1)
+      subst (λ (x : Option Flight × SystemPass). GetsOn system answers f old x.0 x.1)
       (λ j. (same_Some f g (sym at_f ∙ at_g) j, same_Some old new (sym at_old ∙ at_new) j)) (not_moved system answers f old)
 
   pub stays : (a : RollSeen) → HasGotOn system a a
@@ -54,15 +49,15 @@ module _ (system : SystemSeen) where
     agrees_before answers agrees item less free =
         agrees item (longer item less) (not_flown item less free) ∙ first.kept item less free
 
-    mid_lane : (place : ℕ) (f : Option Flight) (old : Pass) → slice_get a.flights place ≡ Some f → slice_get a.passes place ≡ Some old
-        → ((g : Option Flight) × (slice_get b.flights place ≡ Some g)) × ((mid : Pass) × (slice_get b.passes place ≡ Some mid))
+    mid_lane : (place : ℕ) (f : Option Flight) (old : SystemPass) → slice_get a.flights place ≡ Some f → slice_get a.passes place ≡ Some old
+        → ((g : Option Flight) × (slice_get b.flights place ≡ Some g)) × ((mid : SystemPass) × (slice_get b.passes place ≡ Some mid))
     mid_lane place f old at_f at_old = (
       there b.flights place (let less = slice_get_within a.flights place f at_f in let many = first.flights in omega (arith, less, many)),
       there b.passes place (let less = slice_get_within a.passes place old at_old in let many = first.passes in omega (arith, less, many)),
     )
 
     -- what a pass did by now, and what it does later with the items that these takers leave to it
-    carried : (answers : List (Option Swapped)) (more : List ℕ) (place : ℕ) (f g h : Option Flight) (old mid new : Pass) → Agrees b answers
+    carried : (answers : List (Option Swapped)) (more : List ℕ) (place : ℕ) (f g h : Option Flight) (old mid new : SystemPass) → Agrees b answers
         → slice_get a.flights place ≡ Some f → slice_get a.passes place ≡ Some old → slice_get b.flights place ≡ Some g → slice_get b.passes place ≡ Some mid
         → Carries system b.plan answers (items_of place b.taken more) g mid h new
         → Carries system a.plan answers (items_of place a.taken (first.takers ++ more)) f old h new
@@ -98,7 +93,7 @@ module _ (system : SystemSeen) where
   }
 
   -- the end of a roll that has got on is its end from before
-  pub rolled_before : (a b : RollSeen) → HasGotOn system a b → (answers : List (Option Swapped)) (passes : List Pass) → HasRolled system b answers passes
+  pub rolled_before : (a b : RollSeen) → HasGotOn system a b → (answers : List (Option Swapped)) (passes : List SystemPass) → HasRolled system b answers passes
       → HasRolled system a answers passes
   rolled_before a b first answers passes is = record {
     takers = first.takers ++ is.takers;

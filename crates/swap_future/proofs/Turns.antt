@@ -3,19 +3,17 @@ use Rattle.std.proofs.Common.{◌≡◌, ◌≢◌, ⊎_elim, inl, inr, ◌⊎�
 use Rattle.std.specs.Prelude.{slice_get, is_some, count_by}
 use Rattle.std.proofs.lemmas.Bool.{cases_lt}
 use Rattle.std.proofs.lemmas.Option.{same_Some, slice_get_read, slice_get_within}
-use Rattle.co_any.specs.declared.part.AnyPart.{AnyPart}
-use Rattle.k42_board.specs.Seen.{PassSeen}
 use Rattle.k42_places.specs.Places.{EachPlace}
 use Rattle.k42_places.proofs.Counts.{count_by_none, count_by_zero}
 use Rattle.k42_places.proofs.EachPlaces.{EachPlace-replicate}
 use Rattle.k42_places.proofs.Written.{slice_get-set_else, slice_get-set_here}
 use Rattle.k42_runtime.specs.Phases.{last_step}
 use Rattle.k42_runtime.specs.Swaps.{SwapSeen, HasStepped}
-use Rattle.k42_runtime.specs.Systems.{SystemSeen, IsPassHere, IsAtRest}
+use Rattle.k42_runtime.specs.Systems.{SystemSeen, IsPassHere, IsAtRest, SystemPass}
 use Rattle.k42_runtime.specs.declared.swaps.Cause.{Cause}
 use Rattle.k42_runtime.specs.declared.swaps.Step.TheVariants.{Again}
 use Rattle.k42_runtime.specs.declared.swaps.Swapped.{Swapped}
-use Rattle.k42_runtime.specs.declared.swaps.To.{To}
+use Rattle.k42_kinds.specs.declared.entry.To.{To}
 use Rattle.swap_future.specs.Polling.{IsGoing, new_swap}
 use Rattle.swap_future.specs.Rolling.{RollSeen, Carries, HasGotOn, HasRolled, HasStoodBy, HasTurned, HasWaitedARound, IsAtHand, IsLane, IsRolling, MayRoll, first_flight, new_roll, result_in}
 use Rattle.swap_future.specs.declared.rolling.Flight.{Flight}
@@ -23,9 +21,6 @@ use Rattle.swap_future.proofs.Events.{with_taken, with_flight, with_answer, roll
 use Rattle.swap_future.proofs.Places.{one_counted, set_here, set-set, set_same, there}
 use Rattle.swap_future.proofs.Rolls.{stays, then}
 use Rattle.swap_future.proofs.Waited.{some_then}
-
-abbrev Pass : Type 0
-Pass = PassSeen AnyPart
 
 -- where a flight is at hand, the roll in which its pass has it in flight
 pub record HasInFlight (system : SystemSeen) (place : ℕ) (a : RollSeen) (f : Flight) (b v : RollSeen) : Type 0 where
@@ -39,44 +34,52 @@ pub record HasInFlight (system : SystemSeen) (place : ℕ) (a : RollSeen) (f : F
   pub origin :
       (slice_get a.flights place ≡ Some (Some f))
       ⊎ ((slice_get a.flights place ≡ Some None)
-          × IsSomeAnd (slice_get v.plan f.item) (λ asked. f.swap ≡ new_swap asked.0 asked.1))
+      × IsSomeAnd (slice_get v.plan f.item) (λ asked. f.swap ≡ new_swap asked.0 asked.1))
 
 module _ (system : SystemSeen) (place : ℕ) (a : RollSeen) (is : IsRolling system a) where
   has_taken : (f : Flight) (b : RollSeen) (asked : ℕ × To) → slice_get a.flights place ≡ Some None → slice_get a.plan a.taken ≡ Some asked
       → f ≡ first_flight asked a.taken → b ≡ record a { taken = a.taken + 1 } → (v : RollSeen) × HasInFlight system place a f b v
   has_taken f b asked at next taking now =
       let mid = there a.passes place (let less = slice_get_within a.flights place None at in let many = is.flights in omega (arith, less, many)) in
-      let first : Flight = first_flight asked a.taken in
-      (with_taken place first a, record {
-        rolls = rolls_taken system a place is mid.0 asked at mid.1 next;
-        got_on = got_taken system a place is mid.0 asked at mid.1 next;
-        at = slice_get-set_here a.flights place (Some first) (slice_get_within a.flights place None at) ∙ (λ j. Some (Some (sym taking j)));
-        now = now ∙ (λ j. record a { taken = a.taken + 1; flights = (sym (set_same a.flights place None at) ∙ sym (set-set a.flights place (Some first) None)) j });
-        flights = λ other differs. slice_get-set_else a.flights place other (Some first) differs;
-        passes = refl;
-        left = refl;
-        origin = inr (at, subst (λ (g : Flight). IsSomeAnd (slice_get a.plan g.item) (λ asked. g.swap ≡ new_swap asked.0 asked.1)) (sym taking)
-            (subst (λ (o : Option (ℕ × To)). IsSomeAnd o (λ other. new_swap asked.0 asked.1 ≡ new_swap other.0 other.1)) (sym next) refl));
-      })
+      let first : Flight = first_flight asked a.taken in (
+        with_taken place first a,
+        record {
+          rolls = rolls_taken system a place is mid.0 asked at mid.1 next;
+          got_on = got_taken system a place is mid.0 asked at mid.1 next;
+          at = slice_get-set_here a.flights place (Some first) (slice_get_within a.flights place None at) ∙ (λ j. Some (Some (sym taking j)));
+          now = now ∙ (λ j. record a { taken = a.taken + 1; flights = (sym (set_same a.flights place None at) ∙ sym (set-set a.flights place (Some first) None)) j });
+          flights = λ other differs. slice_get-set_else a.flights place other (Some first) differs;
+          passes = refl;
+          left = refl;
+          origin = inr (
+            at,
+            subst (λ (g : Flight). IsSomeAnd (slice_get a.plan g.item) (λ asked. g.swap ≡ new_swap asked.0 asked.1)) (sym taking)
+                (subst (λ (o : Option (ℕ × To)). IsSomeAnd o (λ other. new_swap asked.0 asked.1 ≡ new_swap other.0 other.1)) (sym next) refl),
+          );
+        },
+      )
 
   pub in_flight : (f : Flight) (b : RollSeen) → IsAtHand place a f b → (v : RollSeen) × HasInFlight system place a f b v
   in_flight f b hand =
       ⊎_elim
-      (λ (h : (slice_get a.flights place ≡ Some (Some f)) × (b ≡ record a { flights = set a.flights place None })). (a, record {
-        rolls = is;
-        got_on = stays system a;
-        at = h.0;
-        now = h.1;
-        flights = λ other differs. refl;
-        passes = refl;
-        left = refl;
-        origin = inl h.0;
-      }))
+      (λ (h : (slice_get a.flights place ≡ Some (Some f)) × (b ≡ record a { flights = set a.flights place None })). (
+        a,
+        record {
+          rolls = is;
+          got_on = stays system a;
+          at = h.0;
+          now = h.1;
+          flights = λ other differs. refl;
+          passes = refl;
+          left = refl;
+          origin = inl h.0;
+        },
+      ))
       (λ (h : (slice_get a.flights place ≡ Some None) × (asked : ℕ × To) × (slice_get a.plan a.taken ≡ Some asked) × (f ≡ first_flight asked a.taken)
-          × (b ≡ record a { taken = a.taken + 1 })). has_taken f b h.1 h.0 h.2 h.3 h.4)
+      × (b ≡ record a { taken = a.taken + 1 })). has_taken f b h.1 h.0 h.2 h.3 h.4)
       hand
 
-  module _ (f : Flight) (b v : RollSeen) (has : HasInFlight system place a f b v) (old new : Pass) (at_pass : slice_get b.passes place ≡ Some old) (t : SwapSeen) where
+  module _ (f : Flight) (b v : RollSeen) (has : HasInFlight system place a f b v) (old new : SystemPass) (at_pass : slice_get b.passes place ≡ Some old) (t : SwapSeen) where
     at_old : slice_get v.passes place ≡ Some old
     at_old = ap (λ (r : RollSeen). slice_get r.passes place) (sym has.now) ∙ at_pass
 
@@ -87,7 +90,7 @@ module _ (system : SystemSeen) (place : ℕ) (a : RollSeen) (is : IsRolling syst
         subst (λ (r : RollSeen). (f.item < length r.answers) × (0 < r.left)) (sym has.now)
         (omega (arith, lane, taken, many), some_left system v place has.rolls f has.at)
 
-    was_old : (pass : Pass) → slice_get a.passes place ≡ Some pass → old ≡ pass
+    was_old : (pass : SystemPass) → slice_get a.passes place ≡ Some pass → old ≡ pass
     was_old pass at = same_Some old pass (sym at_old ∙ ap (λ ps. slice_get ps place) has.passes ∙ at)
 
     module _ (cause : Cause) (step : HasStepped system (Again cause) f.swap t old new) where
@@ -97,13 +100,13 @@ module _ (system : SystemSeen) (place : ℕ) (a : RollSeen) (is : IsRolling syst
       abbrev after : RollSeen
       after = with_flight place waiting new v
 
-      stood : (g : Option Flight) (was : Pass) → slice_get a.flights place ≡ Some g → old ≡ was → HasStoodBy system after g was (Some waiting) new
+      stood : (g : Option Flight) (was : SystemPass) → slice_get a.flights place ≡ Some g → old ≡ was → HasStoodBy system after g was (Some waiting) new
       stood g was at same =
           ⊎_elim
           (λ (h : slice_get a.flights place ≡ Some (Some f)).
-          subst (λ (x : Option Flight × Pass). HasStoodBy system after x.0 x.1 (Some waiting) new) (λ j. (same_Some (Some f) g (sym h ∙ at) j, same j)) (refl, step))
+          subst (λ (x : Option Flight × SystemPass). HasStoodBy system after x.0 x.1 (Some waiting) new) (λ j. (same_Some (Some f) g (sym h ∙ at) j, same j)) (refl, step))
           (λ (h : (slice_get a.flights place ≡ Some None) × IsSomeAnd (slice_get v.plan f.item) (λ asked. f.swap ≡ new_swap asked.0 asked.1)).
-          subst (λ (x : Option Flight × Pass). HasStoodBy system after x.0 x.1 (Some waiting) new) (λ j. (same_Some None g (sym h.0 ∙ at) j, same j))
+          subst (λ (x : Option Flight × SystemPass). HasStoodBy system after x.0 x.1 (Some waiting) new) (λ j. (same_Some None g (sym h.0 ∙ at) j, same j))
           (some_then (slice_get v.plan f.item) (λ asked. f.swap ≡ new_swap asked.0 asked.1)
           (λ asked. HasStepped system (Again cause) (new_swap asked.0 asked.1) t old new) h.1
           (λ asked is_new. subst (λ (s : SwapSeen). HasStepped system (Again cause) s t old new) is_new step)))
@@ -117,7 +120,7 @@ module _ (system : SystemSeen) (place : ℕ) (a : RollSeen) (is : IsRolling syst
         flights = λ other differs. slice_get-set_else v.flights place other (Some waiting) differs ∙ has.flights other differs;
         passes = λ other differs. slice_get-set_else v.passes place other new differs ∙ ap (λ ps. slice_get ps other) has.passes;
         stood_by = λ same g was h now at_g at_was at_h at_now.
-            subst (λ (x : Option Flight × Pass). HasStoodBy system after g was x.0 x.1)
+            subst (λ (x : Option Flight × SystemPass). HasStoodBy system after g was x.0 x.1)
             (λ j. (set_here v.flights place place (Some waiting) h refl at_h j, set_here v.passes place place new now refl at_now j))
             (stood g was at_g (was_old was at_was));
       }
@@ -149,7 +152,7 @@ module _ (system : SystemSeen) (place : ℕ) (a : RollSeen) (is : IsRolling syst
           turned_ended
 
   -- what a turn needs and leaves, by the flight that was taken out and the pass that stands there
-  module _ (f : Flight) (b : RollSeen) (hand : IsAtHand place a f b) (old : Pass) (less : place < length a.passes) (value : old ≡ get_or b.passes place old) where
+  module _ (f : Flight) (b : RollSeen) (hand : IsAtHand place a f b) (old : SystemPass) (less : place < length a.passes) (value : old ≡ get_or b.passes place old) where
     v : RollSeen
     v = (in_flight f b hand).0
 
@@ -159,7 +162,7 @@ module _ (system : SystemSeen) (place : ℕ) (a : RollSeen) (is : IsRolling syst
     stands : slice_get b.passes place ≡ Some old
     stands =
         let same : b.passes ≡ a.passes = ap (λ (r : RollSeen). r.passes) has.now ∙ has.passes in
-        slice_get_read b.passes (length b.passes) place old refl (let many = ap (λ (ps : List Pass). length ps) same in omega (arith, less, many)) value
+        slice_get_read b.passes (length b.passes) place old refl (let many = ap (λ (ps : List SystemPass). length ps) same in omega (arith, less, many)) value
 
     pub going_now : IsGoing system f.swap old
     going_now = (has.rolls.lanes place (Some f) old has.at (at_old f b v has old old stands f.swap)).0
@@ -167,11 +170,11 @@ module _ (system : SystemSeen) (place : ℕ) (a : RollSeen) (is : IsRolling syst
     pub fits_now : (f.item < length b.answers) × (0 < b.left)
     fits_now = fits f b v has old old stands f.swap
 
-    pub waits_now : (t : SwapSeen) (new : Pass) (cause : Cause) → HasStepped system (Again cause) f.swap t old new
+    pub waits_now : (t : SwapSeen) (new : SystemPass) (cause : Cause) → HasStepped system (Again cause) f.swap t old new
         → HasTurned system place a (record b { flights = set b.flights place (Some (record { swap = t; item = f.item; cause = Some cause })); passes = set b.passes place new })
     waits_now t new cause step = turned_waiting f b v has old new stands t cause step
 
-    pub ends_now : (t : SwapSeen) (new : Pass) (answer : Option Swapped) → HasStepped system (last_step (result_in answer)) f.swap t old new
+    pub ends_now : (t : SwapSeen) (new : SystemPass) (answer : Option Swapped) → HasStepped system (last_step (result_in answer)) f.swap t old new
         → HasTurned system place a (record b { left = b.left - 1; passes = set b.passes place new; answers = set b.answers f.item answer })
     ends_now t new answer step = turned_answered f b v has old new stands t answer step
 
@@ -196,7 +199,7 @@ pub record IsRoundTo (system : SystemSeen) (place : ℕ) (a b : RollSeen) : Type
   pub fewer : b.left ≤ a.left
   pub behind : (other : ℕ) → place ≤ other
       → (slice_get b.flights other ≡ slice_get a.flights other) × (slice_get b.passes other ≡ slice_get a.passes other)
-  pub stood_by : b.left ≡ a.left → (other : ℕ) → other < place → (f : Option Flight) (old : Pass) (g : Option Flight) (new : Pass)
+  pub stood_by : b.left ≡ a.left → (other : ℕ) → other < place → (f : Option Flight) (old : SystemPass) (g : Option Flight) (new : SystemPass)
       → slice_get a.flights other ≡ Some f → slice_get a.passes other ≡ Some old → slice_get b.flights other ≡ Some g
       → slice_get b.passes other ≡ Some new → HasStoodBy system b f old g new
 
@@ -209,7 +212,7 @@ no_turn system a is = record {
   stood_by = λ same other less. absurd (omega arith);
 }
 
-stood_later : (system : SystemSeen) (b c : RollSeen) (f : Option Flight) (old : Pass) (g : Option Flight) (new : Pass) → c.plan ≡ b.plan → b.taken ≤ c.taken
+stood_later : (system : SystemSeen) (b c : RollSeen) (f : Option Flight) (old : SystemPass) (g : Option Flight) (new : SystemPass) → c.plan ≡ b.plan → b.taken ≤ c.taken
     → c.taken ≤ length c.plan → HasStoodBy system b f old g new → HasStoodBy system c f old g new
 stood_later system b c None old None new plan later few is =
     (is.0, let taken = is.1 in let many = ap (λ (p : List (ℕ × To)). length p) plan in omega (arith, taken, many, later, few))
@@ -220,7 +223,7 @@ stood_later system b c (Some f) old None new plan later few is = is
 stood_later system b c (Some f) old (Some g) new plan later few is = is
 
 module _ (system : SystemSeen) (place : ℕ) (a b c : RollSeen) (is : IsRoundTo system place a b) (turn : HasTurned system place b c) where
-  stood_next : c.left ≡ a.left → (other : ℕ) → other < place + 1 → (f : Option Flight) (old : Pass) (g : Option Flight) (new : Pass)
+  stood_next : c.left ≡ a.left → (other : ℕ) → other < place + 1 → (f : Option Flight) (old : SystemPass) (g : Option Flight) (new : SystemPass)
       → slice_get a.flights other ≡ Some f → slice_get a.passes other ≡ Some old → slice_get c.flights other ≡ Some g
       → slice_get c.passes other ≡ Some new → HasStoodBy system c f old g new
   stood_next same other less f old g new at_f at_old at_g at_new =
@@ -276,7 +279,7 @@ waited system a b is some same =
         let all = all_taken f.0 old.0 new.0 stood in let left = is.rolls.left in
         one_counted b.flights (omega (arith, all, left, some, same))
       where
-        all_taken : (f : Option Flight) (old new : Pass) → HasStoodBy system b f old None new → b.taken ≡ length b.plan
+        all_taken : (f : Option Flight) (old new : SystemPass) → HasStoodBy system b f old None new → b.taken ≡ length b.plan
         all_taken None old new stood = stood.1
         all_taken (Some f) old new stood = absurd stood
 
@@ -305,16 +308,16 @@ rolled_now system b is none = record {
     idles place f at_f =
         count_by_zero is_some b.flights (let left = is.left in let taken = is.taken in omega (arith, left, taken, none)) place f at_f
 
-    resting : (f : Option Flight) (pass : Pass) → is_some f ≡ false → IsLane system b f pass → IsPassHere system pass × IsAtRest pass.view
+    resting : (f : Option Flight) (pass : SystemPass) → is_some f ≡ false → IsLane system b f pass → IsPassHere system pass × IsAtRest pass.view
     resting None pass free lane = (lane.0, lane.1)
     resting (Some f) pass free lane = absurd (cc)
 
-    idle : (f : Option Flight) (old new : Pass) → is_some f ≡ false → new ≡ old → Carries system b.plan b.answers [] f old None new
+    idle : (f : Option Flight) (old new : SystemPass) → is_some f ≡ false → new ≡ old → Carries system b.plan b.answers [] f old None new
     idle None old new free same = same
     idle (Some f) old new free same = absurd (cc)
 
 -- a roll that has not begun
-pub new_rolls : (system : SystemSeen) (plan : List (ℕ × To)) (passes : List Pass) → 0 < length passes
+pub new_rolls : (system : SystemSeen) (plan : List (ℕ × To)) (passes : List SystemPass) → 0 < length passes
     → EachPlace (λ i. MayRoll system (length plan)) passes → EachPlace (λ i asked. asked.0 < length system.plan.objects) plan
     → IsRolling system (new_roll plan passes)
 new_rolls system plan passes some each objects = record {

@@ -1,15 +1,13 @@
 -- A roll: which pass takes which item of its plan, how it gets on, and what it leaves.
 use Rattle.std.specs.Prelude.{◌≡◌, ◌≢◌, ℕ, ◌+◌, ◌<◌, ◌≤◌, ◌⊎◌, ◌==◌, if◌then◌else◌, List, [], ◌∷◌, length, replicate, set, Option, Some, None, Result, Ok, Err, IsSomeAnd, slice_get, is_some, count_by}
-use Rattle.co_any.specs.declared.part.AnyPart.{AnyPart}
 use Rattle.k42_board.specs.Generations.{MOST}
-use Rattle.k42_board.specs.Seen.{PassSeen}
 use Rattle.k42_places.specs.Places.{EachPlace, EachPair}
 use Rattle.k42_runtime.specs.Swaps.{SwapSeen, HasStepped, graces_due}
-use Rattle.k42_runtime.specs.Systems.{SystemSeen, IsPassHere, IsAtRest}
+use Rattle.k42_runtime.specs.Systems.{SystemSeen, IsPassHere, IsAtRest, SystemPass}
 use Rattle.k42_runtime.specs.declared.swaps.Cause.{Cause}
 use Rattle.k42_runtime.specs.declared.swaps.Step.TheVariants.{Again}
 use Rattle.k42_runtime.specs.declared.swaps.Swapped.{Swapped}
-use Rattle.k42_runtime.specs.declared.swaps.To.{To}
+use Rattle.k42_kinds.specs.declared.entry.To.{To}
 use Rattle.swap_future.specs.Polling.{IsGoing, Ends, new_swap}
 use Rattle.swap_future.specs.declared.rolling.Flight.{Flight}
 use Rattle.swap_future.specs.declared.rolling.Rolling.{Rolling}
@@ -20,7 +18,7 @@ pub record RollSeen : Type 0 where
   pub plan : List (ℕ × To)
   pub taken : ℕ
   pub left : ℕ
-  pub passes : List (PassSeen AnyPart)
+  pub passes : List SystemPass
   pub flights : List (Option Flight)
   pub answers : List (Option Swapped)
 
@@ -44,10 +42,10 @@ result_in (Some end) = Ok end
 result_in None = Err tt
 
 -- steps that were held up by these causes, the last one's first, have brought swap and pass from there to here
-abbrev pub HasWaited : SystemSeen → List Cause → SwapSeen → PassSeen AnyPart → SwapSeen → PassSeen AnyPart → Type 0
+abbrev pub HasWaited : SystemSeen → List Cause → SwapSeen → SystemPass → SwapSeen → SystemPass → Type 0
 HasWaited system [] s old t new = (t ≡ s) × (new ≡ old)
 HasWaited system (cause ∷ causes) s old t new =
-    (m : SwapSeen) × (mid : PassSeen AnyPart) × HasWaited system causes s old m mid × HasStepped system (Again cause) m t mid new
+    (m : SwapSeen) × (mid : SystemPass) × HasWaited system causes s old m mid × HasStepped system (Again cause) m t mid new
 
 -- what held it up last
 abbrev pub last_cause : List Cause → Option Cause → Option Cause
@@ -55,7 +53,7 @@ last_cause [] before = before
 last_cause (cause ∷ causes) before = Some cause
 
 -- A pass gets on with the swap that it has in flight, but takes no item: the swap waits, or has ended with its item's answer.
-abbrev pub GetsOn : SystemSeen → List (Option Swapped) → Option Flight → PassSeen AnyPart → Option Flight → PassSeen AnyPart → Type 0
+abbrev pub GetsOn : SystemSeen → List (Option Swapped) → Option Flight → SystemPass → Option Flight → SystemPass → Type 0
 GetsOn system answers None old None new = new ≡ old
 GetsOn system answers None old (Some g) new = ⊥
 GetsOn system answers (Some f) old None new =
@@ -64,11 +62,11 @@ GetsOn system answers (Some f) old (Some g) new =
     (g.item ≡ f.item) × (causes : List Cause) × (g.cause ≡ last_cause causes f.cause) × HasWaited system causes f.swap old g.swap new
 
 -- It gets on, and takes these items of the plan, each once the swap before has ended.
-abbrev pub Carries : SystemSeen → List (ℕ × To) → List (Option Swapped) → List ℕ → Option Flight → PassSeen AnyPart
-    → Option Flight → PassSeen AnyPart → Type 0
+abbrev pub Carries : SystemSeen → List (ℕ × To) → List (Option Swapped) → List ℕ → Option Flight → SystemPass
+    → Option Flight → SystemPass → Type 0
 Carries system plan answers [] f old g new = GetsOn system answers f old g new
 Carries system plan answers (item ∷ items) f old g new =
-    (mid : PassSeen AnyPart) × GetsOn system answers f old None mid
+    (mid : SystemPass) × GetsOn system answers f old None mid
     × IsSomeAnd (slice_get plan item) (λ asked. Carries system plan answers items (Some (first_flight asked item)) mid g new)
 
 -- the items that this pass takes, where these passes take the items from a first one on
@@ -109,7 +107,7 @@ pub record HasGotOn (system : SystemSeen) (a b : RollSeen) : Type 0 where
       → EachLane (λ place. Carries system a.plan answers (items_of place a.taken takers)) a.flights a.passes b.flights b.passes
 
 -- The roll has come to its end with these answers, one for each item, and these passes, in their order.
-pub record HasRolled (system : SystemSeen) (r : RollSeen) (answers : List (Option Swapped)) (passes : List (PassSeen AnyPart)) : Type 0 where
+pub record HasRolled (system : SystemSeen) (r : RollSeen) (answers : List (Option Swapped)) (passes : List SystemPass) : Type 0 where
   pub takers : List ℕ
   pub taken : length r.plan ≡ r.taken + length takers
   pub theirs : EachPlace (λ i taker. taker < length r.passes) takers
@@ -117,13 +115,13 @@ pub record HasRolled (system : SystemSeen) (r : RollSeen) (answers : List (Optio
   pub answers_are : length answers ≡ length r.plan
   pub kept : Agrees r answers
   pub rest : EachPlace (λ i pass. IsPassHere system pass × IsAtRest pass.view) passes
-  pub each : (place : ℕ) (f : Option Flight) (old new : PassSeen AnyPart) → slice_get r.flights place ≡ Some f
+  pub each : (place : ℕ) (f : Option Flight) (old new : SystemPass) → slice_get r.flights place ≡ Some f
       → slice_get r.passes place ≡ Some old → slice_get passes place ≡ Some new
       → Carries system r.plan answers (items_of place r.taken takers) f old None new
 
 -- In a round that ended no swap the pass has made one step, which was held up by the cause that is kept: of the swap that it
 -- had in flight, or of that of the item that it took. Where it has none in flight all items are taken.
-abbrev pub HasStoodBy : SystemSeen → RollSeen → Option Flight → PassSeen AnyPart → Option Flight → PassSeen AnyPart → Type 0
+abbrev pub HasStoodBy : SystemSeen → RollSeen → Option Flight → SystemPass → Option Flight → SystemPass → Type 0
 HasStoodBy system b None old None new = (new ≡ old) × (b.taken ≡ length b.plan)
 HasStoodBy system b None old (Some g) new =
     IsSomeAnd (slice_get b.plan g.item) (λ asked. IsSomeAnd g.cause (λ cause.
@@ -145,10 +143,10 @@ abbrev pub IsAtHand : ℕ → RollSeen → Flight → RollSeen → Type 0
 IsAtHand place a f b =
     ((slice_get a.flights place ≡ Some (Some f)) × (b ≡ record a { flights = set a.flights place None }))
     ⊎ ((slice_get a.flights place ≡ Some None) × (asked : ℕ × To) × (slice_get a.plan a.taken ≡ Some asked)
-        × (f ≡ first_flight asked a.taken) × (b ≡ record a { taken = a.taken + 1 }))
+    × (f ≡ first_flight asked a.taken) × (b ≡ record a { taken = a.taken + 1 }))
 
 -- a roll that has not begun
-abbrev pub new_roll : List (ℕ × To) → List (PassSeen AnyPart) → RollSeen
+abbrev pub new_roll : List (ℕ × To) → List SystemPass → RollSeen
 new_roll plan passes = record {
   plan = plan;
   taken = 0;
@@ -175,12 +173,8 @@ pub record IsHeldUp (system : SystemSeen) (a b : RollSeen) : Type 0 where
   pub before : HasGotOn system a mid
   pub round : HasWaitedARound system mid b
 
--- how many more items there are that a pass may take
-abbrev pub HasRoomFor : ℕ → ℕ → PassSeen AnyPart → Type 0
-HasRoomFor entries graces pass = (length pass.view.taker.mine + entries ≤ MOST) × (pass.view.graces + graces ≤ MOST)
-
 -- A pass of a roll: it rests, or goes on with the swap of an item that was taken. It has room for all that may come.
-abbrev pub IsLane : SystemSeen → RollSeen → Option Flight → PassSeen AnyPart → Type 0
+abbrev pub IsLane : SystemSeen → RollSeen → Option Flight → SystemPass → Type 0
 IsLane system r None pass =
     IsPassHere system pass × IsAtRest pass.view
     × (length pass.view.taker.mine + length r.plan ≤ MOST + r.taken) × (pass.view.graces + length r.plan ≤ MOST + r.taken)
@@ -206,7 +200,7 @@ pub record IsRolling (system : SystemSeen) (r : RollSeen) : Type 0 where
   pub apart : AreApart r.flights
 
 -- passes that may roll a plan of so many items
-pub record MayRoll (system : SystemSeen) (items : ℕ) (pass : PassSeen AnyPart) : Type 0 where
+pub record MayRoll (system : SystemSeen) (items : ℕ) (pass : SystemPass) : Type 0 where
   pub here : IsPassHere system pass
   pub rests : IsAtRest pass.view
   pub few_entries : length pass.view.taker.mine + items ≤ MOST
@@ -220,6 +214,6 @@ pub record HasTurned (system : SystemSeen) (place : ℕ) (a b : RollSeen) : Type
   pub fewer : b.left ≤ a.left
   pub flights : (other : ℕ) → other ≢ place → slice_get b.flights other ≡ slice_get a.flights other
   pub passes : (other : ℕ) → other ≢ place → slice_get b.passes other ≡ slice_get a.passes other
-  pub stood_by : b.left ≡ a.left → (f : Option Flight) (old : PassSeen AnyPart) (g : Option Flight) (new : PassSeen AnyPart)
+  pub stood_by : b.left ≡ a.left → (f : Option Flight) (old : SystemPass) (g : Option Flight) (new : SystemPass)
       → slice_get a.flights place ≡ Some f → slice_get a.passes place ≡ Some old → slice_get b.flights place ≡ Some g
       → slice_get b.passes place ≡ Some new → HasStoodBy system b f old g new

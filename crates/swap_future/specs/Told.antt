@@ -1,13 +1,12 @@
 -- The entries that a roll leaves with a pass.
 use Rattle.std.specs.Prelude.{◌≡◌, ℕ, ◌⊎◌, List, [], ◌∷◌, ◌++◌, Option, Some, None, IsSomeAnd, slice_get}
-use Rattle.co_any.specs.declared.part.AnyPart.{AnyPart}
-use Rattle.k42_board.specs.Seen.{PassSeen}
 use Rattle.k42_kinds.specs.declared.entry.Answer.{Answer}
 use Rattle.k42_kinds.specs.declared.entry.Answer.TheVariants.{Abandoned}
 use Rattle.k42_kinds.specs.declared.entry.Entry.{Entry}
 use Rattle.k42_runtime.specs.Swaps.{act_asked, answer_told}
 use Rattle.k42_runtime.specs.declared.swaps.Swapped.{Swapped}
-use Rattle.k42_runtime.specs.declared.swaps.To.{To}
+use Rattle.k42_kinds.specs.declared.entry.To.{To}
+use Rattle.k42_runtime.specs.Systems.{SystemPass}
 
 -- the entry has the item's object and act, and this answer
 pub record IsEntryOf (asked : ℕ × To) (answer : Answer) (entry : Entry) : Type 0 where
@@ -34,6 +33,6 @@ AreEntriesOf plan answers (item ∷ items) entries =
     BeginWith asked answer (AreEntriesOf plan answers items) entries))
 
 -- besides its former entries the pass has drawn those of these items
-abbrev pub HasDrawnFor : List (ℕ × To) → List (Option Swapped) → List ℕ → PassSeen AnyPart → PassSeen AnyPart → Type 0
+abbrev pub HasDrawnFor : List (ℕ × To) → List (Option Swapped) → List ℕ → SystemPass → SystemPass → Type 0
 HasDrawnFor plan answers items old new =
     (entries : List Entry) × (new.view.taker.mine ≡ old.view.taker.mine ++ entries) × AreEntriesOf plan answers items entries

@@ -125,8 +125,8 @@ fn finish(rolling: &mut Rolling, item: usize, answer: Option<Swapped>)
     requires there { item < length rolling.old.answers.items }
     requires some { 0 < rolling.old.left }
     ensures { seen rolling.new ≡ record (seen rolling.old) {
-        left = rolling.old.left - 1;
-        answers = set rolling.old.answers.items item answer;
+      left = rolling.old.left - 1;
+      answers = set rolling.old.answers.items item answer;
     } }
 {
     rolling.answers[item] = answer;
