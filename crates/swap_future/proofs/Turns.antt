@@ -1,7 +1,8 @@
 -- A turn of one pass of a roll, rounds of turns, and the end of a roll.
-use Rattle.std.proofs.Common.{◌≡◌, ◌≢◌, ⊎_elim, inl, inr, ◌⊎◌, ℕ, zero, suc, ◌+◌, ◌-◌, ◌<◌, ◌≤◌, true, false, List, [], ◌∷◌, Option, Some, None, length, get_or, set, replicate, length-replicate, IsSomeAnd, refl, sym, ap, subst, ◌∙◌, arith}
+use Rattle.std.proofs.Common.{◌≡◌, ◌≢◌, ⊎_elim, inl, inr, ◌⊎◌, ℕ, zero, suc, ◌+◌, ◌-◌, ◌<◌, ◌≤◌, true, false, List, [], ◌∷◌, Option, Some, None, length, get_or, set, replicate, IsSomeAnd, refl, sym, ap, subst, ◌∙◌, arith}
 use Rattle.std.specs.Prelude.{slice_get, is_some, count_by}
 use Rattle.std.proofs.lemmas.Bool.{cases_lt}
+use Rattle.std.proofs.lemmas.List.{length-replicate}
 use Rattle.std.proofs.lemmas.Option.{same_Some, slice_get_read, slice_get_within}
 use Rattle.k42_places.specs.Places.{EachPlace}
 use Rattle.k42_places.proofs.Counts.{count_by_none, count_by_zero}
@@ -157,6 +158,7 @@ module _ (system : SystemSeen) (place : ℕ) (a : RollSeen) (is : IsRolling syst
     v = (in_flight f b hand).0
 
     has : HasInFlight system place a f b v
+    unfolding v in_flight
     has = (in_flight f b hand).1
 
     stands : slice_get b.passes place ≡ Some old

@@ -1,9 +1,10 @@
 -- The entries that a roll leaves with a pass.
 use Rattle.std.specs.Prelude.{◌≡◌, ℕ, ◌⊎◌, List, [], ◌∷◌, ◌++◌, Option, Some, None, IsSomeAnd, slice_get}
+use Rattle.k42_kinds.specs.declared.entry.Act.TheVariants as acts
 use Rattle.k42_kinds.specs.declared.entry.Answer.{Answer}
 use Rattle.k42_kinds.specs.declared.entry.Answer.TheVariants.{Abandoned}
 use Rattle.k42_kinds.specs.declared.entry.Entry.{Entry}
-use Rattle.k42_runtime.specs.Swaps.{act_asked, answer_told}
+use Rattle.k42_runtime.specs.Swaps.{answer_told}
 use Rattle.k42_runtime.specs.declared.swaps.Swapped.{Swapped}
 use Rattle.k42_kinds.specs.declared.entry.To.{To}
 use Rattle.k42_runtime.specs.Systems.{SystemPass}
@@ -11,7 +12,7 @@ use Rattle.k42_runtime.specs.Systems.{SystemPass}
 -- the entry has the item's object and act, and this answer
 pub record IsEntryOf (asked : ℕ × To) (answer : Answer) (entry : Entry) : Type 0 where
   pub object : entry.object ≡ asked.0
-  pub act : entry.act ≡ act_asked asked.1
+  pub act : entry.act ≡ acts.Swap asked.1
   pub answer_is : entry.answer ≡ answer
 
 -- it tells that the item was given up

@@ -1,12 +1,13 @@
 use Rattle.std.proofs.Common.{◌≡◌, Some, None, sym, subst}
 use Rattle.k42_runtime.specs.Swaps.{HasStepped}
 use Rattle.swap_future.specs.Rolling.{RollSeen, HasTurned, seen}
+use Rattle.swap_future.proofs.AtHand.{is_none}
 use Rattle.swap_future.proofs.Turns.{going_now, fits_now, waits_now, ends_now, turned_idle}
 use Rattle.swap_future.proofs.rolling.turn.Goals as goal
 
 pub returns-in_default : goal.returns-in_default
 returns-in_default c =
-    let none = c.take_flight.ensures.none ? in
+    let none = c.take_flight.ensures.none (is_none c.take_flight.result c.in_default.not-Some) in
     subst (λ (r : RollSeen). HasTurned c.args.system.now c.args.place (seen c.args.rolling.now) r) (sym none.0)
     (turned_idle c.args.system.now c.args.place (seen c.args.rolling.now) c.requires.rolls none.1 none.2)
 
