@@ -60,7 +60,7 @@ module _ (system : SystemSeen) (a : RollSeen) (place : ℕ) (is : IsRolling syst
 
     later_lane : (f : Option Flight) (old : SystemPass) → IsLane system a f old → IsLane system (with_taken place taking a) f old
     later_lane None old lane = (lane.0, lane.1, let n = lane.2 in omega (arith, n), let n = lane.3 in omega (arith, n))
-    later_lane (Some f) old lane = (lane.0, let n = lane.1 in omega (arith, n), let n = lane.2 in omega (arith, n), let n = lane.3 in omega (arith, n))
+    later_lane (Some f) old lane = (lane.0, let n = lane.1 in omega (arith, n), let n = lane.2 in omega (arith, n), let n = lane.3 in omega (arith, n), lane.4)
 
     pub taken_lane : IsLane system (with_taken place taking a) (Some taking) pass
     taken_lane =
@@ -81,6 +81,7 @@ module _ (system : SystemSeen) (a : RollSeen) (place : ℕ) (is : IsRolling syst
           omega arith,
           let n = lane.2 in omega (arith, n),
           let n = lane.3 in omega (arith, n),
+          subst (λ (o : Option (ℕ × To)). IsSomeAnd o (λ other. (asked.0 ≡ other.0) × (asked.1 ≡ other.1))) (sym next) (refl, refl),
         )
 
     flying_less : (q : ℕ) (g : Flight) → slice_get a.flights q ≡ Some (Some g) → g.item < a.taken
@@ -168,6 +169,10 @@ module _ (system : SystemSeen) (a : RollSeen) (place : ℕ) (is : IsRolling syst
         one_taker zero taker at = let same = same_Some place taker at in let less = here_less in let many = is.flights in omega (arith, same, less, many)
         one_taker (suc i) taker at = absurd (cc)
 
+    pub taken_by : got_taken.takers ≡ place ∷ []
+    unfolding got_taken
+    taken_by = refl
+
   -- a swap in flight is one of those that are left
   pub some_left : (f : Flight) → slice_get a.flights place ≡ Some (Some f) → 0 < a.left
   some_left f at_flight =
@@ -195,7 +200,13 @@ module _ (system : SystemSeen) (a : RollSeen) (place : ℕ) (is : IsRolling syst
         lane.1,
         let n = lane.2 in let same = ap length step.brought.0 in omega (arith, n, same),
         let n = lane.3 in let fewer = step.graces in omega (arith, n, fewer),
+        same_item (slice_get a.plan f.item) lane.4,
       )
+        where
+          same_item : (o : Option (ℕ × To)) → IsSomeAnd o (λ asked. (f.swap.object ≡ asked.0) × (f.swap.to ≡ asked.1))
+              → IsSomeAnd o (λ asked. (t.object ≡ asked.0) × (t.to ≡ asked.1))
+          same_item (Some asked) is = (step.object ∙ is.0, step.to ∙ is.1)
+          same_item None is = is
 
       flew : (p : ℕ) (g : Flight) → slice_get (set a.flights place (Some waiting)) p ≡ Some (Some g)
           → (h : Flight) × (slice_get a.flights p ≡ Some (Some h)) × (h.item ≡ g.item)
@@ -247,6 +258,10 @@ module _ (system : SystemSeen) (a : RollSeen) (place : ℕ) (is : IsRolling syst
             other_lane answers (Some waiting) new other g h was now u.0 at_g at_was at_h at_now)
             (at_set a.flights place other (Some waiting) h at_h);
       }
+
+      pub taken_by_none : got_waiting.takers ≡ []
+      unfolding got_waiting
+      taken_by_none = refl
 
     module _ (answer : Option Swapped) (step : HasStepped system (last_step (result_in answer)) f.swap t old new) where
       ends : Ends system f.swap old (result_in answer) new
@@ -303,7 +318,7 @@ module _ (system : SystemSeen) (a : RollSeen) (place : ℕ) (is : IsRolling syst
       landed p g at same =
           let u = flies_else p g at in u.0 (is.apart p place g f u.1 at_flight same)
 
-      its_answer : (answers : List (Option Swapped)) → Agrees answered answers → slice_get answers f.item ≡ Some answer
+      pub its_answer : (answers : List (Option Swapped)) → Agrees answered answers → slice_get answers f.item ≡ Some answer
       its_answer answers agrees =
           agrees f.item lane.1 landed
           ∙ slice_get-set_here a.answers f.item answer
@@ -331,3 +346,7 @@ module _ (system : SystemSeen) (a : RollSeen) (place : ℕ) (is : IsRolling syst
             other_lane answers None new other g h was now u.0 at_g at_was at_h at_now)
             (at_set a.flights place other None h at_h);
       }
+
+      pub taken_by_nobody : got_answer.takers ≡ []
+      unfolding got_answer
+      taken_by_nobody = refl

@@ -5,5 +5,6 @@ pub mod Events
 pub mod Places
 pub mod Polled
 pub mod Rolls
+pub mod RoundLemmas
 pub mod Turns
 pub mod Waited

@@ -6,6 +6,7 @@ use Rattle.std.proofs.lemmas.Option.{same_Some}
 use Rattle.k42_places.specs.Places.{EachPlace}
 use Rattle.k42_places.proofs.Written.{at_set}
 use Rattle.swap_future.specs.Rolling.{items_of}
+use Rattle.swap_future.specs.Rounds.{IsRising}
 
 -- something stands at a place of the list
 pub there : {A : Type 0} (xs : List A) (i : ℕ) → i < length xs → (x : A) × (slice_get xs i ≡ Some x)
@@ -39,6 +40,27 @@ no_item_of_others place other first differs = go (other == place) refl where
   go : (b : Bool) → (other == place) ≡ b → (if b then first ∷ [] else []) ≡ []
   go true is = absurd (differs (sym (eqb-true other place is)))
   go false is = refl
+
+-- those of a pass behind these takers
+pub no_items_below : (place first : ℕ) (takers : List ℕ) → EachPlace (λ i taker. taker < place) takers → items_of place first takers ≡ []
+no_items_below place first [] below = refl
+no_items_below place first (taker ∷ takers) below =
+    go (taker == place) refl (no_items_below place (first + 1) takers (λ i. below (suc i)))
+  where
+    go : (b : Bool) → (taker == place) ≡ b → items_of place (first + 1) takers ≡ []
+        → (if b then first ∷ items_of place (first + 1) takers else items_of place (first + 1) takers) ≡ []
+    go true is none = absurd (let less = below 0 taker refl in let same = eqb-true taker place is in omega (arith, less, same))
+    go false is none = none
+
+-- one more taker behind the others
+pub rising_next : (place : ℕ) (takers : List ℕ) → IsRising takers → EachPlace (λ i taker. taker < place) takers → IsRising (takers ++ place ∷ [])
+rising_next place [] rising below i p q at_p at_q = absurd (cc)
+rising_next place (x ∷ []) rising below zero p q at_p at_q =
+    let first = same_Some x p at_p in let next = same_Some place q at_q in let less = below 0 x refl in omega (arith, first, next, less)
+rising_next place (x ∷ []) rising below (suc i) p q at_p at_q = absurd (cc)
+rising_next place (x ∷ y ∷ takers) rising below zero p q at_p at_q = rising 0 p q at_p at_q
+rising_next place (x ∷ y ∷ takers) rising below (suc i) p q at_p at_q =
+    rising_next place (y ∷ takers) (λ j. rising (suc j)) (λ j. below (suc j)) i p q at_p at_q
 
 -- where something is counted, it stands somewhere
 pub one_counted : {A : Type 0} (os : List (Option A)) → 0 < count_by is_some os → (place : ℕ) × (x : A) × (slice_get os place ≡ Some (Some x))

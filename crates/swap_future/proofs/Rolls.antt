@@ -35,6 +35,10 @@ module _ (system : SystemSeen) where
         same_lane answers f g old new a.flights a.passes place at_f at_old at_g at_new;
   }
 
+  pub stays_takers : (a : RollSeen) → (stays a).takers ≡ []
+  unfolding stays
+  stays_takers a = refl
+
   module _ (a b : RollSeen) (first : HasGotOn system a b) where
     -- an item that nobody has in flight is not taken up again
     not_flown : (item : ℕ) → item < a.taken → IsNotFlown a.flights item → IsNotFlown b.flights item
@@ -91,6 +95,10 @@ module _ (system : SystemSeen) where
         carried a b first answers second.takers place f mids.0.0 h old mids.1.0 new (agrees_before b c second answers agrees) at_f at_old mids.0.1 mids.1.1
         (second.each answers agrees place mids.0.0 mids.1.0 h new mids.0.1 mids.1.1 at_h at_new);
   }
+
+  pub then_takers : (a b c : RollSeen) (first : HasGotOn system a b) (second : HasGotOn system b c) → (then a b c first second).takers ≡ first.takers ++ second.takers
+  unfolding then
+  then_takers a b c first second = refl
 
   -- the end of a roll that has got on is its end from before
   pub rolled_before : (a b : RollSeen) → HasGotOn system a b → (answers : List (Option Swapped)) (passes : List SystemPass) → HasRolled system b answers passes

@@ -1,8 +1,8 @@
--- A turn of one pass of a roll, rounds of turns, and the end of a roll.
-use Rattle.std.proofs.Common.{◌≡◌, ◌≢◌, ⊎_elim, inl, inr, ◌⊎◌, ℕ, zero, suc, ◌+◌, ◌-◌, ◌<◌, ◌≤◌, true, false, List, [], ◌∷◌, Option, Some, None, length, get_or, set, replicate, IsSomeAnd, refl, sym, ap, subst, ◌∙◌, arith}
+-- A turn of one pass of a roll, and the beginning and end of a roll.
+use Rattle.std.proofs.Common.{◌≡◌, ◌≢◌, ⊎_elim, inl, inr, ◌⊎◌, ℕ, zero, suc, ◌+◌, ◌-◌, ◌<◌, ◌≤◌, true, false, List, [], ◌∷◌, ◌++◌, Option, Some, None, length, get_or, set, replicate, IsSomeAnd, refl, sym, ap, subst, ◌∙◌, arith}
 use Rattle.std.specs.Prelude.{slice_get, is_some, count_by}
 use Rattle.std.proofs.lemmas.Bool.{cases_lt}
-use Rattle.std.proofs.lemmas.List.{length-replicate}
+use Rattle.std.proofs.lemmas.List.{append-nil, length-replicate}
 use Rattle.std.proofs.lemmas.Option.{same_Some, slice_get_read, slice_get_within}
 use Rattle.k42_places.specs.Places.{EachPlace}
 use Rattle.k42_places.proofs.Counts.{count_by_none, count_by_zero}
@@ -16,11 +16,12 @@ use Rattle.k42_runtime.specs.declared.swaps.Step.TheVariants.{Again}
 use Rattle.k42_runtime.specs.declared.swaps.Swapped.{Swapped}
 use Rattle.k42_kinds.specs.declared.entry.To.{To}
 use Rattle.swap_future.specs.Polling.{IsGoing, new_swap}
-use Rattle.swap_future.specs.Rolling.{RollSeen, Carries, HasGotOn, HasRolled, HasStoodBy, HasTurned, HasWaitedARound, IsAtHand, IsLane, IsRolling, MayRoll, first_flight, new_roll, result_in}
+use Rattle.swap_future.specs.Rolling.{RollSeen, Agrees, Carries, HasGotOn, HasRolled, IsAtHand, IsLane, IsRolling, MayRoll, first_flight, items_of, new_roll, result_in}
+use Rattle.swap_future.specs.Rounds.{HasHadTurn, HasMadeStep, HasTurned}
 use Rattle.swap_future.specs.declared.rolling.Flight.{Flight}
-use Rattle.swap_future.proofs.Events.{with_taken, with_flight, with_answer, rolls_taken, got_taken, rolls_waiting, got_waiting, rolls_answered, got_answer, some_left}
-use Rattle.swap_future.proofs.Places.{one_counted, set_here, set-set, set_same, there}
-use Rattle.swap_future.proofs.Rolls.{stays, then}
+use Rattle.swap_future.proofs.Events.{with_taken, with_flight, with_answer, rolls_taken, got_taken, taken_by, rolls_waiting, got_waiting, taken_by_none, rolls_answered, got_answer, taken_by_nobody, its_answer, some_left}
+use Rattle.swap_future.proofs.Places.{item_of_taker, set_here, set-set, set_same, there}
+use Rattle.swap_future.proofs.Rolls.{stays, stays_takers, then, then_takers}
 use Rattle.swap_future.proofs.Waited.{some_then}
 
 -- where a flight is at hand, the roll in which its pass has it in flight
@@ -33,8 +34,8 @@ pub record HasInFlight (system : SystemSeen) (place : ℕ) (a : RollSeen) (f : F
   pub passes : v.passes ≡ a.passes
   pub left : v.left ≡ a.left
   pub origin :
-      (slice_get a.flights place ≡ Some (Some f))
-      ⊎ ((slice_get a.flights place ≡ Some None)
+      ((got_on.takers ≡ []) × (slice_get a.flights place ≡ Some (Some f)))
+      ⊎ ((got_on.takers ≡ place ∷ []) × (slice_get a.flights place ≡ Some None) × (f.item ≡ a.taken)
       × IsSomeAnd (slice_get v.plan f.item) (λ asked. f.swap ≡ new_swap asked.0 asked.1))
 
 module _ (system : SystemSeen) (place : ℕ) (a : RollSeen) (is : IsRolling system a) where
@@ -53,7 +54,9 @@ module _ (system : SystemSeen) (place : ℕ) (a : RollSeen) (is : IsRolling syst
           passes = refl;
           left = refl;
           origin = inr (
+            taken_by system a place is mid.0 asked at mid.1 next,
             at,
+            ap (λ (g : Flight). g.item) taking,
             subst (λ (g : Flight). IsSomeAnd (slice_get a.plan g.item) (λ asked. g.swap ≡ new_swap asked.0 asked.1)) (sym taking)
                 (subst (λ (o : Option (ℕ × To)). IsSomeAnd o (λ other. new_swap asked.0 asked.1 ≡ new_swap other.0 other.1)) (sym next) refl),
           );
@@ -73,7 +76,7 @@ module _ (system : SystemSeen) (place : ℕ) (a : RollSeen) (is : IsRolling syst
           flights = λ other differs. refl;
           passes = refl;
           left = refl;
-          origin = inl h.0;
+          origin = inl (stays_takers system a, h.0);
         },
       ))
       (λ (h : (slice_get a.flights place ≡ Some None) × (asked : ℕ × To) × (slice_get a.plan a.taken ≡ Some asked) × (f ≡ first_flight asked a.taken)
@@ -94,6 +97,37 @@ module _ (system : SystemSeen) (place : ℕ) (a : RollSeen) (is : IsRolling syst
     was_old : (pass : SystemPass) → slice_get a.passes place ≡ Some pass → old ≡ pass
     was_old pass at = same_Some old pass (sym at_old ∙ ap (λ ps. slice_get ps place) has.passes ∙ at)
 
+    -- one step of its swap is the turn of the pass that had it in flight, or took it
+    had_turn : (after : RollSeen) (answers : List (Option Swapped)) (g : Option Flight) (new : SystemPass) (takers : List ℕ) → after.plan ≡ v.plan
+        → takers ≡ has.got_on.takers → HasMadeStep system answers f.swap f.item old g new → (h : Option Flight) (was : SystemPass)
+        → slice_get a.flights place ≡ Some h → slice_get a.passes place ≡ Some was → HasHadTurn system after answers (items_of place a.taken takers) h was g new
+    had_turn after answers g new takers plan is made h was at at_was =
+        subst (λ (x : List ℕ × SystemPass). HasHadTurn system after answers (items_of place a.taken x.0) h x.1 g new) (λ j. (sym is j, was_old was at_was j))
+        (⊎_elim
+        (λ (o : (has.got_on.takers ≡ []) × (slice_get a.flights place ≡ Some (Some f))).
+        subst (λ (x : List ℕ × Option Flight). HasHadTurn system after answers (items_of place a.taken x.0) x.1 old g new)
+        (λ j. (sym o.0 j, same_Some (Some f) h (sym o.1 ∙ at) j)) made)
+        (λ (o : (has.got_on.takers ≡ place ∷ []) × (slice_get a.flights place ≡ Some None) × (f.item ≡ a.taken)
+        × IsSomeAnd (slice_get v.plan f.item) (λ asked. f.swap ≡ new_swap asked.0 asked.1)).
+        subst (λ (x : List ℕ × Option Flight). HasHadTurn system after answers x.0 x.1 old g new)
+        (λ j. ((sym (item_of_taker place a.taken) ∙ ap (λ ts. items_of place a.taken ts) (sym o.0)) j, same_Some None h (sym o.1 ∙ at) j))
+        (some_then (slice_get after.plan a.taken) (λ asked. f.swap ≡ new_swap asked.0 asked.1)
+        (λ asked. HasMadeStep system answers (new_swap asked.0 asked.1) a.taken old g new)
+        (subst (λ (x : List (ℕ × To) × ℕ). IsSomeAnd (slice_get x.0 x.1) (λ asked. f.swap ≡ new_swap asked.0 asked.1)) (λ j. (sym plan j, o.2 j)) o.3)
+        (λ asked is_new. subst (λ (x : SwapSeen × ℕ). HasMadeStep system answers x.0 x.1 old g new) (λ j. (is_new j, o.2 j)) made)))
+        has.origin)
+
+    takes_so : (takers : List ℕ) → takers ≡ has.got_on.takers → (takers ≡ []) ⊎ (takers ≡ place ∷ [])
+    takes_so takers is =
+        ⊎_elim (λ (o : (has.got_on.takers ≡ []) × (slice_get a.flights place ≡ Some (Some f))). inl (is ∙ o.0))
+        (λ (o : (has.got_on.takers ≡ place ∷ []) × (slice_get a.flights place ≡ Some None) × (f.item ≡ a.taken)
+        × IsSomeAnd (slice_get v.plan f.item) (λ asked. f.swap ≡ new_swap asked.0 asked.1)). inr (is ∙ o.0)) has.origin
+
+    module _ (after : RollSeen) (second : HasGotOn system v after) (none : second.takers ≡ []) where
+      same_takers : (then system a v after has.got_on second).takers ≡ has.got_on.takers
+      same_takers =
+          then_takers system a v after has.got_on second ∙ (λ j. has.got_on.takers ++ none j) ∙ append-nil has.got_on.takers
+
     module _ (cause : Cause) (step : HasStepped system (Again cause) f.swap t old new) where
       abbrev waiting : Flight
       waiting = record { swap = t; item = f.item; cause = Some cause }
@@ -101,30 +135,25 @@ module _ (system : SystemSeen) (place : ℕ) (a : RollSeen) (is : IsRolling syst
       abbrev after : RollSeen
       after = with_flight place waiting new v
 
-      stood : (g : Option Flight) (was : SystemPass) → slice_get a.flights place ≡ Some g → old ≡ was → HasStoodBy system after g was (Some waiting) new
-      stood g was at same =
-          ⊎_elim
-          (λ (h : slice_get a.flights place ≡ Some (Some f)).
-          subst (λ (x : Option Flight × SystemPass). HasStoodBy system after x.0 x.1 (Some waiting) new) (λ j. (same_Some (Some f) g (sym h ∙ at) j, same j)) (refl, step))
-          (λ (h : (slice_get a.flights place ≡ Some None) × IsSomeAnd (slice_get v.plan f.item) (λ asked. f.swap ≡ new_swap asked.0 asked.1)).
-          subst (λ (x : Option Flight × SystemPass). HasStoodBy system after x.0 x.1 (Some waiting) new) (λ j. (same_Some None g (sym h.0 ∙ at) j, same j))
-          (some_then (slice_get v.plan f.item) (λ asked. f.swap ≡ new_swap asked.0 asked.1)
-          (λ asked. HasStepped system (Again cause) (new_swap asked.0 asked.1) t old new) h.1
-          (λ asked is_new. subst (λ (s : SwapSeen). HasStepped system (Again cause) s t old new) is_new step)))
-          has.origin
-
       turned_after : HasTurned system place a after
-      turned_after = record {
-        rolls = rolls_waiting system v place has.rolls f t old new has.at at_old cause step;
-        got_on = then system a v after has.got_on (got_waiting system v place has.rolls f t old new has.at at_old cause step);
-        fewer = let left = has.left in omega (arith, left);
-        flights = λ other differs. slice_get-set_else v.flights place other (Some waiting) differs ∙ has.flights other differs;
-        passes = λ other differs. slice_get-set_else v.passes place other new differs ∙ ap (λ ps. slice_get ps other) has.passes;
-        stood_by = λ same g was h now at_g at_was at_h at_now.
-            subst (λ (x : Option Flight × SystemPass). HasStoodBy system after g was x.0 x.1)
-            (λ j. (set_here v.flights place place (Some waiting) h refl at_h j, set_here v.passes place place new now refl at_now j))
-            (stood g was at_g (was_old was at_was));
-      }
+      turned_after =
+          let second = got_waiting system v place has.rolls f t old new has.at at_old cause step in
+          let got = then system a v after has.got_on second in
+          let takers : got.takers ≡ has.got_on.takers =
+          same_takers after second (taken_by_none system v place has.rolls f t old new has.at at_old cause step) in
+          record {
+            rolls = rolls_waiting system v place has.rolls f t old new has.at at_old cause step;
+            got_on = got;
+            fewer = let left = has.left in omega (arith, left);
+            flights = λ other differs. slice_get-set_else v.flights place other (Some waiting) differs ∙ has.flights other differs;
+            passes = λ other differs. slice_get-set_else v.passes place other new differs ∙ ap (λ ps. slice_get ps other) has.passes;
+            takes = takes_so got.takers takers;
+            turn = λ answers agrees h was g now at_h at_was at_g at_now.
+                subst (λ (x : Option Flight × SystemPass). HasHadTurn system after answers (items_of place a.taken got.takers) h was x.0 x.1)
+                (λ j. (set_here v.flights place place (Some waiting) g refl at_g j, set_here v.passes place place new now refl at_now j))
+                (had_turn after answers (Some waiting) new got.takers refl takers (refl, step) h was at_h at_was);
+            idle = λ same at_none. absurd (let e = set_here v.flights place place (Some waiting) None refl at_none in cc);
+          }
 
       pub turned_waiting : HasTurned system place a (record b { flights = set b.flights place (Some waiting); passes = set b.passes place new })
       turned_waiting =
@@ -136,15 +165,30 @@ module _ (system : SystemSeen) (place : ℕ) (a : RollSeen) (is : IsRolling syst
       abbrev ended : RollSeen
       ended = with_answer place f.item answer new v
 
+      made : (answers : List (Option Swapped)) → Agrees ended answers → HasMadeStep system answers f.swap f.item old None new
+      made answers agrees =
+          subst (λ (o : Option (Option Swapped)). IsSomeAnd o (λ answer. (t : SwapSeen) × HasStepped system (last_step (result_in answer)) f.swap t old new))
+          (sym (its_answer system v place has.rolls f t old new has.at at_old answer step answers agrees)) (t, step)
+
       turned_ended : HasTurned system place a ended
-      turned_ended = record {
-        rolls = rolls_answered system v place has.rolls f t old new has.at at_old answer step;
-        got_on = then system a v ended has.got_on (got_answer system v place has.rolls f t old new has.at at_old answer step);
-        fewer = let left = has.left in omega (arith, left);
-        flights = λ other differs. slice_get-set_else v.flights place other None differs ∙ has.flights other differs;
-        passes = λ other differs. slice_get-set_else v.passes place other new differs ∙ ap (λ ps. slice_get ps other) has.passes;
-        stood_by = λ same. absurd (let left = has.left in let some = some_left system v place has.rolls f has.at in omega (arith, left, some, same));
-      }
+      turned_ended =
+          let second = got_answer system v place has.rolls f t old new has.at at_old answer step in
+          let got = then system a v ended has.got_on second in
+          let takers : got.takers ≡ has.got_on.takers =
+          same_takers ended second (taken_by_nobody system v place has.rolls f t old new has.at at_old answer step) in
+          record {
+            rolls = rolls_answered system v place has.rolls f t old new has.at at_old answer step;
+            got_on = got;
+            fewer = let left = has.left in omega (arith, left);
+            flights = λ other differs. slice_get-set_else v.flights place other None differs ∙ has.flights other differs;
+            passes = λ other differs. slice_get-set_else v.passes place other new differs ∙ ap (λ ps. slice_get ps other) has.passes;
+            takes = takes_so got.takers takers;
+            turn = λ answers agrees h was g now at_h at_was at_g at_now.
+                subst (λ (x : Option Flight × SystemPass). HasHadTurn system ended answers (items_of place a.taken got.takers) h was x.0 x.1)
+                (λ j. (set_here v.flights place place None g refl at_g j, set_here v.passes place place new now refl at_now j))
+                (had_turn ended answers None new got.takers refl takers (made answers agrees) h was at_h at_was);
+            idle = λ same. absurd (let left = has.left in let some = some_left system v place has.rolls f has.at in omega (arith, left, some, same));
+          }
 
       pub turned_answered : HasTurned system place a (record b { left = b.left - 1; passes = set b.passes place new; answers = set b.answers f.item answer })
       turned_answered =
@@ -188,106 +232,16 @@ module _ (system : SystemSeen) (place : ℕ) (a : RollSeen) (is : IsRolling syst
     fewer = omega arith;
     flights = λ other differs. refl;
     passes = λ other differs. refl;
-    stood_by = λ same g was h now at_g at_was at_h at_now.
-        subst (λ (x : Option Flight × Option Flight). HasStoodBy system a x.0 was x.1 now)
-        (λ j. (same_Some None g (sym at ∙ at_g) j, same_Some None h (sym at ∙ at_h) j))
-        (same_Some now was (sym at_now ∙ at_was), let taken = is.taken in omega (arith, taken, all));
+    takes = inl (stays_takers system a);
+    turn = λ answers agrees f old g new at_f at_old at_g at_new.
+        subst (λ (x : List ℕ × Option Flight). HasHadTurn system a answers (items_of place a.taken x.0) x.1 old g new)
+        (λ j. (sym (stays_takers system a) j, same_Some None f (sym at ∙ at_f) j))
+        (same_Some g None (sym at_g ∙ at), same_Some new old (sym at_new ∙ at_old), all_taken);
+    idle = λ same free. all_taken;
   }
-
--- the passes in front of this place have had their turns
-pub record IsRoundTo (system : SystemSeen) (place : ℕ) (a b : RollSeen) : Type 0 where
-  pub rolls : IsRolling system b
-  pub got_on : HasGotOn system a b
-  pub fewer : b.left ≤ a.left
-  pub behind : (other : ℕ) → place ≤ other
-      → (slice_get b.flights other ≡ slice_get a.flights other) × (slice_get b.passes other ≡ slice_get a.passes other)
-  pub stood_by : b.left ≡ a.left → (other : ℕ) → other < place → (f : Option Flight) (old : SystemPass) (g : Option Flight) (new : SystemPass)
-      → slice_get a.flights other ≡ Some f → slice_get a.passes other ≡ Some old → slice_get b.flights other ≡ Some g
-      → slice_get b.passes other ≡ Some new → HasStoodBy system b f old g new
-
-pub no_turn : (system : SystemSeen) (a : RollSeen) → IsRolling system a → IsRoundTo system 0 a a
-no_turn system a is = record {
-  rolls = is;
-  got_on = stays system a;
-  fewer = omega arith;
-  behind = λ other less. (refl, refl);
-  stood_by = λ same other less. absurd (omega arith);
-}
-
-stood_later : (system : SystemSeen) (b c : RollSeen) (f : Option Flight) (old : SystemPass) (g : Option Flight) (new : SystemPass) → c.plan ≡ b.plan → b.taken ≤ c.taken
-    → c.taken ≤ length c.plan → HasStoodBy system b f old g new → HasStoodBy system c f old g new
-stood_later system b c None old None new plan later few is =
-    (is.0, let taken = is.1 in let many = ap (λ (p : List (ℕ × To)). length p) plan in omega (arith, taken, many, later, few))
-stood_later system b c None old (Some g) new plan later few is =
-    subst (λ (p : List (ℕ × To)). IsSomeAnd (slice_get p g.item) (λ asked. IsSomeAnd g.cause (λ cause.
-    HasStepped system (Again cause) (new_swap asked.0 asked.1) g.swap old new))) (sym plan) is
-stood_later system b c (Some f) old None new plan later few is = is
-stood_later system b c (Some f) old (Some g) new plan later few is = is
-
-module _ (system : SystemSeen) (place : ℕ) (a b c : RollSeen) (is : IsRoundTo system place a b) (turn : HasTurned system place b c) where
-  stood_next : c.left ≡ a.left → (other : ℕ) → other < place + 1 → (f : Option Flight) (old : SystemPass) (g : Option Flight) (new : SystemPass)
-      → slice_get a.flights other ≡ Some f → slice_get a.passes other ≡ Some old → slice_get c.flights other ≡ Some g
-      → slice_get c.passes other ≡ Some new → HasStoodBy system c f old g new
-  stood_next same other less f old g new at_f at_old at_g at_new =
-      ⊎_elim
-      (λ (h : other < place).
-      let differs : other ≢ place = λ e. omega (arith, h, e) in
-      let taken = turn.got_on.taken in
-      stood_later system b c f old g new turn.got_on.plan (omega (arith, taken)) turn.rolls.taken
-      (is.stood_by (let one = is.fewer in let two = turn.fewer in omega (arith, one, two, same)) other h f old g new at_f at_old
-      (sym (turn.flights other differs) ∙ at_g) (sym (turn.passes other differs) ∙ at_new)))
-      (λ (h : other ≡ place).
-      let behind = is.behind other (omega (arith, h)) in
-      turn.stood_by (let one = is.fewer in let two = turn.fewer in omega (arith, one, two, same)) f old g new
-      (ap (λ p. slice_get b.flights p) (sym h) ∙ behind.0 ∙ at_f) (ap (λ p. slice_get b.passes p) (sym h) ∙ behind.1 ∙ at_old)
-      (ap (λ p. slice_get c.flights p) (sym h) ∙ at_g) (ap (λ p. slice_get c.passes p) (sym h) ∙ at_new))
-      (before_or_at other place less)
     where
-      before_or_at : (m n : ℕ) → m < n + 1 → (m < n) ⊎ (m ≡ n)
-      before_or_at m n less = ⊎_elim (λ h. inl h) (λ h. inr (omega (arith, h, less))) (cases_lt m n)
-
-  pub next_turn : IsRoundTo system (place + 1) a c
-  next_turn = record {
-    rolls = turn.rolls;
-    got_on = then system a b c is.got_on turn.got_on;
-    fewer = let one = is.fewer in let two = turn.fewer in omega (arith, one, two);
-    behind = λ other less.
-        let differs : other ≢ place = λ e. omega (arith, less, e) in let before = is.behind other (omega (arith, less)) in
-        (turn.flights other differs ∙ before.0, turn.passes other differs ∙ before.1);
-    stood_by = stood_next;
-  }
-
--- a round that ended no swap, of a roll that is not over
-pub waited : (system : SystemSeen) (a b : RollSeen) → IsRoundTo system (length a.passes) a b → 0 < a.left → b.left ≡ a.left → HasWaitedARound system a b
-waited system a b is some same =
-    let mid = one_waits in
-    record {
-      got_on = is.got_on;
-      place = mid.0;
-      flight = mid.1;
-      some = mid.2;
-      each = λ place f old g new at_f at_old at_g at_new.
-          is.stood_by same place (slice_get_within a.passes place old at_old) f old g new at_f at_old at_g at_new;
-    }
-  where
-    by_first : (g : Option Flight) → slice_get b.flights 0 ≡ Some g → (place : ℕ) × (flight : Flight) × (slice_get b.flights place ≡ Some (Some flight))
-    by_first (Some g) at = (0, g, at)
-    by_first None at =
-        let many : 0 < length a.passes = let n = is.rolls.some in let m = is.got_on.passes in omega (arith, n, m) in
-        let old = there a.passes 0 many in
-        let f = there a.flights 0 (let n = is.rolls.flights in let m = is.got_on.passes in let k = is.got_on.flights in omega (arith, n, m, k, many)) in
-        let new = there b.passes 0 is.rolls.some in
-        let stood = is.stood_by same 0 many f.0 old.0 None new.0 f.1 old.1 at new.1 in
-        let all = all_taken f.0 old.0 new.0 stood in let left = is.rolls.left in
-        one_counted b.flights (omega (arith, all, left, some, same))
-      where
-        all_taken : (f : Option Flight) (old new : SystemPass) → HasStoodBy system b f old None new → b.taken ≡ length b.plan
-        all_taken None old new stood = stood.1
-        all_taken (Some f) old new stood = absurd stood
-
-    one_waits : (place : ℕ) × (flight : Flight) × (slice_get b.flights place ≡ Some (Some flight))
-    one_waits =
-        let first = there b.flights 0 (let n = is.rolls.some in let m = is.rolls.flights in omega (arith, n, m)) in by_first first.0 first.1
+      all_taken : a.taken ≡ length a.plan
+      all_taken = let taken = is.taken in omega (arith, taken, all)
 
 -- a roll whose items are all finished
 pub rolled_now : (system : SystemSeen) (b : RollSeen) → IsRolling system b → b.left ≡ 0 → HasRolled system b b.answers b.passes

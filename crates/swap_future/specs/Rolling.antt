@@ -119,25 +119,6 @@ pub record HasRolled (system : SystemSeen) (r : RollSeen) (answers : List (Optio
       → slice_get r.passes place ≡ Some old → slice_get passes place ≡ Some new
       → Carries system r.plan answers (items_of place r.taken takers) f old None new
 
--- In a round that ended no swap the pass has made one step, which was held up by the cause that is kept: of the swap that it
--- had in flight, or of that of the item that it took. Where it has none in flight all items are taken.
-abbrev pub HasStoodBy : SystemSeen → RollSeen → Option Flight → SystemPass → Option Flight → SystemPass → Type 0
-HasStoodBy system b None old None new = (new ≡ old) × (b.taken ≡ length b.plan)
-HasStoodBy system b None old (Some g) new =
-    IsSomeAnd (slice_get b.plan g.item) (λ asked. IsSomeAnd g.cause (λ cause.
-    HasStepped system (Again cause) (new_swap asked.0 asked.1) g.swap old new))
-HasStoodBy system b (Some f) old None new = ⊥
-HasStoodBy system b (Some f) old (Some g) new =
-    (g.item ≡ f.item) × IsSomeAnd g.cause (λ cause. HasStepped system (Again cause) f.swap g.swap old new)
-
--- A round in which each swap in flight was stepped and none ended, and some are in flight.
-pub record HasWaitedARound (system : SystemSeen) (a b : RollSeen) : Type 0 where
-  pub got_on : HasGotOn system a b
-  pub place : ℕ
-  pub flight : Flight
-  pub some : slice_get b.flights place ≡ Some (Some flight)
-  pub each : EachLane (λ place. HasStoodBy system b) a.flights a.passes b.flights b.passes
-
 -- the flight that the pass at this place had, or that of the next item, has been taken out
 abbrev pub IsAtHand : ℕ → RollSeen → Flight → RollSeen → Type 0
 IsAtHand place a f b =
@@ -167,11 +148,9 @@ abbrev pub cause_at : Option Rolling → ℕ → Option Cause
 cause_at None place = None
 cause_at (Some rolling) place = cause_in (slice_get rolling.flights.items place)
 
--- the roll has got on, and its last round has ended no swap
-pub record IsHeldUp (system : SystemSeen) (a b : RollSeen) : Type 0 where
-  pub mid : RollSeen
-  pub before : HasGotOn system a mid
-  pub round : HasWaitedARound system mid b
+-- the swap is that of its item in the plan
+abbrev pub IsOfItem : List (ℕ × To) → Flight → Type 0
+IsOfItem plan f = IsSomeAnd (slice_get plan f.item) (λ asked. (f.swap.object ≡ asked.0) × (f.swap.to ≡ asked.1))
 
 -- A pass of a roll: it rests, or goes on with the swap of an item that was taken. It has room for all that may come.
 abbrev pub IsLane : SystemSeen → RollSeen → Option Flight → SystemPass → Type 0
@@ -181,7 +160,7 @@ IsLane system r None pass =
 IsLane system r (Some f) pass =
     IsGoing system f.swap pass × (f.item < r.taken)
     × (length pass.view.taker.mine + 1 + length r.plan ≤ MOST + r.taken)
-    × (pass.view.graces + graces_due f.swap.stage f.swap.holder + length r.plan ≤ MOST + r.taken)
+    × (pass.view.graces + graces_due f.swap.stage f.swap.holder + length r.plan ≤ MOST + r.taken) × IsOfItem r.plan f
 
 -- no two passes have the same item
 abbrev pub AreApart : List (Option Flight) → Type 0
@@ -205,15 +184,3 @@ pub record MayRoll (system : SystemSeen) (items : ℕ) (pass : SystemPass) : Typ
   pub rests : IsAtRest pass.view
   pub few_entries : length pass.view.taker.mine + items ≤ MOST
   pub few_graces : pass.view.graces + items ≤ MOST
-
--- The pass at this place has taken an item if it was free, and has made a step, if there was an item: the others are as they
--- were. No swap has ended, or one less is left.
-pub record HasTurned (system : SystemSeen) (place : ℕ) (a b : RollSeen) : Type 0 where
-  pub rolls : IsRolling system b
-  pub got_on : HasGotOn system a b
-  pub fewer : b.left ≤ a.left
-  pub flights : (other : ℕ) → other ≢ place → slice_get b.flights other ≡ slice_get a.flights other
-  pub passes : (other : ℕ) → other ≢ place → slice_get b.passes other ≡ slice_get a.passes other
-  pub stood_by : b.left ≡ a.left → (f : Option Flight) (old : SystemPass) (g : Option Flight) (new : SystemPass)
-      → slice_get a.flights place ≡ Some f → slice_get a.passes place ≡ Some old → slice_get b.flights place ≡ Some g
-      → slice_get b.passes place ≡ Some new → HasStoodBy system b f old g new

@@ -1,10 +1,10 @@
 -- The entries that a roll leaves with a pass.
-use Rattle.std.specs.Prelude.{◌≡◌, ℕ, ◌⊎◌, List, [], ◌∷◌, ◌++◌, Option, Some, None, IsSomeAnd, slice_get}
+use Rattle.std.specs.Prelude.{◌≡◌, ℕ, ◌+◌, ◌≤◌, ◌⊎◌, List, [], ◌∷◌, ◌++◌, length, Option, Some, None, IsSomeAnd, slice_get}
 use Rattle.k42_kinds.specs.declared.entry.Act.TheVariants as acts
 use Rattle.k42_kinds.specs.declared.entry.Answer.{Answer}
 use Rattle.k42_kinds.specs.declared.entry.Answer.TheVariants.{Abandoned}
 use Rattle.k42_kinds.specs.declared.entry.Entry.{Entry}
-use Rattle.k42_runtime.specs.Swaps.{answer_told}
+use Rattle.k42_runtime.specs.Swaps.{IsSameCaller, answer_told}
 use Rattle.k42_runtime.specs.declared.swaps.Swapped.{Swapped}
 use Rattle.k42_kinds.specs.declared.entry.To.{To}
 use Rattle.k42_runtime.specs.Systems.{SystemPass}
@@ -37,3 +37,11 @@ AreEntriesOf plan answers (item ∷ items) entries =
 abbrev pub HasDrawnFor : List (ℕ × To) → List (Option Swapped) → List ℕ → SystemPass → SystemPass → Type 0
 HasDrawnFor plan answers items old new =
     (entries : List Entry) × (new.view.taker.mine ≡ old.view.taker.mine ++ entries) × AreEntriesOf plan answers items entries
+
+-- The pass is that of the same caller of the same system. It has begun at most one grace for each of these items, and has drawn
+-- their entries.
+pub record HasBroughtBack (plan : List (ℕ × To)) (answers : List (Option Swapped)) (items : List ℕ) (old new : SystemPass) : Type 0 where
+  pub seat : new.seat ≡ old.seat
+  pub caller : IsSameCaller old.view new.view
+  pub graces : new.view.graces ≤ old.view.graces + length items
+  pub drawn : HasDrawnFor plan answers items old new

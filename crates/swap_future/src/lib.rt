@@ -5,6 +5,6 @@ mod laws;
 mod polling;
 mod rolling;
 
-pub use laws::a_pass_draws_the_entries_of_its_items;
+pub use laws::each_pass_draws_the_entries_of_its_items;
 pub use polling::{SwapEnd, SwapFuture};
 pub use rolling::{Flight, Roll, Rolled, Rolling, Unrolled};

@@ -4,7 +4,8 @@ ghost use Rattle.futures.specs.Poll.{IfReady, OnPending};
 ghost use Rattle.futures.specs.Task.{Covers, Keeps};
 ghost use Rattle.k42_places.specs.Places.{EachPlace};
 ghost use Rattle.swap_future.specs.declared.rolling.Rolled.{Rolled};
-ghost use Rattle.swap_future.specs.Rolling.{IsRolling, HasGotOn, HasRolled, IsHeldUp, HasWaitedARound, HasTurned, IsAtHand, MayRoll, seen, new_roll, cause_at};
+ghost use Rattle.swap_future.specs.Rolling.{IsRolling, HasGotOn, HasRolled, IsAtHand, MayRoll, seen, new_roll, cause_at};
+ghost use Rattle.swap_future.specs.Rounds.{HasEndedNone, HasFinished, HasGoneRound, HasTurned, IsHeldUp};
 
 use futures::Future;
 use futures::task::{Context, Poll};
@@ -156,10 +157,9 @@ fn turn(alloc: Global, system: &System, rolling: &mut Rolling, place: usize)
 fn round(alloc: Global, system: &System, rolling: &mut Rolling) -> bool
     requires rolls { IsRolling system.now (seen rolling.old) }
     requires some { 0 < rolling.old.left }
-    ensures rolls { IsRolling system.now (seen rolling.new) }
-    ensures got_on { HasGotOn system.now (seen rolling.old) (seen rolling.new) }
+    ensures round { HasGoneRound system.now (seen rolling.old) (seen rolling.new) }
     ensures ended { result ≡ true → rolling.new.left < rolling.old.left }
-    ensures waited { result ≡ false → HasWaitedARound system.now (seen rolling.old) (seen rolling.new) }
+    ensures none { result ≡ false → HasEndedNone (seen rolling.old) (seen rolling.new) }
 {
     let left = rolling.left;
     for place in 0..rolling.passes.len() {
@@ -173,7 +173,8 @@ fn go_round(alloc: Global, system: &System, rolling: &mut Rolling) -> bool
     requires { IsRolling system.now (seen rolling.old) }
     ensures rolls { IsRolling system.now (seen rolling.new) }
     ensures got_on { HasGotOn system.now (seen rolling.old) (seen rolling.new) }
-    ensures finished { result ≡ true → rolling.new.left ≡ 0 }
+    ensures none { result ≡ true → rolling.new.left ≡ 0 }
+    ensures finished { result ≡ true → HasFinished system.now (seen rolling.old) rolling.new.answers.items rolling.new.passes.items }
     ensures held_up { result ≡ false → IsHeldUp system.now (seen rolling.old) (seen rolling.new) }
 {
     while rolling.left > 0 {
@@ -242,6 +243,8 @@ impl Future for Roll<'_> {
         ensures system { self.new.system.now ≡ self.old.system.now }
         ensures held_up { OnPending result (IsSomeAnd self.old.rolling (λ old. IsSomeAnd self.new.rolling (λ new.
             HasGotOn self.old.system.now (seen old) (seen new) × IsHeldUp self.old.system.now (seen old) (seen new)))) }
+        ensures finished { IfReady result (λ end. IsSomeAnd self.old.rolling (λ rolling.
+            HasFinished self.old.system.now (seen rolling) end.answers.items end.passes.items)) }
         ensures over { IfReady result (λ end. self.new.rolling ≡ None) }
     {
         let Some(mut rolling) = self.rolling.take() else {

@@ -1,6 +1,6 @@
-//! Systems of counters, and the passes of their callers.
+//! Systems on one processor, and the passes of their callers.
 ghost use Rattle.std.specs.Prelude.{IfOk, IfSome};
-ghost use Rattle.k42_crews.specs.Ready.{AreFree, IsFree};
+ghost use Rattle.k42_crews.specs.Ready.{IsFree};
 
 use k42_crews::{close, last, start};
 use k42_kinds::{KindName, LayoutName};
@@ -16,14 +16,11 @@ pub(super) struct Three {
     pub(super) two: Pass,
 }
 
-/// A system of so many shared counters, and the passes of so many callers, each on the next processor.
-pub(super) fn counters_for(
-    alloc: Global,
-    procs: u32,
-    objects: u32,
-    callers: u32,
-) -> Result<Option<(System, Vec<Pass>)>, Memory>
-    ensures free { IfOk result (λ made. IfSome made (λ crew. AreFree crew.0 crew.1.items)) }
+/// A system of so many shared counters on one processor, and the passes of its three callers.
+pub(super) fn counters(alloc: Global, objects: u32) -> Result<Option<(System, Three)>, Memory>
+    ensures zero { IfOk result (λ made. IfSome made (λ crew. IsFree crew.0 crew.1.zero)) }
+    ensures one { IfOk result (λ made. IfSome made (λ crew. IsFree crew.0 crew.1.one)) }
+    ensures two { IfOk result (λ made. IfSome made (λ crew. IsFree crew.0 crew.1.two)) }
 {
     let mut kinds = Vec::new(alloc);
     for _ in 0..objects {
@@ -32,25 +29,11 @@ pub(super) fn counters_for(
             layout: LayoutName::Shared,
         })?;
     }
-    let mut homes = Vec::new(alloc);
-    for caller in 0..callers {
-        homes.push(caller.checked_rem(procs).unwrap_or(0))?;
-    }
-    match Plan::new(procs, kinds, homes) {
-        Ok(plan) => Ok(Some(start(alloc, plan)?)),
-        Err(_) => Ok(None),
-    }
-}
-
-/// Such a system on one processor, and the passes of its three callers.
-pub(super) fn counters(alloc: Global, objects: u32) -> Result<Option<(System, Three)>, Memory>
-    ensures zero { IfOk result (λ made. IfSome made (λ crew. IsFree crew.0 crew.1.zero)) }
-    ensures one { IfOk result (λ made. IfSome made (λ crew. IsFree crew.0 crew.1.one)) }
-    ensures two { IfOk result (λ made. IfSome made (λ crew. IsFree crew.0 crew.1.two)) }
-{
-    let Some((system, mut passes)) = counters_for(alloc, 1, objects, 3)? else {
+    let homes = vec![in alloc; 0, 0, 0]?;
+    let Ok(plan) = Plan::new(1, kinds, homes) else {
         return Ok(None);
     };
+    let (system, mut passes) = start(alloc, plan)?;
     let (Some(two), Some(one), Some(zero)) = (
         last(&system, &mut passes),
         last(&system, &mut passes),
@@ -59,43 +42,6 @@ pub(super) fn counters(alloc: Global, objects: u32) -> Result<Option<(System, Th
         return Ok(None);
     };
     Ok(Some((system, Three { zero, one, two })))
-}
-
-/// Two passes, in this order.
-pub(super) fn two_of(
-    alloc: Global,
-    system: &System,
-    one: Pass,
-    two: Pass,
-) -> Result<Vec<Pass>, Memory>
-    requires one { IsFree system.now one }
-    requires two { IsFree system.now two }
-    ensures free { IfOk result (λ passes. AreFree system.now passes.items) }
-{
-    let mut passes = Vec::new(alloc);
-    passes.push(one)?;
-    passes.push(two)?;
-    Ok(passes)
-}
-
-/// Takes so many passes from the end of one list to that of another, the last one first.
-pub(super) fn take_over(
-    system: &System,
-    from: &mut Vec<Pass>,
-    to: &mut Vec<Pass>,
-    count: usize,
-) -> Result<(), Memory>
-    requires from { AreFree system.now from.old.items }
-    requires to { AreFree system.now to.old.items }
-    ensures from { AreFree system.now from.new.items }
-    ensures to { AreFree system.now to.new.items }
-{
-    for _ in 0..count {
-        if let Some(pass) = last(system, from) {
-            to.push(pass)?;
-        }
-    }
-    Ok(())
 }
 
 /// The history of the three.

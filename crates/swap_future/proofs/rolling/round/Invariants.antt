@@ -1,5 +1,5 @@
 use Rattle.swap_future.specs.Rolling.{seen}
-use Rattle.swap_future.proofs.Turns.{IsRoundTo}
+use Rattle.swap_future.proofs.RoundLemmas.{IsRoundTo}
 use Rattle.swap_future.proofs.rolling.round.Given as goal
 
 abbrev pub invariant-loop-place : goal.invariant-loop-place

@@ -1,6 +1,7 @@
 use Rattle.std.proofs.Common.{◌≡◌, Some, None, sym, subst}
 use Rattle.k42_runtime.specs.Swaps.{HasStepped}
-use Rattle.swap_future.specs.Rolling.{RollSeen, HasTurned, seen}
+use Rattle.swap_future.specs.Rolling.{RollSeen, seen}
+use Rattle.swap_future.specs.Rounds.{HasTurned}
 use Rattle.swap_future.proofs.AtHand.{is_none}
 use Rattle.swap_future.proofs.Turns.{going_now, fits_now, waits_now, ends_now, turned_idle}
 use Rattle.swap_future.proofs.rolling.turn.Goals as goal

@@ -1,13 +1,15 @@
 -- Free passes may roll, and come back free.
-use Rattle.std.proofs.Common.{◌≡◌, ℕ, zero, suc, ◌<◌, List, [], ◌∷◌, ◌++◌, length, Some, refl, sym, subst}
-use Rattle.std.specs.Prelude.{slice_get}
+use Rattle.std.proofs.Common.{◌≡◌, ℕ, zero, suc, ◌<◌, List, [], ◌∷◌, ◌++◌, length, Some, None, refl, sym, subst}
+use Rattle.std.specs.Prelude.{slice_get, Option, IsSomeAnd}
 use Rattle.std.proofs.lemmas.Option.{same_Some}
 use Rattle.k42_crews.specs.Ready.{IsFree, AreFree}
 use Rattle.k42_places.specs.Places.{EachPlace}
 use Rattle.k42_runtime.specs.Systems.{SystemSeen, IsPassHere, IsAtRest, SystemPass}
 use Rattle.k42_kinds.specs.declared.entry.To.{To}
-use Rattle.swap_future.specs.Rolling.{MayRoll}
-use Rattle.future_tests.specs.Rolls.{HaveRoom, AreWithin}
+use Rattle.k42_runtime.specs.declared.swaps.Swapped.{Swapped}
+use Rattle.swap_future.specs.Rolling.{HasRolled, MayRoll, seen}
+use Rattle.swap_future.specs.declared.rolling.Rolling.{Rolling}
+use Rattle.roll_tests.specs.Rolls.{HaveRoom, AreWithin}
 
 pub may_roll : (system : SystemSeen) (items : ℕ) (passes : List SystemPass) → AreFree system passes → HaveRoom items passes → EachPlace (λ i. MayRoll system items) passes
 may_roll system items [] free room i pass at = absurd (cc)
@@ -32,3 +34,9 @@ pub one_more_free : (system : SystemSeen) (passes : List SystemPass) (pass : Sys
     → AreFree system (passes ++ pass ∷ [])
 one_more_free system [] pass free one = (one, tt)
 one_more_free system (first ∷ passes) pass free one = (free.0, one_more_free system passes pass free.1 one)
+
+-- and so the passes that a roll gives back
+pub rolled_free : (system : SystemSeen) (o : Option Rolling) (answers : List (Option Swapped)) (passes : List SystemPass)
+    → IsSomeAnd o (λ rolling. HasRolled system (seen rolling) answers passes) → AreFree system passes
+rolled_free system (Some rolling) answers passes is = all_free system passes is.rest
+rolled_free system None answers passes is = absurd is

@@ -79,5 +79,6 @@ pub(super) fn roll_beside_calls<R: Threads + Wait + RandomSource + AllocGlobal +
         },
     );
     called?;
-    Ok((end?, callers))
+    let end = end?;
+    Ok((end, callers))
 }

@@ -1,8 +1,9 @@
 //! Plans that are polled by hand, and by an executor.
-ghost use Rattle.std.specs.Prelude.{◌≡◌, true, length, IfOk, IsSomeAnd};
+ghost use Rattle.std.specs.Prelude.{◌≡◌, ◌<◌, true, length, IfOk, IsSomeAnd};
 ghost use Rattle.k42_crews.specs.Ready.{AreFree};
-ghost use Rattle.swap_future.specs.Rolling.{IsRolling, seen};
-ghost use Rattle.future_tests.specs.Rolls.{HaveRoom, AreWithin};
+ghost use Rattle.k42_places.specs.Places.{EachPlace};
+ghost use Rattle.swap_future.specs.Rolling.{IsRolling, MayRoll, seen};
+ghost use Rattle.roll_tests.specs.Rolls.{HaveRoom, AreWithin};
 
 use futures::Future;
 use futures::executor::block_on;
@@ -46,6 +47,22 @@ fn are_within(plan: &[(u32, To)], objects: u32) -> bool
     are_within(others, objects)
 }
 
+/// Whether these passes, which have nothing under way, may roll this plan.
+fn may_roll(system: &System, passes: &[Pass], plan: &[(u32, To)]) -> bool
+    requires { AreFree system.now passes.now }
+    ensures some { result ≡ true → 0 < length passes.now }
+    ensures passes { result ≡ true → EachPlace (λ i. MayRoll system.now (length plan.now)) passes.now }
+    ensures objects { result ≡ true → EachPlace (λ i asked. asked.0 < length system.now.plan.objects) plan.now }
+{
+    if !have_room(passes, plan.len()) {
+        return false;
+    }
+    if !are_within(plan, system.objects()) {
+        return false;
+    }
+    !passes.is_empty()
+}
+
 /// A roll of this plan by these passes.
 pub(super) fn roll_of<'a>(
     rt: &impl Abort,
@@ -58,9 +75,7 @@ pub(super) fn roll_of<'a>(
     ensures system { IfOk result (λ roll. roll.system.now ≡ system.now) }
     ensures rolls { IfOk result (λ roll. IsSomeAnd roll.rolling (λ rolling. IsRolling system.now (seen rolling))) }
 {
-    assert!(rt; !passes.is_empty());
-    assert!(rt; have_room(passes.as_slice(), plan.len()));
-    assert!(rt; are_within(plan.as_slice(), system.objects()));
+    assert!(rt; may_roll(system, passes.as_slice(), plan.as_slice()));
     match Roll::new(alloc, system, passes, plan) {
         Ok(roll) => Ok(roll),
         Err(_) => Err(Memory),
@@ -102,5 +117,6 @@ pub(super) fn rolled<R: Wait + RandomSource + AllocGlobal>(
     requires rolls { IsSomeAnd roll.rolling (λ rolling. IsRolling system.now (seen rolling)) }
     ensures free { IfOk result (λ end. AreFree system.now end.passes.items) }
 {
-    block_on(rt, roll)
+    let end = block_on(rt, roll)?;
+    Ok(end)
 }
