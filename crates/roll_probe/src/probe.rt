@@ -1,8 +1,8 @@
 //! A plan that is carried out, or comes to want of memory.
-ghost use Rattle.std.specs.Prelude.{◌≡◌, ◌<◌, length, IfOk, IfSome};
+ghost use Rattle.std.specs.Prelude.{◌≡◌, ◌<◌, ◌≤◌, length, IfErr, IfOk, IfSome, IsSomeAnd};
 ghost use Rattle.k42_crews.specs.Ready.{AreFree};
 ghost use Rattle.k42_places.specs.Places.{EachPlace};
-ghost use Rattle.swap_future.specs.Rolling.{MayRoll};
+ghost use Rattle.swap_future.specs.Rolling.{IsRolling, MayRoll, seen};
 
 use futures::executor::block_on;
 use k42_crews::{close, start};
@@ -10,6 +10,7 @@ use k42_kinds::{Answer, Entry, KindName, LayoutName, To};
 use k42_memory::Memory;
 use k42_runtime::{History, ObjectPlan, Pass, Plan, Swapped, System};
 use std::alloc::{AllocGlobal, Global};
+use std::io;
 use std::random::RandomSource;
 use std::sync::Wait;
 use swap_future::{Roll, Rolled, Unrolled};
@@ -23,7 +24,15 @@ pub enum Found {
     Wrong,
 }
 
-/// A system of three counters on one processor, and the passes of its two callers, which have done nothing.
+/// The system of the plan, and its passes, which have done nothing.
+fn started(alloc: Global, plan: Plan) -> Result<(System, Vec<Pass>), Memory>
+    ensures may { IfOk result (λ made. EachPlace (λ i. MayRoll made.0 4) made.1.items) }
+{
+    let made = start(alloc, plan)?;
+    Ok(made)
+}
+
+/// A system of three counters on one processor, and the passes of its two callers.
 fn counters(alloc: Global) -> Result<Option<(System, Vec<Pass>)>, Memory>
     ensures may { IfOk result (λ made. IfSome made (λ crew. EachPlace (λ i. MayRoll crew.0 4) crew.1.items)) }
 {
@@ -36,7 +45,7 @@ fn counters(alloc: Global) -> Result<Option<(System, Vec<Pass>)>, Memory>
     }
     let homes = vec![in alloc; 0, 0]?;
     match Plan::new(1, objects, homes) {
-        Ok(plan) => Ok(Some(start(alloc, plan)?)),
+        Ok(plan) => Ok(Some(started(alloc, plan)?)),
         Err(_) => Ok(None),
     }
 }
@@ -97,16 +106,55 @@ fn of_unrolled(alloc: Global, system: System, back: Unrolled) -> Found
     }
 }
 
+/// A roll of four items over three objects.
+fn begin<'a>(
+    alloc: Global,
+    system: &'a System,
+    passes: Vec<Pass>,
+    plan: Vec<(u32, To)>,
+) -> Result<Roll<'a>, Unrolled>
+    requires some { 0 < length passes.items }
+    requires may { EachPlace (λ i. MayRoll system.now 4) passes.items }
+    requires objects { 3 ≤ length system.now.plan.objects }
+    requires within { EachPlace (λ i asked. asked.0 < 3) plan.items }
+    requires four { length plan.items ≡ 4 }
+    ensures system { IfOk result (λ roll. roll.system.now ≡ system.now) }
+    ensures rolls { IfOk result (λ roll. IsSomeAnd roll.rolling (λ rolling. IsRolling system.now (seen rolling))) }
+    ensures free { IfErr result (λ back. AreFree system.now back.passes.items) }
+{
+    match Roll::new(alloc, system, passes, plan) {
+        Ok(roll) => Ok(roll),
+        Err(back) => Err(back),
+    }
+}
+
+/// The roll until it is over.
+fn rolled<R: Wait + RandomSource + AllocGlobal>(
+    rt: &R,
+    system: &System,
+    roll: Roll<'_>,
+) -> io::Result<Rolled>
+    requires system { roll.system.now ≡ system.now }
+    requires rolls { IsSomeAnd roll.rolling (λ rolling. IsRolling system.now (seen rolling)) }
+    ensures free { IfOk result (λ end. AreFree system.now end.passes.items) }
+{
+    let end = block_on(rt, roll)?;
+    Ok(end)
+}
+
 fn try_probe<R: Wait + RandomSource + AllocGlobal>(rt: &R, alloc: Global) -> Result<Found, Memory> {
     let Some((system, passes)) = counters(alloc)? else {
         return Ok(Found::Wrong);
     };
-    if passes.is_empty() || system.objects() < 3 {
+    if passes.is_empty() {
+        return Ok(Found::Wrong);
+    }
+    if system.objects() < 3 {
         return Ok(Found::Wrong);
     }
     let plan = plan_of(alloc)?;
-    match Roll::new(alloc, &system, passes, plan) {
-        Ok(roll) => match block_on(rt, roll) {
+    match begin(alloc, &system, passes, plan) {
+        Ok(roll) => match rolled(rt, &system, roll) {
             Ok(end) => Ok(of_rolled(alloc, system, end)),
             Err(_) => Err(Memory),
         },

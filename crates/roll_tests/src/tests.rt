@@ -1,6 +1,6 @@
 use crate::tests::beside::{CALLS, roll_beside_calls};
 use crate::tests::crews::{counters_for, put_back, take_over};
-use crate::tests::rolls::{is_held_up, roll_of, rolled};
+use crate::tests::rolls::{is_held_up, roll_of, roll_through, rolled};
 use crate::tests::steps::{come_in, go_home};
 use k42_crews::{close, last};
 use k42_kinds::LayoutName;
@@ -34,8 +34,7 @@ fn a_plan_is_carried_out_by_two_passes(rt: HostRuntime) -> Result<(), Fail> {
     let spread = To::Layout(LayoutName::Spread);
     let shared = To::Layout(LayoutName::Shared);
     let plan = vec![in alloc; (0, spread), (1, spread), (0, shared)]?;
-    let roll = roll_of(&rt, alloc, &system, passes, plan)?;
-    let end = rolled(&rt, &system, roll)?;
+    let end = roll_through(&rt, alloc, &system, passes, plan)?;
     let due = [Swapped::Done(1), Swapped::Done(1), Swapped::Done(2)];
     assert!(rt; are_answered(end.answers.as_slice(), due.as_slice()));
     let Some(history) = close(alloc, system, end.passes)? else {
@@ -80,8 +79,7 @@ fn a_plan_finds_an_object_gone_once_it_is_dead(rt: HostRuntime) -> Result<(), Fa
     };
     let spread = To::Layout(LayoutName::Spread);
     let plan = vec![in alloc; (0, To::Dead), (0, spread)]?;
-    let roll = roll_of(&rt, alloc, &system, passes, plan)?;
-    let end = rolled(&rt, &system, roll)?;
+    let end = roll_through(&rt, alloc, &system, passes, plan)?;
     let due = [Swapped::Done(1), Swapped::Gone];
     assert!(rt; are_answered(end.answers.as_slice(), due.as_slice()));
     let Some(history) = close(alloc, system, end.passes)? else {
@@ -101,8 +99,7 @@ fn a_plan_is_carried_out_beside_calls(rt: HostRuntime) -> Result<(), Fail> {
     take_over(&system, &mut passes, &mut callers, 3)?;
     let spread = To::Layout(LayoutName::Spread);
     let plan = vec![in alloc; (0, spread), (1, spread), (2, spread), (3, spread)]?;
-    let roll = roll_of(&rt, alloc, &system, passes, plan)?;
-    let (mut end, mut callers) = roll_beside_calls(&rt, alloc, &system, roll, callers)?;
+    let (mut end, mut callers) = roll_beside_calls(&rt, alloc, &system, passes, plan, callers)?;
     let due = [Swapped::Done(1); 4];
     assert!(rt; are_answered(end.answers.as_slice(), due.as_slice()));
     take_over(&system, &mut callers, &mut end.passes, 3)?;

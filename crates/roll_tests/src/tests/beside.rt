@@ -1,21 +1,19 @@
 //! A plan that is carried out on one thread while others call its objects.
-ghost use Rattle.std.specs.Prelude.{◌≡◌, IfOk, IsSomeAnd};
+ghost use Rattle.std.specs.Prelude.{IfOk};
 ghost use Rattle.std.specs.Thread.{IsSync};
 ghost use Rattle.k42_crews.specs.Ready.{AreFree, IsFree, StaysFree};
-ghost use Rattle.swap_future.specs.Rolling.{IsRolling, seen};
 
-use crate::tests::rolls::rolled;
+use crate::tests::rolls::roll_through;
 use k42_crews::{Work, call_once, work_all};
 use k42_kinds::Op;
 use k42_memory::Memory;
-use k42_runtime::{Pass, System};
+use k42_runtime::{Pass, System, To};
 use std::alloc::{AllocGlobal, Global};
-use std::io;
+use std::process::Abort;
 use std::random::RandomSource;
 use std::sync::Wait;
-use std::test::Fail;
 use std::thread::{Threads, join};
-use swap_future::{Roll, Rolled};
+use swap_future::Rolled;
 
 /// How many calls each pass makes.
 pub(super) const CALLS: u32 = 200;
@@ -50,26 +48,26 @@ impl Work for AddToAll {
     }
 }
 
-/// Polls the roll until it is over, while each of these passes adds on a thread of its own.
-pub(super) fn roll_beside_calls<R: Threads + Wait + RandomSource + AllocGlobal + Sync>(
+/// Rolls the plan by some passes, while each of others adds on a thread of its own.
+pub(super) fn roll_beside_calls<R: Abort + Threads + Wait + RandomSource + AllocGlobal + Sync>(
     rt: &R,
     alloc: Global,
     system: &System,
-    roll: Roll<'_>,
+    passes: Vec<Pass>,
+    plan: Vec<(u32, To)>,
     mut callers: Vec<Pass>,
-) -> Result<(Rolled, Vec<Pass>), Fail>
-    requires system { roll.system.now ≡ system.now }
-    requires rolls { IsSomeAnd roll.rolling (λ rolling. IsRolling system.now (seen rolling)) }
+) -> Result<(Rolled, Vec<Pass>), Memory>
+    requires passes { AreFree system.now passes.items }
     requires callers { AreFree system.now callers.items }
     ensures rolled { IfOk result (λ both. AreFree system.now both.0.passes.items) }
     ensures callers { IfOk result (λ both. AreFree system.now both.1.items) }
 {
     let (end, (called, callers)) = join(
         rt,
-        || -> Result<Rolled, io::Error>
-            requires { IsSync R.row × (roll.system.now ≡ system.now) × IsSomeAnd roll.rolling (λ rolling. IsRolling system.now (seen rolling)) }
+        || -> Result<Rolled, Memory>
+            requires { IsSync R.row × AreFree system.now passes.items }
             ensures { IfOk result (λ end. AreFree system.entry.now end.passes.items) }
-        { rolled(rt, system, roll) },
+        { roll_through(rt, alloc, system, passes, plan) },
         || -> (Result<(), Memory>, Vec<Pass>)
             requires { IsSync R.row × AreFree system.now callers.items }
             ensures { AreFree system.entry.now result.1.items }

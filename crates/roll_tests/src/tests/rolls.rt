@@ -120,3 +120,21 @@ pub(super) fn rolled<R: Wait + RandomSource + AllocGlobal>(
     let end = block_on(rt, roll)?;
     Ok(end)
 }
+
+/// A roll of this plan by these passes, until it is over.
+pub(super) fn roll_through<R: Abort + Wait + RandomSource + AllocGlobal>(
+    rt: &R,
+    alloc: Global,
+    system: &System,
+    passes: Vec<Pass>,
+    plan: Vec<(u32, To)>,
+) -> Result<Rolled, Memory>
+    requires free { AreFree system.now passes.items }
+    ensures free { IfOk result (λ end. AreFree system.now end.passes.items) }
+{
+    let roll = roll_of(rt, alloc, system, passes, plan)?;
+    match rolled(rt, system, roll) {
+        Ok(end) => Ok(end),
+        Err(_) => Err(Memory),
+    }
+}
