@@ -1,2 +1,10 @@
+pub mod AtHand
+pub mod Drawn
 pub mod Ended
+pub mod Events
+pub mod Places
 pub mod Polled
+pub mod Rolls
+pub mod RoundLemmas
+pub mod Turns
+pub mod Waited

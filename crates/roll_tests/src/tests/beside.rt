@@ -1,0 +1,82 @@
+//! A plan that is carried out on one thread while others call its objects.
+ghost use Rattle.std.specs.Prelude.{IfOk};
+ghost use Rattle.std.specs.Thread.{IsSync};
+ghost use Rattle.k42_crews.specs.Ready.{AreFree, IsFree, StaysFree};
+
+use crate::tests::rolls::roll_through;
+use k42_crews::{Work, call_once, work_all};
+use k42_kinds::Op;
+use k42_memory::Memory;
+use k42_runtime::{Pass, System, To};
+use std::alloc::{AllocGlobal, Global};
+use std::process::Abort;
+use std::random::RandomSource;
+use std::sync::Wait;
+use std::thread::{Threads, join};
+use swap_future::Rolled;
+
+/// How many calls each pass makes.
+pub(super) const CALLS: u32 = 200;
+
+/// Adds to the four counters in turn.
+struct AddToAll;
+
+fn add_to_all<R: Wait>(
+    rt: &R,
+    alloc: Global,
+    system: &System,
+    pass: &mut Pass,
+) -> Result<(), Memory>
+    requires { IsFree system.now pass.old }
+    ensures { StaysFree system.now pass.old pass.new }
+{
+    for number in 0..CALLS {
+        call_once(rt, alloc, system, pass, number % 4, Op::Add(1))?;
+    }
+    Ok(())
+}
+
+impl Work for AddToAll {
+    fn work<R: Wait>(
+        &self,
+        rt: &R,
+        alloc: Global,
+        system: &System,
+        pass: &mut Pass,
+    ) -> Result<(), Memory> {
+        add_to_all(rt, alloc, system, pass)
+    }
+}
+
+/// Rolls the plan by some passes, while each of others adds on a thread of its own.
+pub(super) fn roll_beside_calls<R: Abort + Threads + Wait + RandomSource + AllocGlobal + Sync>(
+    rt: &R,
+    alloc: Global,
+    system: &System,
+    passes: Vec<Pass>,
+    plan: Vec<(u32, To)>,
+    mut callers: Vec<Pass>,
+) -> Result<(Rolled, Vec<Pass>), Memory>
+    requires passes { AreFree system.now passes.items }
+    requires callers { AreFree system.now callers.items }
+    ensures rolled { IfOk result (λ both. AreFree system.now both.0.passes.items) }
+    ensures callers { IfOk result (λ both. AreFree system.now both.1.items) }
+{
+    let (end, (called, callers)) = join(
+        rt,
+        || -> Result<Rolled, Memory>
+            requires { IsSync R.row × AreFree system.now passes.items }
+            ensures { IfOk result (λ end. AreFree system.entry.now end.passes.items) }
+        { roll_through(rt, alloc, system, passes, plan) },
+        || -> (Result<(), Memory>, Vec<Pass>)
+            requires { IsSync R.row × AreFree system.now callers.items }
+            ensures { AreFree system.entry.now result.1.items }
+        {
+            let called = work_all(rt, alloc, system, &AddToAll, callers.as_mut_slice());
+            (called, callers)
+        },
+    );
+    called?;
+    let end = end?;
+    Ok((end, callers))
+}

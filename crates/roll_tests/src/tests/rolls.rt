@@ -1,0 +1,140 @@
+//! Plans that are polled by hand, and by an executor.
+ghost use Rattle.std.specs.Prelude.{◌≡◌, ◌<◌, true, length, IfOk, IsSomeAnd};
+ghost use Rattle.k42_crews.specs.Ready.{AreFree};
+ghost use Rattle.k42_places.specs.Places.{EachPlace};
+ghost use Rattle.swap_future.specs.Rolling.{IsRolling, MayRoll, seen};
+ghost use Rattle.roll_tests.specs.Rolls.{HaveRoom, AreWithin};
+
+use futures::Future;
+use futures::executor::block_on;
+use futures::task::{Doorbell, Queue};
+use k42_memory::Memory;
+use k42_runtime::{Cause, Pass, System, To};
+use std::alloc::{AllocGlobal, Global};
+use std::io;
+use std::process::Abort;
+use std::random::RandomSource;
+use std::sync::Wait;
+use swap_future::{Roll, Rolled};
+
+/// A pass has at most so many entries, and at most so many graces.
+const MOST: usize = 1_048_576;
+
+fn have_room(passes: &[Pass], items: usize) -> bool
+    ensures { result ≡ true → HaveRoom items passes.now }
+{
+    let Some((pass, others)) = passes.split_first() else {
+        return true;
+    };
+    if items > MOST || pass.entries().len() > MOST - items {
+        return false;
+    }
+    if pass.graces() as usize > MOST - items {
+        return false;
+    }
+    have_room(others, items)
+}
+
+fn are_within(plan: &[(u32, To)], objects: u32) -> bool
+    ensures { result ≡ true → AreWithin objects plan.now }
+{
+    let Some((asked, others)) = plan.split_first() else {
+        return true;
+    };
+    if asked.0 >= objects {
+        return false;
+    }
+    are_within(others, objects)
+}
+
+/// Whether these passes, which have nothing under way, may roll this plan.
+fn may_roll(system: &System, passes: &[Pass], plan: &[(u32, To)]) -> bool
+    requires { AreFree system.now passes.now }
+    ensures some { result ≡ true → 0 < length passes.now }
+    ensures passes { result ≡ true → EachPlace (λ i. MayRoll system.now (length plan.now)) passes.now }
+    ensures objects { result ≡ true → EachPlace (λ i asked. asked.0 < length system.now.plan.objects) plan.now }
+{
+    if !have_room(passes, plan.len()) {
+        return false;
+    }
+    if !are_within(plan, system.objects()) {
+        return false;
+    }
+    !passes.is_empty()
+}
+
+/// A roll of this plan by these passes.
+pub(super) fn roll_of<'a>(
+    rt: &impl Abort,
+    alloc: Global,
+    system: &'a System,
+    passes: Vec<Pass>,
+    plan: Vec<(u32, To)>,
+) -> Result<Roll<'a>, Memory>
+    requires free { AreFree system.now passes.items }
+    ensures system { IfOk result (λ roll. roll.system.now ≡ system.now) }
+    ensures rolls { IfOk result (λ roll. IsSomeAnd roll.rolling (λ rolling. IsRolling system.now (seen rolling))) }
+{
+    assert!(rt; may_roll(system, passes.as_slice(), plan.as_slice()));
+    match Roll::new(alloc, system, passes, plan) {
+        Ok(roll) => Ok(roll),
+        Err(_) => Err(Memory),
+    }
+}
+
+/// A poll of the roll, which is held up: these are the causes of its first two passes.
+pub(super) fn is_held_up<'a, R: Abort + Wait + RandomSource + AllocGlobal>(
+    rt: &R,
+    system: &System,
+    mut roll: Roll<'a>,
+    due: (Option<Cause>, Option<Cause>),
+) -> io::Result<Roll<'a>>
+    requires system { roll.system.now ≡ system.now }
+    requires rolls { IsSomeAnd roll.rolling (λ rolling. IsRolling system.now (seen rolling)) }
+    ensures system { IfOk result (λ roll. roll.system.now ≡ system.now) }
+    ensures rolls { IfOk result (λ roll. IsSomeAnd roll.rolling (λ rolling. IsRolling system.now (seen rolling))) }
+{
+    let queue = Queue::new(rt, Doorbell::spinning())?;
+    queue.add()?.schedule();
+    let Some(mut cx) = queue.next(rt) else {
+        panic!(rt; "no task");
+    };
+    let polled = roll.poll(&mut cx);
+    cx.end(&polled);
+    assert!(rt; polled.is_pending());
+    assert_eq!(rt; roll.cause(0), due.0);
+    assert_eq!(rt; roll.cause(1), due.1);
+    Ok(roll)
+}
+
+/// The roll until it is over.
+pub(super) fn rolled<R: Wait + RandomSource + AllocGlobal>(
+    rt: &R,
+    system: &System,
+    roll: Roll<'_>,
+) -> io::Result<Rolled>
+    requires system { roll.system.now ≡ system.now }
+    requires rolls { IsSomeAnd roll.rolling (λ rolling. IsRolling system.now (seen rolling)) }
+    ensures free { IfOk result (λ end. AreFree system.now end.passes.items) }
+{
+    let end = block_on(rt, roll)?;
+    Ok(end)
+}
+
+/// A roll of this plan by these passes, until it is over.
+pub(super) fn roll_through<R: Abort + Wait + RandomSource + AllocGlobal>(
+    rt: &R,
+    alloc: Global,
+    system: &System,
+    passes: Vec<Pass>,
+    plan: Vec<(u32, To)>,
+) -> Result<Rolled, Memory>
+    requires free { AreFree system.now passes.items }
+    ensures free { IfOk result (λ end. AreFree system.now end.passes.items) }
+{
+    let roll = roll_of(rt, alloc, system, passes, plan)?;
+    match rolled(rt, system, roll) {
+        Ok(end) => Ok(end),
+        Err(_) => Err(Memory),
+    }
+}
