@@ -76,7 +76,8 @@ fn work_both<R: Threads + Wait + Sync, W: Work + Sync>(
     { work.work(rt, alloc, system, pass) };
     let mut rest = || -> Result<(), Memory>
         requires { IsSync R.row × IsSync W.row × AreFree system.now others.now }
-        ensures { AreFree system.entry.now others.exit.now × (callers_of others.exit.now ≡ callers_of others.entry.now) × OnOk result (EachBecomes (W.becomes work.entry.now system.entry.now) others.entry.now others.exit.now) }
+        ensures { AreFree system.entry.now others.exit.now × (callers_of others.exit.now ≡ callers_of others.entry.now)
+            × OnOk result (EachBecomes (W.becomes work.entry.now system.entry.now) others.entry.now others.exit.now) }
     { work_all(rt, alloc, system, work, others) };
     join_mut(rt, &mut one, &mut rest)
 }
