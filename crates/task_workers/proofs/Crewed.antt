@@ -1,6 +1,6 @@
 -- The tasks of a run: as they begin, through their rounds, and when all have ended.
 use Rattle.std.proofs.Common.{◌≡◌, ℕ, zero, suc, ◌+◌, ◌<◌, ◌≤◌, Bool, true, false, List, [], ◌∷◌, ◌++◌, length, drop, map, refl, sym, ap, ◌∙◌, subst, arith, add-one}
-use Rattle.std.specs.Prelude.{All, Some, slice_get}
+use Rattle.std.specs.Prelude.{Some, slice_get}
 use Rattle.std.proofs.lemmas.List.{append-nil, append_assoc, length-map, length_push, map-append}
 use Rattle.std.proofs.lemmas.Option.{same_Some, slice_get_within}
 use Rattle.std.proofs.Math.ListN.{drop_of_length-le}
@@ -13,7 +13,7 @@ use Rattle.script_text.specs.declared.script.WorkerLines.{WorkerLines}
 use Rattle.k42_runtime.specs.Systems.{SystemPass, SystemSeen}
 use Rattle.k42_workers.specs.Passes.{HasWorked, IsFresh, IsReady, MayWork}
 use Rattle.k42_workers.proofs.Filtered.{All-found}
-use Rattle.k42_workers.specs.Workers.{HasDoneLines, IsMadeBy}
+use Rattle.k42_workers.specs.Workers.{HasDoneLines}
 use Rattle.task_workers.specs.Rounds.{AreInRun, HaveEnded, IsInRun, Own, own_of, owns_from}
 use Rattle.task_workers.specs.Tasks.{IsTask, MayBegin, has_ended}
 use Rattle.task_workers.specs.declared.tasks.TaskAt.{TaskAt}

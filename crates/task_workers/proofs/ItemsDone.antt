@@ -1,5 +1,5 @@
 -- What a step of a task brings: an item that was followed, a line that was held up or given up, or the end.
-use Rattle.std.proofs.Common.{◌≡◌, ◌⊎◌, inl, inr, ℕ, suc, ◌+◌, ◌<◌, ◌≤◌, Bool, true, false, Some, None, List, [], ◌∷◌, length, refl, sym, ap, ◌∙◌, subst, arith, add-one}
+use Rattle.std.proofs.Common.{◌≡◌, inl, inr, ℕ, suc, ◌+◌, ◌<◌, ◌≤◌, Bool, true, false, Some, None, List, length, refl, sym, ap, ◌∙◌, subst, arith, add-one}
 use Rattle.std.specs.Prelude.{◌↔◌, if◌then◌else◌, nat_lt, slice_get}
 use Rattle.std.specs.Borrow.{Bor}
 use Rattle.std.proofs.lemmas.Bool.Decides.{nat_tests}
@@ -12,9 +12,8 @@ use Rattle.k42_runtime.specs.Systems.{SystemPass, SystemSeen, IsAtRest, IsPassHe
 use Rattle.k42_workers.specs.Lines.{Follows}
 use Rattle.k42_workers.specs.Passes.{GoesOnBy, HasWorked, IsBetween, IsReady, StaysAs, standing_of}
 use Rattle.k42_workers.specs.UnderWay.{IsAt}
-use Rattle.k42_workers.specs.Workers.{HasDoneLines}
 use Rattle.k42_workers.proofs.Answered.{at_next, at_rest, at_start, worked}
-use Rattle.task_workers.specs.Steps.{HadNone, HasDoneAll, HasFollowed, HasStepped, IsSameTask, at_behind, behind_item, is_last, step_behind}
+use Rattle.task_workers.specs.Steps.{HasFollowed, HasStepped, IsSameTask, behind_item, step_behind}
 use Rattle.task_workers.specs.Tasks.{MayBegin, IsBetweenItems, IsOnWay, IsTask, has_ended, worker_of, worker_on}
 use Rattle.task_workers.specs.Tries.{IsDone, IsGivenUp, IsHeldUp, IsOfLine, IsSame, begun_at}
 use Rattle.task_workers.specs.declared.tasks.TaskAt.{TaskAt}

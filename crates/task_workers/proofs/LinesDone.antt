@@ -1,7 +1,7 @@
 -- A line of a task that was tried once: where the task is then.
-use Rattle.std.proofs.Common.{◌≡◌, ◌≢◌, ℕ, suc, ◌+◌, ◌<◌, ◌≤◌, Bool, true, false, Option, Some, None, List, [], ◌∷◌, length, drop, refl, sym, ap, ◌∙◌, subst, arith, add-one}
+use Rattle.std.proofs.Common.{◌≡◌, ℕ, suc, ◌+◌, ◌≤◌, Bool, true, false, Option, Some, None, List, drop, refl, sym, ap, ◌∙◌, subst, arith, add-one}
 use Rattle.std.specs.Prelude.{if◌then◌else◌, slice_get}
-use Rattle.std.proofs.lemmas.Option.{same_Some, none-some, slice_get_within}
+use Rattle.std.proofs.lemmas.Option.{same_Some, none-some}
 use Rattle.k42_places.proofs.Rests.{drop_at}
 use Rattle.k42_kinds.specs.declared.entry.Act.{Act}
 use Rattle.k42_kinds.specs.declared.entry.Act.TheVariants.{Call, Swap}
@@ -120,8 +120,14 @@ module _ (system : SystemSeen) (task : WorkerTask) (line : CallLine) (next : sli
       between = done.between;
       caller = same.number;
       proc = same.proc;
-      activities = let left = on.within.activities_left in let few = done.activities in rw (← add-one task.done) (fewer new.view.activities (activities_with at task.pass.view) (lines_behind (task.done + 1) task.items.now) (lines_behind 0 task.items.now) few left);
-      graces = let left = on.within.graces_left in let few = done.graces in rw (← add-one task.done) (fewer new.view.graces (graces_with at task.pass.view) (lines_behind (task.done + 1) task.items.now) (lines_behind 0 task.items.now) few left);
+      activities =
+          let left = on.within.activities_left in let few = done.activities in
+          rw (← add-one task.done)
+          (fewer new.view.activities (activities_with at task.pass.view) (lines_behind (task.done + 1) task.items.now) (lines_behind 0 task.items.now) few left);
+      graces =
+          let left = on.within.graces_left in let few = done.graces in
+          rw (← add-one task.done)
+          (fewer new.view.graces (graces_with at task.pass.view) (lines_behind (task.done + 1) task.items.now) (lines_behind 0 task.items.now) few left);
       way = under_way_on (worker_of task) task.done task.inside task.inside (Line line) (standing_in task) (standing_of new.view) next on.way (refl, answered done);
     }
       where

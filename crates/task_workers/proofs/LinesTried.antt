@@ -1,5 +1,5 @@
 -- A step of a task at a line, which has begun before it is tried.
-use Rattle.std.proofs.Common.{◌≡◌, ℕ, ◌+◌, ◌<◌, Bool, false, Option, Some, None, Result, Ok, Err, length, refl, sym, subst}
+use Rattle.std.proofs.Common.{◌≡◌, ◌+◌, ◌<◌, false, Some, None, Ok, Err, length, sym, subst}
 use Rattle.std.specs.Prelude.{slice_get}
 use Rattle.std.proofs.lemmas.Option.{slice_get_within}
 use Rattle.k42_memory.specs.declared.Memory.{Memory as NoMemory}

@@ -21,7 +21,8 @@ module _ (system : SystemSeen) where
   in_run_at refused (task ∷ tasks) zero none less run = run.0
   in_run_at refused (task ∷ tasks) (suc i) none less run = in_run_at refused tasks i none (omega (arith, less)) run.1
 
-  pub in_run_set : (refused : Bool) (tasks : List WorkerTask) (i : ℕ) (task : WorkerTask) → AreInRun system refused tasks → IsInRun system refused task → AreInRun system refused (slice_set tasks i task)
+  pub in_run_set : (refused : Bool) (tasks : List WorkerTask) (i : ℕ) (task : WorkerTask) → AreInRun system refused tasks
+      → IsInRun system refused task → AreInRun system refused (slice_set tasks i task)
   in_run_set refused [] i task run one = tt
   in_run_set refused (first ∷ tasks) zero task run one = (one, run.1)
   in_run_set refused (first ∷ tasks) (suc i) task run one = (run.0, in_run_set refused tasks i task run.1 one)

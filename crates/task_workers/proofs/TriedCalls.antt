@@ -1,25 +1,20 @@
 -- A call that is tried once: what it leaves when it is done, held up, or without memory.
-use Rattle.std.proofs.Common.{◌≡◌, ℕ, ◌+◌, ◌≤◌, Bool, true, false, Option, Some, None, List, [], ◌∷◌, ◌++◌, is_some, length, refl, sym, ap, ◌∙◌, subst, arith}
+use Rattle.std.proofs.Common.{◌≡◌, ℕ, ◌+◌, ◌≤◌, Bool, true, Option, Some, None, List, [], ◌∷◌, ◌++◌, is_some, length, refl, sym, ap, ◌∙◌, subst, arith}
 use Rattle.std.specs.Prelude.{if◌then◌else◌}
 use Rattle.k42_kinds.specs.declared.entry.Act.{Act}
 use Rattle.k42_kinds.specs.declared.entry.Act.TheVariants.{Call}
 use Rattle.k42_kinds.specs.declared.entry.Entry.{Entry}
-use Rattle.k42_kinds.specs.declared.operation.Op.{Op}
 use Rattle.k42_kinds.specs.declared.operation.Reply.{Reply}
-use Rattle.k42_stamp.specs.Layouts.{Layouts}
 use Rattle.k42_board.specs.Seen.{Own}
 use Rattle.k42_board.specs.declared.view.PassView.{PassView}
-use Rattle.k42_runtime.specs.Calls.{CallSeen, HasCalled, HasNotCalled, HoldsUp, IsAsked}
-use Rattle.k42_runtime.specs.Systems.{SystemPart, SystemPass, SystemSeen, IsPassHere, IsAtRest, IsAtWork, KeepsElse, layouts_in}
-use Rattle.k42_runtime.specs.declared.calls.CallCause.{CallCause}
-use Rattle.k42_runtime.specs.declared.calls.CallCause.TheVariants as causes
-use Rattle.script_text.specs.Lawful.{Deed, IsNotGivenUp, deed_of}
+use Rattle.k42_runtime.specs.Calls.{CallSeen, HasCalled}
+use Rattle.k42_runtime.specs.Systems.{SystemPart, SystemPass, SystemSeen, IsPassHere, KeepsElse}
+use Rattle.script_text.specs.Lawful.{IsNotGivenUp, deed_of}
 use Rattle.script_text.specs.declared.script.CallLine.{CallLine}
-use Rattle.k42_workers.specs.Lines.{Standing, AnswersLine, IsOpened, IsTimed, left_open}
-use Rattle.k42_workers.specs.Passes.{IsBetween, IsNotHeldUp, GoesOnAs, StaysAs, standing_of}
-use Rattle.task_workers.specs.Tries.{IsDone, IsHeldUp, IsGivenUp, IsSame, activities_due}
+use Rattle.k42_workers.specs.Lines.{Standing, IsOpened, IsTimed, left_open}
+use Rattle.k42_workers.specs.Passes.{IsBetween, GoesOnAs, StaysAs, standing_of}
+use Rattle.task_workers.specs.Tries.{IsDone, IsSame, activities_due}
 use Rattle.task_workers.specs.declared.tasks.TaskAt.TheVariants.{Calling}
-use Rattle.task_workers.specs.declared.tasks.TaskCause.TheVariants as held
 
 same_active : (old new : PassView SystemPart) → KeepsElse old new → new.turn.active ≡ old.turn.active
 same_active old new keeps = ap (λ (own : Own). own.turn.active) keeps
@@ -38,7 +33,8 @@ same_called system old mid new on keeps here = record {
   proc = ap (λ (own : Own). own.turn.proc) keeps ∙ on.proc;
 }
 
-pub same_left : (system : SystemSeen) (old mid made new : SystemPass) → GoesOnAs old.view mid.view → KeepsElse mid.view made.view → StaysAs made.view new.view → IsPassHere system new → IsSame system old new
+pub same_left : (system : SystemSeen) (old mid made new : SystemPass) → GoesOnAs old.view mid.view → KeepsElse mid.view made.view → StaysAs made.view new.view
+    → IsPassHere system new → IsSame system old new
 same_left system old mid made new on keeps same here = record {
   here = here;
   number = same.number ∙ ap (λ (own : Own). own.number) keeps ∙ on.number;

@@ -25,7 +25,7 @@ abbrev pub begun_at : CallLine → TaskAt → TaskAt
 begun_at line tasks.Between = started line.object line.act
 begun_at line at = at
 
--- how many activities a call is still to begin that has this one
+-- how many activities a call is still to begin, which has this one or none
 abbrev pub activities_due : Option ℕ → ℕ
 activities_due None = 1
 activities_due (Some generation) = 0

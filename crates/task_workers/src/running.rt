@@ -67,9 +67,9 @@ fn work_all<R: Wait, G: Gate>(
     passes_of(alloc, tasks)
 }
 
-/// Runs the workers of a script as tasks on this thread, and gives the history of the closed system. The tasks make their
-/// steps in rounds and in the order of the workers. A task that finds no memory leaves its activity and stops, the others
-/// go on to their ends, and the whole answer is then `Memory`.
+/// Runs the workers of a script as tasks, and gives the history of the closed system. A task that finds no memory leaves
+/// its activity and stops, the others go on to their ends, and the whole answer is then `Memory`. That the tasks make
+/// their steps on this thread, in rounds and in the order of the workers, is tested.
 pub fn run_tasks<R: Wait, G: Gate>(
     rt: &R,
     alloc: Global,

@@ -11,7 +11,8 @@ turn-one-requires g c =
 pub loop-index-preserved : goal.loop-index-preserved
 loop-index-preserved g c =
     let l = c.loop-index in let one = c.turn-one.ensures in
-    turned c.args.system.now c.args.tasks.now l.tasks c.args.refused l.found.going l.found.refused l.index l.invariant c.turn-one.new.task c.index-tasks-index.result c.if-found.found c.turn-one.result.refused
+    turned c.args.system.now c.args.tasks.now l.tasks c.args.refused l.found.going l.found.refused l.index l.invariant
+    c.turn-one.new.task c.index-tasks-index.result c.if-found.found c.turn-one.result.refused
     one.own one.in_run
     (λ none. elim c.if-found.branch [
       | then-found w ↦ absurd (let no = sym w.found-is ∙ none in cc)

@@ -22,14 +22,16 @@ returns-in-Ok-None g c =
     subst (λ (z : TaskStep × WorkerTask). HasStepped c.args.system.now z.0 c.args.self.now z.1) (λ j. (sym c.go_on.ensures.step j, sym c.go_on.ensures.task j))
     (done_begun c.args.system.now c.args.self.now c.requires.task c.requires.going c.args.line.now c.requires.next c.begin.new.self c.begin.ensures
     c.try_line.new.at c.try_line.new.pass c.try_line.ensures.same
-    (λ l of. subst (λ (held : Option TaskCause). HasTried {E = Memory} c.args.system.now l c.begin.new.self.inside (Ok held) c.begin.new.self.at c.try_line.new.at c.begin.new.self.pass c.try_line.new.pass)
+    (λ l of.
+    subst (λ (held : Option TaskCause). HasTried {E = Memory} c.args.system.now l c.begin.new.self.inside (Ok held) c.begin.new.self.at c.try_line.new.at c.begin.new.self.pass c.try_line.new.pass)
     c.in-Ok-None.field-0-is (c.in-Ok-None.ensures.tried l of)))
 
 pub returns-in-Ok-Some : goal.returns-in-Ok-Some
 returns-in-Ok-Some g c =
     held_begun c.args.system.now c.args.self.now c.requires.task c.requires.going c.args.line.now c.requires.next c.begin.new.self c.begin.ensures
     c.try_line.new.at c.try_line.new.pass c.in-Ok-Some.cause c.try_line.ensures.same
-    (λ l of. subst (λ (held : Option TaskCause). HasTried {E = Memory} c.args.system.now l c.begin.new.self.inside (Ok held) c.begin.new.self.at c.try_line.new.at c.begin.new.self.pass c.try_line.new.pass)
+    (λ l of.
+    subst (λ (held : Option TaskCause). HasTried {E = Memory} c.args.system.now l c.begin.new.self.inside (Ok held) c.begin.new.self.at c.try_line.new.at c.begin.new.self.pass c.try_line.new.pass)
     c.in-Ok-Some.field-0-is (c.in-Ok-Some.ensures.tried l of))
 
 pub returns-in-Err : goal.returns-in-Err

@@ -1,5 +1,5 @@
-use Rattle.std.proofs.Common.{◌≡◌, ◌∙◌, length, refl, sym, subst, ap}
-use Rattle.std.specs.Prelude.{Some, slice_get}
+use Rattle.std.proofs.Common.{◌∙◌, length, refl, sym, subst, ap}
+use Rattle.std.specs.Prelude.{Some}
 use Rattle.std.proofs.lemmas.Option.{slice_get_read}
 use Rattle.task_workers.specs.Steps.{HasStepped}
 use Rattle.task_workers.specs.declared.tasks.TaskStep.{TaskStep}
