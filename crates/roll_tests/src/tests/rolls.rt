@@ -75,7 +75,9 @@ pub(super) fn roll_of<'a>(
     ensures system { IfOk result (λ roll. roll.system.now ≡ system.now) }
     ensures rolls { IfOk result (λ roll. IsSomeAnd roll.rolling (λ rolling. IsRolling system.now (seen rolling))) }
 {
-    assert!(rt; may_roll(system, passes.as_slice(), plan.as_slice()));
+    if !may_roll(system, passes.as_slice(), plan.as_slice()) {
+        panic!(rt; "a plan past its bounds");
+    }
     match Roll::new(alloc, system, passes, plan) {
         Ok(roll) => Ok(roll),
         Err(_) => Err(Memory),
