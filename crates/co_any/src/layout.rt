@@ -3,6 +3,7 @@ ghost use Rattle.std.specs.Prelude.{◌≡◌, ◌≤◌, nat_le, IsTrue, IfOk};
 ghost use Rattle.k42_kinds.specs.Objects.{plain_object};
 ghost use Rattle.co_any.specs.Layouts.{ways_of, whole_of, serves_of, admitted_of, act_of, tag_named};
 ghost use Rattle.co_any.specs.AnyLaws.{any_steps, any_steps_all, any_reaches, any_stands, any_begins, any_imports, any_ends, any_admits, any_swaps, any_asks, any_agrees};
+ghost use Rattle.co_any.specs.BareLaws.{any_takes_no_seen, any_keeps_state, any_asks_by_tag};
 
 use crate::exports::{collected, total};
 use crate::part::AnyPart;
@@ -15,6 +16,7 @@ use k42_kinds::{
     step_directory, step_pages,
 };
 use k42_memory::Memory;
+use k42_watch::Bare;
 use std::alloc::Global;
 
 /// A layout of any kind: the shared one with the tag 0, the spread one with 1, the dead one with 2.
@@ -205,4 +207,16 @@ impl Layout for AnyLayout {
     ghost asks = { λ layout. any_asks layout.tag };
 
     ghost agrees = { λ layout other same tags. any_agrees layout.kind other.kind layout.tag other.tag same tags };
+}
+
+impl Bare for AnyLayout {
+    fn has_ended(&self, state: &AnyState) -> bool {
+        matches!(state, AnyState::Dead)
+    }
+
+    ghost takes_no_seen = { λ layout. any_takes_no_seen layout.kind };
+
+    ghost keeps_state = { λ layout. any_keeps_state layout.kind };
+
+    ghost asks_by_tag = { λ layout known. any_asks_by_tag layout.tag known };
 }

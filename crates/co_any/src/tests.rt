@@ -28,7 +28,7 @@ fn follow(
     let mut row = empty_row(layout, alloc, procs)?;
     let mut proc = procs - 1;
     for (op, reply) in steps {
-        if kind_of(op) == layout.kind {
+        if kind_of(op) == Some(layout.kind) {
             let replied = step_row(layout, alloc, &mut row, op, proc, procs)?;
             assert!(rt; replied == *reply, "{op:?} gave {replied:?}");
             proc = procs - 1 - proc;
@@ -158,9 +158,10 @@ fn an_object_moves_from_layout_to_layout_until_it_is_dead(rt: HostRuntime) -> Re
         (Op::Write(5, hi), Op::Dirty, Reply::Number(1)),
     ];
     for (change, read, due) in cases {
-        let kind = kind_of(&change);
-        if kind_of(&read) == kind {
-            follow_moves(&rt, rt.alloc(), kind, &change, &read, &due)?;
+        if let Some(kind) = kind_of(&change) {
+            if kind_of(&read) == Some(kind) {
+                follow_moves(&rt, rt.alloc(), kind, &change, &read, &due)?;
+            }
         }
     }
     Ok(())
@@ -183,7 +184,7 @@ fn every_layout_can_be_read_at_all_its_cells(rt: HostRuntime) -> Result<(), Fail
         (KindName::Pages, Op::Dirty),
     ];
     for (kind, op) in reads {
-        if kind_of(&op) == kind {
+        if kind_of(&op) == Some(kind) {
             for tag in 0..3 {
                 let read = stepped_at_all(rt.alloc(), &AnyLayout { kind, tag }, &op)?;
                 let due = if tag == 2 {

@@ -3,7 +3,7 @@ use Rattle.std.specs.Prelude.{◌≡◌, ℕ, ◌+◌, ◌%◌, ◌^◌, ◌<◌
 use Rattle.std.proofs.Common.{arith}
 use Rattle.std.proofs.lemmas.Grind.{common_steps}
 use Rattle.k42_kinds.specs.declared.operation.Op.{Op}
-use Rattle.k42_kinds.specs.declared.operation.Op.TheVariants.{Add, Get, Drain, Bind, Find, Unbind, Size, Write, Read, Dirty, Clean}
+use Rattle.k42_kinds.specs.declared.operation.Op.TheVariants.{Add, Get, Drain, Bind, Find, Unbind, Size, Write, Read, Dirty, Clean, Seen}
 use Rattle.k42_kinds.specs.declared.entry.Reach.TheVariants.{One, All}
 use Rattle.k42_kinds.specs.Objects.{counter_object, counter_after}
 use Rattle.k42_kinds.specs.LayoutLaws.{StepsRow, StandsFor, Imports}
@@ -21,6 +21,7 @@ value_stays value (Write page text) in_range = in_range
 value_stays value (Read page) in_range = in_range
 value_stays value Dirty in_range = in_range
 value_stays value Clean in_range = in_range
+value_stays value Seen in_range = in_range
 
 pub shared_steps : (procs : ℕ) (values : List ℕ) (op : Op) → IsOneValue procs values → StepsRow counter_object shared (IsOneValue procs) values op (One 0)
 shared_steps procs [] op whole = absurd whole

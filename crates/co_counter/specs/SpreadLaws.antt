@@ -3,7 +3,7 @@ use Rattle.std.specs.Prelude.{◌≡◌, ℕ, zero, suc, ◌+◌, ◌%◌, ◌^�
 use Rattle.std.proofs.Common.{arith}
 use Rattle.std.proofs.lemmas.Grind.{common_steps}
 use Rattle.k42_kinds.specs.declared.operation.Op.{Op}
-use Rattle.k42_kinds.specs.declared.operation.Op.TheVariants.{Add, Get, Drain, Bind, Find, Unbind, Size, Write, Read, Dirty, Clean}
+use Rattle.k42_kinds.specs.declared.operation.Op.TheVariants.{Add, Get, Drain, Bind, Find, Unbind, Size, Write, Read, Dirty, Clean, Seen}
 use Rattle.k42_kinds.specs.declared.operation.Reply.TheVariants.{Done}
 use Rattle.k42_kinds.specs.declared.entry.Reach.TheVariants.{One, All}
 use Rattle.k42_kinds.specs.Objects.{counter_object, counter_after, counter_reply}
@@ -50,6 +50,7 @@ spread_steps_all procs amounts (Write page text) some takes whole = cc takes
 spread_steps_all procs amounts (Read page) some takes whole = cc takes
 spread_steps_all procs amounts Dirty some takes whole = cc takes
 spread_steps_all procs amounts Clean some takes whole = cc takes
+spread_steps_all procs amounts Seen some takes whole = cc takes
 
 pub spread_steps : (procs proc : ℕ) (amounts : List ℕ) (op : Op) → proc < procs → IsTrue (counter_object.takes op) → HasAmounts procs amounts → StepsRow counter_object spread (HasAmounts procs) amounts op (spread_reach procs op proc)
 spread_steps procs proc amounts (Add amount) there takes whole = spread_adds procs amounts amount proc there whole
@@ -63,6 +64,7 @@ spread_steps procs proc amounts (Write page text) there takes whole = cc takes
 spread_steps procs proc amounts (Read page) there takes whole = cc takes
 spread_steps procs proc amounts Dirty there takes whole = cc takes
 spread_steps procs proc amounts Clean there takes whole = cc takes
+spread_steps procs proc amounts Seen there takes whole = cc takes
 
 pub spread_reaches : (procs proc : ℕ) (op : Op) → proc < procs → IsTrue (counter_object.takes op) → IsWithin procs (spread_reach procs op proc)
 spread_reaches procs proc (Add amount) there takes = there
@@ -76,6 +78,7 @@ spread_reaches procs proc (Write page text) there takes = cc takes
 spread_reaches procs proc (Read page) there takes = cc takes
 spread_reaches procs proc Dirty there takes = cc takes
 spread_reaches procs proc Clean there takes = cc takes
+spread_reaches procs proc Seen there takes = cc takes
 
 pub spread_stands : (procs : ℕ) (amounts : List ℕ) → HasAmounts procs amounts → StandsFor spread IsValue 1 procs amounts
 spread_stands procs amounts whole = record { sized = whole; served = grind (arith, common_steps) }

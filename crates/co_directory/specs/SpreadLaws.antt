@@ -3,7 +3,7 @@ use Rattle.std.specs.Prelude.{◌≡◌, ℕ, zero, suc, ◌<◌, List, [], ◌�
 use Rattle.std.proofs.Common.{arith, ap, sym, ◌∙◌}
 use Rattle.std.specs.FinMap as finite
 use Rattle.k42_kinds.specs.declared.operation.Op.{Op}
-use Rattle.k42_kinds.specs.declared.operation.Op.TheVariants.{Add, Get, Drain, Bind, Find, Unbind, Size, Write, Read, Dirty, Clean}
+use Rattle.k42_kinds.specs.declared.operation.Op.TheVariants.{Add, Get, Drain, Bind, Find, Unbind, Size, Write, Read, Dirty, Clean, Seen}
 use Rattle.k42_kinds.specs.declared.entry.Reach.TheVariants.{One, All}
 use Rattle.k42_kinds.specs.Objects.{Directory, directory_object, directory_after}
 use Rattle.k42_kinds.specs.Rows.{changed_at, part_at, made_from, IsWithin}
@@ -77,6 +77,7 @@ spread_steps procs proc copies (Write page text) there whole = spread_steps_all 
 spread_steps procs proc copies (Read page) there whole = spread_steps_all procs copies (Read page) (omega arith) whole
 spread_steps procs proc copies Dirty there whole = spread_steps_all procs copies Dirty (omega arith) whole
 spread_steps procs proc copies Clean there whole = spread_steps_all procs copies Clean (omega arith) whole
+spread_steps procs proc copies Seen there whole = spread_steps_all procs copies Seen (omega arith) whole
 
 pub spread_reaches : (procs proc : ℕ) (op : Op) → proc < procs → IsWithin procs (spread_reach procs op proc)
 spread_reaches procs proc (Find key) there = there
@@ -90,6 +91,7 @@ spread_reaches procs proc (Write page text) there = omega arith
 spread_reaches procs proc (Read page) there = omega arith
 spread_reaches procs proc Dirty there = omega arith
 spread_reaches procs proc Clean there = omega arith
+spread_reaches procs proc Seen there = omega arith
 
 pub spread_stands : (procs : ℕ) (copies : List Directory) → AreCopies procs copies → StandsFor spread (λ names. Unit {0}) 1 procs copies
 spread_stands procs copies whole = record { sized = ap length whole ∙ length-copies procs (first_map copies); served = tt }

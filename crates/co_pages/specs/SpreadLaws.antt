@@ -3,7 +3,7 @@ use Rattle.std.specs.Prelude.{◌≡◌, ℕ, zero, suc, ◌%◌, ◌<◌, IsTru
 use Rattle.std.proofs.Common.{arith, sym, ap, subst, ◌∙◌, mod-lt}
 use Rattle.std.specs.FinMap as finite
 use Rattle.k42_kinds.specs.declared.operation.Op.{Op}
-use Rattle.k42_kinds.specs.declared.operation.Op.TheVariants.{Add, Get, Drain, Bind, Find, Unbind, Size, Write, Read, Dirty, Clean}
+use Rattle.k42_kinds.specs.declared.operation.Op.TheVariants.{Add, Get, Drain, Bind, Find, Unbind, Size, Write, Read, Dirty, Clean, Seen}
 use Rattle.k42_kinds.specs.declared.operation.Reply.TheVariants.{Done, Number}
 use Rattle.k42_kinds.specs.declared.entry.Reach.TheVariants.{One, All}
 use Rattle.k42_kinds.specs.Pages.{written}
@@ -75,6 +75,7 @@ spread_steps_all procs row (Bind key number) some takes whole = cc takes
 spread_steps_all procs row (Find key) some takes whole = cc takes
 spread_steps_all procs row (Unbind key) some takes whole = cc takes
 spread_steps_all procs row Size some takes whole = cc takes
+spread_steps_all procs row Seen some takes whole = cc takes
 
 pub spread_steps : (procs proc : ℕ) (row : List CellPlaces) (op : Op) → proc < procs → IsTrue (pages_object.takes op) → IsSpread procs row → StepsRow pages_object spread (IsSpread procs) row op (spread_reach procs op proc)
 spread_steps procs proc row (Write number text) there takes whole = spread_writes procs row (omega (arith, there)) whole number text
@@ -88,6 +89,7 @@ spread_steps procs proc row (Bind key number) there takes whole = cc takes
 spread_steps procs proc row (Find key) there takes whole = cc takes
 spread_steps procs proc row (Unbind key) there takes whole = cc takes
 spread_steps procs proc row Size there takes whole = cc takes
+spread_steps procs proc row Seen there takes whole = cc takes
 
 pub spread_reaches : (procs proc : ℕ) (op : Op) → proc < procs → IsTrue (pages_object.takes op) → IsWithin procs (spread_reach procs op proc)
 spread_reaches procs proc (Write number text) there takes = mod-lt number (omega (arith, there))
@@ -101,6 +103,7 @@ spread_reaches procs proc (Bind key number) there takes = cc takes
 spread_reaches procs proc (Find key) there takes = cc takes
 spread_reaches procs proc (Unbind key) there takes = cc takes
 spread_reaches procs proc Size there takes = cc takes
+spread_reaches procs proc Seen there takes = cc takes
 
 pub spread_stands : (procs : ℕ) (row : List CellPlaces) → IsSpread procs row → StandsFor spread IsAny 1 procs row
 spread_stands procs row whole = record { sized = length-spread procs row whole; served = tt }

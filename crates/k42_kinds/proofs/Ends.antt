@@ -1,5 +1,5 @@
 -- The test whether an object was destroyed, and the state that says so.
-use Rattle.std.proofs.Common.{◌≡◌, ◌≢◌, true, false, IsTrue, refl}
+use Rattle.std.proofs.Common.{◌≡◌, ◌≢◌, true, false, IsTrue, Some, refl}
 use Rattle.k42_kinds.specs.declared.operation.KindName.{KindName}
 use Rattle.k42_kinds.specs.declared.operation.KindName.TheVariants as kinds
 use Rattle.k42_kinds.specs.declared.operation.Op.{Op}
@@ -32,5 +32,5 @@ same_kind-itself kinds.Directory = refl
 same_kind-itself kinds.Pages = refl
 
 -- an operation of the object's kind is one that it takes
-pub takes_own : (kind : KindName) (op : Op) → kind_of_op op ≡ kind → IsTrue (takes_operation kind op)
+pub takes_own : (kind : KindName) (op : Op) → kind_of_op op ≡ Some kind → IsTrue (takes_operation kind op)
 takes_own kind op own = rw (own, same_kind-itself kind) refl

@@ -5,7 +5,7 @@ use Rattle.k42_kinds.specs.declared.operation.Op.TheVariants.{Get}
 use Rattle.k42_kinds.specs.declared.operation.Reply.TheVariants as replies
 use Rattle.k42_kinds.specs.declared.entry.Act.TheVariants.{Call, Swap}
 use Rattle.k42_kinds.specs.declared.entry.To.{To}
-use Rattle.k42_kinds.specs.declared.entry.To.TheVariants.{Layout, Dead}
+use Rattle.k42_kinds.specs.declared.entry.To.TheVariants.{Layout, Dead, Watch, Unwatch}
 use Rattle.k42_kinds.specs.declared.entry.Answer.TheVariants.{Replied, Swapped, Busy, Spent, Gone, Abandoned}
 use Rattle.k42_kinds.specs.declared.entry.Entry.{Entry}
 use Rattle.k42_kinds.specs.Histories.{implementation_of}
@@ -44,3 +44,10 @@ swapped_elsewhere = record { kept = refl }
 -- a destroy that was carried out leaves no live one
 destroyed : IsKept (swapped ∷ line 2 0 1 1 (Swap Dead) (Swapped 2) ∷ line 3 0 2 2 (Swap (Layout Shared)) Gone ∷ []) Dead
 destroyed = record { kept = refl }
+
+-- a watch and an unwatch leave the implementation, live or not
+watched : IsKept (swapped ∷ line 2 0 1 1 (Swap Watch) (Swapped 2) ∷ line 3 0 2 2 (Swap Unwatch) (Swapped 3) ∷ []) (Layout Spread)
+watched = record { kept = refl }
+
+watched_as_declared : IsKept (line 1 0 0 0 (Swap Watch) (Swapped 1) ∷ []) (Layout Shared)
+watched_as_declared = record { kept = refl }

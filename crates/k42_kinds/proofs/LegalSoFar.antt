@@ -12,7 +12,7 @@ use Rattle.k42_kinds.specs.declared.entry.Answer.{Answer}
 use Rattle.k42_kinds.specs.declared.entry.Answer.TheVariants.{Replied, Swapped, Busy, Spent, Gone, Abandoned}
 use Rattle.k42_kinds.specs.declared.entry.Entry.{Entry}
 use Rattle.k42_kinds.specs.OneThread.{OneThread}
-use Rattle.k42_kinds.specs.Objects.{plain_object}
+use Rattle.k42_kinds.specs.Watched.{watched_object}
 use Rattle.k42_kinds.specs.Legal.{IsLegalAnswerOf, IsLegalActOf, IsLegalHistoryOf, IsAnswerSoFar, IsActSoFar, IsSoFarAmongObjects, IsLegalSoFar}
 use Rattle.k42_kinds.proofs.Splits.{each_split}
 use Rattle.k42_kinds.proofs.ExampleLines.{line}
@@ -46,20 +46,20 @@ legal_so_far object_of declarations history legal = record {
 abbrev refused : List Entry
 refused = line 1 0 0 0 (Call (Add 5)) (Replied replies.Done) ∷ line 2 0 1 0 (Swap (Layout Spread)) (Busy 1) ∷ []
 
-refused_so_far : IsLegalSoFar plain_object (kinds.Counter ∷ []) refused
+refused_so_far : IsLegalSoFar watched_object (kinds.Counter ∷ []) refused
 refused_so_far = record {
   numbered = each_split (λ before entry after. entry.stamp ≡ length before + 1) [] refused (search arith);
-  legal = each_split (IsSoFarAmongObjects plain_object (kinds.Counter ∷ [])) [] refused (search arith);
+  legal = each_split (IsSoFarAmongObjects watched_object (kinds.Counter ∷ [])) [] refused (search arith);
 }
 
 -- a wrong reply is not legal so far
 abbrev misread : Entry
 misread = line 1 0 0 0 (Call Get) (Replied (replies.Number 6))
 
-wrong_call : (kind : KindName) → ◌≡◌ {A = Option KindName} (Some kinds.Counter) (Some kind) → IsActSoFar (plain_object kind) [] misread (Call Get) → ⊥
+wrong_call : (kind : KindName) → ◌≡◌ {A = Option KindName} (Some kinds.Counter) (Some kind) → IsActSoFar (watched_object kind) [] misread (Call Get) → ⊥
 wrong_call kinds.Counter declared legal = grind arith
 wrong_call kinds.Directory declared legal = cc declared
 wrong_call kinds.Pages declared legal = cc declared
 
-wrong_reply : IsLegalSoFar plain_object (kinds.Counter ∷ []) (misread ∷ []) → ⊥
+wrong_reply : IsLegalSoFar watched_object (kinds.Counter ∷ []) (misread ∷ []) → ⊥
 wrong_reply history = let here = history.legal [] misread [] refl in wrong_call here.kind here.declared here.legal

@@ -9,6 +9,9 @@ pub mod LegalSoFar
 pub mod RowSteps
 pub mod RefusedHistories
 mod RefusedAnswers
+pub mod FiguresTold
+mod ExampleFigures
+mod WatchedHistories
 pub mod Implementations
 pub mod SeenMaps
 pub mod FiniteMaps

@@ -8,14 +8,14 @@ use Rattle.k42_kinds.specs.declared.operation.KindName.{KindName}
 use Rattle.k42_kinds.specs.declared.entry.Entry.{Entry}
 use Rattle.k42_kinds.specs.Histories.{state_of, moved_by, state_in, state_moved_by, number_of, is_carried_out_on, entries_of, unstamped, IsInOrder}
 use Rattle.k42_kinds.specs.OneThread.{OneThread}
-use Rattle.k42_kinds.specs.Objects.{plain_object}
+use Rattle.k42_kinds.specs.Watched.{watched_object}
 use Rattle.k42_kinds.proofs.Splits.{each_split-push}
 
 pub state_in-push : {S : Type 0} (object : OneThread S) (number : ℕ) (history : List Entry) (last : Entry) → state_in object number (history ++ last ∷ []) ≡ state_moved_by object number (state_in object number history) last
 state_in-push object number history last = fold-append (state_moved_by object number) object.start history (last ∷ [])
 
 pub state_of-push : (kind : KindName) (object : ℕ) (history : List Entry) (last : Entry) → state_of kind object (history ++ last ∷ []) ≡ moved_by kind object (state_of kind object history) last
-state_of-push kind object history last = state_in-push (plain_object kind) object history last
+state_of-push kind object history last = state_in-push (watched_object kind) object history last
 
 pub number_of-push : (object : ℕ) (history : List Entry) (last : Entry) → number_of object (history ++ last ∷ []) ≡ number_of object history + cond (is_carried_out_on object last) 1 0
 number_of-push object history last = omega (arith, sum_by-append (λ entry. cond (is_carried_out_on object entry) 1 0) history (last ∷ []))

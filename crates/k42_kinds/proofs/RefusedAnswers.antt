@@ -11,7 +11,7 @@ use Rattle.k42_kinds.specs.declared.entry.Act.TheVariants.{Call, Swap}
 use Rattle.k42_kinds.specs.declared.entry.To.TheVariants.{Layout, Dead}
 use Rattle.k42_kinds.specs.declared.entry.Answer.TheVariants.{Replied, Swapped, Busy, Spent, Gone, Abandoned}
 use Rattle.k42_kinds.specs.declared.entry.Entry.{Entry}
-use Rattle.k42_kinds.specs.Objects.{plain_object}
+use Rattle.k42_kinds.specs.Watched.{watched_object}
 use Rattle.k42_kinds.specs.Histories.{number_of}
 use Rattle.k42_kinds.specs.Legal.{IsLegalHistory, IsLegal, IsLegalRefusal, IsRival, IsActSoFar, IsLegalSoFar}
 use Rattle.k42_kinds.proofs.Splits.{none-Any}
@@ -134,7 +134,7 @@ undeclared_object history = undeclared (history.legal [] (on 1 (line 1 0 0 0 (Ca
 
 -- the entry of a counter is not legal so far behind these
 abbrev IsIllegalSoFar : List Entry → Entry → Type 0
-IsIllegalSoFar before entry = IsActSoFar (plain_object kinds.Counter) before entry entry.act → ⊥
+IsIllegalSoFar before entry = IsActSoFar (watched_object kinds.Counter) before entry entry.act → ⊥
 
 call_answered_as_swap_so_far : IsIllegalSoFar [] (line 1 0 0 0 (Call Get) (Swapped 1))
 call_answered_as_swap_so_far legal = grind arith
@@ -151,8 +151,8 @@ spent_too_early_so_far legal = grind (arith, legal.spent)
 gone_while_alive_so_far : IsIllegalSoFar [] (line 1 0 0 0 destroy Gone)
 gone_while_alive_so_far legal = grind arith
 
-undeclared_object_so_far : IsLegalSoFar plain_object (kinds.Counter ∷ []) (on 1 (line 1 0 0 0 (Call Get) (Replied (Number 0))) ∷ []) → ⊥
+undeclared_object_so_far : IsLegalSoFar watched_object (kinds.Counter ∷ []) (on 1 (line 1 0 0 0 (Call Get) (Replied (Number 0))) ∷ []) → ⊥
 undeclared_object_so_far history = undeclared (history.legal [] (on 1 (line 1 0 0 0 (Call Get) (Replied (Number 0)))) [] refl).declared
 
-wrong_stamp_so_far : IsLegalSoFar plain_object (kinds.Counter ∷ []) (line 0 0 0 0 (Call Get) (Replied (Number 0)) ∷ []) → ⊥
+wrong_stamp_so_far : IsLegalSoFar watched_object (kinds.Counter ∷ []) (line 0 0 0 0 (Call Get) (Replied (Number 0)) ∷ []) → ⊥
 wrong_stamp_so_far history = let stamp = history.numbered [] (line 0 0 0 0 (Call Get) (Replied (Number 0))) [] refl in grind arith

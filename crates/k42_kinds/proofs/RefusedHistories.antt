@@ -104,8 +104,8 @@ swapped_when_dead : IsRefused (line 1 0 0 0 (Swap Dead) (Swapped 1) ∷ []) (lin
 swapped_when_dead = illegal refl (λ legal. grind arith)
 
 -- a dead object is never spent, however many swaps it went through
-spent_when_dead : (before : List Entry) (entry : Entry) → state_of Counter entry.object before ≡ states.Dead → IsLegallySpent Counter before entry → ⊥
-spent_when_dead before entry dead legal = not_dead (state_of Counter entry.object before) legal.alive dead
+spent_when_dead : (before : List Entry) (entry : Entry) → (state_of Counter entry.object before).inner ≡ states.Dead → IsLegallySpent Counter before entry → ⊥
+spent_when_dead before entry dead legal = not_dead (state_of Counter entry.object before).inner legal.alive dead
 
 -- a dead object too takes the operations of its kind alone
 call_of_another_kind : IsRefused (line 1 0 0 0 (Swap Dead) (Swapped 1) ∷ []) (line 2 0 1 1 (Call Size) (Replied replies.Gone)) []

@@ -4,15 +4,16 @@ use Rattle.std.specs.List.{filter_map}
 use Rattle.k42_kinds.specs.declared.operation.KindName.{KindName}
 use Rattle.k42_kinds.specs.declared.operation.LayoutName.{LayoutName}
 use Rattle.k42_kinds.specs.declared.states.AnyState.{AnyState}
+use Rattle.k42_kinds.specs.declared.watch.WatchState.{WatchState}
 use Rattle.k42_kinds.specs.declared.entry.Act.{Act}
 use Rattle.k42_kinds.specs.declared.entry.Act.TheVariants.{Call, Swap}
 use Rattle.k42_kinds.specs.declared.entry.To.{To}
-use Rattle.k42_kinds.specs.declared.entry.To.TheVariants.{Layout}
+use Rattle.k42_kinds.specs.declared.entry.To.TheVariants.{Layout, Dead, Watch, Unwatch}
 use Rattle.k42_kinds.specs.declared.entry.Answer.{Answer}
 use Rattle.k42_kinds.specs.declared.entry.Answer.TheVariants.{Swapped}
 use Rattle.k42_kinds.specs.declared.entry.Entry.{Entry}
 use Rattle.k42_kinds.specs.OneThread.{OneThread}
-use Rattle.k42_kinds.specs.Objects.{plain_object}
+use Rattle.k42_kinds.specs.Watched.{watched_object}
 
 -- what is said of an entry, the entries before it and those after it holds at each place of the
 -- list
@@ -51,15 +52,15 @@ state_moved_by object number state entry =
 abbrev pub state_in : {S : Type 0} → OneThread S → ℕ → List Entry → S
 state_in object number history = fold (state_moved_by object number) object.start history
 
--- the same of plain objects
-abbrev pub state_after_act : KindName → AnyState → Act → Answer → AnyState
-state_after_act kind = state_moved (plain_object kind)
+-- the same of the objects of the three kinds, which can be watched
+abbrev pub state_after_act : KindName → WatchState AnyState → Act → Answer → WatchState AnyState
+state_after_act kind = state_moved (watched_object kind)
 
-abbrev pub moved_by : KindName → ℕ → AnyState → Entry → AnyState
-moved_by kind = state_moved_by (plain_object kind)
+abbrev pub moved_by : KindName → ℕ → WatchState AnyState → Entry → WatchState AnyState
+moved_by kind = state_moved_by (watched_object kind)
 
-abbrev pub state_of : KindName → ℕ → List Entry → AnyState
-state_of kind = state_in (plain_object kind)
+abbrev pub state_of : KindName → ℕ → List Entry → WatchState AnyState
+state_of kind = state_in (watched_object kind)
 
 -- whether the entry is a swap of the object that was carried out
 abbrev pub is_carried_out_on : ℕ → Entry → Bool
@@ -69,10 +70,13 @@ is_carried_out_on object entry = (entry.object == object) && is_carried_out entr
 abbrev pub number_of : ℕ → List Entry → ℕ
 number_of object history = count_by (is_carried_out_on object) history
 
--- how an act asks that the object be kept; a call asks for nothing
+-- how an act asks that the object be kept; a call, a watch and an unwatch ask for nothing
 abbrev pub asked_for : Act → Option To
 asked_for (Call op) = None
-asked_for (Swap to) = Some to
+asked_for (Swap (Layout layout)) = Some (Layout layout)
+asked_for (Swap Dead) = Some Dead
+asked_for (Swap Watch) = None
+asked_for (Swap Unwatch) = None
 
 -- what the swaps of the object that were carried out asked for, in their order
 abbrev pub implementations_of : ℕ → List Entry → List To

@@ -10,7 +10,7 @@ use Rattle.k42_kinds.specs.declared.entry.Answer.{Answer}
 use Rattle.k42_kinds.specs.declared.entry.Answer.TheVariants.{Replied, Swapped, Busy, Spent, Gone, Abandoned}
 use Rattle.k42_kinds.specs.declared.entry.Entry.{Entry}
 use Rattle.k42_kinds.specs.OneThread.{OneThread}
-use Rattle.k42_kinds.specs.Objects.{plain_object}
+use Rattle.k42_kinds.specs.Watched.{watched_object}
 use Rattle.k42_kinds.specs.Histories.{AtEachPlace, IsNumbered, state_in, number_of}
 
 -- A call of an operation that the object takes is legal where it has the reply that the object of
@@ -156,34 +156,34 @@ pub record IsLegalSoFar
   pub numbered : IsNumbered history
   pub legal : AtEachPlace (IsSoFarAmongObjects object_of declarations) history
 
--- The same of the plain objects of the three kinds.
+-- The same of the objects of the three kinds, which can be watched.
 abbrev pub IsLegalCall : KindName → List Entry → Entry → Op → Type 0
-IsLegalCall kind = IsLegalCallOf (plain_object kind)
+IsLegalCall kind = IsLegalCallOf (watched_object kind)
 
 abbrev pub IsAlive : KindName → ℕ → List Entry → Type 0
-IsAlive kind number before = is_ended_in (plain_object kind) number before ≡ false
+IsAlive kind number before = is_ended_in (watched_object kind) number before ≡ false
 
 abbrev pub IsLegalSwap : KindName → List Entry → Entry → ℕ → Type 0
-IsLegalSwap kind = IsLegalSwapOf (plain_object kind)
+IsLegalSwap kind = IsLegalSwapOf (watched_object kind)
 
 abbrev pub IsLegallySpent : KindName → List Entry → Entry → Type 0
-IsLegallySpent kind = IsLegallySpentOf (plain_object kind)
+IsLegallySpent kind = IsLegallySpentOf (watched_object kind)
 
 abbrev pub IsLegallyGone : KindName → List Entry → Entry → Type 0
-IsLegallyGone kind = IsLegallyGoneOf (plain_object kind)
+IsLegallyGone kind = IsLegallyGoneOf (watched_object kind)
 
 abbrev pub IsLegalAnswer : KindName → List Entry → Entry → List Entry → Answer → Type 0
-IsLegalAnswer kind = IsLegalAnswerOf (plain_object kind)
+IsLegalAnswer kind = IsLegalAnswerOf (watched_object kind)
 
 abbrev pub IsLegalAct : KindName → List Entry → Entry → List Entry → Act → Type 0
-IsLegalAct kind = IsLegalActOf (plain_object kind)
+IsLegalAct kind = IsLegalActOf (watched_object kind)
 
 -- an entry is legal between the entries before it and those after it, by its act and its answer
 abbrev pub IsLegal : KindName → List Entry → Entry → List Entry → Type 0
 IsLegal kind before entry after = IsLegalAct kind before entry after entry.act
 
 abbrev pub IsLegalAmong : List KindName → List Entry → Entry → List Entry → Type 0
-IsLegalAmong = IsLegalAmongObjects plain_object
+IsLegalAmong = IsLegalAmongObjects watched_object
 
 abbrev pub IsLegalHistory : List KindName → List Entry → Type 0
-IsLegalHistory = IsLegalHistoryOf plain_object
+IsLegalHistory = IsLegalHistoryOf watched_object

@@ -7,6 +7,8 @@ pub mod Objects
 pub mod Steps
 pub mod Histories
 pub mod Legal
+pub mod Watched
+pub mod Figures
 pub mod Rows
 pub mod LayoutLaws
 pub mod LastAmount

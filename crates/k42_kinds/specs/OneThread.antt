@@ -3,7 +3,7 @@ use Rattle.std.specs.Prelude.{Bool}
 use Rattle.k42_kinds.specs.declared.operation.Op.{Op}
 use Rattle.k42_kinds.specs.declared.operation.Reply.{Reply}
 use Rattle.k42_kinds.specs.declared.entry.To.{To}
-use Rattle.k42_kinds.specs.declared.entry.To.TheVariants.{Layout, Dead}
+use Rattle.k42_kinds.specs.declared.entry.To.TheVariants.{Layout, Dead, Watch, Unwatch}
 
 pub record OneThread (S : Type 0) : Type 0 where
   -- the state before the first operation
@@ -17,7 +17,9 @@ pub record OneThread (S : Type 0) : Type 0 where
   pub swapped : S → To → S
   pub is_ended : S → Bool
 
--- A swap to a layout leaves the state, and a destroy leaves this one.
+-- A destroy leaves this state, and any other swap the state that was.
 abbrev pub ends_as : {S : Type 0} → S → S → To → S
 ends_as ended state (Layout layout) = state
 ends_as ended state Dead = ended
+ends_as ended state Watch = state
+ends_as ended state Unwatch = state

@@ -1,23 +1,24 @@
 -- Which operation belongs to which kind of object.
-use Rattle.std.specs.Prelude.{Bool, true, false}
+use Rattle.std.specs.Prelude.{Bool, true, false, Option, Some, None}
 use Rattle.k42_kinds.specs.declared.operation.KindName.{KindName}
 use Rattle.k42_kinds.specs.declared.operation.KindName.TheVariants as kinds
 use Rattle.k42_kinds.specs.declared.operation.Op.{Op}
-use Rattle.k42_kinds.specs.declared.operation.Op.TheVariants.{Add, Get, Drain, Bind, Find, Unbind, Size, Write, Read, Dirty, Clean}
+use Rattle.k42_kinds.specs.declared.operation.Op.TheVariants.{Add, Get, Drain, Bind, Find, Unbind, Size, Write, Read, Dirty, Clean, Seen}
 
--- the kind to which the operation belongs
-abbrev pub kind_of_op : Op → KindName
-kind_of_op (Add amount) = kinds.Counter
-kind_of_op Get = kinds.Counter
-kind_of_op Drain = kinds.Counter
-kind_of_op (Bind key number) = kinds.Directory
-kind_of_op (Find key) = kinds.Directory
-kind_of_op (Unbind key) = kinds.Directory
-kind_of_op Size = kinds.Directory
-kind_of_op (Write page text) = kinds.Pages
-kind_of_op (Read page) = kinds.Pages
-kind_of_op Dirty = kinds.Pages
-kind_of_op Clean = kinds.Pages
+-- the kind to which the operation belongs; what asks for a count belongs to none of them
+abbrev pub kind_of_op : Op → Option KindName
+kind_of_op (Add amount) = Some kinds.Counter
+kind_of_op Get = Some kinds.Counter
+kind_of_op Drain = Some kinds.Counter
+kind_of_op (Bind key number) = Some kinds.Directory
+kind_of_op (Find key) = Some kinds.Directory
+kind_of_op (Unbind key) = Some kinds.Directory
+kind_of_op Size = Some kinds.Directory
+kind_of_op (Write page text) = Some kinds.Pages
+kind_of_op (Read page) = Some kinds.Pages
+kind_of_op Dirty = Some kinds.Pages
+kind_of_op Clean = Some kinds.Pages
+kind_of_op Seen = None
 
 -- whether two kinds are one
 abbrev pub same_kind : KindName → KindName → Bool
@@ -26,6 +27,11 @@ same_kind kinds.Directory kinds.Directory = true
 same_kind kinds.Pages kinds.Pages = true
 same_kind _ _ = false
 
+-- whether that kind is this one
+abbrev pub is_kind : KindName → Option KindName → Bool
+is_kind kind (Some own) = same_kind own kind
+is_kind kind None = false
+
 -- an object takes the operations of its kind
 abbrev pub takes_operation : KindName → Op → Bool
-takes_operation kind op = same_kind (kind_of_op op) kind
+takes_operation kind op = is_kind kind (kind_of_op op)

@@ -11,20 +11,24 @@ pub enum Act {
     Swap(To),
 }
 
-/// How an object is to be kept: in a layout, or dead. A swap to `Dead` is a destroy.
+/// How an object is to be kept: in a layout, or dead. A swap to `Dead` is a destroy. One to `Watch`
+/// or `Unwatch` keeps the layout, and places a layer that counts calls round it, or takes it away.
+/// All of them are swaps, and counted as such.
 #[derive(Clone, Copy, Debug, PartialEq, Eq)]
 pub enum To {
     Layout(LayoutName),
     Dead,
+    Watch,
+    Unwatch,
 }
 
-/// How an act was answered. The number of `Swapped`, `Busy` and `Abandoned` counts the swaps and
-/// destroys of the object from 1.
+/// How an act was answered. The number of `Swapped`, `Busy` and `Abandoned` counts the swaps of the
+/// object from 1.
 #[derive(Clone, Copy, Debug, PartialEq, Eq)]
 pub enum Answer {
     /// What the object replied to a call.
     Replied(Reply),
-    /// The swap or destroy was carried out, as number so many of its object.
+    /// The swap was carried out, as number so many of its object.
     Swapped(u32),
     /// Another caller's swap of this number was under way.
     Busy(u32),
@@ -47,8 +51,8 @@ pub struct Entry {
     pub index: u32,
     /// Which object, counted from 0.
     pub object: u32,
-    /// How many swaps and destroys of the object were carried out before it; where another's swap
-    /// refused it, before that one.
+    /// How many swaps of the object were carried out before it; where another's swap refused it,
+    /// before that one.
     pub incarnation: u32,
     /// The number of the first cell, a place for a representative, that its stamp was drawn at; 0
     /// where it was drawn at none.
@@ -57,7 +61,7 @@ pub struct Entry {
     pub answer: Answer,
     /// The caller's processor.
     pub proc: u32,
-    /// The generation of the caller's activity; `None` for swaps and destroys.
+    /// The generation of the caller's activity; `None` for swaps.
     pub generation: Option<u32>,
 }
 

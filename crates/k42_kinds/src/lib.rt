@@ -4,6 +4,7 @@
 mod counter;
 mod directory;
 mod entry;
+mod figures;
 mod kind;
 mod layout;
 mod name;
@@ -14,10 +15,12 @@ mod plain;
 mod row;
 mod states;
 mod text;
+mod watch;
 
 pub use counter::step_counter;
 pub use directory::{DirectoryState, step_directory};
 pub use entry::{Act, Answer, Entry, Reach, To};
+pub use figures::what_is_told_is_the_figure;
 pub use kind::Kind;
 pub use layout::Layout;
 pub use name::Name;
@@ -28,3 +31,4 @@ pub use plain::Plain;
 pub use row::{empty_row, step_row};
 pub use states::AnyState;
 pub use text::Text;
+pub use watch::{WatchState, counted, is_seen, told};

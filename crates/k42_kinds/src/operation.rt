@@ -34,6 +34,9 @@ pub enum Op {
     Read(u16),
     Dirty,
     Clean,
+    /// How many calls the layer round the object has counted. It belongs to no kind, and is taken by
+    /// every object that can be watched.
+    Seen,
 }
 
 /// What an operation is answered with.
@@ -48,13 +51,14 @@ pub enum Reply {
     Gone,
 }
 
-/// The kind to which the operation belongs.
-pub fn kind_of(op: &Op) -> KindName
+/// The kind to which the operation belongs; `None` for `Seen`.
+pub fn kind_of(op: &Op) -> Option<KindName>
     ensures { result ≡ kind_of_op op.now }
 {
     match op {
-        Op::Add(_) | Op::Get | Op::Drain => KindName::Counter,
-        Op::Bind(_, _) | Op::Find(_) | Op::Unbind(_) | Op::Size => KindName::Directory,
-        Op::Write(_, _) | Op::Read(_) | Op::Dirty | Op::Clean => KindName::Pages,
+        Op::Add(_) | Op::Get | Op::Drain => Some(KindName::Counter),
+        Op::Bind(_, _) | Op::Find(_) | Op::Unbind(_) | Op::Size => Some(KindName::Directory),
+        Op::Write(_, _) | Op::Read(_) | Op::Dirty | Op::Clean => Some(KindName::Pages),
+        Op::Seen => None,
     }
 }

@@ -15,7 +15,7 @@ fn follow(
     steps: &[(Op, Reply)],
 ) -> Result<(), Memory> {
     for (op, reply) in steps {
-        assert!(rt; kind_of(op) == plain.kind);
+        assert!(rt; kind_of(op) == Some(plain.kind));
         let replied = plain.step(alloc, state, op)?;
         assert!(rt; replied == *reply, "{op:?} gave {replied:?}");
     }

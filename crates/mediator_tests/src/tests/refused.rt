@@ -32,7 +32,7 @@ fn step(
     ensures serving { OnOk result (IsServing pass.new.view) }
 {
     let inside = pass.inside();
-    assert!(rt; inside.object < sys.objects() && kind_of(op) == KindName::Counter);
+    assert!(rt; inside.object < sys.objects() && kind_of(op) == Some(KindName::Counter));
     let layout = sys.declared(inside.object).with_tag(inside.layout);
     step_at(alloc, sys, pass, &layout, &inside, op)
 }

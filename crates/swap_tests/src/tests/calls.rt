@@ -194,7 +194,7 @@ pub(super) fn step(
         return Ok(None);
     }
     let declared = sys.declared(inside.object);
-    if kind_of(op) != declared.kind {
+    if kind_of(op) != Some(declared.kind) {
         return Ok(None);
     }
     let layout = declared.with_tag(inside.layout);

@@ -107,7 +107,7 @@ fn try_step(
     let inside = pass.inside();
     assert!(rt; inside.object < sys.objects());
     let declared = sys.declared(inside.object);
-    assert!(rt; kind_of(op) == declared.kind);
+    assert!(rt; kind_of(op) == Some(declared.kind));
     let layout = declared.with_tag(inside.layout);
     step_at(rt, alloc, sys, pass, &layout, &inside, op)
 }

@@ -1,0 +1,4 @@
+pub mod Bare
+pub mod WatchedRows
+pub mod CountLaws
+pub mod WatchLaws

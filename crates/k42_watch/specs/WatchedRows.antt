@@ -1,0 +1,122 @@
+-- Rows of parts that count, and what a watched layout does with them.
+use Rattle.std.specs.Prelude.{◌≡◌, ℕ, ◌+◌, ◌%◌, ◌^◌, ◌<◌, ◌==◌, ◌⊎◌, if◌then◌else◌, List, [], ◌∷◌, map, Option, Some, None}
+use Rattle.std.specs.List.{AllByRecursion}
+use Rattle.k42_kinds.specs.Rows.{Ways, changed_at}
+use Rattle.k42_kinds.specs.Watched.{is_seen, counted, told, watch_state}
+use Rattle.k42_kinds.specs.declared.entry.Reach.{Reach}
+use Rattle.k42_kinds.specs.declared.entry.Reach.TheVariants.{One, All}
+use Rattle.k42_kinds.specs.declared.entry.Act.{Act}
+use Rattle.k42_kinds.specs.declared.entry.Act.TheVariants.{Swap}
+use Rattle.k42_kinds.specs.declared.entry.To.TheVariants as tos
+use Rattle.k42_kinds.specs.declared.watch.WatchState.{WatchState}
+use Rattle.k42_watch.specs.declared.watch.Layer.{Layer}
+use Rattle.k42_watch.specs.declared.watch.Layer.TheVariants.{Keep, Place, Take}
+use Rattle.k42_watch.specs.declared.watch.WatchPart.{WatchPart}
+
+abbrev pub watch_part : {P : Type 0} → P → Option ℕ → WatchPart P
+watch_part inner seen = record { inner = inner; seen = seen }
+
+-- what the parts are within, and what each has counted
+abbrev pub inners : {P : Type 0} → List (WatchPart P) → List P
+inners row = map (λ part. part.inner) row
+
+abbrev pub seens : {P : Type 0} → List (WatchPart P) → List (Option ℕ)
+seens row = map (λ part. part.seen) row
+
+abbrev pub total : List (Option ℕ) → ℕ
+total [] = 0
+total (Some count ∷ rest) = count + total rest
+total (None ∷ rest) = total rest
+
+-- what all parts have counted together, where the first one counts
+abbrev pub count_of : List (Option ℕ) → Option ℕ
+count_of [] = None
+count_of (None ∷ rest) = None
+count_of (Some count ∷ rest) = Some (total (Some count ∷ rest) % 2 ^ 64)
+
+abbrev pub Counts : Option ℕ → Type 0
+Counts (Some count) = Unit {0}
+Counts None = ⊥
+
+abbrev pub CountsNot : Option ℕ → Type 0
+CountsNot (Some count) = ⊥
+CountsNot None = Unit {0}
+
+-- a count is one of 64 bits
+abbrev pub IsSmall : Option ℕ → Type 0
+IsSmall (Some count) = count < 2 ^ 64
+IsSmall None = Unit {0}
+
+-- all count, or none does
+abbrev pub AreAlike : List (Option ℕ) → Type 0
+AreAlike seen = AllByRecursion CountsNot seen ⊎ AllByRecursion Counts seen
+
+-- parts that are put together again, each with its count
+abbrev pub rejoined : {P : Type 0} → List P → List (Option ℕ) → List (WatchPart P)
+rejoined [] seen = []
+rejoined (part ∷ parts) [] = watch_part part None ∷ rejoined parts []
+rejoined (part ∷ parts) (one ∷ seen) = watch_part part one ∷ rejoined parts seen
+
+-- where one part has the count, the others count from 0
+abbrev pub from_zero : Option ℕ → Option ℕ
+from_zero (Some count) = Some 0
+from_zero None = None
+
+-- the count goes to the first part
+abbrev pub shared_out : {P : Type 0} → Option ℕ → List P → List (WatchPart P)
+shared_out seen [] = []
+shared_out seen (part ∷ parts) = watch_part part seen ∷ shared_out (from_zero seen) parts
+
+-- the count of a spread object is asked at all cells
+abbrev pub seen_reach : ℕ → Reach
+seen_reach tag = if tag == 1 then All else One 0
+
+-- The layer answers `seen` by itself. It counts every other operation at the cell that it needs, and
+-- an operation at all cells at the first.
+abbrev pub watched_ways : {S P : Type 0} → ℕ → Ways S P → Ways (WatchState S) (WatchPart P)
+watched_ways tag ways = record {
+  reach = λ procs op proc. if is_seen op then seen_reach tag else ways.reach procs op proc;
+  empty = λ procs cell. watch_part (ways.empty procs cell) None;
+  part_after = λ part op.
+      if is_seen op then part else watch_part (ways.part_after part.inner op) (counted part.seen);
+  part_reply = λ part op.
+      if is_seen op then told (tag == 2) part.seen else ways.part_reply part.inner op;
+  row_after = λ row op.
+      if is_seen op then row
+      else rejoined (ways.row_after (inners row) op) (changed_at counted (seens row) 0);
+  row_reply = λ row op.
+      if is_seen op then told (tag == 2) (count_of (seens row)) else ways.row_reply (inners row) op;
+  combine = λ row. watch_state (ways.combine (inners row)) (count_of (seens row));
+  imported = λ procs state. shared_out state.seen (ways.imported procs state.inner);
+}
+
+-- within they are a row of the layout; they count alike, and in a dead row not
+pub record IsWatchedRow {P : Type 0} (tag : ℕ) (Whole : List P → Type 0) (row : List (WatchPart P)) : Type 0 where
+  pub inner : Whole (inners row)
+  pub alike : AreAlike (seens row)
+  pub small : AllByRecursion IsSmall (seens row)
+  pub dead : tag ≡ 2 → AllByRecursion CountsNot (seens row)
+
+pub record ServesWatched {S : Type 0} (tag : ℕ) (Serves : S → Type 0) (state : WatchState S) : Type 0 where
+  pub inner : Serves state.inner
+  pub small : IsSmall state.seen
+  pub dead : tag ≡ 2 → state.seen ≡ None
+
+-- the count with which a live layout starts
+abbrev pub seen_under : Layer → Option ℕ → Option ℕ
+seen_under Keep seen = seen
+seen_under Place seen = Some 0
+seen_under Take seen = None
+
+abbrev pub admitted_watched : {S : Type 0} → ℕ → Layer → (S → S) → WatchState S → WatchState S
+admitted_watched tag layer admitted state =
+    watch_state (admitted state.inner) (if tag == 2 then None else seen_under layer state.seen)
+
+-- what is asked of an object that is to be kept so: a live layout may place the layer, or take it
+abbrev pub act_under : Layer → Act → Act
+act_under Keep act = act
+act_under Place act = Swap tos.Watch
+act_under Take act = Swap tos.Unwatch
+
+abbrev pub watched_act : ℕ → Layer → Act → Act
+watched_act tag layer act = if tag == 2 then Swap tos.Dead else act_under layer act

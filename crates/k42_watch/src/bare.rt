@@ -1,0 +1,22 @@
+//! Layouts that know of no layer.
+ghost use Rattle.std.specs.Prelude.{◌≡◌, ◌≤◌};
+ghost use Rattle.k42_watch.specs.Bare.{TakesNoSeen, KeepsState, AsksByTag};
+
+use k42_kinds::Layout;
+
+/// A layout round which a layer can be placed: it places none itself.
+pub trait Bare: Layout {
+    /// Whether an object in this state is at its end.
+    fn has_ended(&self, state: &Self::State) -> bool
+        ensures { result ≡ (Self.object self.now).is_ended state.now };
+
+    /// Its object leaves the count to the layer.
+    ghost takes_no_seen: { (layout : Self) → TakesNoSeen (Self.object layout) };
+
+    /// Every swap of its object but a destroy leaves the state.
+    ghost keeps_state: { (layout : Self) → KeepsState (Self.object layout) };
+
+    /// A live layout is asked for by its name, and the dead one by a destroy.
+    ghost asks_by_tag: { (layout : Self) → Self.tag_of layout ≤ 2
+        → AsksByTag (Self.tag_of layout) (Self.act_of layout) };
+}

@@ -1,0 +1,233 @@
+//! A layout with a layer round it that counts the calls of its object.
+ghost use Rattle.std.specs.Prelude.{◌≡◌, ◌==◌, ◌≤◌, IsTrue, refl};
+ghost use Rattle.k42_kinds.specs.LayoutLaws.{IsTagged};
+ghost use Rattle.k42_kinds.specs.Watched.{is_seen, watched};
+ghost use Rattle.k42_watch.specs.WatchedRows.{inners, watched_ways, IsWatchedRow, ServesWatched, admitted_watched, watched_act};
+ghost use Rattle.k42_watch.specs.WatchLaws as laws;
+ghost use Rattle.k42_watch.specs.declared.watch.Layer.TheVariants.{Keep};
+
+use crate::bare::Bare;
+use crate::rows::{count_made, count_of, put_together, shared_out, take_apart};
+use k42_kinds::{Act, Kind, Layout, Op, Reach, Reply, To, WatchState, counted, is_seen, told};
+use k42_memory::Memory;
+use std::alloc::Global;
+use std::mem::replace;
+
+/// What a layout does with the layer of an object that comes to it alive.
+#[derive(Clone, Copy, Debug, PartialEq, Eq)]
+pub enum Layer {
+    Keep,
+    /// The count starts at 0, whatever it was.
+    Place,
+    Take,
+}
+
+/// A layout, and what it does with the layer.
+#[derive(Clone, Copy, Debug, PartialEq, Eq)]
+pub struct Watch<L> {
+    pub inner: L,
+    pub layer: Layer,
+}
+
+/// A part of the layout, and how many calls it has counted.
+#[derive(Debug, Drop)]
+pub struct WatchPart<P> {
+    pub inner: P,
+    pub seen: Option<u64>,
+}
+
+impl<L: Bare> Kind for Watch<L> {
+    type State = WatchState<L::State>;
+
+    ghost object = { λ watch. watched (L.object watch.inner) };
+
+    fn empty(&self, alloc: Global) -> WatchState<L::State> {
+        WatchState {
+            inner: self.inner.empty(alloc),
+            seen: None,
+        }
+    }
+
+    fn step(
+        &self,
+        alloc: Global,
+        state: &mut WatchState<L::State>,
+        op: &Op,
+    ) -> Result<Reply, Memory> {
+        if is_seen(op) {
+            return Ok(told(self.inner.has_ended(&state.inner), state.seen));
+        }
+        let reply = self.inner.step(alloc, &mut state.inner, op)?;
+        state.seen = counted(state.seen);
+        Ok(reply)
+    }
+}
+
+impl<L: Bare> Layout for Watch<L> {
+    type Part = WatchPart<L::Part>;
+
+    ghost tag_of = { λ watch. L.tag_of watch.inner };
+
+    ghost has_tag = { λ watch tag. L.has_tag watch.inner tag };
+
+    ghost ways = { λ watch. watched_ways (L.tag_of watch.inner) (L.ways watch.inner) };
+
+    ghost whole = { λ watch procs. IsWatchedRow (L.tag_of watch.inner) (L.whole watch.inner procs) };
+
+    ghost serves = { λ watch. ServesWatched (L.tag_of watch.inner) (L.serves watch.inner) };
+
+    ghost admitted = { λ watch. admitted_watched (L.tag_of watch.inner) watch.layer (L.admitted watch.inner) };
+
+    ghost act_of = { λ watch. watched_act (L.tag_of watch.inner) watch.layer (L.act_of watch.inner) };
+
+    fn tag(&self) -> u32 {
+        self.inner.tag()
+    }
+
+    fn with_tag(&self, tag: u32) -> Self
+        requires { IsTrue (L.has_tag self.now.inner tag) }
+        ensures tagged { IsTagged (watched (L.object result.inner)) (watched (L.object self.now.inner)) (L.tag_of result.inner) tag }
+        ensures keeps { result.layer ≡ Keep }
+    {
+        Watch {
+            inner: self.inner.with_tag(tag),
+            layer: Layer::Keep,
+        }
+    }
+
+    fn reach(&self, op: &Op, proc: u32, procs: u32) -> Reach {
+        if !is_seen(op) {
+            return self.inner.reach(op, proc, procs);
+        }
+        if self.inner.tag() == 1 {
+            Reach::All
+        } else {
+            Reach::One(0)
+        }
+    }
+
+    fn empty_part(
+        &self,
+        alloc: Global,
+        cell: u32,
+        procs: u32,
+    ) -> Result<WatchPart<L::Part>, Memory> {
+        Ok(WatchPart {
+            inner: self.inner.empty_part(alloc, cell, procs)?,
+            seen: None,
+        })
+    }
+
+    fn step_one(
+        &self,
+        alloc: Global,
+        part: &mut WatchPart<L::Part>,
+        op: &Op,
+    ) -> Result<Reply, Memory> {
+        if is_seen(op) {
+            return Ok(told(self.inner.tag() == 2, part.seen));
+        }
+        let reply = self.inner.step_one(alloc, &mut part.inner, op)?;
+        part.seen = counted(part.seen);
+        Ok(reply)
+    }
+
+    fn step_all(
+        &self,
+        alloc: Global,
+        parts: &mut Vec<WatchPart<L::Part>>,
+        op: &Op,
+    ) -> Result<Reply, Memory> {
+        if is_seen(op) {
+            return Ok(told(self.inner.tag() == 2, count_of(parts)));
+        }
+        let mut inners = Vec::with_capacity(alloc, parts.len())?;
+        let mut seens = Vec::with_capacity(alloc, parts.len())?;
+        let room = Vec::with_capacity(alloc, parts.len())?;
+        take_apart(replace(parts, room), &mut inners, &mut seens);
+        let replied = self.inner.step_all(alloc, &mut inners, op);
+        count_made(replied.is_ok(), &mut seens);
+        put_together(inners, &seens, parts);
+        replied
+    }
+
+    fn export(
+        &self,
+        alloc: Global,
+        parts: &mut Vec<WatchPart<L::Part>>,
+    ) -> Result<WatchState<L::State>, Memory> {
+        let seen = count_of(parts);
+        let mut inners = Vec::with_capacity(alloc, parts.len())?;
+        let mut seens = Vec::with_capacity(alloc, parts.len())?;
+        let room = Vec::with_capacity(alloc, parts.len())?;
+        take_apart(replace(parts, room), &mut inners, &mut seens);
+        let inner = self.inner.export(alloc, &mut inners);
+        put_together(inners, &seens, parts);
+        Ok(WatchState {
+            inner: inner?,
+            seen,
+        })
+    }
+
+    fn import(
+        &self,
+        alloc: Global,
+        state: &WatchState<L::State>,
+        procs: u32,
+    ) -> Result<Vec<WatchPart<L::Part>>, Memory> {
+        let inners = self.inner.import(alloc, &state.inner, procs)?;
+        shared_out(alloc, state.seen, inners)
+    }
+
+    fn admit(&self, state: WatchState<L::State>) -> WatchState<L::State> {
+        let seen = match self.layer {
+            _ if self.inner.tag() == 2 => None,
+            Layer::Keep => state.seen,
+            Layer::Place => Some(0),
+            Layer::Take => None,
+        };
+        WatchState {
+            inner: self.inner.admit(state.inner),
+            seen,
+        }
+    }
+
+    fn act(&self) -> Act {
+        match self.layer {
+            _ if self.inner.tag() == 2 => Act::Swap(To::Dead),
+            Layer::Keep => self.inner.act(),
+            Layer::Place => Act::Swap(To::Watch),
+            Layer::Take => Act::Swap(To::Unwatch),
+        }
+    }
+
+    ghost steps = { λ watch procs proc row op known there takes kept. laws.reached_steps (L.object watch.inner) (L.ways watch.inner) (L.whole watch.inner procs) (L.serves watch.inner) (L.tag_of watch.inner) procs (laws.some_of there)
+        (λ parts whole. L.stands watch.inner procs parts known (laws.some_of there) whole) (λ state served. L.ends watch.inner state known served) row op kept proc (is_seen op) refl takes
+        (λ own. L.steps watch.inner procs proc (inners row) op known there own kept.inner) (λ own. L.reaches watch.inner procs proc op known there own) };
+
+    ghost steps_all = { λ watch procs row op known some takes kept. laws.all_steps (L.object watch.inner) (L.ways watch.inner) (L.whole watch.inner procs) (L.serves watch.inner) (L.tag_of watch.inner) procs some
+        (λ parts whole. L.stands watch.inner procs parts known some whole) (λ state served. L.ends watch.inner state known served) row op kept (is_seen op) refl takes
+        (λ own. L.steps_all watch.inner procs (inners row) op known some own kept.inner) };
+
+    ghost reaches = { λ watch procs proc op known there takes. laws.reaches_watched (L.object watch.inner) (L.ways watch.inner) (L.tag_of watch.inner) procs proc op (is_seen op) refl (laws.some_of there)
+        (λ own. L.reaches watch.inner procs proc op known there own) takes };
+
+    ghost stands = { λ watch procs row known some kept. laws.stands_watched (L.ways watch.inner) (L.whole watch.inner procs) (L.serves watch.inner) (L.tag_of watch.inner) procs row kept (L.stands watch.inner procs (inners row) known some kept.inner) };
+
+    ghost begins = { λ watch procs known some. laws.begins_watched (L.object watch.inner) (L.ways watch.inner) (L.whole watch.inner procs) (L.tag_of watch.inner) procs (L.begins watch.inner procs known some) };
+
+    ghost imports = { λ watch procs state known some kept. laws.imports_watched (L.ways watch.inner) (L.whole watch.inner procs) (L.serves watch.inner) (L.tag_of watch.inner) procs state some kept
+        (L.imports watch.inner procs state.inner known some kept.inner) (λ parts whole. L.stands watch.inner procs parts known some whole) };
+
+    ghost ends = { λ watch state known served. L.ends watch.inner state.inner known served.inner };
+
+    ghost admits = { λ watch before state known live same kept. laws.admits_watched (L.serves watch.inner) (L.admitted watch.inner) (L.tag_of watch.inner) watch.layer state kept.small
+        (L.admits watch.inner before.inner state.inner known live (laws.inner_same (L.object before.inner) (L.object watch.inner) (L.takes_no_seen before.inner) (L.takes_no_seen watch.inner) same) kept.inner) };
+
+    ghost swaps = { λ watch state known. laws.swaps_watched (L.object watch.inner) (L.admitted watch.inner) (L.tag_of watch.inner) watch.layer (L.act_of watch.inner) state (L.keeps_state watch.inner) (L.asks_by_tag watch.inner known) (L.swaps watch.inner state.inner known) };
+
+    ghost asks = { λ watch. laws.asks_watched (L.tag_of watch.inner) watch.layer (L.act_of watch.inner) (L.asks watch.inner) };
+
+    ghost agrees = { λ watch other same tags. laws.agree_watched (L.ways watch.inner) (L.ways other.inner) (L.whole watch.inner) (L.whole other.inner) (L.serves watch.inner) (L.serves other.inner) (L.tag_of watch.inner) (L.tag_of other.inner) tags
+        (L.agrees watch.inner other.inner (laws.inner_same (L.object watch.inner) (L.object other.inner) (L.takes_no_seen watch.inner) (L.takes_no_seen other.inner) same) tags) };
+}
