@@ -1,7 +1,8 @@
 use crate::tests::crews::{Three, closed, counters};
 use crate::tests::polls::{both, stopped, swap_with, swapped, waits};
 use crate::tests::steps::{come_in, go_home, step_to};
-use k42_kinds::{Answer, LayoutName};
+use k42_crews::call_once;
+use k42_kinds::{Act, Answer, LayoutName, Op, Reply, To};
 use k42_runtime::{Cause, Swapped};
 use std::test::Fail;
 
@@ -60,11 +61,36 @@ fn a_swap_by_a_future_is_a_swap(rt: HostRuntime) -> Result<(), Fail> {
         return Err("no system")?;
     };
     let Three { zero, one, two } = crew;
-    let end = swapped(&rt, alloc, &system, one, 0, LayoutName::Spread)?;
+    let spread = To::Layout(LayoutName::Spread);
+    let end = swapped(&rt, alloc, &system, one, 0, spread)?;
     assert!(rt; end.result == Ok(Swapped::Done(1)));
     let Some(history) = closed(alloc, system, zero, end.pass, two)? else {
         return Err("no history")?;
     };
     assert_eq!(rt; history.entries().len(), 1);
+    Ok(())
+}
+
+#[test]
+fn a_watch_by_a_future_is_a_watch(rt: HostRuntime) -> Result<(), Fail> {
+    let alloc = rt.alloc();
+    let Some((system, crew)) = counters(alloc, 1)? else {
+        return Err("no system")?;
+    };
+    let Three { mut zero, one, two } = crew;
+    let end = swapped(&rt, alloc, &system, one, 0, To::Watch)?;
+    assert!(rt; end.result == Ok(Swapped::Done(1)));
+    call_once(&rt, alloc, &system, &mut zero, 0, Op::Add(5))?;
+    let seen = call_once(&rt, alloc, &system, &mut zero, 0, Op::Seen)?;
+    assert_eq!(rt; seen, Some(Reply::Number(1)));
+    let end = swapped(&rt, alloc, &system, end.pass, 0, To::Unwatch)?;
+    assert!(rt; end.result == Ok(Swapped::Done(2)));
+    let Some(history) = closed(alloc, system, zero, end.pass, two)? else {
+        return Err("no history")?;
+    };
+    let first = history.entries().first().map(|entry| entry.act);
+    assert_eq!(rt; first, Some(Act::Swap(To::Watch)));
+    let last = history.entries().last().map(|entry| entry.act);
+    assert_eq!(rt; last, Some(Act::Swap(To::Unwatch)));
     Ok(())
 }

@@ -13,7 +13,6 @@ use Rattle.k42_board.specs.Seen.{SysSeen, PassSeen}
 use Rattle.k42_rule.specs.Finishing.{AreAtRest, AreLastLists, IsPassAtRest, IsResting}
 use Rattle.k42_kinds.specs.Histories.{IsInOrder}
 use Rattle.k42_kinds.specs.Legal.{IsLegalHistoryOf}
-use Rattle.k42_kinds.specs.Objects.{plain_object}
 use Rattle.k42_joined.specs.Fitting.{lists_of}
 use Rattle.k42_joined.specs.Plain.{Joined}
 use Rattle.k42_joined.specs.Rest.{IsAtRest, IsHistoryOf}
@@ -26,7 +25,7 @@ use Rattle.turn_core.specs.Plain.{Caller}
 use Rattle.turn_core.specs.State.{fresh_caller}
 use Rattle.k42_runtime.specs.Closing.{AreNumbered, AreListsFrom}
 use Rattle.k42_runtime.specs.Histories.{IsClosed, MayClose}
-use Rattle.k42_runtime.specs.Systems.{SystemSeen, IsPlanned, any_with, layouts_in, SystemLayout, SystemPass}
+use Rattle.k42_runtime.specs.Systems.{SystemSeen, IsPlanned, any_with, layouts_in, object_in, SystemLayout, SystemPass}
 use Rattle.k42_runtime.proofs.Traces.{legal, all_placed}
 
 -- the passes at rest are numbered in order
@@ -108,7 +107,7 @@ pub closed : (system : SystemSeen) → IsPlanned system → TraceLaw system.sys.
 closed system planned law lists merged from last is = record {
   plan_is = refl;
   merged = is;
-  legal = legal system.plan merged (subst (λ declared. IsLegalHistoryOf (λ (layout : SystemLayout). plain_object layout.kind) declared merged) planned.layouts history.legal);
+  legal = legal system.plan merged (subst (λ declared. IsLegalHistoryOf object_in declared merged) planned.layouts history.legal);
   in_order = λ c list at. in_order c list at;
   no_stranger =
       subst (λ n. All (λ (entry : Entry). entry.caller < n) merged)

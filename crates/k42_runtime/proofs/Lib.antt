@@ -14,6 +14,7 @@ pub mod SwapRows
 pub mod CallStepped
 pub mod CallTaken
 pub mod CallInside
+pub mod Agreed
 pub mod CallMade
 pub mod CallWaited
 pub mod AloneLists

@@ -13,19 +13,19 @@ use Rattle.k42_board.specs.Views.{new_pass}
 use Rattle.k42_board.specs.declared.view.PassView.{PassView}
 use Rattle.k42_rule.specs.Opened.{IsOpened}
 use Rattle.k42_runtime.specs.Plans.{PlanSeen, IsSoundPlan}
-use Rattle.k42_runtime.specs.Systems.{IsPlanned, IsFirst, HasStarted, any_layouts, layout_of, layouts_of, SystemPart, SystemLayout, SystemPass}
+use Rattle.k42_runtime.specs.Systems.{IsPlanned, IsFirst, HasStarted, any_layouts, layout_of, layouts_of, tag_in, SystemPart, SystemLayout, SystemPass}
 use Rattle.k42_runtime.specs.declared.plan.ObjectPlan.{ObjectPlan}
 
 low : (layout : LayoutName) → tag_named layout ≤ 1
 low Shared = omega arith
 low Spread = omega arith
 
-live : (objects : List ObjectPlan) → EachPlace (λ o (layout : SystemLayout). layout.tag ≤ 1) (map layout_of objects)
+live : (objects : List ObjectPlan) → EachPlace (λ o (layout : SystemLayout). layout.inner.tag ≤ 1) (map layout_of objects)
 live [] o layout at = absurd (cc)
-live (object ∷ objects) zero layout at = subst (λ (l : SystemLayout). l.tag ≤ 1) (same_Some (layout_of object) layout at) (low object.layout)
+live (object ∷ objects) zero layout at = subst (λ (l : SystemLayout). l.inner.tag ≤ 1) (same_Some (layout_of object) layout at) (low object.layout)
 live (object ∷ objects) (suc o) layout at = live objects o layout at
 
-pub is_start : (plan : PlanSeen) → IsSoundPlan plan → IsStart (λ (layout : SystemLayout). layout.tag) (layouts_of plan) plan.procs plan.callers
+pub is_start : (plan : PlanSeen) → IsSoundPlan plan → IsStart tag_in (layouts_of plan) plan.procs plan.callers
 is_start plan sound = record {
   turns = sound.turns;
   some_objects = let some = sound.some_objects in let same = length-map plan.objects layout_of in omega (arith, some, same);

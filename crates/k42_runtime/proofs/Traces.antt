@@ -5,7 +5,7 @@ use Rattle.std.specs.Option.{option_map}
 use Rattle.std.proofs.lemmas.Option.{slice_get-map}
 use Rattle.k42_kinds.specs.Histories.{AtEachPlace}
 use Rattle.k42_kinds.specs.Legal.{IsSoFarAmongObjects, IsLegalAmongObjects, IsLegalHistoryOf, IsLegalHistory}
-use Rattle.k42_kinds.specs.Objects.{plain_object}
+use Rattle.k42_kinds.specs.Watched.{watched_object}
 use Rattle.k42_kinds.specs.declared.entry.Entry.{Entry}
 use Rattle.k42_kinds.specs.declared.operation.KindName.{KindName}
 use Rattle.atomic_table.specs.Table.{State}
@@ -18,42 +18,42 @@ use Rattle.k42_joined.specs.Sound.{IsSound}
 use Rattle.k42_board.specs.Cells.{Slot}
 use Rattle.k42_board.specs.Rule.{Rule}
 use Rattle.k42_board.specs.declared.view.View.{View}
-use Rattle.k42_runtime.specs.Systems.{SystemSeen, IsPlanned, any_with, layouts_in, layout_of, layouts_of, SystemPart, SystemLayout}
+use Rattle.k42_runtime.specs.Systems.{SystemSeen, IsPlanned, any_with, layouts_in, object_in, layout_of, layouts_of, SystemPart, SystemLayout}
 use Rattle.k42_runtime.specs.Plans.{PlanSeen, kinds_of}
 use Rattle.k42_runtime.specs.declared.plan.ObjectPlan.{ObjectPlan}
 
 abbrev kind_in : SystemLayout → KindName
-kind_in layout = layout.kind
+kind_in layout = layout.inner.kind
 
 kinds_in : (objects : List ObjectPlan) → map (λ (object : ObjectPlan). object.kind) objects ≡ map kind_in (map layout_of objects)
 kinds_in [] = refl
 kinds_in (object ∷ objects) = ap (λ kinds. object.kind ∷ kinds) (kinds_in objects)
 
 -- the kind of the object that a layout declares
-pub kind_at : (plan : PlanSeen) (o : ℕ) (layout : SystemLayout) → slice_get (layouts_of plan) o ≡ Some layout → slice_get (kinds_of plan) o ≡ Some layout.kind
+pub kind_at : (plan : PlanSeen) (o : ℕ) (layout : SystemLayout) → slice_get (layouts_of plan) o ≡ Some layout → slice_get (kinds_of plan) o ≡ Some (kind_in layout)
 kind_at plan o layout is =
     ap (λ kinds. slice_get kinds o) (kinds_in plan.objects) ∙ slice_get-map kind_in (layouts_of plan) o ∙ ap (option_map kind_in) is
 
 module _ (plan : PlanSeen) where
   pub so_far : (before : List Entry) (entry : Entry) (after : List Entry)
-      → IsSoFarAmongObjects (λ (layout : SystemLayout). plain_object layout.kind) (layouts_of plan) before entry after
-      → IsSoFarAmongObjects plain_object (kinds_of plan) before entry after
+      → IsSoFarAmongObjects object_in (layouts_of plan) before entry after
+      → IsSoFarAmongObjects watched_object (kinds_of plan) before entry after
   so_far before entry after is = record {
-    kind = is.kind.kind;
+    kind = kind_in is.kind;
     declared = kind_at plan entry.object is.kind is.declared;
     legal = is.legal;
   }
 
   among : (before : List Entry) (entry : Entry) (after : List Entry)
-      → IsLegalAmongObjects (λ (layout : SystemLayout). plain_object layout.kind) (layouts_of plan) before entry after
-      → IsLegalAmongObjects plain_object (kinds_of plan) before entry after
+      → IsLegalAmongObjects object_in (layouts_of plan) before entry after
+      → IsLegalAmongObjects watched_object (kinds_of plan) before entry after
   among before entry after is = record {
-    kind = is.kind.kind;
+    kind = kind_in is.kind;
     declared = kind_at plan entry.object is.kind is.declared;
     legal = is.legal;
   }
 
-  pub legal : (history : List Entry) → IsLegalHistoryOf (λ (layout : SystemLayout). plain_object layout.kind) (layouts_of plan) history → IsLegalHistory (kinds_of plan) history
+  pub legal : (history : List Entry) → IsLegalHistoryOf object_in (layouts_of plan) history → IsLegalHistory (kinds_of plan) history
   legal history is = record {
     numbered = is.numbered;
     legal = λ before entry after parts. among before entry after (is.legal before entry after parts);
@@ -61,8 +61,8 @@ module _ (plan : PlanSeen) where
 
   pub each_so_far : (merged : List Entry)
       → AtEachPlace (λ before entry after. is_drawn entry.act entry.answer ≡ true
-      → IsSoFarAmongObjects (λ (layout : SystemLayout). plain_object layout.kind) (layouts_of plan) before entry after) merged
-      → AtEachPlace (λ before entry after. is_drawn entry.act entry.answer ≡ true → IsSoFarAmongObjects plain_object (kinds_of plan) before entry after) merged
+      → IsSoFarAmongObjects object_in (layouts_of plan) before entry after) merged
+      → AtEachPlace (λ before entry after. is_drawn entry.act entry.answer ≡ true → IsSoFarAmongObjects watched_object (kinds_of plan) before entry after) merged
   each_so_far merged is before entry after parts passes = so_far before entry after (is before entry after parts passes)
 
 -- what is needed of the law of each trace
@@ -87,7 +87,7 @@ all_placed system planned =
 pub shown : (system : SystemSeen) → IsPlanned system → LegalLaw system.sys.procs
     → (table : State (Slot SystemPart) (View SystemPart)) (rule : Rule (layouts_in system) system.sys.layouts table)
     → (merged : List Entry) → IsMerged (lists_of rule.state) merged
-    → AtEachPlace (λ before entry after. is_drawn entry.act entry.answer ≡ true → IsSoFarAmongObjects plain_object (kinds_of system.plan) before entry after) merged
+    → AtEachPlace (λ before entry after. is_drawn entry.act entry.answer ≡ true → IsSoFarAmongObjects watched_object (kinds_of system.plan) before entry after) merged
 shown system planned law table rule merged is =
     each_so_far system.plan merged
     (subst (λ declared. AreLegal (layouts_in system) declared is_drawn merged) planned.layouts

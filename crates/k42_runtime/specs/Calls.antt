@@ -1,6 +1,6 @@
 -- Calls: what may be asked, what a call leaves, and what holds one up.
 use Rattle.std.specs.Prelude.{◌≡◌, ℕ, ◌+◌, ◌<◌, ◌≤◌, ◌==◌, if◌then◌else◌, Bool, true, false, IsTrue, List, [], ◌∷◌, ◌++◌, length, Some, slice_get}
-use Rattle.k42_kinds.specs.Operations.{takes_operation}
+use Rattle.k42_kinds.specs.Watched.{watched_object}
 use Rattle.k42_kinds.specs.declared.entry.Act.TheVariants.{Call}
 use Rattle.k42_kinds.specs.declared.entry.Answer.TheVariants.{Replied}
 use Rattle.k42_kinds.specs.declared.entry.Entry.{Entry}
@@ -35,11 +35,11 @@ pub record CallSeen : Type 0 where
   pub op : Op
   pub ended : Bool
 
--- the object is one of the plan, and takes the operation
+-- the object is one of the plan, and takes the operation watched: it is of its kind, or asks for its count
 pub record IsAsked (plan : PlanSeen) (object : ℕ) (op : Op) : Type 0 where
   pub declaration : ObjectPlan
   pub declares : slice_get plan.objects object ≡ Some declaration
-  pub takes : IsTrue (takes_operation declaration.kind op)
+  pub takes : IsTrue ((watched_object declaration.kind).takes op)
 
 -- the caller has seen nothing that is later than this stamp
 abbrev pub SeesUpTo : {L : Type 0} → ℕ → ℕ → Joined L → Type 0

@@ -1,12 +1,17 @@
 -- The phases of a swap, one after the other.
 use Rattle.std.specs.Prelude.{◌≡◌, ℕ, ◌+◌, ◌≤◌, ◌==◌, if◌then◌else◌, true, None, Result, Ok, Err}
 use Rattle.gen_core.specs.Events.{is_idle}
+use Rattle.k42_kinds.specs.declared.entry.To.{To}
+use Rattle.k42_kinds.specs.declared.entry.To.TheVariants as tos
 use Rattle.phase_core.specs.declared.caller.SwapAt.TheVariants.{Moved}
+use Rattle.co_any.specs.Layouts.{tag_named}
 use Rattle.k42_board.specs.Seen.{PassSeen}
 use Rattle.k42_board.specs.Values.{layout_in}
 use Rattle.k42_board.specs.declared.view.PassView.{PassView}
 use Rattle.k42_quiesce.specs.declared.steps.Held.{Held}
 use Rattle.k42_quiesce.specs.declared.steps.Held.TheVariants as graces
+use Rattle.k42_watch.specs.declared.watch.Layer.{Layer}
+use Rattle.k42_watch.specs.declared.watch.Layer.TheVariants.{Keep, Place, Take}
 use Rattle.k42_runtime.specs.Swaps.{SwapSeen, IsSameCaller, graces_due}
 use Rattle.k42_runtime.specs.declared.swaps.Cause.{Cause}
 use Rattle.k42_runtime.specs.declared.swaps.Cause.TheVariants as causes
@@ -22,6 +27,20 @@ pub record IsMoving {P : Type 0} (object : ℕ) (v : PassView P) : Type 0 where
   pub grace : is_idle v.turn.grace ≡ true
   pub swap : v.visitor.swap ≡ Moved object
   pub unhanded : v.handed ≡ None
+
+-- An object is swapped to this tag: a watch and an unwatch keep the present one.
+abbrev pub tag_to : To → ℕ → ℕ
+tag_to (tos.Layout layout) present = tag_named layout
+tag_to tos.Dead present = 2
+tag_to tos.Watch present = present
+tag_to tos.Unwatch present = present
+
+-- and a watch places a layer, an unwatch takes it, and every other swap keeps what is there
+abbrev pub layer_to : To → Layer
+layer_to (tos.Layout layout) = Keep
+layer_to tos.Dead = Keep
+layer_to tos.Watch = Place
+layer_to tos.Unwatch = Take
 
 -- how a swap ends that found its object over
 abbrev pub end_in : ℕ → Swapped

@@ -1,6 +1,5 @@
 -- A call inside the row that serves it: what the pass has there, and what becomes of it.
 use Rattle.std.specs.Prelude.{◌≡◌, ℕ, ◌<◌, ◌≤◌, true, IsTrue, List, [], length, Option, Some, None, slice_get, is_some}
-use Rattle.k42_kinds.specs.Operations.{takes_operation}
 use Rattle.k42_kinds.specs.declared.entry.Act.TheVariants.{Call}
 use Rattle.k42_kinds.specs.declared.entry.Answer.TheVariants.{Replied}
 use Rattle.k42_kinds.specs.declared.entry.Entry.{Entry}
@@ -23,7 +22,7 @@ use Rattle.k42_board.specs.declared.view.PassView.{PassView}
 use Rattle.k42_mediator.specs.Taken.{released, AreTaken}
 use Rattle.k42_runtime.specs.Calls.{WasHeld, HasCalled, HoldsUp}
 use Rattle.k42_runtime.specs.Reaching.{refused_view}
-use Rattle.k42_runtime.specs.Systems.{KeepsElse, SystemLayout}
+use Rattle.k42_runtime.specs.Systems.{KeepsElse, SystemLayout, object_in}
 use Rattle.k42_runtime.specs.declared.calls.CallCause.{CallCause}
 use Rattle.k42_runtime.specs.declared.calls.CallCause.TheVariants as causes
 use Rattle.k42_runtime.specs.declared.calls.CallStep.{CallStep}
@@ -52,7 +51,7 @@ pub record GoesBy {P : Type 0} (old new : PassView P) : Type 0 where
 pub record IsAskedOf (layouts : List SystemLayout) (object : ℕ) (op : Op) : Type 0 where
   pub declaration : SystemLayout
   pub declares : slice_get layouts object ≡ Some declaration
-  pub takes : IsTrue (takes_operation declaration.kind op)
+  pub takes : IsTrue ((object_in declaration).takes op)
 
 -- it has the seat that it had
 pub record IsSameSeat {P : Type 0} (old new : PassSeen P) : Type 0 where

@@ -1,4 +1,5 @@
--- Swaps, of which some are to the dead layout: their stages, their answers, and what holds one up.
+-- Swaps, to a layout, to the dead one, or to the present one with a layer or without it: their stages, their answers, and what
+-- holds one up.
 use Rattle.std.specs.Prelude.{◌≡◌, ◌≢◌, ◌⊎◌, ℕ, ◌+◌, ◌-◌, ◌<◌, ◌≤◌, ◌==◌, if◌then◌else◌, Bool, true, false, ⊤, List, [], ◌∷◌, ◌++◌, length, Option, Some, None, Result, IfOk, OnErr}
 use Rattle.gen_core.specs.Events as graces
 use Rattle.k42_kinds.specs.declared.entry.Act.{Act}

@@ -2,7 +2,11 @@
 use Rattle.std.specs.Prelude.{◌≡◌, ℕ, true, List, [], length, is_some, map, slice_index, slice_index_or}
 use Rattle.gen_core.specs.Events as graces
 use Rattle.k42_kinds.specs.declared.states.AnyState.{AnyState}
-use Rattle.k42_kinds.specs.Objects.{plain_object}
+use Rattle.k42_kinds.specs.OneThread.{OneThread}
+use Rattle.k42_kinds.specs.Rows.{Ways}
+use Rattle.k42_kinds.specs.Watched.{watched_object}
+use Rattle.k42_kinds.specs.declared.entry.Act.{Act}
+use Rattle.k42_kinds.specs.declared.watch.WatchState.{WatchState}
 use Rattle.k42_places.specs.Places.{EachPlace}
 use Rattle.phase_core.specs.Stages as swaps
 use Rattle.phase_core.specs.Stages.{is_out}
@@ -10,6 +14,10 @@ use Rattle.k42_stamp.specs.Layouts.{Layouts, layouts_with}
 use Rattle.co_any.specs.Layouts.{ways_of, whole_of, serves_of, admitted_of, act_of, tag_named}
 use Rattle.co_any.specs.declared.layout.AnyLayout.{AnyLayout}
 use Rattle.co_any.specs.declared.part.AnyPart.{AnyPart}
+use Rattle.k42_watch.specs.WatchedRows.{watched_ways, IsWatchedRow, ServesWatched, admitted_watched, watched_act}
+use Rattle.k42_watch.specs.declared.watch.Layer.TheVariants.{Keep}
+use Rattle.k42_watch.specs.declared.watch.Watch.{Watch}
+use Rattle.k42_watch.specs.declared.watch.WatchPart.{WatchPart}
 use Rattle.k42_board.specs.Seen.{SysSeen, PassSeen, IsPassOf, is_at_rest, own_in}
 use Rattle.k42_board.specs.Views.{new_pass}
 use Rattle.k42_board.specs.declared.view.PassView.{PassView}
@@ -17,23 +25,46 @@ use Rattle.k42_rule.specs.Opened.{IsOpened}
 use Rattle.k42_runtime.specs.Plans.{PlanSeen, IsSoundPlan}
 use Rattle.k42_runtime.specs.declared.plan.ObjectPlan.{ObjectPlan}
 
--- the layouts in which a system keeps its objects, the states for which they stand, and their parts
+-- the layouts in which a system keeps its objects, each with what becomes of the layer, the states for which they stand,
+-- and their parts
 abbrev pub SystemLayout : Type 0
-SystemLayout = AnyLayout
+SystemLayout = Watch AnyLayout
 
 abbrev pub SystemState : Type 0
-SystemState = AnyState
+SystemState = WatchState AnyState
 
 abbrev pub SystemPart : Type 0
-SystemPart = AnyPart
+SystemPart = WatchPart AnyPart
 
 -- a pass of such a system
 abbrev pub SystemPass : Type 0
 SystemPass = PassSeen SystemPart
 
--- the layouts in which the objects of a plan start
+-- what such a layout is: whose watched object it keeps, under which tag, how, and what is asked for by a swap to it
+abbrev pub object_in : SystemLayout → OneThread SystemState
+object_in layout = watched_object layout.inner.kind
+
+abbrev pub tag_in : SystemLayout → ℕ
+tag_in layout = layout.inner.tag
+
+abbrev pub ways_in : SystemLayout → Ways SystemState SystemPart
+ways_in layout = watched_ways layout.inner.tag (ways_of layout.inner.kind layout.inner.tag)
+
+abbrev pub whole_in : SystemLayout → ℕ → List SystemPart → Type 0
+whole_in layout procs = IsWatchedRow layout.inner.tag (whole_of layout.inner.kind layout.inner.tag procs)
+
+abbrev pub serves_in : SystemLayout → SystemState → Type 0
+serves_in layout = ServesWatched layout.inner.tag (serves_of layout.inner.kind layout.inner.tag)
+
+abbrev pub admitted_in : SystemLayout → SystemState → SystemState
+admitted_in layout = admitted_watched layout.inner.tag layout.layer (admitted_of layout.inner.tag)
+
+abbrev pub act_in : SystemLayout → Act
+act_in layout = watched_act layout.inner.tag layout.layer (act_of layout.inner.tag)
+
+-- the layouts in which the objects of a plan start, with no layer
 abbrev pub layout_of : ObjectPlan → SystemLayout
-layout_of object = record { kind = object.kind; tag = tag_named object.layout }
+layout_of object = record { inner = record { kind = object.kind; tag = tag_named object.layout }; layer = Keep }
 
 abbrev pub layouts_of : PlanSeen → List SystemLayout
 layouts_of plan = map layout_of plan.objects
@@ -52,11 +83,7 @@ pub record IsPlanned (system : SystemSeen) : Type 0 where
 
 -- the layouts of all kinds, on so many processors and for callers there
 abbrev pub any_with : ℕ → (ℕ → ℕ) → Layouts SystemState SystemLayout SystemPart
-any_with =
-    layouts_with (λ (layout : SystemLayout). plain_object layout.kind) (λ (layout : SystemLayout). layout.tag)
-    (λ (layout : SystemLayout). ways_of layout.kind layout.tag) (λ (layout : SystemLayout). whole_of layout.kind layout.tag)
-    (λ (layout : SystemLayout). serves_of layout.kind layout.tag) (λ (layout : SystemLayout). admitted_of layout.tag)
-    (λ (layout : SystemLayout). act_of layout.tag)
+any_with = layouts_with object_in tag_in ways_in whole_in serves_in admitted_in act_in
 
 abbrev pub any_layouts : ℕ → List ℕ → Layouts SystemState SystemLayout SystemPart
 any_layouts procs callers = any_with procs (λ c. slice_index_or callers c 0)

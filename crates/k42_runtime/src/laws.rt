@@ -9,7 +9,7 @@ ghost use Rattle.k42_board.specs.declared.view.View.{View};
 ghost use Rattle.k42_joined.specs.Fitting.{lists_of};
 ghost use Rattle.k42_kinds.specs.Histories.{AtEachPlace};
 ghost use Rattle.k42_kinds.specs.Legal.{IsSoFarAmongObjects};
-ghost use Rattle.k42_kinds.specs.Objects.{plain_object};
+ghost use Rattle.k42_kinds.specs.Watched.{watched_object};
 ghost use Rattle.k42_kinds.specs.declared.entry.Entry.{Entry};
 ghost use Rattle.k42_stamp.specs.Lists.{IsMerged, is_drawn};
 ghost use Rattle.turn_core.specs.Stamps.{last_stamp};
@@ -22,12 +22,12 @@ use k42_joined::trace_is_legal;
 use k42_rule::layouts_are_lawful;
 
 /// At every moment between two steps, the entries of all passes, in order and numbered anew, are legal so far: each
-/// call, and each swap or destroy that was done, spent or gone.
+/// call, and each swap, destroy, watch or unwatch that was done, spent or gone.
 pub fn traces_are_legal(system: &System)
     ensures { (table : State (Slot SystemPart) (View SystemPart)) (rule : Rule (layouts_in system.now) system.now.sys.layouts table)
         (merged : List Entry) → IsMerged (lists_of rule.state) merged
         → AtEachPlace (λ before entry after. is_drawn entry.act entry.answer ≡ true
-        → IsSoFarAmongObjects plain_object (kinds_of system.now.plan) before entry after) merged }
+        → IsSoFarAmongObjects watched_object (kinds_of system.now.plan) before entry after) merged }
 {
     layouts_are_lawful(&system.sys);
     trace_is_legal::<SystemLayout>(system.sys.procs());

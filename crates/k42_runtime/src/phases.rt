@@ -1,38 +1,49 @@
 //! The phases of a swap, each as far as it can go without waiting.
-ghost use Rattle.std.specs.Prelude.{◌≡◌, ◌<◌, ◌≤◌, ◌+◌, true, length};
+ghost use Rattle.std.specs.Prelude.{◌≡◌, ◌<◌, ◌≤◌, ◌+◌, true, length, is_some};
 ghost use Rattle.k42_limits.specs.declared.TheConstants.{LAST_INCARNATION};
 ghost use Rattle.k42_kinds.specs.declared.entry.Act.TheVariants as Act;
-ghost use Rattle.k42_kinds.specs.Objects.{plain_object};
-ghost use Rattle.co_any.specs.Layouts.{act_of};
-ghost use Rattle.k42_board.specs.Values.{incarnation_in};
+ghost use Rattle.phase_core.specs.Stages.{named_by};
+ghost use Rattle.k42_board.specs.Values.{incarnation_in, layout_in};
 ghost use Rattle.k42_board.specs.Views.{word_begun};
 ghost use Rattle.k42_mediator.specs.Transfers.{IsOfKind};
-ghost use Rattle.k42_runtime.specs.Phases.{IsMoving, cause_in, end_in};
+ghost use Rattle.k42_runtime.specs.Phases.{IsMoving, cause_in, end_in, layer_to, tag_to};
 ghost use Rattle.k42_runtime.specs.Swaps.{IsAtStage, IsUnderWay, HasFoundFree, HasStepped};
-ghost use Rattle.k42_runtime.specs.Systems.{SystemLayout, IsPassHere};
+ghost use Rattle.k42_runtime.specs.Systems.{IsPassHere, object_in, act_in};
 ghost use Rattle.k42_runtime.specs.declared.swaps.Stage.TheVariants as Stage;
 ghost use Rattle.k42_runtime.specs.declared.swaps.Step.TheVariants as Step;
 
 use crate::swaps::{Cause, Stage, Step, Swap, Swapped};
 use crate::system::{Pass, System, SystemLayout};
-use k42_kinds::{Answer, Layout, LayoutName, To};
+use k42_kinds::{Act, Answer, Layout, LayoutName, To};
 use k42_mediator::{
     Begun, Marked, Moving, abandon, begin, block, end, interpose, mark, open_entries, transfer,
     try_move,
 };
 use k42_quiesce::{GraceStep, Held, reclaim};
 use k42_rule::{LastBegin, draw_alone};
+use k42_watch::{Layer, Watch};
 use std::alloc::Global;
 
-/// The tag of what an object is swapped to.
-fn tag_to(to: To) -> u32
-    ensures is { act_of result ≡ Act.Swap to }
-    ensures known { result ≤ 2 }
+/// The tag of what an object of the present tag is swapped to.
+fn tag_to(to: To, present: u32) -> u32
+    ensures { result ≡ tag_to to present }
 {
     match to {
         To::Layout(LayoutName::Shared) => 0,
         To::Layout(LayoutName::Spread) => 1,
         To::Dead => 2,
+        To::Watch | To::Unwatch => present,
+    }
+}
+
+/// What becomes of its layer.
+fn layer_to(to: To) -> Layer
+    ensures { result ≡ layer_to to }
+{
+    match to {
+        To::Layout(_) | To::Dead => Layer::Keep,
+        To::Watch => Layer::Place,
+        To::Unwatch => Layer::Take,
     }
 }
 
@@ -75,13 +86,22 @@ fn cause_of(held: Held) -> Cause
 }
 
 impl Swap {
-    fn layout(&self, system: &System) -> SystemLayout
+    /// The layout of its hand. A watch and an unwatch keep the tag that its begin has found.
+    fn layout(&self, system: &System, pass: &Pass) -> SystemLayout
         requires there { self.now.object < length system.now.plan.objects }
-        ensures kind { IsOfKind (λ (layout : SystemLayout). plain_object layout.kind) system.now.sys.layouts self.now.object result }
-        ensures act { act_of result.tag ≡ Act.Swap self.now.to }
-        ensures known { result.tag ≤ 2 }
+        requires under_way { is_some (named_by pass.now.view.visitor.swap) ≡ true }
+        requires found { HasFoundFree pass.now.view }
+        ensures kind { IsOfKind object_in system.now.sys.layouts self.now.object result }
+        ensures tag { result.inner.tag ≡ tag_to self.now.to (layout_in (word_begun pass.now.view.last)) }
+        ensures layer { result.layer ≡ layer_to self.now.to }
+        ensures act { act_in result ≡ Act.Swap self.now.to }
+        ensures known { result.inner.tag ≤ 2 }
     {
-        system.sys.declared(self.object).with_tag(tag_to(self.to))
+        let tag = tag_to(self.to, pass.begun_layout());
+        Watch {
+            inner: system.sys.declared(self.object).inner.with_tag(tag),
+            layer: layer_to(self.to),
+        }
     }
 
     fn over(&mut self, end: Swapped) -> Step
@@ -110,8 +130,7 @@ impl Swap {
                 self.wait(alloc, system, pass)
             }
             Begun::Busy { number, .. } => {
-                let act = self.layout(system).act();
-                draw_alone(&system.sys, pass, act, Answer::Busy(number));
+                draw_alone(&system.sys, pass, Act::Swap(self.to), Answer::Busy(number));
                 self.over(Swapped::Busy(number))
             }
             Begun::Spent | Begun::Gone => {
@@ -164,7 +183,7 @@ impl Swap {
     {
         // A pass that stands between two steps tells how its swap fits together.
         let _swap = pass.swap();
-        let to = self.layout(system);
+        let to = self.layout(system, pass);
         if transfer(alloc, &system.sys, pass, &to).is_err() {
             abandon(&system.sys, pass, &to);
             self.stage = Stage::Over;
@@ -182,8 +201,7 @@ impl Swap {
         requires marking { IsAtStage Stage.Marking (length system.now.plan.objects) self.old pass.old }
         ensures { HasStepped system.now result self.old self.new pass.old pass.new }
     {
-        let act = self.layout(system).act();
-        match mark(&system.sys, pass, act) {
+        match mark(&system.sys, pass, Act::Swap(self.to)) {
             Marked::Held { holder } => Step::Again(Cause::CellHeld { holder }),
             Marked::Marked => self.over(end_over(pass)),
         }

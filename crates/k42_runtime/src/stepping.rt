@@ -3,10 +3,9 @@ ghost use Rattle.std.specs.Prelude.{◌≡◌, ◌<◌, ◌≤◌, ◌+◌, ◌+
 ghost use Rattle.k42_limits.specs.declared.TheConstants.{PROCESSORS};
 ghost use Rattle.k42_kinds.specs.LayoutLaws.{IsReached};
 ghost use Rattle.k42_kinds.specs.declared.entry.Reach.TheVariants.{One};
-ghost use Rattle.k42_kinds.specs.Operations.{takes_operation};
-ghost use Rattle.co_any.specs.Layouts.{ways_of, whole_of};
 ghost use Rattle.k42_mediator.specs.Parts.{parts_from, filled};
 ghost use Rattle.k42_runtime.specs.Stepping.{due_in, stepped_at, row_behind, MayStepRow, MayStepCells, HasSteppedCells};
+ghost use Rattle.k42_runtime.specs.Systems.{object_in, ways_in, whole_in};
 
 use crate::system::{SystemLayout, SystemPart};
 use k42_kinds::{Layout, Op, Reach, Reply};
@@ -23,13 +22,13 @@ fn step_part(
     op: &Op,
     cell: &mut Cell<SystemLayout>,
 ) -> Result<Reply, Memory>
-    requires known { (layout.now.tag ≤ 2) × (place < procs) × (procs ≤ PROCESSORS) }
-    requires takes { IsTrue (takes_operation layout.now.kind op.now) }
-    requires reached { IsReached (ways_of layout.now.kind layout.now.tag) (whole_of layout.now.kind layout.now.tag)
-        (due_in (ways_of layout.now.kind layout.now.tag) procs place cell.old) op.now }
-    ensures replied { IfOk result (λ reply. reply ≡ (ways_of layout.now.kind layout.now.tag).part_reply
-        (due_in (ways_of layout.now.kind layout.now.tag) procs place cell.old) op.now) }
-    ensures moved { OnOk result (cell.new ≡ stepped_at (ways_of layout.now.kind layout.now.tag) procs place op.now cell.old) }
+    requires known { (layout.now.inner.tag ≤ 2) × (place < procs) × (procs ≤ PROCESSORS) }
+    requires takes { IsTrue ((object_in layout.now).takes op.now) }
+    requires reached { IsReached (ways_in layout.now) (whole_in layout.now)
+        (due_in (ways_in layout.now) procs place cell.old) op.now }
+    ensures replied { IfOk result (λ reply. reply ≡ (ways_in layout.now).part_reply
+        (due_in (ways_in layout.now) procs place cell.old) op.now) }
+    ensures moved { OnOk result (cell.new ≡ stepped_at (ways_in layout.now) procs place op.now cell.old) }
     ensures memory { OnErr result (cell.new ≡ cell.old) }
 {
     if let Some(mut part) = cell.take_part() {
@@ -52,11 +51,11 @@ fn step_first(
     op: &Op,
     cells: &mut [Cell<SystemLayout>],
 ) -> Result<Reply, Memory>
-    requires known { (layout.now.tag ≤ 2) × (procs ≤ PROCESSORS) }
-    requires takes { IsTrue (takes_operation layout.now.kind op.now) }
-    requires may { MayStepCells (ways_of layout.now.kind layout.now.tag) procs (whole_of layout.now.kind layout.now.tag) op.now (One place) cells.old }
+    requires known { (layout.now.inner.tag ≤ 2) × (procs ≤ PROCESSORS) }
+    requires takes { IsTrue ((object_in layout.now).takes op.now) }
+    requires may { MayStepCells (ways_in layout.now) procs (whole_in layout.now) op.now (One place) cells.old }
     ensures stepped { IfOk result (λ reply.
-        HasSteppedCells (ways_of layout.now.kind layout.now.tag) procs op.now (One place) reply cells.old cells.new) }
+        HasSteppedCells (ways_in layout.now) procs op.now (One place) reply cells.old cells.new) }
     ensures memory { OnErr result (cells.new ≡ cells.old) }
 {
     let Some((cell, _others)) = cells.split_first_mut() else {
@@ -79,8 +78,8 @@ fn lift_part(
     place: u32,
     cell: &mut Cell<SystemLayout>,
 ) -> Result<Lifted, Memory>
-    requires known { (layout.now.tag ≤ 2) × (place < procs) × (procs ≤ PROCESSORS) }
-    ensures part { IfOk result (λ lifted. lifted.part ≡ due_in (ways_of layout.now.kind layout.now.tag) procs place cell.old) }
+    requires known { (layout.now.inner.tag ≤ 2) × (place < procs) × (procs ≤ PROCESSORS) }
+    ensures part { IfOk result (λ lifted. lifted.part ≡ due_in (ways_in layout.now) procs place cell.old) }
     ensures own { IfOk result (λ lifted. lifted.own ≡ is_some cell.old.part) }
     ensures lifted { OnOk result (cell.new ≡ record cell.old { part = None }) }
     ensures memory { OnErr result (cell.new ≡ cell.old) }
@@ -122,18 +121,18 @@ fn step_behind(
     cells: &mut [Cell<SystemLayout>],
     parts: &mut Vec<SystemPart>,
 ) -> Result<Reply, Memory>
-    requires known { (layout.now.tag ≤ 2) × (procs ≤ PROCESSORS) }
-    requires takes { IsTrue (takes_operation layout.now.kind op.now) }
+    requires known { (layout.now.inner.tag ≤ 2) × (procs ≤ PROCESSORS) }
+    requires takes { IsTrue ((object_in layout.now).takes op.now) }
     requires few { length parts.old.items + length cells.old ≤ procs }
     requires room { length parts.old.items + length cells.old ≤ vec_capacity parts.old }
-    requires row { MayStepRow (ways_of layout.now.kind layout.now.tag) procs (whole_of layout.now.kind layout.now.tag)
-        (row_behind (ways_of layout.now.kind layout.now.tag) procs parts.old.items cells.old) op.now }
-    ensures replied { IfOk result (λ reply. reply ≡ (ways_of layout.now.kind layout.now.tag).row_reply
-        (row_behind (ways_of layout.now.kind layout.now.tag) procs parts.old.items cells.old) op.now) }
-    ensures parts { OnOk result (parts.new.items ≡ take (length parts.old.items) ((ways_of layout.now.kind layout.now.tag).row_after
-        (row_behind (ways_of layout.now.kind layout.now.tag) procs parts.old.items cells.old) op.now)) }
-    ensures cells { OnOk result (cells.new ≡ filled (drop (length parts.old.items) ((ways_of layout.now.kind layout.now.tag).row_after
-        (row_behind (ways_of layout.now.kind layout.now.tag) procs parts.old.items cells.old) op.now)) cells.old) }
+    requires row { MayStepRow (ways_in layout.now) procs (whole_in layout.now)
+        (row_behind (ways_in layout.now) procs parts.old.items cells.old) op.now }
+    ensures replied { IfOk result (λ reply. reply ≡ (ways_in layout.now).row_reply
+        (row_behind (ways_in layout.now) procs parts.old.items cells.old) op.now) }
+    ensures parts { OnOk result (parts.new.items ≡ take (length parts.old.items) ((ways_in layout.now).row_after
+        (row_behind (ways_in layout.now) procs parts.old.items cells.old) op.now)) }
+    ensures cells { OnOk result (cells.new ≡ filled (drop (length parts.old.items) ((ways_in layout.now).row_after
+        (row_behind (ways_in layout.now) procs parts.old.items cells.old) op.now)) cells.old) }
     ensures parts_kept { OnErr result (parts.new.items ≡ parts.old.items) }
     ensures cells_kept { OnErr result (cells.new ≡ cells.old) }
 {
@@ -156,15 +155,15 @@ fn step_row(
     op: &Op,
     cells: &mut [Cell<SystemLayout>],
 ) -> Result<Reply, Memory>
-    requires known { (layout.now.tag ≤ 2) × (procs ≤ PROCESSORS) }
-    requires takes { IsTrue (takes_operation layout.now.kind op.now) }
+    requires known { (layout.now.inner.tag ≤ 2) × (procs ≤ PROCESSORS) }
+    requires takes { IsTrue ((object_in layout.now).takes op.now) }
     requires few { length cells.old ≤ procs }
-    requires row { MayStepRow (ways_of layout.now.kind layout.now.tag) procs (whole_of layout.now.kind layout.now.tag)
-        (parts_from (ways_of layout.now.kind layout.now.tag) procs 0 cells.old) op.now }
-    ensures replied { IfOk result (λ reply. reply ≡ (ways_of layout.now.kind layout.now.tag).row_reply
-        (parts_from (ways_of layout.now.kind layout.now.tag) procs 0 cells.old) op.now) }
-    ensures moved { OnOk result (cells.new ≡ filled ((ways_of layout.now.kind layout.now.tag).row_after
-        (parts_from (ways_of layout.now.kind layout.now.tag) procs 0 cells.old) op.now) cells.old) }
+    requires row { MayStepRow (ways_in layout.now) procs (whole_in layout.now)
+        (parts_from (ways_in layout.now) procs 0 cells.old) op.now }
+    ensures replied { IfOk result (λ reply. reply ≡ (ways_in layout.now).row_reply
+        (parts_from (ways_in layout.now) procs 0 cells.old) op.now) }
+    ensures moved { OnOk result (cells.new ≡ filled ((ways_in layout.now).row_after
+        (parts_from (ways_in layout.now) procs 0 cells.old) op.now) cells.old) }
     ensures memory { OnErr result (cells.new ≡ cells.old) }
 {
     let mut parts = Vec::with_capacity(alloc, cells.len())?;
@@ -180,11 +179,11 @@ pub(crate) fn step_cells(
     op: &Op,
     cells: &mut [Cell<SystemLayout>],
 ) -> Result<Reply, Memory>
-    requires known { (layout.now.tag ≤ 2) × (procs ≤ PROCESSORS) }
-    requires takes { IsTrue (takes_operation layout.now.kind op.now) }
-    requires may { MayStepCells (ways_of layout.now.kind layout.now.tag) procs (whole_of layout.now.kind layout.now.tag) op.now reach.now cells.old }
+    requires known { (layout.now.inner.tag ≤ 2) × (procs ≤ PROCESSORS) }
+    requires takes { IsTrue ((object_in layout.now).takes op.now) }
+    requires may { MayStepCells (ways_in layout.now) procs (whole_in layout.now) op.now reach.now cells.old }
     ensures stepped { IfOk result (λ reply.
-        HasSteppedCells (ways_of layout.now.kind layout.now.tag) procs op.now reach.now reply cells.old cells.new) }
+        HasSteppedCells (ways_in layout.now) procs op.now reach.now reply cells.old cells.new) }
     ensures memory { OnErr result (cells.new ≡ cells.old) }
 {
     match *reach {

@@ -1,4 +1,4 @@
-//! Swaps and destroys, which may be stepped where nobody may wait.
+//! Swaps, destroys, watches and unwatches, which may be stepped where nobody may wait.
 ghost use Rattle.std.specs.Prelude.{◌≡◌, false, length, None};
 ghost use Rattle.k42_runtime.specs.Swaps.{IsAtStage, HasStepped, is_over};
 ghost use Rattle.k42_runtime.specs.Systems.{IsPassHere};

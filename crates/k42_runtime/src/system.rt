@@ -10,17 +10,18 @@ ghost use Rattle.k42_runtime.specs.Systems.{layout_of, IsPassHere, IsAtWork, IsA
 
 use crate::plan::{ObjectPlan, Plan};
 use co_any::{AnyLayout, AnyPart};
-use k42_kinds::{KindName, Op, kind_of};
+use k42_kinds::{KindName, Op, is_seen, kind_of};
 use k42_memory::Memory;
 use k42_rule::Sys;
+use k42_watch::{Layer, Watch, WatchPart};
 use std::alloc::Global;
 use std::marker::Model;
 
-/// The layouts in which a system keeps its objects.
-pub(crate) type SystemLayout = AnyLayout;
+/// The layouts in which a system keeps its objects, any of which may have a layer.
+pub(crate) type SystemLayout = Watch<AnyLayout>;
 
 /// The parts of their rows.
-pub(crate) type SystemPart = AnyPart;
+pub(crate) type SystemPart = WatchPart<AnyPart>;
 
 /// What one caller steps with.
 pub type Pass = k42_rule::Pass<SystemLayout>;
@@ -48,7 +49,10 @@ fn layouts_for(alloc: Global, objects: &[ObjectPlan]) -> Result<Vec<SystemLayout
 {
     let mut layouts = Vec::new(alloc);
     for object in objects {
-        layouts.push(SystemLayout::of(object.kind, object.layout))?;
+        layouts.push(Watch {
+            inner: AnyLayout::of(object.kind, object.layout),
+            layer: Layer::Keep,
+        })?;
     }
     Ok(layouts)
 }
@@ -102,12 +106,15 @@ impl System {
         self.plan.callers.len() as u32
     }
 
-    /// Whether there is such an object, and whether the operation is of its kind.
+    /// Whether there is such an object, and whether the operation is of its kind or asks for its count.
     pub fn takes(&self, object: u32, op: &Op) -> bool
         ensures { (result ≡ true) ↔ IsAsked self.now.plan object op.now }
     {
         match self.plan.objects.get(object as usize) {
-            Some(declared) => declared.kind == kind_of(op),
+            Some(declared) => match kind_of(op) {
+                Some(kind) => declared.kind == kind,
+                None => is_seen(op),
+            },
             None => false,
         }
     }

@@ -1,4 +1,4 @@
-//! Swaps and destroys that wait, and rows that are freed.
+//! Swaps, destroys, watches and unwatches that wait, and rows that are freed.
 ghost use Rattle.std.specs.Prelude.{◌≡◌, ◌+◌, ◌<◌, false, [], length};
 ghost use Rattle.k42_board.specs.Generations.{MOST};
 ghost use Rattle.k42_runtime.specs.Phases.{last_step};
@@ -41,7 +41,7 @@ fn carry_out<R: Wait>(
 }
 
 impl System {
-    /// Swaps the object to that, or destroys it. Its grace serves the rows that others have handed over, and those that
+    /// Swaps the object to that. Its grace serves the rows that others have handed over, and those that
     /// are not freed yet are handed over to the next.
     fn swap_to<R: Wait>(
         &self,
@@ -93,6 +93,37 @@ impl System {
         ensures { HasEnded self.now object To.Dead result pass.old pass.new }
     {
         self.swap_to(rt, alloc, pass, object, To::Dead)
+    }
+
+    /// Places a layer round the object, in the layout in which it is kept, that counts its calls from 0, and does so
+    /// anew where it has one. `Op::Seen` asks for the count.
+    pub fn watch<R: Wait>(
+        &self,
+        rt: &R,
+        alloc: Global,
+        pass: &mut Pass,
+        object: u32,
+    ) -> Result<Swapped, Memory>
+        requires ours { IsPassHere self.now pass.old }
+        requires may { MayStart (length self.now.plan.objects) object pass.old }
+        ensures { HasEnded self.now object To.Watch result pass.old pass.new }
+    {
+        self.swap_to(rt, alloc, pass, object, To::Watch)
+    }
+
+    /// Takes the layer away, and keeps the layout.
+    pub fn unwatch<R: Wait>(
+        &self,
+        rt: &R,
+        alloc: Global,
+        pass: &mut Pass,
+        object: u32,
+    ) -> Result<Swapped, Memory>
+        requires ours { IsPassHere self.now pass.old }
+        requires may { MayStart (length self.now.plan.objects) object pass.old }
+        ensures { HasEnded self.now object To.Unwatch result pass.old pass.new }
+    {
+        self.swap_to(rt, alloc, pass, object, To::Unwatch)
     }
 
     /// Frees the old rows that the pass holds and those that were handed over to it, once nobody can reach them, and

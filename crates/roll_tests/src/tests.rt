@@ -3,7 +3,7 @@ use crate::tests::crews::{counters_for, put_back, take_over};
 use crate::tests::rolls::{is_held_up, roll_of, roll_through, rolled};
 use crate::tests::steps::{come_in, go_home};
 use k42_crews::{close, last};
-use k42_kinds::LayoutName;
+use k42_kinds::{Act, LayoutName};
 use k42_runtime::{Cause, Swapped, To};
 use std::test::Fail;
 
@@ -86,6 +86,27 @@ fn a_plan_finds_an_object_gone_once_it_is_dead(rt: HostRuntime) -> Result<(), Fa
         return Err("no history")?;
     };
     assert_eq!(rt; history.entries().len(), 2);
+    Ok(())
+}
+
+#[test]
+fn a_plan_watches_and_unwatches(rt: HostRuntime) -> Result<(), Fail> {
+    let alloc = rt.alloc();
+    let Some((system, passes)) = counters_for(alloc, 1, 1, 1)? else {
+        return Err("no system")?;
+    };
+    let spread = To::Layout(LayoutName::Spread);
+    let plan = vec![in alloc; (0, To::Watch), (0, spread), (0, To::Unwatch)]?;
+    let end = roll_through(&rt, alloc, &system, passes, plan)?;
+    let due = [Swapped::Done(1), Swapped::Done(2), Swapped::Done(3)];
+    assert!(rt; are_answered(end.answers.as_slice(), due.as_slice()));
+    let Some(history) = close(alloc, system, end.passes)? else {
+        return Err("no history")?;
+    };
+    let first = history.entries().first().map(|entry| entry.act);
+    assert_eq!(rt; first, Some(Act::Swap(To::Watch)));
+    let last = history.entries().last().map(|entry| entry.act);
+    assert_eq!(rt; last, Some(Act::Swap(To::Unwatch)));
     Ok(())
 }
 

@@ -1,8 +1,12 @@
 //! Plans that are refused, and calls, swaps and destroys that meet on one thread.
-use crate::tests::crews::{Three, closed, counters};
+use crate::tests::crews::{Three, closed, counters, on_two};
 use crate::tests::ending::{destroy_once, find_gone, free_once, swap_and_keep_none, swap_twice};
 use crate::tests::waiting::{find, free_in_turn, swap_beside};
-use k42_kinds::{Act, Answer, Entry, KindName, LayoutName, Reply, To};
+use crate::tests::watching::{
+    Deed, call_of, called, find_layout, follow, refuse_beside, swap_and_call, swapped,
+    watch_and_call,
+};
+use k42_kinds::{Act, Answer, Entry, KindName, LayoutName, Op, Reply, To};
 use k42_runtime::{ObjectPlan, Plan, PlanFault};
 use std::test::Fail;
 
@@ -10,6 +14,7 @@ mod crews;
 mod ending;
 mod steps;
 mod waiting;
+mod watching;
 
 /// Whether the entries have just these answers, in this order.
 fn are_answered(entries: &[Entry], due: &[Answer]) -> bool {
@@ -18,6 +23,19 @@ fn are_answered(entries: &[Entry], due: &[Answer]) -> bool {
     }
     for place in 0..due.len() {
         if entries[place].answer != due[place] {
+            return false;
+        }
+    }
+    true
+}
+
+/// Whether the entries tell just this, in this order.
+fn are_told(entries: &[Entry], due: &[Deed]) -> bool {
+    if entries.len() != due.len() {
+        return false;
+    }
+    for place in 0..due.len() {
+        if entries[place].act != due[place].0 || entries[place].answer != due[place].1 {
             return false;
         }
     }
@@ -136,5 +154,127 @@ fn a_destroyed_object_is_gone(rt: HostRuntime) -> Result<(), Fail> {
     assert!(rt; are_answered(history.entries(), due.as_slice()));
     let second = history.entries().get(1).map(|entry| entry.act);
     assert_eq!(rt; second, Some(Act::Swap(To::Dead)));
+    Ok(())
+}
+
+#[test]
+fn a_watched_counter_tells_its_calls_until_it_is_unwatched(rt: HostRuntime) -> Result<(), Fail> {
+    let alloc = rt.alloc();
+    let Some((system, crew)) = counters(alloc, 1)? else {
+        return Err("no system")?;
+    };
+    let Three { mut zero, one, two } = crew;
+    let deeds = [
+        called(Op::Seen, Reply::None),
+        swapped(To::Watch, 1),
+        called(Op::Add(5), Reply::Done),
+        called(Op::Get, Reply::Number(5)),
+        called(Op::Seen, Reply::Number(2)),
+        swapped(To::Layout(LayoutName::Spread), 2),
+        called(Op::Seen, Reply::Number(2)),
+        called(Op::Add(1), Reply::Done),
+        called(Op::Seen, Reply::Number(3)),
+        swapped(To::Layout(LayoutName::Shared), 3),
+        called(Op::Seen, Reply::Number(3)),
+        swapped(To::Watch, 4),
+        called(Op::Seen, Reply::Number(0)),
+        called(Op::Get, Reply::Number(6)),
+        called(Op::Seen, Reply::Number(1)),
+        swapped(To::Unwatch, 5),
+        called(Op::Seen, Reply::None),
+        swapped(To::Unwatch, 6),
+        called(Op::Seen, Reply::None),
+    ];
+    follow(&rt, alloc, &system, &mut zero, deeds.as_slice())?;
+    let Some(history) = closed(alloc, system, zero, one, two)? else {
+        return Err("no history")?;
+    };
+    assert!(rt; are_told(history.entries(), deeds.as_slice()));
+    Ok(())
+}
+
+#[test]
+fn a_dead_object_is_not_watched_and_tells_no_count(rt: HostRuntime) -> Result<(), Fail> {
+    let alloc = rt.alloc();
+    let Some((system, crew)) = counters(alloc, 1)? else {
+        return Err("no system")?;
+    };
+    let Three { mut zero, one, two } = crew;
+    let deeds = [
+        swapped(To::Watch, 1),
+        swapped(To::Dead, 2),
+        called(Op::Seen, Reply::Gone),
+        (Act::Swap(To::Watch), Answer::Gone),
+        (Act::Swap(To::Unwatch), Answer::Gone),
+        called(Op::Seen, Reply::Gone),
+    ];
+    follow(&rt, alloc, &system, &mut zero, deeds.as_slice())?;
+    let Some(history) = closed(alloc, system, zero, one, two)? else {
+        return Err("no history")?;
+    };
+    assert!(rt; are_told(history.entries(), deeds.as_slice()));
+    Ok(())
+}
+
+#[test]
+fn a_watch_and_another_swap_refuse_each_other(rt: HostRuntime) -> Result<(), Fail> {
+    let alloc = rt.alloc();
+    let spread = To::Layout(LayoutName::Spread);
+    let cases = [
+        (spread, To::Watch),
+        (To::Watch, spread),
+        (To::Watch, To::Unwatch),
+        (To::Unwatch, To::Watch),
+    ];
+    for (to, refused) in cases {
+        let Some((system, crew)) = counters(alloc, 1)? else {
+            return Err("no system")?;
+        };
+        let Three {
+            mut zero,
+            mut one,
+            mut two,
+        } = crew;
+        refuse_beside(
+            &rt, alloc, &system, &mut zero, &mut one, &mut two, to, refused,
+        )?;
+        let Some(history) = closed(alloc, system, zero, one, two)? else {
+            return Err("no history")?;
+        };
+        let due = [(Act::Swap(refused), Answer::Busy(1)), swapped(to, 1)];
+        assert!(rt; are_told(history.entries(), due.as_slice()));
+    }
+    Ok(())
+}
+
+#[test]
+fn each_kind_is_watched_in_both_layouts(rt: HostRuntime) -> Result<(), Fail> {
+    let alloc = rt.alloc();
+    let kinds = [KindName::Counter, KindName::Directory, KindName::Pages];
+    let layouts = [
+        (LayoutName::Shared, LayoutName::Spread),
+        (LayoutName::Spread, LayoutName::Shared),
+    ];
+    for kind in kinds {
+        let Some((op, again)) = call_of(kind) else {
+            return Err("no call")?;
+        };
+        for (layout, other) in layouts {
+            let Some((system, crew)) = on_two(alloc, ObjectPlan { kind, layout })? else {
+                return Err("no system")?;
+            };
+            let Three {
+                mut zero,
+                mut one,
+                mut two,
+            } = crew;
+            watch_and_call(&rt, alloc, &system, &mut zero, &mut one, &op, &again)?;
+            find_layout(&rt, alloc, &system, &mut two, To::Layout(layout), layout)?;
+            swap_and_call(&rt, alloc, &system, &mut zero, &mut one, &op, &again, other)?;
+            find_layout(&rt, alloc, &system, &mut two, To::Dead, other)?;
+            let history = closed(alloc, system, zero, one, two)?;
+            assert!(rt; history.is_some());
+        }
+    }
     Ok(())
 }

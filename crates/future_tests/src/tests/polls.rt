@@ -3,7 +3,6 @@ ghost use Rattle.std.specs.Prelude.{◌≡◌, length, IfOk, IsSomeAnd};
 ghost use Rattle.k42_crews.specs.Ready.{IsFree};
 ghost use Rattle.k42_runtime.specs.Swaps.{MayStart, HasEnded};
 ghost use Rattle.k42_runtime.specs.Systems.{IsPassHere};
-ghost use Rattle.k42_kinds.specs.declared.entry.To.TheVariants as To;
 ghost use Rattle.swap_future.specs.Polling.{IsGoing};
 
 use futures::Future;
@@ -93,16 +92,13 @@ pub(super) fn swapped<R: Abort + Wait + RandomSource + AllocGlobal>(
     system: &System,
     pass: Pass,
     object: u32,
-    to: LayoutName,
+    to: To,
 ) -> io::Result<SwapEnd>
     requires free { IsFree system.now pass }
-    ensures ended { IfOk result (λ end. HasEnded system.now object (To.Layout to) end.result pass end.pass) }
+    ensures ended { IfOk result (λ end. HasEnded system.now object to end.result pass end.pass) }
     ensures free { IfOk result (λ end. IsFree system.now end.pass) }
 {
     assert!(rt; object < system.objects());
     assert!(rt; may_swap(&pass));
-    block_on(
-        rt,
-        SwapFuture::new(alloc, system, pass, object, To::Layout(to)),
-    )
+    block_on(rt, SwapFuture::new(alloc, system, pass, object, to))
 }

@@ -1,4 +1,4 @@
-//! Systems on one processor, and the passes of their callers.
+//! Systems on one processor or two, and the passes of their callers.
 ghost use Rattle.std.specs.Prelude.{IfOk, IfSome};
 ghost use Rattle.k42_crews.specs.Ready.{AreFree, IsFree};
 
@@ -16,19 +16,21 @@ pub(super) struct Three {
     pub(super) two: Pass,
 }
 
-/// A system of so many shared counters on one processor, and the passes of its three callers.
-fn started(alloc: Global, objects: u32) -> Result<Option<(System, Vec<Pass>)>, Memory>
+/// A system of so many such objects on so many processors, and the passes of its three callers.
+fn started(
+    alloc: Global,
+    object: ObjectPlan,
+    objects: u32,
+    procs: u32,
+) -> Result<Option<(System, Vec<Pass>)>, Memory>
     ensures { IfOk result (λ made. IfSome made (λ crew. AreFree crew.0 crew.1.items)) }
 {
-    let mut kinds = Vec::new(alloc);
+    let mut all = Vec::new(alloc);
     for _ in 0..objects {
-        kinds.push(ObjectPlan {
-            kind: KindName::Counter,
-            layout: LayoutName::Shared,
-        })?;
+        all.push(object)?;
     }
-    let homes = vec![in alloc; 0, 0, 0]?;
-    match Plan::new(1, kinds, homes) {
+    let homes = vec![in alloc; 0, procs / 2, 0]?;
+    match Plan::new(procs, all, homes) {
         Ok(plan) => Ok(Some(start(alloc, plan)?)),
         Err(_) => Ok(None),
     }
@@ -48,18 +50,45 @@ fn take_three(system: &System, passes: &mut Vec<Pass>) -> Option<Three>
 }
 
 /// The same, with the passes apart.
-pub(super) fn counters(alloc: Global, objects: u32) -> Result<Option<(System, Three)>, Memory>
+fn apart(
+    alloc: Global,
+    object: ObjectPlan,
+    objects: u32,
+    procs: u32,
+) -> Result<Option<(System, Three)>, Memory>
     ensures zero { IfOk result (λ made. IfSome made (λ crew. IsFree crew.0 crew.1.zero)) }
     ensures one { IfOk result (λ made. IfSome made (λ crew. IsFree crew.0 crew.1.one)) }
     ensures two { IfOk result (λ made. IfSome made (λ crew. IsFree crew.0 crew.1.two)) }
 {
-    let Some((system, mut passes)) = started(alloc, objects)? else {
+    let Some((system, mut passes)) = started(alloc, object, objects, procs)? else {
         return Ok(None);
     };
     match take_three(&system, &mut passes) {
         Some(crew) => Ok(Some((system, crew))),
         None => Ok(None),
     }
+}
+
+/// So many shared counters on one processor.
+pub(super) fn counters(alloc: Global, objects: u32) -> Result<Option<(System, Three)>, Memory>
+    ensures zero { IfOk result (λ made. IfSome made (λ crew. IsFree crew.0 crew.1.zero)) }
+    ensures one { IfOk result (λ made. IfSome made (λ crew. IsFree crew.0 crew.1.one)) }
+    ensures two { IfOk result (λ made. IfSome made (λ crew. IsFree crew.0 crew.1.two)) }
+{
+    let object = ObjectPlan {
+        kind: KindName::Counter,
+        layout: LayoutName::Shared,
+    };
+    apart(alloc, object, objects, 1)
+}
+
+/// One such object on two processors, and the pass `one` on the second.
+pub(super) fn on_two(alloc: Global, object: ObjectPlan) -> Result<Option<(System, Three)>, Memory>
+    ensures zero { IfOk result (λ made. IfSome made (λ crew. IsFree crew.0 crew.1.zero)) }
+    ensures one { IfOk result (λ made. IfSome made (λ crew. IsFree crew.0 crew.1.one)) }
+    ensures two { IfOk result (λ made. IfSome made (λ crew. IsFree crew.0 crew.1.two)) }
+{
+    apart(alloc, object, 1, 2)
 }
 
 /// The history of the three.

@@ -1,12 +1,12 @@
 //! Rows that are handed over, and objects that are destroyed.
 ghost use Rattle.k42_crews.specs.Ready.{IsFree};
 
-use crate::tests::steps::{destroy, reclaim};
+use crate::tests::steps::{reclaim, swap};
 use crate::tests::waiting::find;
 use k42_crews::{call_once, swap_once};
 use k42_kinds::{LayoutName, Op, Reply};
 use k42_memory::Memory;
-use k42_runtime::{Pass, Swapped, System};
+use k42_runtime::{Pass, Swapped, System, To};
 use std::alloc::Global;
 use std::process::Abort;
 use std::sync::Wait;
@@ -70,7 +70,7 @@ pub(super) fn destroy_once<R: Abort + Wait>(
 {
     let added = call_once(rt, alloc, system, pass, 0, Op::Add(5))?;
     assert_eq!(rt; added, Some(Reply::Done));
-    assert_eq!(rt; destroy(rt, alloc, system, pass, 0)?, Swapped::Done(1));
+    assert_eq!(rt; swap(rt, alloc, system, pass, To::Dead)?, Swapped::Done(1));
     find(rt, alloc, system, pass, Reply::Gone)
 }
 
@@ -88,6 +88,6 @@ pub(super) fn find_gone<R: Abort + Wait>(
         swap_once(rt, alloc, system, pass, 0, LayoutName::Spread)?,
         Some(Swapped::Gone)
     );
-    assert_eq!(rt; destroy(rt, alloc, system, pass, 0)?, Swapped::Gone);
+    assert_eq!(rt; swap(rt, alloc, system, pass, To::Dead)?, Swapped::Gone);
     Ok(())
 }

@@ -3,7 +3,7 @@ ghost use Rattle.k42_crews.specs.Ready.{IsFree, IsIn};
 ghost use Rattle.runtime_tests.specs.Ready.{IsSwapping};
 
 use k42_crews::{may_call, may_swap};
-use k42_kinds::{LayoutName, Op, Reply};
+use k42_kinds::{Op, Reply};
 use k42_memory::Memory;
 use k42_runtime::{Pass, Step, Swap, Swapped, System, To};
 use std::alloc::Global;
@@ -46,20 +46,25 @@ pub(super) fn ask<R: Abort + Wait>(
     Ok(())
 }
 
-/// Destroys an object.
-pub(super) fn destroy<R: Abort + Wait>(
+/// Swaps the first object to whatever it is.
+pub(super) fn swap<R: Abort + Wait>(
     rt: &R,
     alloc: Global,
     system: &System,
     pass: &mut Pass,
-    object: u32,
+    to: To,
 ) -> Result<Swapped, Memory>
     requires free { IsFree system.now pass.old }
     ensures free { IsFree system.now pass.new }
 {
-    assert!(rt; object < system.objects());
+    assert!(rt; system.objects() > 0);
     assert!(rt; may_swap(pass));
-    system.destroy(rt, alloc, pass, object)
+    match to {
+        To::Layout(layout) => system.swap(rt, alloc, pass, 0, layout),
+        To::Dead => system.destroy(rt, alloc, pass, 0),
+        To::Watch => system.watch(rt, alloc, pass, 0),
+        To::Unwatch => system.unwatch(rt, alloc, pass, 0),
+    }
 }
 
 /// Frees what the pass may free, and answers how many rows these are.
@@ -72,19 +77,13 @@ pub(super) fn reclaim<R: Abort + Wait>(rt: &R, system: &System, pass: &mut Pass)
 }
 
 /// A swap of the pass that has not begun.
-pub(super) fn swap_to(
-    rt: &impl Abort,
-    system: &System,
-    pass: &Pass,
-    object: u32,
-    to: LayoutName,
-) -> Swap
+pub(super) fn swap_to(rt: &impl Abort, system: &System, pass: &Pass, object: u32, to: To) -> Swap
     requires free { IsFree system.now pass.now }
     ensures new { IsSwapping system.now result pass.now }
 {
     assert!(rt; object < system.objects());
     assert!(rt; may_swap(pass));
-    Swap::new(object, To::Layout(to))
+    Swap::new(object, to)
 }
 
 /// Steps a swap that is not over.

@@ -7,7 +7,7 @@ use crate::tests::steps::{ask, come_in, end_swap, go_home, reclaim, swap_to, try
 use k42_crews::{call_once, swap_once};
 use k42_kinds::{LayoutName, Op, Reply};
 use k42_memory::Memory;
-use k42_runtime::{Cause, Pass, Step, Swap, Swapped, System};
+use k42_runtime::{Cause, Pass, Step, Swap, Swapped, System, To};
 use std::alloc::Global;
 use std::process::Abort;
 use std::sync::Wait;
@@ -42,7 +42,7 @@ fn get_and_leave<R: Abort + Wait>(
 }
 
 /// The swap finds one activity open.
-fn find_left(
+pub(super) fn find_left(
     rt: &impl Abort,
     alloc: Global,
     system: &System,
@@ -75,7 +75,7 @@ fn find_busy<R: Abort + Wait>(
 }
 
 /// The swap ends now, as the first of its object.
-fn find_done(
+pub(super) fn find_done(
     rt: &impl Abort,
     alloc: Global,
     system: &System,
@@ -108,7 +108,7 @@ pub(super) fn swap_beside<R: Abort + Wait>(
     ensures two { OnOk result (IsFree system.now two.new) }
 {
     add_and_stay(rt, alloc, system, zero)?;
-    let mut swap = swap_to(rt, system, one, 0, LayoutName::Spread);
+    let mut swap = swap_to(rt, system, one, 0, To::Layout(LayoutName::Spread));
     find_left(rt, alloc, system, one, &mut swap)?;
     find_busy(rt, alloc, system, two)?;
     get_and_leave(rt, alloc, system, zero)?;

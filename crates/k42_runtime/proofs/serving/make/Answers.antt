@@ -4,18 +4,18 @@ use Rattle.k42_kinds.specs.declared.entry.Answer.TheVariants.{Replied}
 use Rattle.k42_board.specs.Drawing.{AreTold, MayDrawCall, numbers_of, entry_call, drawn_at}
 use Rattle.k42_board.specs.declared.cell.Content.{Content}
 use Rattle.k42_board.specs.declared.view.PassView.{PassView}
-use Rattle.co_any.specs.AnyLaws.{any_agrees}
 use Rattle.k42_mediator.proofs.RowReady.{written_back, told_numbers}
 use Rattle.k42_runtime.specs.Reaching.{MayGiveBack}
 use Rattle.k42_runtime.specs.Stepping.{MayStepCells, HasSteppedCells}
-use Rattle.k42_runtime.specs.Systems.{any_layouts, SystemLayout}
+use Rattle.k42_runtime.specs.Systems.{any_layouts}
+use Rattle.k42_runtime.proofs.Agreed.{watched_agrees}
 use Rattle.k42_runtime.proofs.CallMade.{may_step, may_draw, numbers_stepped, long_stepped, may_give_taken, may_give_drawn, has_made}
 use Rattle.k42_runtime.proofs.serving.make.Goals as goal
 
 pub step_cells-requires-clause-may : goal.step_cells-requires-clause-may
 step_cells-requires-clause-may c =
     let procs : ℕ = c.args.sys.now.procs in let F = any_layouts procs c.args.sys.now.callers in let declared = c.args.sys.now.layouts in let laws = c.layouts_are_lawful.ensures in
-    let agrees = λ (l m : SystemLayout) (same : F.object_of l ≡ F.object_of m) (tags : F.tag_of l ≡ F.tag_of m). any_agrees l.kind m.kind l.tag m.tag same tags in
+    let agrees = watched_agrees in
     let layout = c.args.layout.now in let v = c.args.pass.now.view in let op = c.args.op.now in let reach = c.args.reach.now in let items = c.args.cells.now.items in
     let has = c.requires.has in let is = c.procs-procs.ensures.is in let few : procs ≤ 8 = subst (λ k. k ≤ 8) is c.procs-procs.ensures.few in
     subst (λ (z : ℕ × List (Content _)). MayStepCells (F.ways_of layout) z.0 (F.Whole layout) op reach z.1) (λ j. (sym is j, sym c.as_mut_slice.ensures.value j))
@@ -24,7 +24,7 @@ step_cells-requires-clause-may c =
 pub returns-in_default-clause-may : goal.returns-in_default-clause-may
 returns-in_default-clause-may c =
     let procs : ℕ = c.args.sys.now.procs in let F = any_layouts procs c.args.sys.now.callers in let declared = c.args.sys.now.layouts in let laws = c.layouts_are_lawful.ensures in
-    let agrees = λ (l m : SystemLayout) (same : F.object_of l ≡ F.object_of m) (tags : F.tag_of l ≡ F.tag_of m). any_agrees l.kind m.kind l.tag m.tag same tags in
+    let agrees = watched_agrees in
     let layout = c.args.layout.now in let v = c.args.pass.now.view in let op = c.args.op.now in let reach = c.args.reach.now in let items = c.args.cells.now.items in
     let has = c.requires.has in let is = c.procs-procs.ensures.is in let few : procs ≤ 8 = subst (λ k. k ≤ 8) is c.procs-procs.ensures.few in
     let new = c.step_cells.new.cells in
@@ -35,7 +35,7 @@ returns-in_default-clause-may c =
 pub draw_call-requires-clause-may : goal.draw_call-requires-clause-may
 draw_call-requires-clause-may c κs =
     let procs : ℕ = c.args.sys.now.procs in let F = any_layouts procs c.args.sys.now.callers in let declared = c.args.sys.now.layouts in let laws = c.layouts_are_lawful.ensures in
-    let agrees = λ (l m : SystemLayout) (same : F.object_of l ≡ F.object_of m) (tags : F.tag_of l ≡ F.tag_of m). any_agrees l.kind m.kind l.tag m.tag same tags in
+    let agrees = watched_agrees in
     let layout = c.args.layout.now in let v = c.args.pass.now.view in let op = c.args.op.now in let reach = c.args.reach.now in let items = c.args.cells.now.items in
     let has = c.requires.has in let is = c.procs-procs.ensures.is in let few : procs ≤ 8 = subst (λ k. k ≤ 8) is c.procs-procs.ensures.few in
     let reply = c.in-Ok.reply in let new = c.step_cells.new.cells in
@@ -49,7 +49,7 @@ draw_call-requires-clause-may c κs =
 pub returns-clause-numbers : goal.returns-clause-numbers
 returns-clause-numbers c =
     let procs : ℕ = c.args.sys.now.procs in let F = any_layouts procs c.args.sys.now.callers in let declared = c.args.sys.now.layouts in let laws = c.layouts_are_lawful.ensures in
-    let agrees = λ (l m : SystemLayout) (same : F.object_of l ≡ F.object_of m) (tags : F.tag_of l ≡ F.tag_of m). any_agrees l.kind m.kind l.tag m.tag same tags in
+    let agrees = watched_agrees in
     let layout = c.args.layout.now in let v = c.args.pass.now.view in let op = c.args.op.now in let reach = c.args.reach.now in let items = c.args.cells.now.items in
     let has = c.requires.has in let is = c.procs-procs.ensures.is in let few : procs ≤ 8 = subst (λ k. k ≤ 8) is c.procs-procs.ensures.few in
     let reply = c.in-Ok.reply in let new = c.step_cells.new.cells in
@@ -64,7 +64,7 @@ returns-clause-numbers c =
 pub returns-clause-may : goal.returns-clause-may
 returns-clause-may c =
     let procs : ℕ = c.args.sys.now.procs in let F = any_layouts procs c.args.sys.now.callers in let declared = c.args.sys.now.layouts in let laws = c.layouts_are_lawful.ensures in
-    let agrees = λ (l m : SystemLayout) (same : F.object_of l ≡ F.object_of m) (tags : F.tag_of l ≡ F.tag_of m). any_agrees l.kind m.kind l.tag m.tag same tags in
+    let agrees = watched_agrees in
     let layout = c.args.layout.now in let v = c.args.pass.now.view in let op = c.args.op.now in let reach = c.args.reach.now in let items = c.args.cells.now.items in
     let has = c.requires.has in let is = c.procs-procs.ensures.is in let few : procs ≤ 8 = subst (λ k. k ≤ 8) is c.procs-procs.ensures.few in
     let reply = c.in-Ok.reply in let new = c.step_cells.new.cells in
@@ -83,7 +83,7 @@ returns-clause-may c =
 pub returns-clause-makes : goal.returns-clause-makes
 returns-clause-makes c =
     let procs : ℕ = c.args.sys.now.procs in let F = any_layouts procs c.args.sys.now.callers in let declared = c.args.sys.now.layouts in let laws = c.layouts_are_lawful.ensures in
-    let agrees = λ (l m : SystemLayout) (same : F.object_of l ≡ F.object_of m) (tags : F.tag_of l ≡ F.tag_of m). any_agrees l.kind m.kind l.tag m.tag same tags in
+    let agrees = watched_agrees in
     let layout = c.args.layout.now in let v = c.args.pass.now.view in let op = c.args.op.now in let reach = c.args.reach.now in let items = c.args.cells.now.items in
     let has = c.requires.has in let is = c.procs-procs.ensures.is in let few : procs ≤ 8 = subst (λ k. k ≤ 8) is c.procs-procs.ensures.few in
     let reply = c.in-Ok.reply in let new = c.step_cells.new.cells in

@@ -3,14 +3,14 @@ use Rattle.std.specs.Option.{unwrap_or}
 use Rattle.std.proofs.lemmas.List.{length-append, append_assoc}
 use Rattle.k42_board.specs.declared.cell.Content.{Content}
 use Rattle.k42_mediator.specs.Parts.{parts_from, filled}
-use Rattle.co_any.specs.Layouts.{ways_of}
 use Rattle.k42_runtime.specs.Stepping.{row_behind}
+use Rattle.k42_runtime.specs.Systems.{ways_in}
 use Rattle.k42_runtime.proofs.CallStepped.{set_behind, own_behind, on_ok_3, on_err_3}
 use Rattle.k42_runtime.proofs.stepping.+step_behind.Goals as goal
 
 pub returns-clause-cells : goal.returns-clause-cells
 returns-clause-cells t c =
-    let ways = ways_of c.args.layout.now.kind c.args.layout.now.tag in let procs : ℕ = c.args.procs in let op = c.args.op.now in
+    let ways = ways_in c.args.layout.now in let procs : ℕ = c.args.procs in let op = c.args.op.now in
     let parts = c.args.parts.now.items in let k : ℕ = length parts in let x = c.in_ok-part.field-0.part in
     let cell = c.in-Some.cell.now in let others = c.in-Some.others.now in let all = c.push_reserved.new.self.items in
     let back = c.step_behind-reply.new.parts.items in
@@ -37,7 +37,7 @@ returns-clause-cells t c =
 
 pub returns-clause-cells_kept : goal.returns-clause-cells_kept
 returns-clause-cells_kept t c =
-    let ways = ways_of c.args.layout.now.kind c.args.layout.now.tag in let procs : ℕ = c.args.procs in let op = c.args.op.now in
+    let ways = ways_in c.args.layout.now in let procs : ℕ = c.args.procs in let op = c.args.op.now in
     let parts = c.args.parts.now.items in let k : ℕ = length parts in let x = c.in_ok-part.field-0.part in
     let cell = c.in-Some.cell.now in let others = c.in-Some.others.now in let all = c.push_reserved.new.self.items in
     let back = c.step_behind-reply.new.parts.items in

@@ -46,7 +46,7 @@ returns-in-Held c =
     let old = c.args.pass.now in let new = c.mark.new.pass in
     let F = layouts_in (record { sys = c.system.inside.sys; plan = c.system.inside.plan }) in
     let held : IsHeldBy F c.system.inside.sys.layouts c.in-Held.holder old new =
-    subst (λ answer. IsMarkAnswer F c.system.inside.sys.layouts answer c.act-act.result old new) c.in-Held.is c.mark.ensures in
+    subst (λ answer. IsMarkAnswer F c.system.inside.sys.layouts answer (Swap c.self.inside.to) old new) c.in-Held.is c.mark.ensures in
     record {
       here = search rules;
       stage = search rules;
