@@ -111,7 +111,14 @@ fn words_are_told_where_there_is_memory(rt: HostRuntime) -> Result<(), Fail> {
 
 #[test]
 fn words_that_are_not_to_be_had_are_one_empty_word(rt: HostRuntime) -> Result<(), Fail> {
-    for cause in [ErrorKind::InvalidData, ErrorKind::Other] {
+    for cause in [
+        ErrorKind::InvalidData,
+        ErrorKind::PermissionDenied,
+        ErrorKind::NotFound,
+        ErrorKind::Interrupted,
+        ErrorKind::Unsupported,
+        ErrorKind::Other,
+    ] {
         let words = words_of(rt.alloc(), Err(io::Error::from(cause)))?;
         assert_eq!(rt; words.len(), 1);
         assert_eq!(rt; words[0].len(), 0);

@@ -1,11 +1,13 @@
-//! Five passes and sixteen, each on a thread of its own.
+//! Five passes, six and sixteen, each on a thread of its own.
 ghost use Rattle.std.specs.Prelude.{OnOk};
 ghost use Rattle.k42_crews.specs.Ready.{AreFree};
 
-use crate::tests::crews::five;
-use crate::tests::sixteen::{entries_of_all, entries_of_many};
+use crate::tests::crews::{five, six};
+use crate::tests::refusing::tried_by_all;
+use crate::tests::sixteen::{entries_of_all, entries_of_many, late_of_all};
 use crate::tests::staying::LongStay;
 use crate::tests::swapping::{CALLS, ToAndFro};
+use crate::tests::watching::{Instrument, figures_told, has_figure};
 use k42_crews::{close, may_call, work_all};
 use k42_kinds::{Answer, Entry, KindName, Op, Reply};
 use k42_memory::Memory;
@@ -19,9 +21,11 @@ use std::thread::Threads;
 
 mod asking;
 mod crews;
+mod refusing;
 mod sixteen;
 mod staying;
 mod swapping;
+mod watching;
 
 /// Asks once more, of the first pass.
 fn ask_last<R: Wait>(
@@ -75,6 +79,7 @@ fn stays_right<R: Threads + Abort + Wait + Sync>(
     };
     let load = ToAndFro::new(kind);
     work_all(rt, alloc, &system, &load, passes.as_mut_slice())?;
+    assert_eq!(rt; load.late.load(Ordering::SeqCst), 0);
     assert_eq!(rt; load.done.load(Ordering::SeqCst), 4);
     assert_eq!(rt; load.wrong.load(Ordering::SeqCst), 0);
     let last = ask_last(rt, alloc, &system, passes.as_mut_slice(), op)?;
@@ -131,6 +136,7 @@ fn a_long_activity_holds_back_a_swap_and_no_call(rt: HostRuntime) -> Result<(), 
     };
     let stay = LongStay::new();
     work_all(&rt, alloc, &system, &stay, passes.as_mut_slice())?;
+    assert_eq!(rt; stay.late.load(Ordering::SeqCst), 0);
     assert_eq!(rt; stay.early.load(Ordering::SeqCst), 0);
     assert_eq!(rt; stay.swaps.load(Ordering::SeqCst), 1);
     let last = ask_last(&rt, alloc, &system, passes.as_mut_slice(), Op::Get)?;
@@ -146,8 +152,45 @@ fn a_long_activity_holds_back_a_swap_and_no_call(rt: HostRuntime) -> Result<(), 
 }
 
 #[test]
-fn sixteen_passes_are_closed(rt: HostRuntime) -> Result<(), Fail> {
-    assert_eq!(rt; entries_of_all(&rt, rt.alloc())?, Some(16));
+fn what_a_watched_counter_tells_is_the_number_of_its_calls(rt: HostRuntime) -> Result<(), Fail> {
+    let alloc = rt.alloc();
+    let Some((system, mut passes)) = six(alloc, KindName::Counter)? else {
+        return Err("no system")?;
+    };
+    let load = Instrument::new();
+    work_all(&rt, alloc, &system, &load, passes.as_mut_slice())?;
+    assert_eq!(rt; load.late.load(Ordering::SeqCst), 0);
+    assert_eq!(rt; load.done.load(Ordering::SeqCst), 4);
+    let last = ask_last(&rt, alloc, &system, passes.as_mut_slice(), Op::Get)?;
+    assert_eq!(rt; last, Some(Reply::Number(4000)));
+    let Some(history) = close(alloc, system, passes)? else {
+        return Err("no history")?;
+    };
+    let asked = figures_told(history.entries());
+    assert!(rt; asked.is_some_and(|asked| asked > 0));
+    // The first calls of all four stand between the first watch and the first `seen`.
+    assert!(rt; has_figure(history.entries(), 2000));
+    Ok(())
+}
+
+#[test]
+fn one_pass_and_sixteen_are_closed(rt: HostRuntime) -> Result<(), Fail> {
+    for callers in [1, 16] {
+        let entries = entries_of_all(&rt, rt.alloc(), callers)?;
+        assert_eq!(rt; entries, Some(callers as usize));
+    }
+    Ok(())
+}
+
+#[test]
+fn sixteen_passes_meet_each_on_a_thread_of_its_own(rt: HostRuntime) -> Result<(), Fail> {
+    assert_eq!(rt; late_of_all(&rt, rt.alloc())?, Some(0));
+    Ok(())
+}
+
+#[test]
+fn passes_that_find_no_memory_are_tried_once_and_closed(rt: HostRuntime) -> Result<(), Fail> {
+    assert_eq!(rt; tried_by_all(&rt, rt.alloc())?, Some((16, 16)));
     Ok(())
 }
 

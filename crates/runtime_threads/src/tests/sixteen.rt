@@ -1,19 +1,21 @@
-//! Sixteen passes add to one counter, as many as a system has.
+//! Passes add to one counter, up to sixteen, as many as a system has.
 ghost use Rattle.std.specs.Prelude.{IfOk, IfSome, OnOk};
 ghost use Rattle.k42_crews.specs.Crews.{EachBecomes};
 ghost use Rattle.k42_crews.specs.Ready.{IsFree, AreFree, StaysFree};
 ghost use Rattle.runtime_threads.specs.Ready.{HasAdded};
 
+use crate::tests::crews::wait_for;
 use k42_crews::{Work, call_once, close, start, work_all};
 use k42_kinds::{KindName, LayoutName, Op};
 use k42_memory::Memory;
 use k42_runtime::{ObjectPlan, Pass, Plan, System};
 use std::alloc::Global;
 use std::sync::Wait;
+use std::sync::atomic::{AtomicU64, Ordering};
 use std::thread::Threads;
 
-/// A spread counter on eight processors, and the passes of sixteen callers.
-fn sixteen(alloc: Global) -> Result<Option<(System, Vec<Pass>)>, Memory>
+/// A spread counter on eight processors, and the passes of so many callers.
+pub(super) fn crew_of(alloc: Global, callers: u32) -> Result<Option<(System, Vec<Pass>)>, Memory>
     ensures { IfOk result (λ made. IfSome made (λ crew. AreFree crew.0 crew.1.items)) }
 {
     let objects = vec![in alloc;
@@ -22,7 +24,10 @@ fn sixteen(alloc: Global) -> Result<Option<(System, Vec<Pass>)>, Memory>
             layout: LayoutName::Spread
         },
     ]?;
-    let homes = vec![in alloc; 0, 1, 2, 3, 4, 5, 6, 7, 0, 1, 2, 3, 4, 5, 6, 7]?;
+    let mut homes = Vec::new(alloc);
+    for caller in 0..callers {
+        homes.push(caller % 8)?;
+    }
     match Plan::new(8, objects, homes) {
         Ok(plan) => Ok(Some(start(alloc, plan)?)),
         Err(_) => Ok(None),
@@ -61,12 +66,13 @@ fn add_once<R: Threads + Wait + Sync>(
     work_all(rt, alloc, system, &AddOnce, passes)
 }
 
-/// How many entries the history of sixteen passes has that add once.
+/// How many entries the history of so many passes has that add once.
 pub(super) fn entries_of_all<R: Threads + Wait + Sync>(
     rt: &R,
     alloc: Global,
+    callers: u32,
 ) -> Result<Option<usize>, Memory> {
-    let Some((system, mut passes)) = sixteen(alloc)? else {
+    let Some((system, mut passes)) = crew_of(alloc, callers)? else {
         return Ok(None);
     };
     add_once(rt, alloc, &system, passes.as_mut_slice())?;
@@ -116,11 +122,49 @@ pub(super) fn entries_of_many<R: Threads + Wait + Sync>(
     alloc: Global,
     calls: u32,
 ) -> Result<Option<usize>, Memory> {
-    let Some((system, mut passes)) = sixteen(alloc)? else {
+    let Some((system, mut passes)) = crew_of(alloc, 16)? else {
         return Ok(None);
     };
     let work = AddOften { calls };
     work_all(rt, alloc, &system, &work, passes.as_mut_slice())?;
     let history = close(alloc, system, passes)?;
     Ok(history.map(|history| history.entries().len()))
+}
+
+/// Each pass waits until all sixteen are there, and then adds.
+#[derive(Drop)]
+struct Meeting {
+    there: AtomicU64,
+    late: AtomicU64,
+}
+
+impl Work for Meeting {
+    fn work<R: Wait>(
+        &self,
+        rt: &R,
+        alloc: Global,
+        system: &System,
+        pass: &mut Pass,
+    ) -> Result<(), Memory> {
+        self.there.fetch_add(1, Ordering::SeqCst);
+        wait_for(rt, &self.there, 16, &self.late);
+        call_once(rt, alloc, system, pass, 0, Op::Add(1))?;
+        Ok(())
+    }
+}
+
+/// How many of sixteen passes that meet have waited in vain.
+pub(super) fn late_of_all<R: Threads + Wait + Sync>(
+    rt: &R,
+    alloc: Global,
+) -> Result<Option<u64>, Memory> {
+    let Some((system, mut passes)) = crew_of(alloc, 16)? else {
+        return Ok(None);
+    };
+    let meeting = Meeting {
+        there: AtomicU64::new(0),
+        late: AtomicU64::new(0),
+    };
+    work_all(rt, alloc, &system, &meeting, passes.as_mut_slice())?;
+    Ok(Some(meeting.late.load(Ordering::SeqCst)))
 }

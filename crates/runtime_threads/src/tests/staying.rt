@@ -17,7 +17,8 @@ use std::sync::atomic::{AtomicU64, Ordering};
 pub(super) const CALLS: u32 = 300;
 
 /// Whether the long activity is open, whether it was found to hold the swap back, how many of the others
-/// have made their calls, how many swaps had ended before the long activity, and how many have ended.
+/// have made their calls, how many swaps had ended before the long activity, how many have ended, and how many passes
+/// have waited in vain.
 #[derive(Drop)]
 pub(super) struct LongStay {
     open: AtomicU64,
@@ -25,6 +26,7 @@ pub(super) struct LongStay {
     done: AtomicU64,
     pub(super) early: AtomicU64,
     pub(super) swaps: AtomicU64,
+    pub(super) late: AtomicU64,
 }
 
 impl LongStay {
@@ -35,6 +37,7 @@ impl LongStay {
             done: AtomicU64::new(0),
             early: AtomicU64::new(0),
             swaps: AtomicU64::new(0),
+            late: AtomicU64::new(0),
         }
     }
 
@@ -75,9 +78,9 @@ impl LongStay {
         }
         system.enter(pass);
         self.open.store(1, Ordering::SeqCst);
-        wait_for(rt, &self.held, 1);
+        wait_for(rt, &self.held, 1, &self.late);
         let added = self.add_inside(rt, alloc, system, pass);
-        wait_for(rt, &self.done, 3);
+        wait_for(rt, &self.done, 3, &self.late);
         self.early
             .store(self.swaps.load(Ordering::SeqCst), Ordering::SeqCst);
         system.leave(pass);
@@ -95,7 +98,7 @@ impl LongStay {
         requires { IsFree system.now pass.old }
         ensures { StaysFree system.now pass.old pass.new }
     {
-        wait_for(rt, &self.held, 1);
+        wait_for(rt, &self.held, 1, &self.late);
         for _ in 0..CALLS {
             if !may_call(pass) || !system.takes(0, &Op::Add(1)) {
                 return Ok(());
@@ -147,7 +150,7 @@ impl LongStay {
         requires { IsFree system.now pass.old }
         ensures { StaysFree system.now pass.old pass.new }
     {
-        wait_for(rt, &self.open, 1);
+        wait_for(rt, &self.open, 1, &self.late);
         if !may_swap(pass) || system.objects() == 0 {
             return Ok(());
         }

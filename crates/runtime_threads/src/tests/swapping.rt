@@ -15,13 +15,15 @@ use std::sync::atomic::{AtomicU64, Ordering};
 /// How many calls each of the four makes.
 pub(super) const CALLS: u32 = 1001;
 
-/// How many callers have made all their calls, how many replies were not those due, and how many swaps are done.
+/// How many callers have made all their calls, how many replies were not those due, how many swaps are done, and how many
+/// have waited for them in vain.
 #[derive(Drop)]
 pub(super) struct ToAndFro {
     kind: KindName,
     pub(super) done: AtomicU64,
     pub(super) wrong: AtomicU64,
     pub(super) swaps: AtomicU64,
+    pub(super) late: AtomicU64,
 }
 
 impl ToAndFro {
@@ -31,6 +33,7 @@ impl ToAndFro {
             done: AtomicU64::new(0),
             wrong: AtomicU64::new(0),
             swaps: AtomicU64::new(0),
+            late: AtomicU64::new(0),
         }
     }
 
@@ -47,7 +50,7 @@ impl ToAndFro {
     {
         for number in 0..CALLS {
             if number == CALLS / 2 {
-                wait_for(rt, &self.swaps, 3);
+                wait_for(rt, &self.swaps, 3, &self.late);
             }
             let Some((op, due)) = asked_by(self.kind, pass.caller(), number) else {
                 return Ok(());
