@@ -18,6 +18,7 @@ mod loads;
 mod side_by_side;
 mod statuses;
 mod tasks;
+mod watched;
 
 const RUN: &str = "run";
 

@@ -9,11 +9,9 @@ use Rattle.std.proofs.lemmas.Option.{same_Some, slice_get-map, slice_get_within,
 use Rattle.std.proofs.lemmas.List.Sums.{get_or-le-sum_by}
 use Rattle.std.proofs.lemmas.Simd.{map-map}
 use Rattle.k42_limits.specs.declared.TheConstants.{PROCESSORS, OBJECTS, CALLERS}
-use Rattle.k42_kinds.specs.Operations.{kind_of_op, same_kind}
 use Rattle.k42_kinds.specs.declared.entry.Act.{Act}
 use Rattle.k42_kinds.specs.declared.entry.Act.TheVariants.{Call, Swap}
 use Rattle.k42_kinds.specs.declared.operation.KindName.{KindName}
-use Rattle.k42_kinds.specs.declared.operation.KindName.TheVariants as kinds
 use Rattle.script_text.specs.Lawful as lawful
 use Rattle.script_text.specs.Lawful.{call_lines}
 use Rattle.script_text.specs.Sound.{IsSound, IsSoundLine, IsSoundWorker, IsActOn}
@@ -105,11 +103,6 @@ module _ (script : Script) (sound : IsSound script) where
   pub kinds_planned : plans.kinds_of (plan_of script) ≡ lawful.kinds_of script
   kinds_planned = map-map (λ (object : ObjectPlan). object.kind) object_plan script.objects
 
-  taken_kind : (kind : KindName) → same_kind kind kind ≡ true
-  taken_kind kinds.Counter = refl
-  taken_kind kinds.Directory = refl
-  taken_kind kinds.Pages = refl
-
   record IsDeclared (object : ℕ) (kind : KindName) : Type 0 where
     declaration : ObjectPlan
     there : slice_get (plan_of script).objects object ≡ Some declaration
@@ -130,7 +123,7 @@ module _ (script : Script) (sound : IsSound script) where
   may_ask object kind (Call op) is on = record {
     declaration = is.declaration;
     declares = is.there;
-    takes = rw (is.of_kind, ← on.0) (taken_kind (kind_of_op op));
+    takes = rw is.of_kind on.0;
   }
   may_ask object kind (Swap to) is on = slice_get_within (plan_of script).objects object is.declaration is.there
 

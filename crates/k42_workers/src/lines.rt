@@ -111,7 +111,7 @@ fn call<R: Wait>(
     Ok(())
 }
 
-/// Replaces an implementation, or ends an object, between two activities.
+/// Swaps, destroys, watches or unwatches an object, between two activities.
 fn swap<R: Wait>(
     rt: &R,
     alloc: Global,
@@ -133,6 +133,8 @@ fn swap<R: Wait>(
     match to {
         To::Layout(layout) => system.swap(rt, alloc, pass, line.object, layout)?,
         To::Dead => system.destroy(rt, alloc, pass, line.object)?,
+        To::Watch => system.watch(rt, alloc, pass, line.object)?,
+        To::Unwatch => system.unwatch(rt, alloc, pass, line.object)?,
     };
     Ok(())
 }

@@ -9,6 +9,7 @@ use Rattle.k42_limits.specs.declared.TheConstants.{PAGES, LAST_INCARNATION}
 use Rattle.k42_kinds.specs.Histories.{is_call, is_carried_out, is_carried_out_on, number_of, moved_by, state_after_act}
 use Rattle.k42_kinds.specs.Legal.{Settles, IsRival, IsAlive, IsLegalAct, IsLegalAnswer}
 use Rattle.k42_kinds.specs.Objects.{state_after, is_dead, empty_state}
+use Rattle.k42_kinds.specs.Watched.{watched_object}
 use Rattle.k42_kinds.specs.declared.entry.Act.{Act}
 use Rattle.k42_kinds.specs.declared.entry.Act.TheVariants.{Call, Swap}
 use Rattle.k42_kinds.specs.declared.entry.Answer.{Answer}
@@ -22,6 +23,7 @@ use Rattle.k42_kinds.specs.declared.operation.Op.{Op}
 use Rattle.k42_kinds.specs.declared.operation.Op.TheVariants.{Add, Bind, Write}
 use Rattle.k42_kinds.specs.declared.states.AnyState.{AnyState}
 use Rattle.k42_kinds.specs.declared.states.AnyState.TheVariants as states
+use Rattle.k42_kinds.specs.declared.watch.WatchState.{WatchState}
 use Rattle.k42_kinds.proofs.Splits.{All-at_split, none-Any}
 use Rattle.script_text.specs.Generated.{layout_at, value_at, generated}
 use Rattle.script_text.specs.Lawful.{IsLawful, IsNotGivenUp}
@@ -83,17 +85,17 @@ alive_after (states.Directory names) op alive = refl
 alive_after (states.Pages pages) op alive = refl
 alive_after states.Dead op alive = alive
 
-alive_moved : (kind : KindName) (state : AnyState) (worker : ℕ) (act : Act) (answer : Answer) → Asks worker act → is_dead state ≡ false → is_dead (state_after_act kind state act answer) ≡ false
-alive_moved kind state worker act answer (Adds amount is) alive = rw is (alive_after state (Add amount) alive)
-alive_moved kind state worker act answer (Binds name number less is) alive = rw is (alive_after state (Bind (name_of name) number) alive)
-alive_moved kind state worker act answer (Writes page text less is) alive = rw is (alive_after state (Write page text) alive)
-alive_moved kind state worker act answer (Swaps layout first is) alive = rw is (cond_both (is_carried_out answer) state state (λ moved. is_dead moved ≡ false) (λ done. alive) (λ other. alive))
+alive_moved : (kind : KindName) (state : WatchState AnyState) (worker : ℕ) (act : Act) (answer : Answer) → Asks worker act → is_dead state.inner ≡ false → is_dead (state_after_act kind state act answer).inner ≡ false
+alive_moved kind state worker act answer (Adds amount is) alive = rw is (alive_after state.inner (Add amount) alive)
+alive_moved kind state worker act answer (Binds name number less is) alive = rw is (alive_after state.inner (Bind (name_of name) number) alive)
+alive_moved kind state worker act answer (Writes page text less is) alive = rw is (alive_after state.inner (Write page text) alive)
+alive_moved kind state worker act answer (Swaps layout first is) alive = rw is (cond_both (is_carried_out answer) ((watched_object kind).swapped state (Layout layout)) state (λ moved. is_dead moved.inner ≡ false) (λ done. alive) (λ other. alive))
 
-alive_in : (kind : KindName) (object : ℕ) (state : AnyState) (entries : List Entry) → AllByRecursion (λ (entry : Entry). Asks entry.caller entry.act) entries → is_dead state ≡ false → is_dead (fold (moved_by kind object) state entries) ≡ false
+alive_in : (kind : KindName) (object : ℕ) (state : WatchState AnyState) (entries : List Entry) → AllByRecursion (λ (entry : Entry). Asks entry.caller entry.act) entries → is_dead state.inner ≡ false → is_dead (fold (moved_by kind object) state entries).inner ≡ false
 alive_in kind object state [] asks alive = alive
 alive_in kind object state (entry ∷ entries) asks alive =
     alive_in kind object (moved_by kind object state entry) entries asks.1
-    (cond_both (entry.object == object) (state_after_act kind state entry.act entry.answer) state (λ moved. is_dead moved ≡ false) (λ own. alive_moved kind state entry.caller entry.act entry.answer asks.0 alive) (λ other. alive))
+    (cond_both (entry.object == object) (state_after_act kind state entry.act entry.answer) state (λ moved. is_dead moved.inner ≡ false) (λ own. alive_moved kind state entry.caller entry.act entry.answer asks.0 alive) (λ other. alive))
 
 starts_alive : (kind : KindName) → is_dead (empty_state kind) ≡ false
 starts_alive Counter = refl
@@ -157,7 +159,7 @@ module _ (n : ℕ) (small : n ≤ 10000) (history : List Entry) (lawful : IsLawf
   done_by before entry after split kind legal (Swaps layout first is) =
       rw is (carried_out kind before entry after entry.answer (subst (IsLegalAct kind before entry after) is legal)
       (All-at_split (λ (other : Entry). IsNotGivenUp other.answer) history lawful.none_given_up before entry after split)
-      (alive_in kind entry.object (empty_state kind) before (front (λ (other : Entry). Asks other.caller other.act) before (entry ∷ after) (asks_in before entry after split)) (starts_alive kind))
+      (alive_in kind entry.object (watched_object kind).start before (front (λ (other : Entry). Asks other.caller other.act) before (entry ∷ after) (asks_in before entry after split)) (starts_alive kind))
       (few_before entry.object before entry after split)
       (λ number. rivals number before entry after first split))
 

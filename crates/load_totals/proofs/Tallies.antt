@@ -47,24 +47,24 @@ writes_page page (Call (Write other text)) = eqb other page
 writes_page page _ = false
 
 -- the three objects apart
-abbrev hits_called : KindName → ℕ → Op → ℕ
-hits_called kinds.Counter hits op = counter_after hits op
+abbrev hits_called : Option KindName → ℕ → Op → ℕ
+hits_called (Some kinds.Counter) hits op = counter_after hits op
 hits_called _ hits op = hits
 
 abbrev hits_after : ℕ → Act → ℕ
 hits_after hits (Call op) = hits_called (kind_of_op op) hits op
 hits_after hits _ = hits
 
-abbrev names_called : KindName → Directory → Op → Directory
-names_called kinds.Directory names op = directory_after names op
+abbrev names_called : Option KindName → Directory → Op → Directory
+names_called (Some kinds.Directory) names op = directory_after names op
 names_called _ names op = names
 
 abbrev names_after : Directory → Act → Directory
 names_after names (Call op) = names_called (kind_of_op op) names op
 names_after names _ = names
 
-abbrev cache_called : KindName → Pages → Op → Pages
-cache_called kinds.Pages pages op = pages_after pages op
+abbrev cache_called : Option KindName → Pages → Op → Pages
+cache_called (Some kinds.Pages) pages op = pages_after pages op
 cache_called _ pages op = pages
 
 abbrev cache_after : Pages → Act → Pages
@@ -79,10 +79,11 @@ record Parts (old new : Tally) (act : Act) (done : Bool) : Type 0 where
   names : new.names ≡ names_after old.names act
   cache : new.cache ≡ cache_after old.cache act
 
-called_parts : (kind : KindName) (tally : Tally) (op : Op) → kind_of_op op ≡ kind → Parts tally (called_by kind tally op) (Call op) false
-called_parts kinds.Counter tally op is = record { calls = refl; swaps = omega arith; hits = rw is refl; names = rw is refl; cache = rw is refl }
-called_parts kinds.Directory tally op is = record { calls = refl; swaps = omega arith; hits = rw is refl; names = rw is refl; cache = rw is refl }
-called_parts kinds.Pages tally op is = record { calls = refl; swaps = omega arith; hits = rw is refl; names = rw is refl; cache = rw is refl }
+called_parts : (kind : Option KindName) (tally : Tally) (op : Op) → kind_of_op op ≡ kind → Parts tally (called_by kind tally op) (Call op) false
+called_parts (Some kinds.Counter) tally op is = record { calls = refl; swaps = omega arith; hits = rw is refl; names = rw is refl; cache = rw is refl }
+called_parts (Some kinds.Directory) tally op is = record { calls = refl; swaps = omega arith; hits = rw is refl; names = rw is refl; cache = rw is refl }
+called_parts (Some kinds.Pages) tally op is = record { calls = refl; swaps = omega arith; hits = rw is refl; names = rw is refl; cache = rw is refl }
+called_parts None tally op is = record { calls = refl; swaps = omega arith; hits = rw is refl; names = rw is refl; cache = rw is refl }
 
 swapped_parts : (done : Bool) (tally : Tally) (to : To) → Parts tally (if done then record tally { swaps = tally.swaps + 1 } else tally) (Swap to) done
 swapped_parts true tally to = record { calls = omega arith; swaps = refl; hits = refl; names = refl; cache = refl }

@@ -1,5 +1,5 @@
 -- What the numbers of a generated script are, and how a history is summed up.
-use Rattle.std.specs.Prelude.{ℕ, ◌+◌, ◌-◌, ◌%◌, ◌/◌, ◌==◌, ◌||◌, ◌&&◌, not, Bool, if◌then◌else◌, List, sum_by, count_by, fold}
+use Rattle.std.specs.Prelude.{ℕ, ◌+◌, ◌-◌, ◌%◌, ◌/◌, ◌==◌, ◌||◌, ◌&&◌, not, Bool, if◌then◌else◌, List, sum_by, count_by, fold, Option, Some, None}
 use Rattle.std.specs.List.{range_with_len, list_any}
 use Rattle.std.specs.FinMap as finite
 use Rattle.k42_limits.specs.declared.TheConstants.{PAGES}
@@ -55,11 +55,12 @@ summary_due n = record {
   swaps = swaps_due n;
 }
 
--- an operation of the one object of its kind
-abbrev pub called_by : KindName → Tally → Op → Tally
-called_by kinds.Counter tally op = record tally { hits = counter_after tally.hits op; calls = tally.calls + 1 }
-called_by kinds.Directory tally op = record tally { names = directory_after tally.names op; calls = tally.calls + 1 }
-called_by kinds.Pages tally op = record tally { cache = pages_after tally.cache op; calls = tally.calls + 1 }
+-- an operation of the one object of its kind; where it has none, it changes no object
+abbrev pub called_by : Option KindName → Tally → Op → Tally
+called_by (Some kinds.Counter) tally op = record tally { hits = counter_after tally.hits op; calls = tally.calls + 1 }
+called_by (Some kinds.Directory) tally op = record tally { names = directory_after tally.names op; calls = tally.calls + 1 }
+called_by (Some kinds.Pages) tally op = record tally { cache = pages_after tally.cache op; calls = tally.calls + 1 }
+called_by None tally op = record tally { calls = tally.calls + 1 }
 
 abbrev pub tally_after : Tally → Act → Answer → Tally
 tally_after tally (Call op) answer = called_by (kind_of_op op) tally op

@@ -43,15 +43,16 @@ impl Tally {
         ensures { OnOk result (self.new ≡ loads.called_by (kind_of_op op.now) self.old op.now) }
     {
         match kind_of(op) {
-            KindName::Counter => {
+            Some(KindName::Counter) => {
                 let _ = step_counter(&mut self.hits, op);
             }
-            KindName::Directory => {
+            Some(KindName::Directory) => {
                 let _ = step_directory(&mut self.names, op)?;
             }
-            KindName::Pages => {
+            Some(KindName::Pages) => {
                 let _ = step_pages(&mut self.cache, op)?;
             }
+            None => {}
         }
         self.calls += 1;
         Ok(())

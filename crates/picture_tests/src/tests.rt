@@ -52,7 +52,7 @@ const WHOLE: &[u8] = b"<rect width='100%' height='100%' fill='#fff'/>\n\
 </svg>\n";
 
 const FAULTY: &[u8] = b"<rect width='100%' height='100%' fill='#fff'/>\n\
-<text class='v' x='8' y='20'>line 4: rule 6, the swap or destroy would not have been answered so</text>\n\
+<text class='v' x='8' y='20'>line 4: rule 6, the swap would not have been answered so</text>\n\
 <rect class='l' width='100%' height='68' y='66'/><text x='8' y='92'>ann</text><text x='8' y='107'>processor 0</text>\n\
 <rect class='l' width='100%' height='68' y='138'/><text x='8' y='164'>bob</text><text x='8' y='179'>processor 1</text>\n\
 <rect class='f' x='130' y='68' width='298' height='64' rx='4'/>\n\
@@ -63,15 +63,44 @@ const FAULTY: &[u8] = b"<rect width='100%' height='100%' fill='#fff'/>\n\
 <rect class='x' width='150' height='68' rx='4' x='280' y='66'/><rect class='y' y='28' x='431' width='152' height='216'/>\n\
 </svg>\n";
 
+const WATCHED: &[u8] = b"procs 1\n\
+object hits counter spread\n\
+worker ann 0\n\
+watch hits\n\
+hits get\n\
+hits seen\n\
+unwatch hits\n";
+
+const WATCHES: &[u8] = b"k42 record 1\n\
+1 ann 4 watch hits = done 1 @0\n\
+2 ann 5 hits get = 0 @1\n\
+3 ann 6 hits seen = 1 @1\n\
+4 ann 7 unwatch hits = done 2 @1\n\
+end 4\n";
+
+/// A swap's label says what it was to, also where the layout is kept.
+const LAYERS: &[u8] = b"<rect width='100%' height='100%' fill='#fff'/>\n\
+<text class='v' x='8' y='20'>lawful 4</text>\n\
+<rect class='l' width='100%' height='68' y='66'/><text x='8' y='92'>ann</text><text x='8' y='107'>processor 0</text>\n\
+<g class='o0'><text x='130' y='38'>hits <tspan x='130' y='51'>1: watch</tspan></text><path class='s' d='M203 56V136'/></g>\n\
+<g class='o0'><text x='586' y='38'>hits <tspan x='586' y='51'>2: unwatch</tspan></text><path class='s' d='M659 56V136'/></g>\n\
+<g class='o0' transform='translate(130,71)'><title>1 ann 4 watch hits = done 1 @0</title><use href='#box'/><text class='n' x='4' y='11'>hits</text><text class='k' x='142' y='11'>1</text><text x='4' y='26'> watch </text><text x='4' y='40'>= done 1</text></g>\n\
+<g class='o0' transform='translate(282,71)'><title>2 ann 5 hits get = 0 @1</title><use href='#box'/><text class='n' x='4' y='11'>hits</text><text class='k' x='142' y='11'>2</text><text x='4' y='26'>  get</text><text x='4' y='40'>= 0</text></g>\n\
+<g class='o0' transform='translate(434,71)'><title>3 ann 6 hits seen = 1 @1</title><use href='#box'/><text class='n' x='4' y='11'>hits</text><text class='k' x='142' y='11'>3</text><text x='4' y='26'>  seen</text><text x='4' y='40'>= 1</text></g>\n\
+<g class='o0' transform='translate(586,71)'><title>4 ann 7 unwatch hits = done 2 @1</title><use href='#box'/><text class='n' x='4' y='11'>hits</text><text class='k' x='142' y='11'>4</text><text x='4' y='26'> unwatch </text><text x='4' y='40'>= done 2</text></g>\n\
+</svg>\n";
+
 fn drawn(
     rt: &impl Abort,
     alloc: Global,
+    script: &[u8],
+    record: &[u8],
     verdict: Verdict,
     window: Window,
 ) -> Result<Vec<u8>, Fail> {
-    let script = parse(alloc, SCRIPT)?;
-    assert!(rt; RECORD.len() < 1 << 31);
-    let written = read(alloc, &script, RECORD)?;
+    let script = parse(alloc, script)?;
+    assert!(rt; record.len() < 1 << 31);
+    let written = read(alloc, &script, record)?;
     assert!(rt; window.count <= COLUMNS);
     Ok(draw(alloc, &script, &written, verdict, window)?)
 }
@@ -82,7 +111,7 @@ fn lanes_frames_swaps_and_boxes_are_drawn_in_their_places(rt: HostRuntime) -> Re
         before: 0,
         count: COLUMNS,
     };
-    let picture = drawn(&rt, rt.alloc(), Verdict::Lawful, window)?;
+    let picture = drawn(&rt, rt.alloc(), SCRIPT, RECORD, Verdict::Lawful, window)?;
     assert!(rt; picture.as_slice().ends_with(WHOLE));
     Ok(())
 }
@@ -96,7 +125,18 @@ fn the_faulty_entry_of_a_window_is_framed_and_those_behind_it_are_greyed(
         before: 1,
         count: 3,
     };
-    let picture = drawn(&rt, rt.alloc(), verdict, window)?;
+    let picture = drawn(&rt, rt.alloc(), SCRIPT, RECORD, verdict, window)?;
     assert!(rt; picture.as_slice().ends_with(FAULTY));
+    Ok(())
+}
+
+#[test]
+fn a_watch_and_an_unwatch_have_lines_of_their_own(rt: HostRuntime) -> Result<(), Fail> {
+    let window = Window {
+        before: 0,
+        count: COLUMNS,
+    };
+    let picture = drawn(&rt, rt.alloc(), WATCHED, WATCHES, Verdict::Lawful, window)?;
+    assert!(rt; picture.as_slice().ends_with(LAYERS));
     Ok(())
 }

@@ -66,10 +66,10 @@ pub record VeilsBehind (column columns lanes : ℕ) (text : List ℕ) : Type 0 w
   pub covered : (other any : ℕ) → column < other → other < columns → any < lanes
       → LiesWithin (box_area other any) area
 
--- what is wrong with the answer of a swap or destroy, where it breaks a rule
+-- what is wrong with the answer of a swap, where it breaks a rule
 abbrev pub answer_meaning : Answer → List ℕ
 answer_meaning (Busy number) = codes "no such swap of another worker was under way"
-answer_meaning _ = codes "the swap or destroy would not have been answered so"
+answer_meaning _ = codes "the swap would not have been answered so"
 
 -- the text that tells which line breaks which rule, and what that means
 abbrev pub fault_words : ℕ → ℕ → List ℕ → List ℕ

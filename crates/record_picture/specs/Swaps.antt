@@ -2,7 +2,7 @@
 use Rattle.std.specs.Prelude.{ℕ, ◌+◌, List, [], ◌++◌, length, codes}
 use Rattle.k42_kinds.specs.declared.entry.Act.{Act}
 use Rattle.k42_kinds.specs.declared.entry.Act.TheVariants.{Call, Swap}
-use Rattle.k42_kinds.specs.declared.entry.To.TheVariants.{Layout, Dead}
+use Rattle.k42_kinds.specs.declared.entry.To.TheVariants.{Layout, Dead, Watch, Unwatch}
 use Rattle.k42_kinds.specs.declared.entry.Answer.{Answer}
 use Rattle.k42_kinds.specs.declared.entry.Answer.TheVariants.{Swapped}
 use Rattle.script_text.specs.Acts.{layout_word}
@@ -12,11 +12,13 @@ use Rattle.record_text.specs.Texts.{object_name}
 use Rattle.record_picture.specs.Measures.{column_left, lane_top}
 use Rattle.record_picture.specs.Pieces.{numbered, worded, placed_texts}
 
--- what an object is after a swap
-abbrev pub layout_after : Act → List ℕ
-layout_after (Call op) = []
-layout_after (Swap (Layout layout)) = layout_word layout
-layout_after (Swap Dead) = codes "dead"
+-- the word of what a swap was to; a watch and an unwatch keep the layout, and have their own
+abbrev pub label_of : Act → List ℕ
+label_of (Call op) = []
+label_of (Swap (Layout layout)) = layout_word layout
+label_of (Swap Dead) = codes "dead"
+label_of (Swap Watch) = codes "watch"
+label_of (Swap Unwatch) = codes "unwatch"
 
 -- the object in whose colour the line is, and its name
 unfoldable pub swap_name : ℕ → ℕ → List ℕ → List ℕ
@@ -25,12 +27,12 @@ swap_name column object name =
     ++ numbered (codes "'><text x='") (column_left column)
     ++ worded (codes "' y='38'>") name
 
--- the number of the swap, and what the object is after it
+-- the number of the swap, and what it was to
 unfoldable pub swap_number : ℕ → ℕ → Act → List ℕ
 swap_number column number act =
     numbered (codes " <tspan x='") (column_left column)
     ++ numbered (codes "' y='51'>") number
-    ++ worded (codes ": ") (layout_after act)
+    ++ worded (codes ": ") (label_of act)
 
 -- the line itself, in the middle of its column and down to the last lane
 unfoldable pub swap_path : ℕ → ℕ → List ℕ

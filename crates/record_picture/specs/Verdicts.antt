@@ -10,7 +10,7 @@ rule_words rule =
     if rule == 2 then codes ", the stamp is not the number of the entry"
     else if rule == 8 then codes ", not the next line of its worker, or lines are missing at the end"
     else if rule == 5 then codes ", the object would not have replied so"
-    else if rule == 6 then codes ", the swap or destroy would not have been answered so"
+    else if rule == 6 then codes ", the swap would not have been answered so"
     else if rule == 7 then codes ", no such swap of another worker was under way"
     else if rule == 21 then codes ", not the processor of the worker, or the generation is out of step"
     else []

@@ -16,7 +16,7 @@ fn rule_words(rule: u32) -> &'static [u8]
         2 => b", the stamp is not the number of the entry",
         8 => b", not the next line of its worker, or lines are missing at the end",
         5 => b", the object would not have replied so",
-        6 => b", the swap or destroy would not have been answered so",
+        6 => b", the swap would not have been answered so",
         7 => b", no such swap of another worker was under way",
         21 => b", not the processor of the worker, or the generation is out of step",
         _ => b"",

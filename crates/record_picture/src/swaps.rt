@@ -20,14 +20,16 @@ pub fn object_name(script: &Script, object: u32) -> &[u8]
     script.objects.as_slice()[object as usize].name.bytes()
 }
 
-fn layout_after(act: &Act) -> &'static [u8]
-    ensures { result.now ≡ drawn.layout_after act.now }
+fn label_of(act: &Act) -> &'static [u8]
+    ensures { result.now ≡ drawn.label_of act.now }
 {
     match act {
         Act::Call(_) => b"",
         Act::Swap(To::Layout(LayoutName::Shared)) => b"shared",
         Act::Swap(To::Layout(LayoutName::Spread)) => b"spread",
         Act::Swap(To::Dead) => b"dead",
+        Act::Swap(To::Watch) => b"watch",
+        Act::Swap(To::Unwatch) => b"unwatch",
     }
 }
 
@@ -48,7 +50,7 @@ fn put_swap_number(out: &mut Vec<u8>, column: u32, number: u32, act: &Act) -> Re
 {
     put_numbered(out, b" <tspan x='", column_left(column))?;
     put_numbered(out, b"' y='51'>", u64::from(number))?;
-    put_worded(out, b": ", layout_after(act))
+    put_worded(out, b": ", label_of(act))
 }
 
 #[tactic(auto, unfolding(crate::specs::Swaps::swap_path))]

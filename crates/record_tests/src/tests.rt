@@ -1,6 +1,7 @@
 //! Known histories: the texts of their records, and that these are read back.
 mod conditions;
 mod judging;
+mod watching;
 
 use conditions::{has_lines, has_text, is_version};
 use k42_items::Items;

@@ -4,11 +4,12 @@ use Rattle.std.specs.List.{fold}
 use Rattle.std.proofs.lemmas.List.{length-map, map-append, get_or-map, get_or_default}
 use Rattle.std.proofs.lemmas.List.Elements.{All-map, All-weaker}
 use Rattle.std.proofs.lemmas.List.Folds.{fold-map}
-use Rattle.k42_kinds.specs.Objects.{empty_state, reply_of, is_dead}
+use Rattle.k42_kinds.specs.Watched.{watched_object}
 use Rattle.k42_kinds.specs.Histories.{state_of, number_of, moved_by, is_carried_out_on}
 use Rattle.k42_kinds.specs.Legal.{IsLegalAct, IsLegalAnswer, IsLegalAmong, IsLegalRefusal, IsTimely, IsOwn, IsNotPast, IsRival}
 use Rattle.k42_kinds.specs.declared.operation.KindName.{KindName}
 use Rattle.k42_kinds.specs.declared.states.AnyState.{AnyState}
+use Rattle.k42_kinds.specs.declared.watch.WatchState.{WatchState}
 use Rattle.k42_kinds.specs.declared.entry.Act.{Act}
 use Rattle.k42_kinds.specs.declared.entry.Act.TheVariants.{Call, Swap}
 use Rattle.k42_kinds.specs.declared.entry.Answer.{Answer}
@@ -36,12 +37,12 @@ module _ (script : Script) (version : ℕ) where
   abbrev pub bare : Entry → Entry
   bare entry = told (line_of script version entry)
 
-  states_same : (kind : KindName) (object : ℕ) (state : AnyState) (history : List Entry) → fold (moved_by kind object) state (map bare history) ≡ fold (moved_by kind object) state history
+  states_same : (kind : KindName) (object : ℕ) (state : WatchState AnyState) (history : List Entry) → fold (moved_by kind object) state (map bare history) ≡ fold (moved_by kind object) state history
   states_same kind object state [] = refl
   states_same kind object state (entry ∷ history) = states_same kind object (moved_by kind object state entry) history
 
   state_same : (kind : KindName) (object : ℕ) (history : List Entry) → state_of kind object (map bare history) ≡ state_of kind object history
-  state_same kind object history = states_same kind object (empty_state kind) history
+  state_same kind object history = states_same kind object (watched_object kind).start history
 
   number_same : (object : ℕ) (history : List Entry) → number_of object (map bare history) ≡ number_of object history
   number_same object history = fold-map (λ (n : ℕ) (entry : Entry). n + cond (is_carried_out_on object entry) 1 0) bare 0 history
@@ -107,27 +108,27 @@ module _ (script : Script) (version : ℕ) where
     N = number_same entry.object before
 
     answer_to : (answer : Answer) → IsLegalAnswer kind before entry after answer → IsLegalAnswer kind B E A answer
-    answer_to (Swapped number) legal = record { next = legal.next ∙ ap (λ (n : ℕ). n + 1) (sym N); alive = ap is_dead S ∙ legal.alive; unspent = omega (arith, legal.unspent, N); incarnation = legal.incarnation ∙ sym N }
-    answer_to Spent legal = record { alive = ap is_dead S ∙ legal.alive; spent = N ∙ legal.spent; incarnation = legal.incarnation ∙ sym N }
-    answer_to Gone legal = record { dead = ap is_dead S ∙ legal.dead; incarnation = legal.incarnation ∙ sym N }
+    answer_to (Swapped number) legal = record { next = legal.next ∙ ap (λ (n : ℕ). n + 1) (sym N); alive = ap (watched_object kind).is_ended S ∙ legal.alive; unspent = omega (arith, legal.unspent, N); incarnation = legal.incarnation ∙ sym N }
+    answer_to Spent legal = record { alive = ap (watched_object kind).is_ended S ∙ legal.alive; spent = N ∙ legal.spent; incarnation = legal.incarnation ∙ sym N }
+    answer_to Gone legal = record { dead = ap (watched_object kind).is_ended S ∙ legal.dead; incarnation = legal.incarnation ∙ sym N }
     answer_to (Busy number) legal = refusal_to number legal
     answer_to (Abandoned number) legal = timely_to number legal
     answer_to (Replied reply) legal = legal
 
     answer_from : (answer : Answer) → IsLegalAnswer kind B E A answer → IsLegalAnswer kind before entry after answer
-    answer_from (Swapped number) legal = record { next = legal.next ∙ ap (λ (n : ℕ). n + 1) N; alive = ap is_dead (sym S) ∙ legal.alive; unspent = omega (arith, legal.unspent, N); incarnation = legal.incarnation ∙ N }
-    answer_from Spent legal = record { alive = ap is_dead (sym S) ∙ legal.alive; spent = sym N ∙ legal.spent; incarnation = legal.incarnation ∙ N }
-    answer_from Gone legal = record { dead = ap is_dead (sym S) ∙ legal.dead; incarnation = legal.incarnation ∙ N }
+    answer_from (Swapped number) legal = record { next = legal.next ∙ ap (λ (n : ℕ). n + 1) N; alive = ap (watched_object kind).is_ended (sym S) ∙ legal.alive; unspent = omega (arith, legal.unspent, N); incarnation = legal.incarnation ∙ N }
+    answer_from Spent legal = record { alive = ap (watched_object kind).is_ended (sym S) ∙ legal.alive; spent = sym N ∙ legal.spent; incarnation = legal.incarnation ∙ N }
+    answer_from Gone legal = record { dead = ap (watched_object kind).is_ended (sym S) ∙ legal.dead; incarnation = legal.incarnation ∙ N }
     answer_from (Busy number) legal = refusal_from number legal
     answer_from (Abandoned number) legal = timely_from number legal
     answer_from (Replied reply) legal = legal
 
     act_to : (act : Act) → IsLegalAct kind before entry after act → IsLegalAct kind B E A act
-    act_to (Call op) legal = record { own_kind = legal.own_kind; replied = legal.replied ∙ ap (λ (s : AnyState). Replied (reply_of s op)) (sym S); incarnation = legal.incarnation ∙ sym N }
+    act_to (Call op) legal = record { own_kind = legal.own_kind; replied = legal.replied ∙ ap (λ (s : WatchState AnyState). Replied ((watched_object kind).reply s op)) (sym S); incarnation = legal.incarnation ∙ sym N }
     act_to (Swap to) legal = answer_to entry.answer legal
 
     act_from : (act : Act) → IsLegalAct kind B E A act → IsLegalAct kind before entry after act
-    act_from (Call op) legal = record { own_kind = legal.own_kind; replied = legal.replied ∙ ap (λ (s : AnyState). Replied (reply_of s op)) S; incarnation = legal.incarnation ∙ N }
+    act_from (Call op) legal = record { own_kind = legal.own_kind; replied = legal.replied ∙ ap (λ (s : WatchState AnyState). Replied ((watched_object kind).reply s op)) S; incarnation = legal.incarnation ∙ N }
     act_from (Swap to) legal = answer_from entry.answer legal
 
   told_all : (history : List Entry) → map told (map (line_of script version) history) ≡ map bare history

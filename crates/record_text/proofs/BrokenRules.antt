@@ -1,13 +1,14 @@
 -- Lines that break a rule, for each rule and each part of it, and lines that are not the first to break one.
-use Rattle.std.proofs.Common.{◌≡◌, ℕ, zero, suc, ◌<◌, Bool, false, List, [], ◌∷◌, map, inl, inr, refl, ap, subst, arith}
+use Rattle.std.proofs.Common.{◌≡◌, ℕ, zero, suc, ◌<◌, Bool, false, List, [], ◌∷◌, ◌++◌, map, inl, inr, refl, ap, subst, arith}
 use Rattle.std.specs.Prelude.{Option, Some, None, is_some, codes}
 use Rattle.k42_kinds.specs.declared.operation.KindName.TheVariants.{Counter}
 use Rattle.k42_kinds.specs.declared.operation.LayoutName.TheVariants.{Shared, Spread}
-use Rattle.k42_kinds.specs.declared.operation.Op.TheVariants.{Add, Get}
-use Rattle.k42_kinds.specs.declared.operation.Reply.TheVariants.{Done, Number}
+use Rattle.k42_kinds.specs.declared.operation.Op.TheVariants.{Add, Get, Seen}
+use Rattle.k42_kinds.specs.declared.operation.Reply.TheVariants.{Done, None as Nothing, Number}
 use Rattle.k42_kinds.specs.declared.entry.Act.{Act}
 use Rattle.k42_kinds.specs.declared.entry.Act.TheVariants.{Call, Swap}
-use Rattle.k42_kinds.specs.declared.entry.To.TheVariants.{Layout}
+use Rattle.k42_kinds.specs.declared.entry.To.{To}
+use Rattle.k42_kinds.specs.declared.entry.To.TheVariants.{Layout, Dead, Watch, Unwatch}
 use Rattle.k42_kinds.specs.declared.entry.Answer.{Answer}
 use Rattle.k42_kinds.specs.declared.entry.Answer.TheVariants.{Replied, Swapped, Busy}
 use Rattle.k42_kinds.specs.declared.entry.Entry.{Entry}
@@ -127,6 +128,42 @@ swap_answered_as_call kept = illegal [] (tells 1 1 9 0 (Swap (Layout Spread)) (R
 
 busy_for_nobody : Breaks [] (tells 1 1 9 0 (Swap (Layout Spread)) (Busy 1)) [] Refusals
 busy_for_nobody kept = illegal [] (tells 1 1 9 0 (Swap (Layout Spread)) (Busy 1)) [] refl (λ legal. none-Any (IsRival (told (tells 1 1 9 0 (Swap (Layout Spread)) (Busy 1))) 1) [] tt legal.rival) (kept refl)
+
+-- ---- the layer round an object
+
+-- a watch, and one call of what is watched
+abbrev watched : List RecordLine
+watched = tells 1 0 5 0 (Swap Watch) (Swapped 1) ∷ tells 2 0 6 1 (Call (Add 1)) (Replied Done) ∷ []
+
+-- the same, and then another swap
+abbrev and_then : To → List RecordLine
+and_then to = watched ++ tells 3 0 7 1 (Swap to) (Swapped 2) ∷ []
+
+count_too_high : Breaks watched (tells 3 0 7 1 (Call Seen) (Replied (Number 2))) [] Calls
+count_too_high kept = illegal watched (tells 3 0 7 1 (Call Seen) (Replied (Number 2))) [] refl (λ legal. grind (arith, legal.replied)) (kept refl)
+
+count_too_low : Breaks watched (tells 3 0 7 1 (Call Seen) (Replied (Number 0))) [] Calls
+count_too_low kept = illegal watched (tells 3 0 7 1 (Call Seen) (Replied (Number 0))) [] refl (λ legal. grind (arith, legal.replied)) (kept refl)
+
+count_lost_at_a_swap : Breaks (and_then (Layout Spread)) (tells 4 0 8 2 (Call Seen) (Replied (Number 0))) [] Calls
+count_lost_at_a_swap kept = illegal (and_then (Layout Spread)) (tells 4 0 8 2 (Call Seen) (Replied (Number 0))) [] refl (λ legal. grind (arith, legal.replied)) (kept refl)
+
+count_kept_at_a_watch : Breaks (and_then Watch) (tells 4 0 8 2 (Call Seen) (Replied (Number 1))) [] Calls
+count_kept_at_a_watch kept = illegal (and_then Watch) (tells 4 0 8 2 (Call Seen) (Replied (Number 1))) [] refl (λ legal. grind (arith, legal.replied)) (kept refl)
+
+count_left_by_an_unwatch : Breaks (and_then Unwatch) (tells 4 0 8 2 (Call Seen) (Replied (Number 1))) [] Calls
+count_left_by_an_unwatch kept = illegal (and_then Unwatch) (tells 4 0 8 2 (Call Seen) (Replied (Number 1))) [] refl (λ legal. cc legal.replied) (kept refl)
+
+count_without_a_watch : Breaks (added ∷ []) (tells 2 0 6 0 (Call Seen) (Replied (Number 1))) [] Calls
+count_without_a_watch kept = illegal (added ∷ []) (tells 2 0 6 0 (Call Seen) (Replied (Number 1))) [] refl (λ legal. cc legal.replied) (kept refl)
+
+no_count_at_the_end : Breaks (and_then Dead) (tells 4 0 8 2 (Call Seen) (Replied Nothing)) [] Calls
+no_count_at_the_end kept = illegal (and_then Dead) (tells 4 0 8 2 (Call Seen) (Replied Nothing)) [] refl (λ legal. cc legal.replied) (kept refl)
+
+watch_of_the_dead : Breaks (and_then Dead) (tells 4 0 8 2 (Swap Watch) (Swapped 3)) [] Swaps
+watch_of_the_dead kept = illegal (and_then Dead) (tells 4 0 8 2 (Swap Watch) (Swapped 3)) [] refl (λ legal. cc legal.alive) (kept refl)
+
+-- ---- refusals
 
 -- two refusals do not justify each other
 abbrev one_refusal : RecordLine

@@ -12,15 +12,15 @@ use Rattle.std.proofs.lemmas.List.Folds.{list_any-from_Any}
 use Rattle.std.proofs.lemmas.List.Quantifiers.{position-Some}
 use Rattle.std.proofs.lemmas.Option.{same_Some, slice_get-map, slice_get-get_or, slice_get_within, get_or_from_slice_get}
 use Rattle.std.proofs.lemmas.Slice.Eq.{bytes_eq-Decides}
-use Rattle.k42_kinds.specs.Operations.{same_kind, kind_of_op}
+use Rattle.k42_kinds.specs.Watched.{watched_object}
 use Rattle.k42_kinds.specs.Words.{is_name, is_text}
 use Rattle.k42_kinds.specs.declared.entry.Act.{Act}
 use Rattle.k42_kinds.specs.declared.entry.Act.TheVariants.{Call, Swap}
 use Rattle.k42_kinds.specs.declared.operation.KindName.{KindName}
-use Rattle.k42_kinds.specs.declared.operation.KindName.TheVariants.{Counter, Directory, Pages}
+use Rattle.k42_kinds.specs.declared.operation.KindName.TheVariants.{Counter}
 use Rattle.k42_kinds.specs.declared.operation.LayoutName.TheVariants.{Shared}
 use Rattle.k42_kinds.specs.declared.operation.Op.{Op}
-use Rattle.k42_kinds.specs.declared.operation.Op.TheVariants.{Add, Get, Drain, Bind, Find, Unbind, Size, Write, Read, Dirty, Clean}
+use Rattle.k42_kinds.specs.declared.operation.Op.TheVariants.{Add, Get, Drain, Bind, Find, Unbind, Size, Write, Read, Dirty, Clean, Seen}
 use Rattle.k42_limits.specs.declared.TheConstants.{PAGES, AMOUNTS}
 use Rattle.script_text.specs.Accepted.{IsAcceptedWhere, MayAsk, BeginsCall, TakesAct, HasShortNumbers, IsOutside}
 use Rattle.script_text.specs.Acts.{act_tokens}
@@ -35,7 +35,6 @@ use Rattle.script_text.specs.declared.script.ObjectLine.{ObjectLine}
 use Rattle.script_text.specs.declared.script.Script.{Script}
 use Rattle.script_text.proofs.AcceptedForms.{test_held, range_of_below}
 use Rattle.script_text.proofs.OpenBlocks.{outside_from, outside_when}
-use Rattle.script_text.proofs.SoundRequests.{same_when_not_different}
 use Rattle.script_text.proofs.SoundSteps.{IsSoundSoFar}
 use Rattle.script_text.proofs.SpelledLines.{accepted_where}
 use Rattle.script_text.proofs.Spellings.{number_below-decimal, act_says, op_said, act_said, name_of-name, form_of-act}
@@ -54,6 +53,7 @@ module _ where
   op_range_when (Read page) short numbers words = range_of_below PAGES page short numbers
   op_range_when Dirty short numbers words = tt
   op_range_when Clean short numbers words = tt
+  op_range_when Seen short numbers words = tt
 
   op_range_from : (op : Op) → IsOpInRange op → (lacks_number (op_said op) ≡ false) × (lacks_word (op_said op) ≡ false)
   op_range_from (Add amount) range = (rw (number_below-decimal AMOUNTS amount range (omega (arith, range))) refl, refl)
@@ -67,6 +67,7 @@ module _ where
   op_range_from (Read page) range = (rw (number_below-decimal PAGES page range (omega (arith, range))) refl, refl)
   op_range_from Dirty range = (refl, refl)
   op_range_from Clean range = (refl, refl)
+  op_range_from Seen range = (refl, refl)
 
 range_when : (act : Act) → HasShortNumbers act → lacks_number (act_said act) ≡ false → lacks_word (act_said act) ≡ false → IsInRange act
 range_when (Call op) short numbers words = op_range_when op short numbers words
@@ -76,23 +77,20 @@ range_from : (act : Act) → IsInRange act → (lacks_number (act_said act) ≡ 
 range_from (Call op) range = op_range_from op range
 range_from (Swap to) range = (refl, refl)
 
-kind_asked-op : (op : Op) → kind_asked (op_said op) ≡ Some (kind_of_op op)
-kind_asked-op (Add amount) = refl
-kind_asked-op Get = refl
-kind_asked-op Drain = refl
-kind_asked-op (Bind key number) = refl
-kind_asked-op (Find key) = refl
-kind_asked-op (Unbind key) = refl
-kind_asked-op Size = refl
-kind_asked-op (Write page text) = refl
-kind_asked-op (Read page) = refl
-kind_asked-op Dirty = refl
-kind_asked-op Clean = refl
-
-same_kind-itself : (kind : KindName) → same_kind kind kind ≡ true
-same_kind-itself Counter = refl
-same_kind-itself Directory = refl
-same_kind-itself Pages = refl
+-- the test finds that another kind is asked just where an object of this kind does not take the operation
+another_kind-op : (kind : KindName) (op : Op) → is_another_kind (kind_asked (op_said op)) (Some kind) ≡ not ((watched_object kind).takes op)
+another_kind-op kind (Add amount) = refl
+another_kind-op kind Get = refl
+another_kind-op kind Drain = refl
+another_kind-op kind (Bind key number) = refl
+another_kind-op kind (Find key) = refl
+another_kind-op kind (Unbind key) = refl
+another_kind-op kind Size = refl
+another_kind-op kind (Write page text) = refl
+another_kind-op kind (Read page) = refl
+another_kind-op kind Dirty = refl
+another_kind-op kind Clean = refl
+another_kind-op kind Seen = refl
 
 page_named : (op : Op) → IsOpInRange op → NamesPage op
 page_named (Add amount) range = tt
@@ -106,16 +104,15 @@ page_named (Write page text) range = range.0
 page_named (Read page) range = range
 page_named Dirty range = tt
 page_named Clean range = tt
+page_named Seen range = tt
 
 -- an object of this kind takes the act where no test finds that another kind is asked
 takes_when : (kind : KindName) (act : Act) → IsInRange act → is_another_kind (kind_asked (act_said act)) (Some kind) ≡ false → IsActOn kind act
-takes_when kind (Call op) range own =
-    let same : not (same_kind (kind_of_op op) kind) ≡ false = rw (kind_asked-op op) at own in
-    (same_when_not_different (kind_of_op op) kind same, page_named op range)
+takes_when kind (Call op) range own = (not-false _ (rw (another_kind-op kind op) at own), page_named op range)
 takes_when kind (Swap to) range own = tt
 
 takes_from : (kind : KindName) (act : Act) → IsActOn kind act → is_another_kind (kind_asked (act_said act)) (Some kind) ≡ false
-takes_from kind (Call op) takes = rw (kind_asked-op op, takes.0, same_kind-itself kind) refl
+takes_from kind (Call op) takes = rw (another_kind-op kind op, takes.0) refl
 takes_from kind (Swap to) takes = refl
 
 -- the object of this name stands at this place
@@ -189,6 +186,21 @@ module _ (script : Script) (name : List ℕ) where
         rw (found.kind, same) (takes_from object.kind act takes.takes),
       )
 
+-- an operation is no swap
+call_said : (op : Op) → is_swap (op_said op) ≡ false
+call_said (Add amount) = refl
+call_said Get = refl
+call_said Drain = refl
+call_said (Bind key number) = refl
+call_said (Find key) = refl
+call_said (Unbind key) = refl
+call_said Size = refl
+call_said (Write page text) = refl
+call_said (Read page) = refl
+call_said Dirty = refl
+call_said Clean = refl
+call_said Seen = refl
+
 -- outside of activities anything may be asked, and inside any call
 in_place_when : (script : Script) (act : Act) → (is_in_block script ≡ false → IsOutside script) → (is_in_block script && is_swap (act_said act)) ≡ false → IsCall act ⊎ IsOutside script
 in_place_when script (Call op) outside kept = inl tt
@@ -199,7 +211,7 @@ in_place_when script (Swap to) outside kept = inr (outside (not_inside (is_in_bl
     not_inside false e = refl
 
 in_place_from : (script : Script) (act : Act) → IsCall act ⊎ IsOutside script → (is_in_block script && is_swap (act_said act)) ≡ false
-in_place_from script (Call op) (inl call) = and_right (is_in_block script) (is_swap (op_said op)) (rw (kind_asked-op op) refl)
+in_place_from script (Call op) (inl call) = and_right (is_in_block script) (is_swap (op_said op)) (call_said op)
 in_place_from script (Swap to) (inl call) = absurd call
 in_place_from script act (inr outside) = and_left (is_in_block script) (is_swap (act_said act)) (outside_from script outside)
 

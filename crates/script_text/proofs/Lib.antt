@@ -28,3 +28,4 @@ pub mod LawfulHistories
 mod UnlawfulHistories
 mod AtTheBounds
 mod MatchedBlocks
+mod LayerLines

@@ -6,12 +6,13 @@ use Rattle.std.proofs.lemmas.Bool.{and_parts, not-true}
 use Rattle.std.proofs.lemmas.Bool.Decides.{nat_tests}
 use Rattle.std.proofs.lemmas.Option.{cond_some, option_and_then_some}
 use Rattle.k42_kinds.specs.Words.{is_name}
-use Rattle.k42_kinds.specs.declared.entry.To.TheVariants.{Layout}
+use Rattle.k42_kinds.specs.declared.entry.To.{To}
+use Rattle.k42_kinds.specs.declared.entry.To.TheVariants.{Layout, Dead, Watch, Unwatch}
 use Rattle.k42_kinds.specs.declared.operation.KindName.{KindName}
 use Rattle.k42_kinds.specs.declared.operation.LayoutName.{LayoutName}
 use Rattle.k42_limits.specs.declared.TheConstants.{PROCESSORS, PAGES}
 use Rattle.script_text.specs.Numbers.{number_of, number_within, number_below}
-use Rattle.script_text.specs.Forms.{is_reserved, free_name, name_of, page_of, page_text_of, kind_named, layout_named, head_of, procs_form, object_declared, request_of, form_behind, form_of, begins_procs}
+use Rattle.script_text.specs.Forms.{is_reserved, free_name, name_of, page_of, page_text_of, kind_named, layout_named, head_of, procs_form, object_declared, swap_to_form, request_of, form_behind, form_of, begins_procs}
 use Rattle.script_text.specs.Sound.{IsFreeName}
 use Rattle.script_text.specs.declared.form.Form.{Form}
 use Rattle.script_text.specs.declared.form.Form.TheVariants as forms
@@ -72,6 +73,11 @@ module _ (procs : ℕ) where
   worker_formed (Some name) None word number named placed = tt
   worker_formed (Some name) (Some proc) word number named placed = (free_name-is_free word name named, below-range procs number proc placed)
 
+  swap_to_formed : (to : To) (tokens : List (List ℕ)) → IfSome (swap_to_form to tokens) (IsFormed procs)
+  swap_to_formed to [] = tt
+  swap_to_formed to (object ∷ []) = tt
+  swap_to_formed to (a ∷ b ∷ tokens) = tt
+
   declared_formed : (word : List ℕ) (kind : Option KindName) (layout : Option LayoutName) → IfSome (object_declared word kind layout) (IsFormed procs)
   declared_formed word None None = tt
   declared_formed word None (Some layout) = tt
@@ -101,7 +107,8 @@ request_of-page (word ∷ []) =
     if_some_cond HasPage (bytes_eq word (codes "drain")) _ _ tt (
     if_some_cond HasPage (bytes_eq word (codes "size")) _ _ tt (
     if_some_cond HasPage (bytes_eq word (codes "dirty")) _ _ tt (
-    if_some_cond HasPage (bytes_eq word (codes "clean")) _ _ tt tt))))
+    if_some_cond HasPage (bytes_eq word (codes "clean")) _ _ tt (
+    if_some_cond HasPage (bytes_eq word (codes "seen")) _ _ tt tt)))))
 request_of-page (word ∷ argument ∷ []) =
     if_some_cond HasPage (bytes_eq word (codes "add")) _ _ tt (
     if_some_cond HasPage (bytes_eq word (codes "find")) _ _ tt (
@@ -139,9 +146,9 @@ module _ (procs : ℕ) where
       any_some None = tt
       any_some (Some named) = tt
   form_behind-formed heads.Swap word (a ∷ b ∷ c ∷ tokens) = tt
-  form_behind-formed heads.Destroy word [] = tt
-  form_behind-formed heads.Destroy word (object ∷ []) = tt
-  form_behind-formed heads.Destroy word (a ∷ b ∷ tokens) = tt
+  form_behind-formed heads.Destroy word tokens = swap_to_formed procs Dead tokens
+  form_behind-formed heads.Watch word tokens = swap_to_formed procs Watch tokens
+  form_behind-formed heads.Unwatch word tokens = swap_to_formed procs Unwatch tokens
   form_behind-formed heads.Call word tokens =
       if_some_map HasPage (IsFormed procs) (λ request. forms.Asks (name_of word) request) (request_of tokens) (λ request page. page) (request_of-page tokens)
 

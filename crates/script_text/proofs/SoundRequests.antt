@@ -2,16 +2,17 @@
 use Rattle.std.proofs.Common.{◌≡◌, ℕ, ◌+◌, ◌<◌, Bool, true, false, not, ◌&&◌, ◌⊎◌, inl, inr, List, length, get_or, refl, subst, arith}
 use Rattle.std.specs.Prelude.{Option, Some, None, slice_get}
 use Rattle.std.specs.Str.{bytes_eq}
+use Rattle.std.proofs.lemmas.Bool.{not-false}
 use Rattle.std.proofs.lemmas.Bool.Decides.{nat_tests}
 use Rattle.std.proofs.lemmas.List.{length-map}
 use Rattle.std.proofs.lemmas.List.Quantifiers.{position-Some}
 use Rattle.std.proofs.lemmas.Option.{same_Some, none-some, slice_get-get_or}
 use Rattle.k42_kinds.specs.declared.operation.KindName.{KindName}
-use Rattle.k42_kinds.specs.declared.operation.KindName.TheVariants.{Counter, Directory, Pages}
+use Rattle.k42_kinds.specs.declared.operation.KindName.TheVariants.{Counter}
 use Rattle.k42_kinds.specs.declared.operation.Op.{Op}
 use Rattle.k42_kinds.specs.declared.entry.Act.{Act}
 use Rattle.k42_kinds.specs.declared.entry.Act.TheVariants as acts
-use Rattle.k42_kinds.specs.Operations.{same_kind, kind_of_op}
+use Rattle.k42_kinds.specs.Watched.{watched_object}
 use Rattle.script_text.specs.Language.{act_of, with_call, with_form}
 use Rattle.script_text.specs.Lawful.{kinds_of}
 use Rattle.script_text.specs.Offences.{object_names, place_among, is_in_block, kind_asked, is_swap, is_another_kind, is_unknown, declares_again, asks_other_kind, is_too_many, breaks_block}
@@ -19,29 +20,17 @@ use Rattle.script_text.specs.Sound.{NamesPage, IsActOn, IsCall}
 use Rattle.script_text.specs.declared.form.Form.{Form}
 use Rattle.script_text.specs.declared.form.Form.TheVariants as forms
 use Rattle.script_text.specs.declared.form.Request.{Request}
-use Rattle.script_text.specs.declared.form.Request.TheVariants.{Swap, Add, Get, Drain, Bind, Find, Unbind, Size, Write, Read, Dirty, Clean}
+use Rattle.script_text.specs.declared.form.Request.TheVariants.{Swap, Add, Get, Drain, Bind, Find, Unbind, Size, Write, Read, Dirty, Clean, Seen}
 use Rattle.script_text.specs.declared.script.Item.TheVariants.{Begin, End, Line}
 use Rattle.script_text.specs.declared.script.ObjectLine.{ObjectLine}
 use Rattle.script_text.specs.declared.script.Script.{Script}
 use Rattle.script_text.proofs.SoundForms.{HasPage, IsFormed, IsProcs}
 use Rattle.script_text.proofs.SoundSteps.{IsSoundSoFar, same_script, keeps_procs, keeps_object, keeps_worker, keeps_item}
 
--- a kind that does not differ is the same
-pub same_when_not_different : (asked kind : KindName) → not (same_kind asked kind) ≡ false → asked ≡ kind
-same_when_not_different Counter Counter e = refl
-same_when_not_different Counter Directory e = cc
-same_when_not_different Counter Pages e = cc
-same_when_not_different Directory Counter e = cc
-same_when_not_different Directory Directory e = refl
-same_when_not_different Directory Pages e = cc
-same_when_not_different Pages Counter e = cc
-same_when_not_different Pages Directory e = cc
-same_when_not_different Pages Pages e = refl
-
 -- An act may be asked of an object of this kind, where its request does not ask for another kind.
 module _ (kind : KindName) (act : Act) where
-  called : (op : Op) → Some (acts.Call op) ≡ Some act → not (same_kind (kind_of_op op) kind) ≡ false → NamesPage op → IsActOn kind act
-  called op spells same page = subst (IsActOn kind) (same_Some (acts.Call op) act spells) (same_when_not_different (kind_of_op op) kind same, page)
+  called : (op : Op) → Some (acts.Call op) ≡ Some act → not ((watched_object kind).takes op) ≡ false → NamesPage op → IsActOn kind act
+  called op spells takes page = subst (IsActOn kind) (same_Some (acts.Call op) act spells) (not-false ((watched_object kind).takes op) takes, page)
 
   act_of-asked : (request : Request) → act_of request ≡ Some act → HasPage request → is_another_kind (kind_asked request) (Some kind) ≡ false → IsActOn kind act
   act_of-asked (Swap to) spells page same = subst (IsActOn kind) (same_Some (acts.Swap to) act spells) tt
@@ -66,8 +55,9 @@ module _ (kind : KindName) (act : Act) where
   act_of-asked (Read (Some number)) spells page same = called _ spells same page
   act_of-asked Dirty spells page same = called _ spells same tt
   act_of-asked Clean spells page same = called _ spells same tt
+  act_of-asked Seen spells page same = called _ spells refl tt
 
--- a request of some kind spells a call
+-- a request that is no swap spells a call
 swap_or_call : (request : Request) (act : Act) → act_of request ≡ Some act → (is_swap request ≡ true) ⊎ IsCall act
 swap_or_call (Swap to) act spells = inl refl
 swap_or_call (Add None) act spells = absurd (none-some act spells)
@@ -91,6 +81,7 @@ swap_or_call (Read None) act spells = absurd (none-some act spells)
 swap_or_call (Read (Some number)) act spells = inr (subst IsCall (same_Some _ act spells) tt)
 swap_or_call Dirty act spells = inr (subst IsCall (same_Some _ act spells) tt)
 swap_or_call Clean act spells = inr (subst IsCall (same_Some _ act spells) tt)
+swap_or_call Seen act spells = inr (subst IsCall (same_Some _ act spells) tt)
 
 -- in an activity, a request that breaks no block spells a call
 call_in_block : (in_block swap : Bool) (act : Act) → (swap ≡ true) ⊎ IsCall act → (in_block && swap) ≡ false → in_block ≡ true → IsCall act

@@ -11,13 +11,13 @@ use Rattle.std.proofs.lemmas.Option.{same_Some}
 use Rattle.k42_kinds.specs.Words.{is_digit, is_lower, is_visible, continues_name, is_name, is_text}
 use Rattle.k42_kinds.specs.declared.entry.Act.{Act}
 use Rattle.k42_kinds.specs.declared.entry.Act.TheVariants.{Call, Swap}
-use Rattle.k42_kinds.specs.declared.entry.To.TheVariants.{Layout, Dead}
+use Rattle.k42_kinds.specs.declared.entry.To.TheVariants.{Layout, Dead, Watch, Unwatch}
 use Rattle.k42_kinds.specs.declared.operation.KindName.{KindName}
 use Rattle.k42_kinds.specs.declared.operation.KindName.TheVariants.{Counter, Directory, Pages}
 use Rattle.k42_kinds.specs.declared.operation.LayoutName.{LayoutName}
 use Rattle.k42_kinds.specs.declared.operation.LayoutName.TheVariants.{Shared, Spread}
 use Rattle.k42_kinds.specs.declared.operation.Op.{Op}
-use Rattle.k42_kinds.specs.declared.operation.Op.TheVariants.{Add, Get, Drain, Bind, Find, Unbind, Size, Write, Read, Dirty, Clean}
+use Rattle.k42_kinds.specs.declared.operation.Op.TheVariants.{Add, Get, Drain, Bind, Find, Unbind, Size, Write, Read, Dirty, Clean, Seen}
 use Rattle.k42_limits.specs.declared.TheConstants.{PROCESSORS, PAGES, AMOUNTS}
 use Rattle.script_text.specs.Acts.{layout_word, operation_word, argument_tokens, act_tokens}
 use Rattle.script_text.specs.Forms.{is_reserved, name_of, page_of, page_text_of, kind_named, layout_named, head_of, request_of, form_of}
@@ -146,7 +146,9 @@ head_of-free name free =
     let end = or_parts (bytes_eq name (codes "end")) _ begin.1 in
     let swap = or_parts (bytes_eq name (codes "swap")) _ end.1 in
     let destroy = or_parts (bytes_eq name (codes "destroy")) _ swap.1 in
-    rw (procs.0, object.0, worker.0, begin.0, end.0, swap.0, destroy.0) refl
+    let watch = or_parts (bytes_eq name (codes "watch")) _ destroy.1 in
+    let unwatch = or_parts (bytes_eq name (codes "unwatch")) _ watch.1 in
+    rw (procs.0, object.0, worker.0, begin.0, end.0, swap.0, destroy.0, watch.0, unwatch.0) refl
 
 unmarked_lower : (b : ℕ) → is_lower b ≡ true → eqb b 35 ≡ false
 unmarked_lower b e = grind (arith, nat_tests, e)
@@ -171,6 +173,7 @@ op_tokens (Write page text) in_range = (refl, (token_decimal page (omega (arith,
 op_tokens (Read page) in_range = (refl, (token_decimal page (omega (arith, in_range)), tt))
 op_tokens Dirty in_range = (refl, tt)
 op_tokens Clean in_range = (refl, tt)
+op_tokens Seen in_range = (refl, tt)
 
 -- what a line says that spells an operation, whose parts may be out of range
 abbrev pub op_said : Op → Request
@@ -185,6 +188,7 @@ op_said (Write page text) = requests.Write (page_of (decimal page)) (page_text_o
 op_said (Read page) = requests.Read (page_of (decimal page))
 op_said Dirty = requests.Dirty
 op_said Clean = requests.Clean
+op_said Seen = requests.Seen
 
 request_of-op : (op : Op) → request_of (operation_word op ∷ argument_tokens op) ≡ Some (op_said op)
 request_of-op (Add amount) = refl
@@ -198,6 +202,7 @@ request_of-op (Write page text) = refl
 request_of-op (Read page) = refl
 request_of-op Dirty = refl
 request_of-op Clean = refl
+request_of-op Seen = refl
 
 -- it is the operation, where each part is in its range
 act_of-op : (op : Op) → IsOpInRange op → act_of (op_said op) ≡ Some (Call op)
@@ -212,6 +217,7 @@ act_of-op (Write page text) in_range = rw (in_range.1, number_below-decimal PAGE
 act_of-op (Read page) in_range = rw (number_below-decimal PAGES page in_range (omega (arith, in_range))) refl
 act_of-op Dirty in_range = refl
 act_of-op Clean in_range = refl
+act_of-op Seen in_range = refl
 
 abbrev pub act_said : Act → Request
 act_said (Call op) = op_said op
@@ -226,16 +232,22 @@ pub act_says : (name : List ℕ) (act : Act) → is_remark name ≡ false → sa
 act_says name (Call op) said = said
 act_says name (Swap (Layout layout)) said = refl
 act_says name (Swap Dead) said = refl
+act_says name (Swap Watch) said = refl
+act_says name (Swap Unwatch) said = refl
 
 all_tokens : (name : List ℕ) (act : Act) → IsFreeName name → IsInRange act → AllByRecursion IsToken (act_tokens name act)
 all_tokens name (Call op) free in_range = (token_name name free.formed, op_tokens op in_range)
 all_tokens name (Swap (Layout layout)) free in_range = (refl, (token_name name free.formed, (layout_token layout, tt)))
 all_tokens name (Swap Dead) free in_range = (refl, (token_name name free.formed, tt))
+all_tokens name (Swap Watch) free in_range = (refl, (token_name name free.formed, tt))
+all_tokens name (Swap Unwatch) free in_range = (refl, (token_name name free.formed, tt))
 
 pub form_of-act : (procs : ℕ) (name : List ℕ) (act : Act) → is_reserved name ≡ false → form_of procs (act_tokens name act) ≡ Some (forms.Asks (name_of name) (act_said act))
 form_of-act procs name (Call op) free = rw (head_of-free name free, request_of-op op) refl
 form_of-act procs name (Swap (Layout layout)) free = rw (layout_named-word layout) refl
 form_of-act procs name (Swap Dead) free = refl
+form_of-act procs name (Swap Watch) free = refl
+form_of-act procs name (Swap Unwatch) free = refl
 
 pub name_of-name : (name : List ℕ) → is_name name ≡ true → name_of name ≡ Some name
 name_of-name name formed = rw formed refl

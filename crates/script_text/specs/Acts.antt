@@ -4,10 +4,10 @@ use Rattle.std.specs.Fmt.{decimal}
 use Rattle.k42_kinds.specs.declared.operation.LayoutName.{LayoutName}
 use Rattle.k42_kinds.specs.declared.operation.LayoutName.TheVariants.{Shared, Spread}
 use Rattle.k42_kinds.specs.declared.operation.Op.{Op}
-use Rattle.k42_kinds.specs.declared.operation.Op.TheVariants.{Add, Get, Drain, Bind, Find, Unbind, Size, Write, Read, Dirty, Clean}
+use Rattle.k42_kinds.specs.declared.operation.Op.TheVariants.{Add, Get, Drain, Bind, Find, Unbind, Size, Write, Read, Dirty, Clean, Seen}
 use Rattle.k42_kinds.specs.declared.entry.Act.{Act}
 use Rattle.k42_kinds.specs.declared.entry.Act.TheVariants.{Call, Swap}
-use Rattle.k42_kinds.specs.declared.entry.To.TheVariants.{Layout, Dead}
+use Rattle.k42_kinds.specs.declared.entry.To.TheVariants.{Layout, Dead, Watch, Unwatch}
 
 -- the word of a layout
 abbrev pub layout_word : LayoutName → List ℕ
@@ -27,6 +27,7 @@ operation_word (Write page text) = codes "write"
 operation_word (Read page) = codes "read"
 operation_word Dirty = codes "dirty"
 operation_word Clean = codes "clean"
+operation_word Seen = codes "seen"
 
 -- what an operation is given, behind its word
 abbrev pub argument_tokens : Op → List (List ℕ)
@@ -38,8 +39,11 @@ argument_tokens (Write page text) = decimal page ∷ text ∷ []
 argument_tokens (Read page) = decimal page ∷ []
 argument_tokens _ = []
 
--- `OBJECT OPERATION ARGUMENTS`, `swap OBJECT LAYOUT` or `destroy OBJECT`
+-- `OBJECT OPERATION ARGUMENTS`, `swap OBJECT LAYOUT`, `destroy OBJECT`, `watch OBJECT` or
+-- `unwatch OBJECT`
 abbrev pub act_tokens : List ℕ → Act → List (List ℕ)
 act_tokens object (Call op) = object ∷ operation_word op ∷ argument_tokens op
 act_tokens object (Swap (Layout layout)) = codes "swap" ∷ object ∷ layout_word layout ∷ []
 act_tokens object (Swap Dead) = codes "destroy" ∷ object ∷ []
+act_tokens object (Swap Watch) = codes "watch" ∷ object ∷ []
+act_tokens object (Swap Unwatch) = codes "unwatch" ∷ object ∷ []

@@ -3,7 +3,8 @@ use Rattle.std.specs.Prelude.{ℕ, ◌^◌, Bool, false, not, ◌&&◌, if◌the
 use Rattle.std.specs.List.{list_any}
 use Rattle.std.specs.Str.{bytes_eq}
 use Rattle.k42_kinds.specs.Words.{is_name, is_text}
-use Rattle.k42_kinds.specs.declared.entry.To.TheVariants.{Layout, Dead}
+use Rattle.k42_kinds.specs.declared.entry.To.{To}
+use Rattle.k42_kinds.specs.declared.entry.To.TheVariants.{Layout, Dead, Watch, Unwatch}
 use Rattle.k42_kinds.specs.declared.operation.KindName.{KindName}
 use Rattle.k42_kinds.specs.declared.operation.KindName.TheVariants.{Counter, Directory, Pages}
 use Rattle.k42_kinds.specs.declared.operation.LayoutName.{LayoutName}
@@ -15,7 +16,7 @@ use Rattle.script_text.specs.declared.form.Form.TheVariants as forms
 use Rattle.script_text.specs.declared.form.Head.{Head}
 use Rattle.script_text.specs.declared.form.Head.TheVariants as heads
 use Rattle.script_text.specs.declared.form.Request.{Request}
-use Rattle.script_text.specs.declared.form.Request.TheVariants.{Swap, Add, Get, Drain, Bind, Find, Unbind, Size, Write, Read, Dirty, Clean}
+use Rattle.script_text.specs.declared.form.Request.TheVariants.{Swap, Add, Get, Drain, Bind, Find, Unbind, Size, Write, Read, Dirty, Clean, Seen}
 
 -- the words that are no name of an object or a worker
 abbrev pub is_reserved : List ℕ → Bool
@@ -51,7 +52,7 @@ layout_named word =
     if bytes_eq word (codes "shared") then Some Shared
     else if bytes_eq word (codes "spread") then Some Spread else None
 
--- what the first word of a line begins: one of seven forms, or a call of the object of that name
+-- what the first word of a line begins: one of nine forms, or a call of the object of that name
 abbrev pub head_of : List ℕ → Head
 head_of word =
     if bytes_eq word (codes "procs") then heads.Procs
@@ -60,7 +61,9 @@ head_of word =
     else if bytes_eq word (codes "begin") then heads.Begin
     else if bytes_eq word (codes "end") then heads.End
     else if bytes_eq word (codes "swap") then heads.Swap
-    else if bytes_eq word (codes "destroy") then heads.Destroy else heads.Call
+    else if bytes_eq word (codes "destroy") then heads.Destroy
+    else if bytes_eq word (codes "watch") then heads.Watch
+    else if bytes_eq word (codes "unwatch") then heads.Unwatch else heads.Call
 
 -- `N`: the number of processors, 1 to 8
 abbrev pub procs_form : List (List ℕ) → Option Form
@@ -96,19 +99,20 @@ swap_form (object ∷ layout ∷ []) =
     option_map (λ named. forms.Asks (name_of object) (Swap (Layout named))) (layout_named layout)
 swap_form _ = None
 
--- `OBJECT`
-abbrev pub destroy_form : List (List ℕ) → Option Form
-destroy_form (object ∷ []) = Some (forms.Asks (name_of object) (Swap Dead))
-destroy_form _ = None
+-- `OBJECT`, to be kept as the first word says
+abbrev pub swap_to_form : To → List (List ℕ) → Option Form
+swap_to_form to (object ∷ []) = Some (forms.Asks (name_of object) (Swap to))
+swap_to_form to _ = None
 
--- an operation without an argument: `get`, `drain`, `size`, `dirty`, `clean`
+-- an operation without an argument: `get`, `drain`, `size`, `dirty`, `clean`, `seen`
 abbrev pub plain_request : List ℕ → Option Request
 plain_request word =
     if bytes_eq word (codes "get") then Some Get
     else if bytes_eq word (codes "drain") then Some Drain
     else if bytes_eq word (codes "size") then Some Size
     else if bytes_eq word (codes "dirty") then Some Dirty
-    else if bytes_eq word (codes "clean") then Some Clean else None
+    else if bytes_eq word (codes "clean") then Some Clean
+    else if bytes_eq word (codes "seen") then Some Seen else None
 
 -- an operation with one: `add U32`, `find KEY`, `unbind KEY`, `read PAGE`
 abbrev pub request_with : List ℕ → List ℕ → Option Request
@@ -146,7 +150,9 @@ form_behind procs heads.Worker word tokens = worker_form procs tokens
 form_behind procs heads.Begin word tokens = alone forms.Begin tokens
 form_behind procs heads.End word tokens = alone forms.End tokens
 form_behind procs heads.Swap word tokens = swap_form tokens
-form_behind procs heads.Destroy word tokens = destroy_form tokens
+form_behind procs heads.Destroy word tokens = swap_to_form Dead tokens
+form_behind procs heads.Watch word tokens = swap_to_form Watch tokens
+form_behind procs heads.Unwatch word tokens = swap_to_form Unwatch tokens
 form_behind procs heads.Call word tokens = call_form word tokens
 
 -- What a line with these tokens says, where there are so many processors: a form, each part of

@@ -11,7 +11,7 @@ use Rattle.script_text.specs.Offences.{object_names, place_among, is_in_block, w
 use Rattle.script_text.specs.declared.form.Form.{Form}
 use Rattle.script_text.specs.declared.form.Form.TheVariants as forms
 use Rattle.script_text.specs.declared.form.Request.{Request}
-use Rattle.script_text.specs.declared.form.Request.TheVariants.{Swap, Add, Get, Drain, Bind, Find, Unbind, Size, Write, Read, Dirty, Clean}
+use Rattle.script_text.specs.declared.form.Request.TheVariants.{Swap, Add, Get, Drain, Bind, Find, Unbind, Size, Write, Read, Dirty, Clean, Seen}
 use Rattle.script_text.specs.declared.script.Script.{Script}
 use Rattle.script_text.specs.declared.script.ObjectLine.{ObjectLine}
 use Rattle.script_text.specs.declared.script.WorkerHead.{WorkerHead}
@@ -40,6 +40,7 @@ act_of (Write (Some page) (Some text)) = Some (acts.Call (operations.Write page 
 act_of (Read (Some page)) = Some (acts.Call (operations.Read page))
 act_of Dirty = Some (acts.Call operations.Dirty)
 act_of Clean = Some (acts.Call operations.Clean)
+act_of Seen = Some (acts.Call operations.Seen)
 act_of _ = None
 
 -- the item stands last among those of the last worker

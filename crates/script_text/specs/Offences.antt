@@ -12,7 +12,7 @@ use Rattle.script_text.specs.Forms.{begins_procs}
 use Rattle.script_text.specs.declared.form.Form.{Form}
 use Rattle.script_text.specs.declared.form.Form.TheVariants as forms
 use Rattle.script_text.specs.declared.form.Request.{Request}
-use Rattle.script_text.specs.declared.form.Request.TheVariants.{Swap, Add, Get, Drain, Bind, Find, Unbind, Size, Write, Read, Dirty, Clean}
+use Rattle.script_text.specs.declared.form.Request.TheVariants.{Swap, Add, Get, Drain, Bind, Find, Unbind, Size, Write, Read, Dirty, Clean, Seen}
 use Rattle.script_text.specs.declared.script.Item.{Item}
 use Rattle.script_text.specs.declared.script.Item.TheVariants as items
 use Rattle.script_text.specs.declared.script.Script.{Script}
@@ -70,7 +70,7 @@ lacks_word (Unbind key) = is_none key
 lacks_word (Write page text) = is_none text
 lacks_word _ = false
 
--- the kind of object that takes the request; any can be swapped
+-- the kind of object that takes the request; any can be swapped, and asked what it has seen
 abbrev pub kind_asked : Request → Option KindName
 kind_asked (Swap to) = None
 kind_asked (Add amount) = Some Counter
@@ -84,10 +84,12 @@ kind_asked (Write page text) = Some Pages
 kind_asked (Read page) = Some Pages
 kind_asked Dirty = Some Pages
 kind_asked Clean = Some Pages
+kind_asked Seen = None
 
 -- a swap, which may not stand in an activity
 abbrev pub is_swap : Request → Bool
-is_swap request = is_none (kind_asked request)
+is_swap (Swap to) = true
+is_swap _ = false
 
 -- the kind that is asked is not the object's
 abbrev pub is_another_kind : Option KindName → Option KindName → Bool

@@ -1,11 +1,11 @@
 -- What is true of every script that can be read: it can be run, and its records can be written.
-use Rattle.std.specs.Prelude.{◌≡◌, ℕ, ◌<◌, ◌≤◌, Bool, true, false, List, [], ◌∷◌, length, map, sum_by, All, Some, slice_get}
+use Rattle.std.specs.Prelude.{◌≡◌, ℕ, ◌<◌, ◌≤◌, Bool, true, false, IsTrue, List, [], ◌∷◌, length, map, sum_by, All, Some, slice_get}
 use Rattle.k42_kinds.specs.declared.entry.Act.{Act}
 use Rattle.k42_kinds.specs.declared.entry.Act.TheVariants.{Call, Swap}
 use Rattle.k42_kinds.specs.declared.operation.KindName.{KindName}
 use Rattle.k42_kinds.specs.declared.operation.Op.{Op}
 use Rattle.k42_kinds.specs.declared.operation.Op.TheVariants.{Write, Read}
-use Rattle.k42_kinds.specs.Operations.{kind_of_op}
+use Rattle.k42_kinds.specs.Watched.{watched_object}
 use Rattle.k42_kinds.specs.Words.{is_name}
 use Rattle.k42_limits.specs.declared.TheConstants.{PROCESSORS, OBJECTS, CALLERS, CALL_LINES, PAGES}
 use Rattle.script_text.specs.Forms.{is_reserved}
@@ -22,9 +22,9 @@ NamesPage (Write page text) = page < PAGES
 NamesPage (Read page) = page < PAGES
 NamesPage _ = Unit {0}
 
--- the act may be asked of an object of this kind: an operation of its kind, or a swap of any
+-- the act may be asked of an object of this kind: an operation that it takes, or any swap
 abbrev pub IsActOn : KindName → Act → Type 0
-IsActOn kind (Call op) = (kind_of_op op ≡ kind) × NamesPage op
+IsActOn kind (Call op) = IsTrue ((watched_object kind).takes op) × NamesPage op
 IsActOn kind (Swap to) = Unit {0}
 
 -- the line asks of a declared object what may be asked of it

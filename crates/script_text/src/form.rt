@@ -11,6 +11,8 @@ pub enum Head {
     End,
     Swap,
     Destroy,
+    Watch,
+    Unwatch,
     /// A call of the object of that name.
     Call,
 }
@@ -45,4 +47,5 @@ pub enum Request {
     Read(Option<u16>),
     Dirty,
     Clean,
+    Seen,
 }

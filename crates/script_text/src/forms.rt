@@ -138,6 +138,12 @@ fn head_of(word: &[u8]) -> Head
     if is_word(word, "destroy") {
         return Head::Destroy;
     }
+    if is_word(word, "watch") {
+        return Head::Watch;
+    }
+    if is_word(word, "unwatch") {
+        return Head::Unwatch;
+    }
     Head::Call
 }
 
@@ -213,11 +219,12 @@ fn swap_form(text: &[u8]) -> Option<Form>
     }
 }
 
-fn destroy_form(text: &[u8]) -> Option<Form>
-    ensures { result ≡ spelling.destroy_form (tokens_of text.now) }
+/// The object of this name is to be kept so.
+fn swap_to_form(to: To, text: &[u8]) -> Option<Form>
+    ensures { result ≡ spelling.swap_to_form to (tokens_of text.now) }
 {
     match words_of(text) {
-        Words::One(object) => Some(Form::Asks(name_of(object), Request::Swap(To::Dead))),
+        Words::One(object) => Some(Form::Asks(name_of(object), Request::Swap(to))),
         _ => None,
     }
 }
@@ -240,6 +247,9 @@ fn plain_request(word: &[u8]) -> Option<Request>
     }
     if is_word(word, "clean") {
         return Some(Request::Clean);
+    }
+    if is_word(word, "seen") {
+        return Some(Request::Seen);
     }
     None
 }
@@ -303,7 +313,9 @@ fn form_behind(procs: u32, head: Head, word: &[u8], text: &[u8]) -> Option<Form>
         Head::Begin => begin_form(text),
         Head::End => end_form(text),
         Head::Swap => swap_form(text),
-        Head::Destroy => destroy_form(text),
+        Head::Destroy => swap_to_form(To::Dead, text),
+        Head::Watch => swap_to_form(To::Watch, text),
+        Head::Unwatch => swap_to_form(To::Unwatch, text),
         Head::Call => call_form(word, text),
     }
 }

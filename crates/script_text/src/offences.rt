@@ -28,12 +28,12 @@ fn lacks_word(request: &Request) -> bool
     }
 }
 
-/// The kind of object that takes the request, of which swaps have none.
+/// The kind of object that takes the request; `None` for what an object of any kind takes.
 pub fn kind_asked(request: &Request) -> Option<KindName>
     ensures { result ≡ offences.kind_asked request.now }
 {
     match request {
-        Request::Swap(_) => None,
+        Request::Swap(_) | Request::Seen => None,
         Request::Add(_) | Request::Get | Request::Drain => Some(KindName::Counter),
         Request::Bind(_, _) | Request::Find(_) | Request::Unbind(_) | Request::Size => {
             Some(KindName::Directory)
@@ -42,6 +42,13 @@ pub fn kind_asked(request: &Request) -> Option<KindName>
             Some(KindName::Pages)
         }
     }
+}
+
+/// Whether it is a swap, which may not stand in an activity.
+pub fn is_swap(request: &Request) -> bool
+    ensures { result ≡ offences.is_swap request.now }
+{
+    matches!(request, Request::Swap(_))
 }
 
 fn same_kind(one: KindName, other: KindName) -> bool
@@ -105,6 +112,7 @@ pub fn act_of(request: &Request) -> Option<Act>
         Request::Read(Some(page)) => Some(Act::Call(Op::Read(*page))),
         Request::Dirty => Some(Act::Call(Op::Dirty)),
         Request::Clean => Some(Act::Call(Op::Clean)),
+        Request::Seen => Some(Act::Call(Op::Seen)),
         _ => None,
     }
 }

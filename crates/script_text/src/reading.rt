@@ -11,7 +11,7 @@ use crate::form::{Form, Request};
 use crate::forms::{begins_procs, form_of};
 use crate::lines::is_printable_text;
 use crate::names::Names;
-use crate::offences::{act_of, has_bad_name, has_bad_number, is_another_kind, kind_asked};
+use crate::offences::{act_of, has_bad_name, has_bad_number, is_another_kind, is_swap, kind_asked};
 use crate::script::{CallLine, Item, ObjectLine, Script, WorkerHead, WorkerLines};
 use crate::tokens::is_skipped;
 use k42_items::Items;
@@ -211,7 +211,7 @@ impl Reading {
         match form {
             Form::Worker(_, _) | Form::Begin => self.in_block,
             Form::End => !self.in_block,
-            Form::Asks(_, request) => self.in_block && kind_asked(request).is_none(),
+            Form::Asks(_, request) => self.in_block && is_swap(request),
             _ => false,
         }
     }

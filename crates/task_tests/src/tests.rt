@@ -5,6 +5,7 @@ use k42_runtime::History;
 use k42_workers::{FreeGate, asks_something, begin_run};
 use script_text::parse;
 use std::cell::Cell;
+use std::process::Abort;
 use std::test::Fail;
 use task_workers::{run_tasks, tasks_of};
 
@@ -14,6 +15,10 @@ mod steps;
 /// A worker with a block, and one that swaps.
 const BESIDE_A_BLOCK: &[u8] = b"procs 1\nobject hits counter shared\n\
 worker a 0\nbegin\nhits add 1\nhits add 2\nend\nworker b 0\nhits add 7\nswap hits spread\nhits get\n";
+
+/// A worker with a block and a call behind it, and one that watches and asks for the count.
+const WATCHED_BESIDE_A_BLOCK: &[u8] = b"procs 1\nobject hits counter shared\n\
+worker a 0\nbegin\nhits add 1\nhits add 2\nend\nhits get\nworker b 0\nhits add 7\nwatch hits\nhits seen\n";
 
 /// A worker with a block, and two that swap.
 const TWO_SWAPS: &[u8] = b"procs 1\nobject hits counter shared\nobject more counter shared\n\
@@ -26,15 +31,13 @@ const TWO_LINES: &[u8] = b"procs 1\nobject hits counter shared\nworker a 0\nhits
 const A_SWAP_AND_A_CALL: &[u8] = b"procs 1\nobject hits counter shared\n\
 worker a 0\nswap hits spread\nworker b 0\nhits get\n";
 
-/// Worker, place among its entries, incarnation and answer of each entry.
-fn told(history: &History) -> [(u32, u32, u32, Answer); 5] {
-    let mut told = [(0, 0, 0, Answer::Gone); 5];
-    for (place, entry) in history.entries().iter().enumerate() {
-        if place < 5 {
-            told[place] = (entry.caller, entry.index, entry.incarnation, entry.answer);
-        }
+/// Each entry has this worker, place among its entries, incarnation and answer, and there are no others.
+fn entries_are(rt: &impl Abort, history: &History, due: &[(u32, u32, u32, Answer)]) {
+    assert_eq!(rt; history.entries().len(), due.len());
+    for (entry, one) in history.entries().iter().zip(due.iter()) {
+        let told = (entry.caller, entry.index, entry.incarnation, entry.answer);
+        assert_eq!(rt; told, *one);
     }
-    told
 }
 
 #[test]
@@ -50,8 +53,25 @@ fn a_swap_waits_for_a_block_and_goes_on_after_its_end(rt: HostRuntime) -> Result
         (1, 1, 0, Answer::Swapped(1)),
         (1, 2, 1, Answer::Replied(Reply::Number(10))),
     ];
-    assert_eq!(rt; history.entries().len(), 5);
-    assert_eq!(rt; told(&history), due);
+    entries_are(&rt, &history, &due);
+    Ok(())
+}
+
+#[test]
+fn a_watch_waits_for_a_block_and_counts_the_calls_behind_it(rt: HostRuntime) -> Result<(), Fail> {
+    let Ok(script) = parse(rt.alloc(), WATCHED_BESIDE_A_BLOCK) else {
+        return Err("no script")?;
+    };
+    let history = run_tasks(&rt, rt.alloc(), &script, &FreeGate)?;
+    let due = [
+        (1, 0, 0, Answer::Replied(Reply::Done)),
+        (0, 0, 0, Answer::Replied(Reply::Done)),
+        (0, 1, 0, Answer::Replied(Reply::Done)),
+        (1, 1, 0, Answer::Swapped(1)),
+        (0, 2, 1, Answer::Replied(Reply::Number(10))),
+        (1, 2, 1, Answer::Replied(Reply::Number(1))),
+    ];
+    entries_are(&rt, &history, &due);
     Ok(())
 }
 

@@ -5,6 +5,7 @@ use super::run_script;
 use crate::gate::{FreeGate, Gate};
 use crossbeam_utils::Backoff;
 use k42_kinds::{Answer, Reply};
+use k42_runtime::History;
 use load_totals::{Summary, summary};
 use script_text::{ParseEnd, Script, generate, parse};
 use std::alloc::Global;
@@ -17,6 +18,10 @@ use std::thread::Threads;
 /// An add, a swap and a get, by one worker.
 const SWAPPED: &[u8] =
     b"procs 1\nobject hits counter shared\nworker a 0\nhits add 5\nswap hits spread\nhits get\n";
+
+/// A worker watches a counter across a swap, and asks for its count, in an activity too.
+const WATCHED: &[u8] =
+    b"procs 1\nobject hits counter shared\nworker a 0\nhits add 5\nwatch hits\nhits get\nswap hits spread\nbegin\nhits seen\nhits add 1\nhits seen\nend\nunwatch hits\nhits seen\n";
 
 /// Two workers add and get on two processors.
 const TWO_WORKERS: &[u8] =
@@ -41,6 +46,33 @@ fn a_get_after_a_swap_has_what_was_added_before(rt: HostRuntime) -> Result<(), F
     assert_eq!(rt; entries[1].answer, Answer::Swapped(1));
     assert_eq!(rt; entries[2].answer, Answer::Replied(Reply::Number(5)));
     assert_eq!(rt; entries[2].incarnation, 1);
+    Ok(())
+}
+
+#[test]
+fn a_watched_counter_tells_its_calls_and_an_unwatched_one_none(
+    rt: HostRuntime,
+) -> Result<(), Fail> {
+    let Ok(script) = parse(rt.alloc(), WATCHED) else {
+        return Err("no script")?;
+    };
+    let history = run_script(&rt, rt.alloc(), &script, &FreeGate)?;
+    let due = [
+        (0, Answer::Replied(Reply::Done)),
+        (0, Answer::Swapped(1)),
+        (1, Answer::Replied(Reply::Number(5))),
+        (1, Answer::Swapped(2)),
+        (2, Answer::Replied(Reply::Number(1))),
+        (2, Answer::Replied(Reply::Done)),
+        (2, Answer::Replied(Reply::Number(2))),
+        (2, Answer::Swapped(3)),
+        (3, Answer::Replied(Reply::None)),
+    ];
+    assert_eq!(rt; history.entries().len(), due.len());
+    for (entry, (incarnation, answer)) in history.entries().iter().zip(due.iter()) {
+        assert_eq!(rt; entry.incarnation, *incarnation);
+        assert_eq!(rt; entry.answer, *answer);
+    }
     Ok(())
 }
 
@@ -91,7 +123,19 @@ fn a_load_of_a_thousand_steps_swaps_three_times(rt: HostRuntime) -> Result<(), F
     Ok(())
 }
 
-/// Holds the first lines of the workers until all are there, for so many turns at most.
+/// Waits until there are so many, for so many turns at most. Once somebody has waited in vain, nobody waits.
+fn wait_for(count: &AtomicU32, least: u32, late: &AtomicU32) {
+    let backoff = Backoff::new();
+    for _ in 0..10_000_000 {
+        if count.load(Ordering::SeqCst) >= least || late.load(Ordering::SeqCst) > 0 {
+            return;
+        }
+        backoff.snooze();
+    }
+    late.fetch_add(1, Ordering::SeqCst);
+}
+
+/// Holds the first lines of the workers until all are there.
 #[derive(Drop)]
 struct Meeting {
     first: u64,
@@ -125,14 +169,7 @@ impl Gate for Meeting {
             return;
         }
         self.there.fetch_add(1, Ordering::SeqCst);
-        let backoff = Backoff::new();
-        for _ in 0..10_000_000 {
-            if self.there.load(Ordering::SeqCst) >= self.all || self.is_late() {
-                return;
-            }
-            backoff.snooze();
-        }
-        self.late.fetch_add(1, Ordering::SeqCst);
+        wait_for(&self.there, self.all, &self.late);
     }
 }
 
@@ -222,5 +259,72 @@ fn the_gate_is_told_of_its_worker_before_and_after_each_line(rt: HostRuntime) ->
     assert_eq!(rt; history.entries().len(), 4);
     assert_eq!(rt; gate.told.load(Ordering::SeqCst), 8);
     assert_eq!(rt; gate.astray.load(Ordering::SeqCst), 0);
+    Ok(())
+}
+
+/// One worker adds beside another that gets.
+const AN_ADD_BESIDE_GETS: &[u8] =
+    b"procs 2\nobject hits counter shared\nworker a 0\nhits add 5\nworker b 1\nhits get\nhits get\nhits get\nhits get\nhits get\n";
+
+/// Holds the add before and behind its line until the other worker has done a get since, and that worker behind two of
+/// its gets until the add has come so far.
+#[derive(Drop)]
+struct Holding {
+    /// Whether the add is held before its line (1) or behind it (2).
+    at: AtomicU32,
+    /// Whether the get is done for which it is held.
+    done: AtomicU32,
+    late: AtomicU32,
+}
+
+impl Holding {
+    /// Tells that the add is held, and holds it.
+    fn hold(&self, at: u32) {
+        self.at.store(at, Ordering::SeqCst);
+        wait_for(&self.done, at, &self.late);
+    }
+}
+
+impl Gate for Holding {
+    fn at(&self, _worker: u32, line: u32, before: bool) {
+        // A line is done where the next one is told of.
+        match (line, before) {
+            (4, true) => self.hold(1),
+            (4, false) => self.hold(2),
+            (6, false) => wait_for(&self.at, 1, &self.late),
+            (8, true) => self.done.store(1, Ordering::SeqCst),
+            (8, false) => wait_for(&self.at, 2, &self.late),
+            (10, true) => self.done.store(2, Ordering::SeqCst),
+            _ => (),
+        }
+    }
+}
+
+/// What the second worker was answered by its line of this place.
+fn got(history: &History, place: u32) -> Option<Answer> {
+    for entry in history.entries() {
+        if entry.caller == 1 && entry.index == place {
+            return Some(entry.answer);
+        }
+    }
+    None
+}
+
+#[test]
+fn a_line_is_done_between_what_the_gate_hears_of_it(rt: HostRuntime) -> Result<(), Fail> {
+    let Ok(script) = parse(rt.alloc(), AN_ADD_BESIDE_GETS) else {
+        return Err("no script")?;
+    };
+    let gate = Holding {
+        at: AtomicU32::new(0),
+        done: AtomicU32::new(0),
+        late: AtomicU32::new(0),
+    };
+    let history = run_script(&rt, rt.alloc(), &script, &gate)?;
+    assert_eq!(rt; gate.late.load(Ordering::SeqCst), 0);
+    let before = Some(Answer::Replied(Reply::Number(0)));
+    assert_eq!(rt; got(&history, 1), before);
+    let after = Some(Answer::Replied(Reply::Number(5)));
+    assert_eq!(rt; got(&history, 3), after);
     Ok(())
 }

@@ -6,7 +6,7 @@ ghost use Rattle.record_text.specs.Histories.{HasLine};
 ghost use Rattle.record_text.specs.Printer.LineNumbers.{HasNumber};
 
 use k42_items::Items;
-use k42_kinds::{Act, Answer, Entry, KindName, Op, kind_of};
+use k42_kinds::{Act, Answer, Entry, KindName, Op, is_seen, kind_of};
 use k42_limits::PAGES;
 use k42_memory::Memory;
 use record_text::{Record, RecordLine, numbers_of_all};
@@ -26,7 +26,7 @@ fn is_act_on(kind: KindName, act: &Act) -> bool
     ensures { IsTrue result → IsActOn kind act.now }
 {
     match act {
-        Act::Call(op) => kind_of(op) == kind && names_page(op),
+        Act::Call(op) => (is_seen(op) || kind_of(op) == Some(kind)) && names_page(op),
         Act::Swap(_) => true,
     }
 }

@@ -20,7 +20,7 @@ type Said = (u64, u32, u32, Act, Answer, u32);
 type Asked = (u32, u32, Act);
 
 /// What is due: nothing, or a line and a rule.
-type Due = Option<(u32, u32)>;
+pub type Due = Option<(u32, u32)>;
 
 fn worker_with(
     alloc: Global,
@@ -100,7 +100,12 @@ fn second_version(
     Ok(Record { lines, version: 2 })
 }
 
-fn verdict(rt: &impl Abort, alloc: Global, script: &Script, record: &Record) -> Result<Due, Fail> {
+pub fn verdict(
+    rt: &impl Abort,
+    alloc: Global,
+    script: &Script,
+    record: &Record,
+) -> Result<Due, Fail> {
     assert!(rt; has_text(script, record));
     assert!(rt; script.workers.len() <= CALLERS && script.objects.len() <= OBJECTS);
     assert!(rt; record.lines.len() < 1 << 31);

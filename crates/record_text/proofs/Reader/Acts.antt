@@ -1,9 +1,9 @@
 -- An act that is read is spelled so, and what is spelled so is read.
-use Rattle.std.proofs.Common.{◌≡◌, ℕ, ◌<◌, Bool, true, false, cond, ◌||◌, List, [], ◌∷◌, ◌++◌, length, get_or, refl, sym, ap, subst, ◌∙◌, arith, inl, inr}
+use Rattle.std.proofs.Common.{◌≡◌, ℕ, ◌<◌, Bool, true, false, IsTrue, cond, ◌||◌, List, [], ◌∷◌, ◌++◌, length, get_or, refl, sym, ap, subst, ◌∙◌, arith, inl, inr}
 use Rattle.std.specs.Prelude.{Option, Some, None, codes, option_map, slice_get}
 use Rattle.std.specs.Str.{bytes_eq}
 use Rattle.std.proofs.lemmas.Option.{none-some, same_Some, slice_get_within, slice_get_cases, slice_get-get_or, slice_get-map}
-use Rattle.k42_kinds.specs.Operations.{kind_of_op}
+use Rattle.k42_kinds.specs.Watched.{watched_object}
 use Rattle.k42_kinds.specs.Words.{is_name}
 use Rattle.k42_kinds.specs.declared.operation.KindName.{KindName}
 use Rattle.k42_kinds.specs.declared.operation.LayoutName.{LayoutName}
@@ -12,7 +12,7 @@ use Rattle.k42_kinds.specs.declared.operation.Op.{Op}
 use Rattle.k42_kinds.specs.declared.entry.Act.{Act}
 use Rattle.k42_kinds.specs.declared.entry.Act.TheVariants.{Call, Swap}
 use Rattle.k42_kinds.specs.declared.entry.To.{To}
-use Rattle.k42_kinds.specs.declared.entry.To.TheVariants.{Layout, Dead}
+use Rattle.k42_kinds.specs.declared.entry.To.TheVariants.{Layout, Dead, Watch, Unwatch}
 use Rattle.script_text.specs.Lawful.{kinds_of}
 use Rattle.script_text.specs.Sound.{IsActOn, NamesPage, HasDistinctNames, IsFreeName}
 use Rattle.script_text.specs.declared.script.ObjectLine.{ObjectLine}
@@ -22,7 +22,7 @@ use Rattle.record_text.specs.Acts.{operation_word, argument_tokens, layout_word,
 use Rattle.record_text.specs.Texts.{worker_name, object_name}
 use Rattle.record_text.specs.Values.{FitsOperation, FitsAct}
 use Rattle.record_text.specs.Reader.Parts.{Found, ◌>>=◌, spelled_at}
-use Rattle.record_text.specs.Reader.ActParts.{operation_at, layout_of, object_of, worker_of, asked, layout_at, dead_at, swap_at, call_at, act_of, act_at}
+use Rattle.record_text.specs.Reader.ActParts.{operation_at, layout_of, object_of, worker_of, asked, layout_at, said_before, swap_at, call_at, act_of, act_at}
 use Rattle.record_text.specs.declared.reading.acts.Asked.{Asked}
 use Rattle.record_text.proofs.Reader.Parts.{step, word_or, pair_is, spelled_takes, spelled_again}
 use Rattle.record_text.proofs.Reader.Names.{place_takes, place_again, get_map}
@@ -84,10 +84,20 @@ swap_says name tokens to rest e =
     let word = spelled_takes layout_of tokens to rest e in
     ap (λ (left : List (List ℕ)). codes "swap" ∷ name ∷ left) word.first ∙ ap (λ (words : List (List ℕ)). words ++ rest) (layout_takes name word.token to word.means)
 
-destroy_says : Says (codes "destroy") dead_at
-destroy_says name tokens to rest e =
-    let same = pair_is Dead to tokens rest e in
-    ap (λ (left : List (List ℕ)). codes "destroy" ∷ name ∷ left) same.1 ∙ ap (λ (t : To). act_tokens name (Swap t) ++ rest) same.0
+-- the word alone says what such a swap is to
+named_says : (word : List ℕ) (own : To) → ((name : List ℕ) → act_tokens name (Swap own) ≡ word ∷ name ∷ []) → Says word (said_before own)
+named_says word own spelled name tokens to rest e =
+    let same = pair_is own to tokens rest e in
+    ap (λ (left : List (List ℕ)). word ∷ name ∷ left) same.1 ∙ ap (λ (words : List (List ℕ)). words ++ rest) (sym (spelled name)) ∙ ap (λ (t : To). act_tokens name (Swap t) ++ rest) same.0
+
+destroy_says : Says (codes "destroy") (said_before Dead)
+destroy_says = named_says (codes "destroy") Dead (λ name. refl)
+
+watch_says : Says (codes "watch") (said_before Watch)
+watch_says = named_says (codes "watch") Watch (λ name. refl)
+
+unwatch_says : Says (codes "unwatch") (said_before Unwatch)
+unwatch_says = named_says (codes "unwatch") Unwatch (λ name. refl)
 
 swap_takes : (script : Script) (word : List ℕ) (to_at : List (List ℕ) → Found To) → Says word to_at → (tokens : List (List ℕ)) (asks : Asked) (rest : List (List ℕ)) → swap_at script to_at tokens ≡ Some (asks, rest) → TakesAct script (word ∷ tokens) asks rest
 unfolding swap_at
@@ -97,9 +107,9 @@ swap_takes script word to_at says tokens asks rest e =
     let object = object_takes script name.token first.0.0 name.means in
     let second = step (to_at first.0.1) (λ (to : To × List (List ℕ)). Some (asked first.0.0 (Swap to.0), to.1)) (asks, rest) first.2 in
     let same = pair_is (asked first.0.0 (Swap second.0.0)) asks second.0.1 rest second.2 in
+    let said = says (object_name script first.0.0) first.0.1 second.0.0 rest (second.1 ∙ ap (λ (left : List (List ℕ)). Some (second.0.0, left)) same.1) in
     let behind : word ∷ tokens ≡ act_tokens (object_name script first.0.0) (Swap second.0.0) ++ rest =
-    ap (λ (left : List (List ℕ)). word ∷ left) (name.first ∙ ap (λ (token : List ℕ). token ∷ first.0.1) object.named)
-    ∙ says (object_name script first.0.0) first.0.1 second.0.0 rest (second.1 ∙ ap (λ (left : List (List ℕ)). Some (second.0.0, left)) same.1) in
+    ap (λ (left : List (List ℕ)). word ∷ left) (name.first ∙ ap (λ (token : List ℕ). token ∷ first.0.1) object.named) ∙ said in
     subst (λ (a : Asked). TakesAct script (word ∷ tokens) a rest) same.0
     (record { spelled = behind; kind = object.line.kind; of_object = object.kind; is_on = tt; fits = tt })
 
@@ -120,12 +130,23 @@ call_takes script name tokens asks rest e =
 
 asked_takes : (script : Script) (word : List ℕ) (tokens : List (List ℕ)) (asks : Asked) (rest : List (List ℕ)) → act_of script word tokens ≡ Some (asks, rest) → TakesAct script (word ∷ tokens) asks rest
 asked_takes script word tokens asks rest e =
-    let from_destroy : Found Asked = cond (bytes_eq word (codes "destroy")) (swap_at script dead_at tokens) (call_at script word tokens) in
+    let to_end = swap_at script (said_before Dead) tokens in
+    let to_watch = swap_at script (said_before Watch) tokens in
+    let to_unwatch = swap_at script (said_before Unwatch) tokens in
+    let from_unwatch : Found Asked = cond (bytes_eq word (codes "unwatch")) to_unwatch (call_at script word tokens) in
+    let from_watch : Found Asked = cond (bytes_eq word (codes "watch")) to_watch from_unwatch in
+    let from_destroy : Found Asked = cond (bytes_eq word (codes "destroy")) to_end from_watch in
     elim (word_or word (codes "swap") (swap_at script layout_at tokens) from_destroy (asks, rest) e) [
       | inl this ↦ rw this.0 (swap_takes script (codes "swap") layout_at swap_says tokens asks rest this.1)
-      | inr more ↦ elim (word_or word (codes "destroy") (swap_at script dead_at tokens) (call_at script word tokens) (asks, rest) more) [
-        | inl this ↦ rw this.0 (swap_takes script (codes "destroy") dead_at destroy_says tokens asks rest this.1)
-        | inr call ↦ call_takes script word tokens asks rest call
+      | inr more ↦ elim (word_or word (codes "destroy") to_end from_watch (asks, rest) more) [
+        | inl this ↦ rw this.0 (swap_takes script (codes "destroy") (said_before Dead) destroy_says tokens asks rest this.1)
+        | inr more ↦ elim (word_or word (codes "watch") to_watch from_unwatch (asks, rest) more) [
+          | inl this ↦ rw this.0 (swap_takes script (codes "watch") (said_before Watch) watch_says tokens asks rest this.1)
+          | inr more ↦ elim (word_or word (codes "unwatch") to_unwatch (call_at script word tokens) (asks, rest) more) [
+            | inl this ↦ rw this.0 (swap_takes script (codes "unwatch") (said_before Unwatch) unwatch_says tokens asks rest this.1)
+            | inr call ↦ call_takes script word tokens asks rest call
+          ]
+        ]
       ]
     ]
 
@@ -140,27 +161,31 @@ layout_again : (layout : LayoutName) → layout_of (layout_word layout) ≡ Some
 layout_again Shared = refl
 layout_again Spread = refl
 
--- where none of seven and more holds, the sixth and the seventh do not
-sixth_and_seventh : (a b c d e f g h : Bool) → (a || (b || (c || (d || (e || (f || (g || h))))))) ≡ false → (f ≡ false) × (g ≡ false)
-sixth_and_seventh true b c d e f g h none = absurd cc
-sixth_and_seventh false true c d e f g h none = absurd cc
-sixth_and_seventh false false true d e f g h none = absurd cc
-sixth_and_seventh false false false true e f g h none = absurd cc
-sixth_and_seventh false false false false true f g h none = absurd cc
-sixth_and_seventh false false false false false true g h none = absurd cc
-sixth_and_seventh false false false false false false true h none = absurd cc
-sixth_and_seventh false false false false false false false h none = (refl, refl)
-
--- a declared name is neither of the words that begin an act
+-- a declared name is none of the words that begin a swap
 record IsNoAct (name : List ℕ) : Type 0 where
   swap : bytes_eq name (codes "swap") ≡ false
   destroy : bytes_eq name (codes "destroy") ≡ false
+  watch : bytes_eq name (codes "watch") ≡ false
+  unwatch : bytes_eq name (codes "unwatch") ≡ false
+
+-- where none of nine holds, the last four do not
+last_four : (a b c d e f g h i : Bool) → (a || (b || (c || (d || (e || (f || (g || (h || (i || false))))))))) ≡ false → (f ≡ false) × (g ≡ false) × (h ≡ false) × (i ≡ false)
+last_four true b c d e f g h i none = absurd cc
+last_four false true c d e f g h i none = absurd cc
+last_four false false true d e f g h i none = absurd cc
+last_four false false false true e f g h i none = absurd cc
+last_four false false false false true f g h i none = absurd cc
+last_four false false false false false true g h i none = absurd cc
+last_four false false false false false false true h i none = absurd cc
+last_four false false false false false false false true i none = absurd cc
+last_four false false false false false false false false true none = absurd cc
+last_four false false false false false false false false false none = (refl, refl, refl, refl)
 
 free_is_no_act : (name : List ℕ) → IsFreeName name → IsNoAct name
 free_is_no_act name free =
     let is = bytes_eq name in
-    let both = sixth_and_seventh (is (codes "procs")) (is (codes "object")) (is (codes "worker")) (is (codes "begin")) (is (codes "end")) (is (codes "swap")) (is (codes "destroy")) (is (codes "watch") || (is (codes "unwatch") || false)) free.free in
-    record { swap = both.0; destroy = both.1 }
+    let four = last_four (is (codes "procs")) (is (codes "object")) (is (codes "worker")) (is (codes "begin")) (is (codes "end")) (is (codes "swap")) (is (codes "destroy")) (is (codes "watch")) (is (codes "unwatch")) free.free in
+    record { swap = four.0; destroy = four.1; watch = four.2; unwatch = four.3 }
 
 -- a declared object, by its kind
 record IsDeclared (script : Script) (object : ℕ) (kind : KindName) : Type 0 where
@@ -201,10 +226,10 @@ swap_again : (script : Script) (object : ℕ) (to_at : List (List ℕ) → Found
 unfolding swap_at
 swap_again script object to_at to tokens rest found reads = rw (spelled_again (object_of script) (object_name script object) object tokens found, reads) refl
 
-call_again : (script : Script) (object : ℕ) (op : Op) (rest : List (List ℕ)) → object_of script (object_name script object) ≡ Some object → slice_get (kinds_of script) object ≡ Some (kind_of_op op) → NamesPage op → FitsOperation op
+call_again : (script : Script) (object : ℕ) (kind : KindName) (op : Op) (rest : List (List ℕ)) → object_of script (object_name script object) ≡ Some object → slice_get (kinds_of script) object ≡ Some kind → IsTrue ((watched_object kind).takes op) → NamesPage op → FitsOperation op
     → call_at script (object_name script object) ((operation_word op ∷ argument_tokens op) ++ rest) ≡ Some (asked object (Call op), rest)
 unfolding call_at
-call_again script object op rest found kind page fits = rw (found, kind, operation_again op rest page fits) refl
+call_again script object kind op rest found is own page fits = rw (found, is, operation_again kind op rest own page fits) refl
 
 -- an act that is spelled is read
 pub act_again : (script : Script) (object : ℕ) (kind : KindName) (act : Act) (rest : List (List ℕ)) → HasDistinctNames script → slice_get (kinds_of script) object ≡ Some kind → IsActOn kind act → FitsAct act
@@ -214,12 +239,13 @@ act_again script object kind (Call op) rest names e is_on fits =
     let is = declared script object kind e in
     let none = free_is_no_act is.line.name (free_line script object is.line names is.at) in
     let found = object_again script object kind names e in
-    let other : bytes_eq (object_name script object) (codes "swap") ≡ false = rw is.named none.swap in
-    let another : bytes_eq (object_name script object) (codes "destroy") ≡ false = rw is.named none.destroy in
-    rw (other, another) (call_again script object op rest found (e ∙ ap (λ (k : KindName). Some k) (sym is_on.0)) is_on.1 fits)
+    let named : IsNoAct (object_name script object) = rw is.named none in
+    rw (named.swap, named.destroy, named.watch, named.unwatch) (call_again script object kind op rest found e is_on.0 is_on.1 fits)
 act_again script object kind (Swap (Layout layout)) rest names e is_on fits =
     swap_again script object layout_at (Layout layout) (layout_word layout ∷ rest) rest (object_again script object kind names e) (spelled_again layout_of (layout_word layout) (Layout layout) rest (layout_again layout))
-act_again script object kind (Swap Dead) rest names e is_on fits = swap_again script object dead_at Dead rest rest (object_again script object kind names e) refl
+act_again script object kind (Swap Dead) rest names e is_on fits = swap_again script object (said_before Dead) Dead rest rest (object_again script object kind names e) refl
+act_again script object kind (Swap Watch) rest names e is_on fits = swap_again script object (said_before Watch) Watch rest rest (object_again script object kind names e) refl
+act_again script object kind (Swap Unwatch) rest names e is_on fits = swap_again script object (said_before Unwatch) Unwatch rest rest (object_again script object kind names e) refl
 
 -- ---- the names of a script are names
 

@@ -1,25 +1,26 @@
 -- An operation that is read is spelled so, and what is spelled so is read.
-use Rattle.std.proofs.Common.{◌≡◌, ℕ, ◌-◌, List, [], ◌∷◌, ◌++◌, refl, ap, subst, ◌∙◌, cond, arith, inl, inr}
+use Rattle.std.proofs.Common.{◌≡◌, ℕ, ◌-◌, true, IsTrue, List, [], ◌∷◌, ◌++◌, refl, ap, subst, ◌∙◌, cond, arith, inl, inr}
 use Rattle.std.specs.Prelude.{Some, None, codes}
 use Rattle.std.specs.Fmt.{decimal}
 use Rattle.std.specs.Str.{bytes_eq}
-use Rattle.k42_kinds.specs.Operations.{kind_of_op}
+use Rattle.k42_kinds.specs.Operations.{same_kind}
+use Rattle.k42_kinds.specs.Watched.{watched_object}
 use Rattle.k42_kinds.specs.declared.operation.KindName.{KindName}
 use Rattle.k42_kinds.specs.declared.operation.KindName.TheVariants as kinds
 use Rattle.k42_kinds.specs.declared.operation.Op.{Op}
-use Rattle.k42_kinds.specs.declared.operation.Op.TheVariants.{Add, Get, Drain, Bind, Find, Unbind, Size, Write, Read, Dirty, Clean}
+use Rattle.k42_kinds.specs.declared.operation.Op.TheVariants.{Add, Get, Drain, Bind, Find, Unbind, Size, Write, Read, Dirty, Clean, Seen}
 use Rattle.k42_limits.specs.declared.TheConstants.{PAGES}
 use Rattle.script_text.specs.Sound.{NamesPage}
 use Rattle.record_text.specs.Acts.{operation_word, argument_tokens}
 use Rattle.record_text.specs.Values.{FitsOperation}
 use Rattle.record_text.specs.Reader.Parts.{Found, ◌>>=◌, number_at, name_at, text_at, most_32, most_64}
-use Rattle.record_text.specs.Reader.ActParts.{given_nothing, given, binding_at, page_at, writing_at, counter_operation, directory_operation, pages_operation, operation_of, operation_at}
+use Rattle.record_text.specs.Reader.ActParts.{given_nothing, given, binding_at, page_at, writing_at, counter_operation, directory_operation, pages_operation, own_operation, operation_of, operation_at}
 use Rattle.record_text.proofs.Reader.Parts.{step, word_or, pair_is, number_takes, number_again, name_takes, name_again, text_takes, text_again}
 
 -- these tokens are an operation of the kind, and what is left
 pub record TakesOperation (kind : KindName) (word : List ℕ) (tokens : List (List ℕ)) (op : Op) (rest : List (List ℕ)) : Type 0 where
   pub spelled : word ∷ tokens ≡ (operation_word op ∷ argument_tokens op) ++ rest
-  pub own : kind_of_op op ≡ kind
+  pub own : IsTrue ((watched_object kind).takes op)
   pub page : NamesPage op
   pub fits : FitsOperation op
 
@@ -31,7 +32,7 @@ given_takes {X} op found result rest e =
     (parts.0.0, parts.1 ∙ ap (λ (left : List (List ℕ)). Some (parts.0.0, left)) same.1, same.0)
 
 -- by the operation that was read
-takes_as : (kind : KindName) (own op : Op) (word : List ℕ) (tokens rest : List (List ℕ)) → own ≡ op → word ∷ tokens ≡ (operation_word own ∷ argument_tokens own) ++ rest → kind_of_op own ≡ kind → NamesPage own → FitsOperation own → TakesOperation kind word tokens op rest
+takes_as : (kind : KindName) (own op : Op) (word : List ℕ) (tokens rest : List (List ℕ)) → own ≡ op → word ∷ tokens ≡ (operation_word own ∷ argument_tokens own) ++ rest → IsTrue ((watched_object kind).takes own) → NamesPage own → FitsOperation own → TakesOperation kind word tokens op rest
 takes_as kind own op word tokens rest same spelled is page fits =
     subst (λ (o : Op). TakesOperation kind word tokens o rest) same (record { spelled = spelled; own = is; page = page; fits = fits })
 
@@ -42,10 +43,10 @@ add_takes tokens op rest e =
     takes_as kinds.Counter (Add parts.0) op (codes "add") tokens rest parts.2 (ap (λ (left : List (List ℕ)). codes "add" ∷ left) amount.spelled) refl tt (omega (arith, amount.below))
 
 -- an operation without arguments
-nothing_takes : (own op : Op) (tokens rest : List (List ℕ)) → argument_tokens own ≡ [] → NamesPage own → FitsOperation own → given_nothing own tokens ≡ Some (op, rest) → TakesOperation (kind_of_op own) (operation_word own) tokens op rest
-nothing_takes own op tokens rest none page fits e =
+nothing_takes : (kind : KindName) (own op : Op) (tokens rest : List (List ℕ)) → IsTrue ((watched_object kind).takes own) → argument_tokens own ≡ [] → NamesPage own → FitsOperation own → given_nothing own tokens ≡ Some (op, rest) → TakesOperation kind (operation_word own) tokens op rest
+nothing_takes kind own op tokens rest is none page fits e =
     let same = pair_is own op tokens rest e in
-    takes_as (kind_of_op own) own op (operation_word own) tokens rest same.0 (rw (same.1, none) refl) refl page fits
+    takes_as kind own op (operation_word own) tokens rest same.0 (rw (same.1, none) refl) is page fits
 
 counter_takes : (word : List ℕ) (tokens : List (List ℕ)) (op : Op) (rest : List (List ℕ)) → counter_operation word tokens ≡ Some (op, rest) → TakesOperation kinds.Counter word tokens op rest
 counter_takes word tokens op rest e =
@@ -54,9 +55,9 @@ counter_takes word tokens op rest e =
     elim (word_or word (codes "add") (given Add (number_at 0 most_32 tokens)) from_get (op, rest) e) [
       | inl this ↦ rw this.0 (add_takes tokens op rest this.1)
       | inr more ↦ elim (word_or word (codes "get") (given_nothing Get tokens) from_drain (op, rest) more) [
-        | inl this ↦ rw this.0 (nothing_takes Get op tokens rest refl tt tt this.1)
+        | inl this ↦ rw this.0 (nothing_takes kinds.Counter Get op tokens rest refl refl tt tt this.1)
         | inr more ↦ elim (word_or word (codes "drain") (given_nothing Drain tokens) None (op, rest) more) [
-          | inl this ↦ rw this.0 (nothing_takes Drain op tokens rest refl tt tt this.1)
+          | inl this ↦ rw this.0 (nothing_takes kinds.Counter Drain op tokens rest refl refl tt tt this.1)
           | inr none ↦ absurd cc
         ]
       ]
@@ -97,7 +98,7 @@ directory_takes word tokens op rest e =
         | inr more ↦ elim (word_or word (codes "unbind") (given Unbind (name_at tokens)) from_size (op, rest) more) [
           | inl this ↦ rw this.0 (unbind_takes tokens op rest this.1)
           | inr more ↦ elim (word_or word (codes "size") (given_nothing Size tokens) None (op, rest) more) [
-            | inl this ↦ rw this.0 (nothing_takes Size op tokens rest refl tt tt this.1)
+            | inl this ↦ rw this.0 (nothing_takes kinds.Directory Size op tokens rest refl refl tt tt this.1)
             | inr none ↦ absurd cc
           ]
         ]
@@ -131,24 +132,31 @@ pages_takes word tokens op rest e =
       | inr more ↦ elim (word_or word (codes "read") (given Read (page_at tokens)) from_dirty (op, rest) more) [
         | inl this ↦ rw this.0 (read_takes tokens op rest this.1)
         | inr more ↦ elim (word_or word (codes "dirty") (given_nothing Dirty tokens) from_clean (op, rest) more) [
-          | inl this ↦ rw this.0 (nothing_takes Dirty op tokens rest refl tt tt this.1)
+          | inl this ↦ rw this.0 (nothing_takes kinds.Pages Dirty op tokens rest refl refl tt tt this.1)
           | inr more ↦ elim (word_or word (codes "clean") (given_nothing Clean tokens) None (op, rest) more) [
-            | inl this ↦ rw this.0 (nothing_takes Clean op tokens rest refl tt tt this.1)
+            | inl this ↦ rw this.0 (nothing_takes kinds.Pages Clean op tokens rest refl refl tt tt this.1)
             | inr none ↦ absurd cc
           ]
         ]
       ]
     ]
 
+own_takes : (kind : KindName) (word : List ℕ) (tokens : List (List ℕ)) (op : Op) (rest : List (List ℕ)) → own_operation kind word tokens ≡ Some (op, rest) → TakesOperation kind word tokens op rest
+own_takes kinds.Counter word tokens op rest e = counter_takes word tokens op rest e
+own_takes kinds.Directory word tokens op rest e = directory_takes word tokens op rest e
+own_takes kinds.Pages word tokens op rest e = pages_takes word tokens op rest e
+
 kind_takes : (kind : KindName) (word : List ℕ) (tokens : List (List ℕ)) (op : Op) (rest : List (List ℕ)) → operation_of kind word tokens ≡ Some (op, rest) → TakesOperation kind word tokens op rest
-kind_takes kinds.Counter word tokens op rest e = counter_takes word tokens op rest e
-kind_takes kinds.Directory word tokens op rest e = directory_takes word tokens op rest e
-kind_takes kinds.Pages word tokens op rest e = pages_takes word tokens op rest e
+kind_takes kind word tokens op rest e =
+    elim (word_or word (codes "seen") (given_nothing Seen tokens) (own_operation kind word tokens) (op, rest) e) [
+      | inl this ↦ rw this.0 (nothing_takes kind Seen op tokens rest refl refl tt tt this.1)
+      | inr more ↦ own_takes kind word tokens op rest more
+    ]
 
 -- the first token begins an operation of the kind
 pub record FindsOperation (kind : KindName) (tokens : List (List ℕ)) (op : Op) (rest : List (List ℕ)) : Type 0 where
   pub spelled : tokens ≡ (operation_word op ∷ argument_tokens op) ++ rest
-  pub own : kind_of_op op ≡ kind
+  pub own : IsTrue ((watched_object kind).takes op)
   pub page : NamesPage op
   pub fits : FitsOperation op
 
@@ -159,17 +167,34 @@ operation_takes kind (word ∷ tokens) op rest e =
     let takes = kind_takes kind word tokens op rest e in
     record { spelled = takes.spelled; own = takes.own; page = takes.page; fits = takes.fits }
 
+same_kind_is : (own kind : KindName) → same_kind own kind ≡ true → own ≡ kind
+same_kind_is kinds.Counter kinds.Counter same = refl
+same_kind_is kinds.Directory kinds.Directory same = refl
+same_kind_is kinds.Pages kinds.Pages same = refl
+same_kind_is kinds.Counter kinds.Directory same = absurd (cc same)
+same_kind_is kinds.Counter kinds.Pages same = absurd (cc same)
+same_kind_is kinds.Directory kinds.Counter same = absurd (cc same)
+same_kind_is kinds.Directory kinds.Pages same = absurd (cc same)
+same_kind_is kinds.Pages kinds.Counter same = absurd (cc same)
+same_kind_is kinds.Pages kinds.Directory same = absurd (cc same)
+
+reads_as : (op : Op) (rest : List (List ℕ)) (own kind : KindName) → same_kind own kind ≡ true → operation_at own ((operation_word op ∷ argument_tokens op) ++ rest) ≡ Some (op, rest) → operation_at kind ((operation_word op ∷ argument_tokens op) ++ rest) ≡ Some (op, rest)
+reads_as op rest own kind same reads = subst (λ (k : KindName). operation_at k ((operation_word op ∷ argument_tokens op) ++ rest) ≡ Some (op, rest)) (same_kind_is own kind same) reads
+
 -- an operation that is spelled is read
-pub operation_again : (op : Op) (rest : List (List ℕ)) → NamesPage op → FitsOperation op → operation_at (kind_of_op op) ((operation_word op ∷ argument_tokens op) ++ rest) ≡ Some (op, rest)
+pub operation_again : (kind : KindName) (op : Op) (rest : List (List ℕ)) → IsTrue ((watched_object kind).takes op) → NamesPage op → FitsOperation op → operation_at kind ((operation_word op ∷ argument_tokens op) ++ rest) ≡ Some (op, rest)
 unfolding operation_at given binding_at writing_at
-operation_again (Add amount) rest page fits = rw (number_again 0 most_32 amount rest (omega arith) (omega arith) (omega (arith, fits))) refl
-operation_again Get rest page fits = refl
-operation_again Drain rest page fits = refl
-operation_again (Bind key number) rest page fits = rw (name_again key (decimal number ∷ rest) fits.0, number_again 0 most_64 number rest (omega arith) (omega arith) (omega (arith, fits.1))) refl
-operation_again (Find key) rest page fits = rw (name_again key rest fits) refl
-operation_again (Unbind key) rest page fits = rw (name_again key rest fits) refl
-operation_again Size rest page fits = refl
-operation_again (Write number text) rest page fits = rw (number_again 0 (PAGES - 1) number (text ∷ rest) (omega arith) (omega arith) (omega (arith, page)), text_again text rest fits) refl
-operation_again (Read number) rest page fits = rw (number_again 0 (PAGES - 1) number rest (omega arith) (omega arith) (omega (arith, page))) refl
-operation_again Dirty rest page fits = refl
-operation_again Clean rest page fits = refl
+operation_again kind (Add amount) rest own page fits = reads_as (Add amount) rest kinds.Counter kind own (rw (number_again 0 most_32 amount rest (omega arith) (omega arith) (omega (arith, fits))) refl)
+operation_again kind Get rest own page fits = reads_as Get rest kinds.Counter kind own refl
+operation_again kind Drain rest own page fits = reads_as Drain rest kinds.Counter kind own refl
+operation_again kind (Bind key number) rest own page fits =
+    reads_as (Bind key number) rest kinds.Directory kind own (rw (name_again key (decimal number ∷ rest) fits.0, number_again 0 most_64 number rest (omega arith) (omega arith) (omega (arith, fits.1))) refl)
+operation_again kind (Find key) rest own page fits = reads_as (Find key) rest kinds.Directory kind own (rw (name_again key rest fits) refl)
+operation_again kind (Unbind key) rest own page fits = reads_as (Unbind key) rest kinds.Directory kind own (rw (name_again key rest fits) refl)
+operation_again kind Size rest own page fits = reads_as Size rest kinds.Directory kind own refl
+operation_again kind (Write number text) rest own page fits =
+    reads_as (Write number text) rest kinds.Pages kind own (rw (number_again 0 (PAGES - 1) number (text ∷ rest) (omega arith) (omega arith) (omega (arith, page)), text_again text rest fits) refl)
+operation_again kind (Read number) rest own page fits = reads_as (Read number) rest kinds.Pages kind own (rw (number_again 0 (PAGES - 1) number rest (omega arith) (omega arith) (omega (arith, page))) refl)
+operation_again kind Dirty rest own page fits = reads_as Dirty rest kinds.Pages kind own refl
+operation_again kind Clean rest own page fits = reads_as Clean rest kinds.Pages kind own refl
+operation_again kind Seen rest own page fits = refl

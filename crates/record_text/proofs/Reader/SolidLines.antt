@@ -8,12 +8,12 @@ use Rattle.k42_kinds.specs.declared.operation.KindName.{KindName}
 use Rattle.k42_kinds.specs.declared.operation.LayoutName.{LayoutName}
 use Rattle.k42_kinds.specs.declared.operation.LayoutName.TheVariants.{Shared, Spread}
 use Rattle.k42_kinds.specs.declared.operation.Op.{Op}
-use Rattle.k42_kinds.specs.declared.operation.Op.TheVariants.{Add, Get, Drain, Bind, Find, Unbind, Size, Write, Read, Dirty, Clean}
+use Rattle.k42_kinds.specs.declared.operation.Op.TheVariants.{Add, Get, Drain, Bind, Find, Unbind, Size, Write, Read, Dirty, Clean, Seen}
 use Rattle.k42_kinds.specs.declared.operation.Reply.{Reply}
 use Rattle.k42_kinds.specs.declared.operation.Reply.TheVariants as replies
 use Rattle.k42_kinds.specs.declared.entry.Act.{Act}
 use Rattle.k42_kinds.specs.declared.entry.Act.TheVariants.{Call, Swap}
-use Rattle.k42_kinds.specs.declared.entry.To.TheVariants.{Layout, Dead}
+use Rattle.k42_kinds.specs.declared.entry.To.TheVariants.{Layout, Dead, Watch, Unwatch}
 use Rattle.k42_kinds.specs.declared.entry.Answer.{Answer}
 use Rattle.k42_kinds.specs.declared.entry.Answer.TheVariants.{Replied, Swapped, Busy, Spent, Gone, Abandoned}
 use Rattle.script_text.specs.Sound.{NamesPage, IsActOn, HasDistinctNames}
@@ -59,6 +59,7 @@ operation_solid (Write page text) = refl
 operation_solid (Read page) = refl
 operation_solid Dirty = refl
 operation_solid Clean = refl
+operation_solid Seen = refl
 
 arguments_solid : (op : Op) → NamesPage op → FitsOperation op → are_solid (argument_tokens op) ≡ true
 arguments_solid (Add amount) page fits = one_solid (decimal amount) (decimal_solid amount (omega (arith, fits)))
@@ -72,11 +73,14 @@ arguments_solid (Write number text) page fits = two_solid (decimal number) text 
 arguments_solid (Read number) page fits = one_solid (decimal number) (decimal_solid number (omega (arith, page)))
 arguments_solid Dirty page fits = refl
 arguments_solid Clean page fits = refl
+arguments_solid Seen page fits = refl
 
 act_solid : (object : List ℕ) (kind : KindName) (act : Act) → is_solid object ≡ true → IsActOn kind act → FitsAct act → are_solid (act_tokens object act) ≡ true
 act_solid object kind (Call op) solid is_on fits = rw (solid, operation_solid op, arguments_solid op is_on.1 fits) refl
 act_solid object kind (Swap (Layout layout)) solid is_on fits = rw (solid, layout_solid layout) refl
 act_solid object kind (Swap Dead) solid is_on fits = rw solid refl
+act_solid object kind (Swap Watch) solid is_on fits = rw solid refl
+act_solid object kind (Swap Unwatch) solid is_on fits = rw solid refl
 
 reply_solid : (reply : Reply) → FitsReply reply → are_solid (reply_tokens reply) ≡ true
 reply_solid replies.Done fits = refl

@@ -5,26 +5,25 @@ use Rattle.std.specs.Bool.{Decides}
 use Rattle.std.proofs.lemmas.Bool.{eq-eqb, ne_eqb}
 use Rattle.std.proofs.lemmas.List.{length-set, length-map, map-append}
 use Rattle.std.proofs.lemmas.Option.{same_Some}
-use Rattle.k42_kinds.specs.Objects.{reply_of, empty_state, is_dead}
-use Rattle.k42_kinds.specs.Operations.{kind_of_op, same_kind}
 use Rattle.k42_kinds.specs.Histories.{state_of, number_of, state_after_act, is_carried_out}
+use Rattle.k42_kinds.specs.Watched.{watched_object}
 use Rattle.k42_kinds.specs.Legal.{IsLegalAct, IsLegalAnswer, IsLegalAmong, IsLegalRefusal}
 use Rattle.k42_kinds.specs.declared.operation.KindName.{KindName}
-use Rattle.k42_kinds.specs.declared.operation.KindName.TheVariants as kinds
 use Rattle.k42_kinds.specs.declared.states.AnyState.{AnyState}
+use Rattle.k42_kinds.specs.declared.watch.WatchState.{WatchState}
+use Rattle.k42_kinds.specs.declared.operation.Op.{Op}
 use Rattle.k42_kinds.specs.declared.entry.Act.{Act}
 use Rattle.k42_kinds.specs.declared.entry.Act.TheVariants.{Call, Swap}
 use Rattle.k42_kinds.specs.declared.entry.Answer.{Answer}
 use Rattle.k42_kinds.specs.declared.entry.Answer.TheVariants.{Replied, Swapped, Busy, Spent, Gone, Abandoned}
 use Rattle.k42_kinds.specs.declared.entry.Entry.{Entry}
-use Rattle.k42_kinds.proofs.Ends.{alive_state, not_dead, dead_state, takes_own}
 use Rattle.k42_kinds.proofs.LegalHistories.{legal_at_kind}
 use Rattle.k42_kinds.proofs.LongerHistories.{state_of-push, number_of-push}
 use Rattle.script_text.specs.Sound.{IsActOn}
 use Rattle.script_text.specs.declared.script.ObjectLine.{ObjectLine}
 use Rattle.record_text.specs.Spelling.{Ends, EndsSwap}
 use Rattle.record_text.specs.Told.{told}
-use Rattle.record_text.specs.Referee.Judged.{IsKept, EndsAs, Tells, CanTake, HasLegalForm, object_after, fresh}
+use Rattle.record_text.specs.Referee.Judged.{IsKept, EndsAs, Tells, CanTake, HasLegalForm, one_thread, is_over, object_after, fresh}
 use Rattle.record_text.specs.Referee.Pasts.{AreKept}
 use Rattle.record_text.specs.declared.record.RecordLine.{RecordLine}
 use Rattle.record_text.specs.declared.judging.object.Object.{Object}
@@ -41,7 +40,7 @@ fresh_at (line ∷ lines) zero kind object declared made other =
     let object_is = same_Some (fresh_of line) object made in
     record {
       kind = ap (λ (o : Object). o.plain.kind) (sym object_is) ∙ kind_is;
-      state = ap (λ (o : Object). o.state) (sym object_is) ∙ ap empty_state kind_is;
+      state = ap (λ (o : Object). o.state) (sym object_is) ∙ ap (λ (k : KindName). (watched_object k).start) kind_is;
       swaps = ap (λ (o : Object). o.number) (sym object_is);
     }
 fresh_at (line ∷ lines) (suc number) kind object declared made other = fresh_at lines number kind object declared made other
@@ -55,19 +54,26 @@ fresh_kept declared = record {
 module _ (kind : KindName) (before : List Entry) (line : RecordLine) (after : List Entry) (object : Object) (refusable : Bool)
     (kept : IsKept kind line.object before object)
     (refusal : (number : ℕ) → line.answer ≡ Busy number → Decides refusable (IsLegalRefusal before (told line) after number)) where
+  -- what the object keeps says whether the history has ended it
+  ends_same : is_over object ≡ (watched_object kind).is_ended (state_of kind line.object before)
+  ends_same = ap₂ (λ (k : KindName) (s : WatchState AnyState). (watched_object k).is_ended s) kept.kind kept.state
+
+  replies_same : (op : Op) → (one_thread object).reply object.state op ≡ (watched_object kind).reply (state_of kind line.object before) op
+  replies_same op = ap₂ (λ (k : KindName) (s : WatchState AnyState). (watched_object k).reply s op) kept.kind kept.state
+
   end_to : (answer : Answer) → line.answer ≡ answer → EndsAs object refusable line.incarnation answer → IsLegalAnswer kind before (told line) after answer
   end_to (Swapped number) is ends = record {
     next = ends.next ∙ ap (λ (n : ℕ). n + 1) kept.swaps;
-    alive = alive_state (state_of kind line.object before) (λ dead. ends.alive (kept.state ∙ dead));
+    alive = sym ends_same ∙ ends.alive;
     unspent = omega (arith, ends.unspent, kept.swaps);
     incarnation = ends.incarnation ∙ kept.swaps;
   }
   end_to Spent is ends = record {
-    alive = alive_state (state_of kind line.object before) (λ dead. ends.alive (kept.state ∙ dead));
+    alive = sym ends_same ∙ ends.alive;
     spent = sym kept.swaps ∙ ends.spent;
     incarnation = ends.incarnation ∙ kept.swaps;
   }
-  end_to Gone is ends = record { dead = ap is_dead (sym kept.state ∙ ends.dead); incarnation = ends.incarnation ∙ kept.swaps }
+  end_to Gone is ends = record { dead = sym ends_same ∙ ends.dead; incarnation = ends.incarnation ∙ kept.swaps }
   end_to (Busy number) is ends = (refusal number is).0 ends
   end_to (Replied reply) is ends = absurd ends
   end_to (Abandoned number) is ends = absurd ends
@@ -75,31 +81,31 @@ module _ (kind : KindName) (before : List Entry) (line : RecordLine) (after : Li
   end_from : (answer : Answer) → line.answer ≡ answer → EndsSwap answer → IsLegalAnswer kind before (told line) after answer → EndsAs object refusable line.incarnation answer
   end_from (Swapped number) is form legal = record {
     next = legal.next ∙ ap (λ (n : ℕ). n + 1) (sym kept.swaps);
-    alive = λ dead. not_dead (state_of kind line.object before) legal.alive (sym kept.state ∙ dead);
+    alive = ends_same ∙ legal.alive;
     unspent = omega (arith, legal.unspent, kept.swaps);
     incarnation = legal.incarnation ∙ sym kept.swaps;
   }
   end_from Spent is form legal = record {
-    alive = λ dead. not_dead (state_of kind line.object before) legal.alive (sym kept.state ∙ dead);
+    alive = ends_same ∙ legal.alive;
     spent = kept.swaps ∙ legal.spent;
     incarnation = legal.incarnation ∙ sym kept.swaps;
   }
-  end_from Gone is form legal = record { dead = kept.state ∙ dead_state (state_of kind line.object before) legal.dead; incarnation = legal.incarnation ∙ sym kept.swaps }
+  end_from Gone is form legal = record { dead = ends_same ∙ legal.dead; incarnation = legal.incarnation ∙ sym kept.swaps }
   end_from (Busy number) is form legal = (refusal number is).1 legal
   end_from (Replied reply) is form legal = absurd legal
   end_from (Abandoned number) is form legal = absurd form
 
   act_to : (act : Act) → IsActOn kind act → Tells object refusable line act → IsLegalAct kind before (told line) after act
   act_to (Call op) on says = record {
-    own_kind = takes_own kind op on.0;
-    replied = says.replied ∙ ap (λ (state : AnyState). Replied (reply_of state op)) kept.state;
+    own_kind = on.0;
+    replied = says.replied ∙ ap Replied (replies_same op);
     incarnation = says.incarnation ∙ kept.swaps;
   }
   act_to (Swap to) on says = end_to line.answer refl says
 
   act_from : (act : Act) → Ends act line.answer → IsLegalAct kind before (told line) after act → Tells object refusable line act
   act_from (Call op) form legal = record {
-    replied = legal.replied ∙ ap (λ (state : AnyState). Replied (reply_of state op)) (sym kept.state);
+    replied = legal.replied ∙ ap Replied (sym (replies_same op));
     incarnation = legal.incarnation ∙ sym kept.swaps;
   }
   act_from (Swap to) form legal = end_from line.answer refl form legal
@@ -126,7 +132,7 @@ counted_on false number = omega arith
 kept_here : (kind : KindName) (before : List Entry) (line : RecordLine) (object : Object) → IsKept kind line.object before object → IsKept kind line.object (before ++ told line ∷ []) (object_after object line.act line.answer)
 kept_here kind before line object kept = record {
   kind = kept.kind;
-  state = ap₂ (λ (k : KindName) (state : AnyState). state_after_act k state line.act line.answer) kept.kind kept.state ∙ sym (state_of-push kind line.object before (told line) ∙ rw (eq-eqb line.object line.object refl) refl);
+  state = ap₂ (λ (k : KindName) (state : WatchState AnyState). state_after_act k state line.act line.answer) kept.kind kept.state ∙ sym (state_of-push kind line.object before (told line) ∙ rw (eq-eqb line.object line.object refl) refl);
   swaps = counted_on (is_carried_out line.answer) object.number ∙ sym (number_of-push line.object before (told line) ∙ rw (eq-eqb line.object line.object refl, ← kept.swaps) refl);
 }
 
@@ -155,12 +161,7 @@ kept_more kinds before line objects object all there = record {
       (kept_either kinds before line objects object found number kind all there declared (at_set objects line.object number (object_after object line.act line.answer) found standing));
 }
 
-taken_kind : (kind : KindName) → same_kind kind kind ≡ true
-taken_kind kinds.Counter = refl
-taken_kind kinds.Directory = refl
-taken_kind kinds.Pages = refl
-
 -- what may be asked of an object of its kind, the object can take
 pub can_take : (object : Object) (kind : KindName) (act : Act) → object.plain.kind ≡ kind → IsActOn kind act → CanTake object act
-can_take object kind (Call op) same on = rw (same, ← on.0) (taken_kind (kind_of_op op))
+can_take object kind (Call op) same on = rw same on.0
 can_take object kind (Swap to) same on = tt

@@ -6,11 +6,11 @@ use Rattle.k42_kinds.specs.declared.operation.KindName.{KindName}
 use Rattle.k42_kinds.specs.declared.operation.KindName.TheVariants as kinds
 use Rattle.k42_kinds.specs.declared.operation.LayoutName.TheVariants.{Shared, Spread}
 use Rattle.k42_kinds.specs.declared.operation.Op.{Op}
-use Rattle.k42_kinds.specs.declared.operation.Op.TheVariants.{Add, Get, Drain, Bind, Find, Unbind, Size, Write, Read, Dirty, Clean}
+use Rattle.k42_kinds.specs.declared.operation.Op.TheVariants.{Add, Get, Drain, Bind, Find, Unbind, Size, Write, Read, Dirty, Clean, Seen}
 use Rattle.k42_kinds.specs.declared.entry.Act.{Act}
 use Rattle.k42_kinds.specs.declared.entry.Act.TheVariants.{Call, Swap}
 use Rattle.k42_kinds.specs.declared.entry.To.{To}
-use Rattle.k42_kinds.specs.declared.entry.To.TheVariants.{Layout, Dead}
+use Rattle.k42_kinds.specs.declared.entry.To.TheVariants.{Layout, Dead, Watch, Unwatch}
 use Rattle.script_text.specs.Lawful.{kinds_of}
 use Rattle.k42_limits.specs.declared.TheConstants.{PAGES}
 use Rattle.script_text.specs.declared.script.Script.{Script}
@@ -72,10 +72,16 @@ pages_operation word tokens =
     else None
 
 -- the same on an object of a kind
+abbrev pub own_operation : KindName → List ℕ → List (List ℕ) → Found Op
+own_operation kinds.Counter word tokens = counter_operation word tokens
+own_operation kinds.Directory word tokens = directory_operation word tokens
+own_operation kinds.Pages word tokens = pages_operation word tokens
+
+-- an operation of the kind, or `seen` of any object
 abbrev pub operation_of : KindName → List ℕ → List (List ℕ) → Found Op
-operation_of kinds.Counter word tokens = counter_operation word tokens
-operation_of kinds.Directory word tokens = directory_operation word tokens
-operation_of kinds.Pages word tokens = pages_operation word tokens
+operation_of kind word tokens =
+    if bytes_eq word (codes "seen") then given_nothing Seen tokens
+    else own_operation kind word tokens
 
 -- `OPERATION ARGUMENTS` on an object of a kind
 unfoldable pub operation_at : KindName → List (List ℕ) → Found Op
@@ -90,12 +96,13 @@ layout_of word =
     else if bytes_eq word (codes "spread") then Some (Layout Spread)
     else None
 
--- what a swap is to: `LAYOUT` of one to a layout, and of a destroy nothing is read
+-- what a swap is to: `LAYOUT` of one to a layout
 abbrev pub layout_at : List (List ℕ) → Found To
 layout_at tokens = spelled_at layout_of tokens
 
-abbrev pub dead_at : List (List ℕ) → Found To
-dead_at tokens = Some (Dead, tokens)
+-- of a destroy, a watch and an unwatch the word has said it, and nothing is read
+abbrev pub said_before : To → List (List ℕ) → Found To
+said_before to tokens = Some (to, tokens)
 
 -- the place, in the script, of the object of this name
 abbrev pub object_of : Script → List ℕ → Option ℕ
@@ -128,7 +135,9 @@ call_at script name tokens = do
 abbrev pub act_of : Script → List ℕ → List (List ℕ) → Found Asked
 act_of script word tokens =
     if bytes_eq word (codes "swap") then swap_at script layout_at tokens
-    else if bytes_eq word (codes "destroy") then swap_at script dead_at tokens
+    else if bytes_eq word (codes "destroy") then swap_at script (said_before Dead) tokens
+    else if bytes_eq word (codes "watch") then swap_at script (said_before Watch) tokens
+    else if bytes_eq word (codes "unwatch") then swap_at script (said_before Unwatch) tokens
     else call_at script word tokens
 
 -- a swap or a call

@@ -1,13 +1,14 @@
--- How the object of one thread judges a line.
-use Rattle.std.specs.Prelude.{◌≡◌, ◌≢◌, ℕ, ◌+◌, ◌<◌, Bool, true, IsTrue, List, Some, slice_get, if◌then◌else◌}
+-- How the watched object of one thread judges a line.
+use Rattle.std.specs.Prelude.{◌≡◌, ℕ, ◌+◌, ◌<◌, Bool, true, false, IsTrue, List, Some, slice_get, if◌then◌else◌}
 use Rattle.k42_limits.specs.declared.TheConstants.{LAST_INCARNATION}
 use Rattle.k42_kinds.specs.Histories.{state_of, number_of, state_after_act, is_carried_out}
-use Rattle.k42_kinds.specs.Objects.{empty_state, reply_of}
-use Rattle.k42_kinds.specs.Operations.{takes_operation}
+use Rattle.k42_kinds.specs.OneThread.{OneThread}
+use Rattle.k42_kinds.specs.Watched.{watched_object}
 use Rattle.k42_kinds.specs.declared.plain.Plain.{Plain}
 use Rattle.k42_kinds.specs.declared.operation.KindName.{KindName}
 use Rattle.k42_kinds.specs.declared.operation.Op.{Op}
-use Rattle.k42_kinds.specs.declared.states.AnyState.TheVariants as states
+use Rattle.k42_kinds.specs.declared.states.AnyState.{AnyState}
+use Rattle.k42_kinds.specs.declared.watch.WatchState.{WatchState}
 use Rattle.k42_kinds.specs.declared.entry.Act.{Act}
 use Rattle.k42_kinds.specs.declared.entry.Act.TheVariants.{Call, Swap}
 use Rattle.k42_kinds.specs.declared.entry.Answer.{Answer}
@@ -25,23 +26,31 @@ pub record IsKept (declared : KindName) (number : ℕ) (before : List Entry) (ob
   pub state : object.state ≡ state_of declared number before
   pub swaps : object.number ≡ number_of number before
 
+-- the object of one thread whose state is kept
+abbrev pub one_thread : Object → OneThread (WatchState AnyState)
+one_thread object = watched_object object.plain.kind
+
+-- whether it was destroyed
+abbrev pub is_over : Object → Bool
+is_over object = (one_thread object).is_ended object.state
+
 pub record IsReply (object : Object) (line : RecordLine) (op : Op) : Type 0 where
-  pub replied : line.answer ≡ Replied (reply_of object.state op)
+  pub replied : line.answer ≡ Replied ((one_thread object).reply object.state op)
   pub incarnation : line.incarnation ≡ object.number
 
 pub record IsNextSwap (object : Object) (seen number : ℕ) : Type 0 where
   pub next : number ≡ object.number + 1
-  pub alive : object.state ≢ states.Dead
+  pub alive : is_over object ≡ false
   pub unspent : object.number < LAST_INCARNATION
   pub incarnation : seen ≡ object.number
 
 pub record IsSpentNow (object : Object) (seen : ℕ) : Type 0 where
-  pub alive : object.state ≢ states.Dead
+  pub alive : is_over object ≡ false
   pub spent : object.number ≡ LAST_INCARNATION
   pub incarnation : seen ≡ object.number
 
 pub record IsGoneNow (object : Object) (seen : ℕ) : Type 0 where
-  pub dead : object.state ≡ states.Dead
+  pub dead : is_over object ≡ true
   pub incarnation : seen ≡ object.number
 
 -- a swap may be answered so, where it is known whether another's swap may refuse it
@@ -69,11 +78,11 @@ object_after object act answer = record {
 
 -- the object before its first line
 abbrev pub fresh : Plain → Object
-fresh plain = record { plain = plain; state = empty_state plain.kind; number = 0 }
+fresh plain = record { plain = plain; state = (watched_object plain.kind).start; number = 0 }
 
--- an operation is of the object's kind, and any object can be swapped
+-- an operation is one that the object takes, and any object can be swapped
 abbrev pub CanTake : Object → Act → Type 0
-CanTake object (Call op) = IsTrue (takes_operation object.plain.kind op)
+CanTake object (Call op) = IsTrue ((one_thread object).takes op)
 CanTake object (Swap to) = Unit {0}
 
 -- the line is of a declared object, and its act is answered in a form that such an act may have

@@ -1,14 +1,16 @@
-//! Each line is replayed on the object of one thread.
+//! Each line is replayed on the watched object of one thread.
 ghost use Rattle.std.specs.Prelude.{◌≡◌, IsTrue, true, IfOk, if◌then◌else◌};
 ghost use Rattle.std.specs.Bool.{Decides};
-ghost use Rattle.k42_kinds.specs.Objects.{empty_state};
-ghost use Rattle.k42_kinds.specs.Operations.{takes_operation};
-ghost use Rattle.k42_kinds.specs.declared.states.AnyState.TheVariants as states;
-ghost use Rattle.record_text.specs.Referee.Judged.{IsReply, IsNextSwap, EndsAs, CanTake, object_after};
+ghost use Rattle.k42_kinds.specs.Objects.{is_dead};
+ghost use Rattle.k42_kinds.specs.Steps.{Steps};
+ghost use Rattle.k42_kinds.specs.Watched.{watched_object};
+ghost use Rattle.record_text.specs.Referee.Judged.{IsReply, IsNextSwap, EndsAs, CanTake, object_after, one_thread};
 ghost use Rattle.record_text.specs.Referee.Judged as judged;
 
 use crate::record::RecordLine;
-use k42_kinds::{Act, Answer, AnyState, Kind, Op, Plain, To};
+use k42_kinds::{
+    Act, Answer, AnyState, Kind, Op, Plain, Reply, To, WatchState, counted, is_seen, told,
+};
 use k42_limits::LAST_INCARNATION;
 use k42_memory::Memory;
 use std::alloc::Global;
@@ -17,9 +19,35 @@ use std::alloc::Global;
 #[derive(Drop)]
 pub struct Object {
     pub plain: Plain,
-    pub state: AnyState,
+    /// Its state, and what the layer round it has counted.
+    pub state: WatchState<AnyState>,
     /// How many swaps of it were carried out.
     pub number: u32,
+}
+
+fn is_ended(state: &AnyState) -> bool
+    ensures { result ≡ is_dead state.now }
+{
+    matches!(state, AnyState::Dead)
+}
+
+/// One operation, which the layer counts or answers by itself.
+fn step(
+    alloc: Global,
+    plain: &Plain,
+    state: &mut WatchState<AnyState>,
+    op: &Op,
+) -> Result<Reply, Memory>
+    requires { IsTrue ((watched_object plain.now.kind).takes op.now) }
+    ensures { IfOk result (λ replied. Steps (watched_object plain.now.kind).after
+        (watched_object plain.now.kind).reply state.old op.now replied state.new) }
+{
+    if is_seen(op) {
+        return Ok(told(is_ended(&state.inner), state.seen));
+    }
+    let reply = plain.step(alloc, &mut state.inner, op)?;
+    state.seen = counted(state.seen);
+    Ok(reply)
 }
 
 impl Object {
@@ -28,15 +56,18 @@ impl Object {
     {
         Object {
             plain,
-            state: plain.empty(alloc),
+            state: WatchState {
+                inner: plain.empty(alloc),
+                seen: None,
+            },
             number: 0,
         }
     }
 
     fn is_dead(&self) -> bool
-        ensures { Decides result (self.now.state ≡ states.Dead) }
+        ensures { result ≡ judged.is_over self.now }
     {
-        matches!(self.state, AnyState::Dead)
+        is_ended(&self.state.inner)
     }
 
     /// Whether the line tells what the object does next, which it then has done. Whether another's
@@ -60,12 +91,12 @@ impl Object {
     }
 
     fn call(&mut self, alloc: Global, line: &RecordLine, op: &Op) -> Result<bool, Memory>
-        requires { IsTrue (takes_operation self.old.plain.kind op.now) }
+        requires { IsTrue ((one_thread self.old).takes op.now) }
         ensures legal { IfOk result (λ legal. Decides legal (IsReply self.old line.now op.now)) }
         ensures moved { IfOk result (λ legal. legal ≡ true →
             self.new ≡ object_after self.old (Act.Call op.now) line.now.answer) }
     {
-        let reply = self.plain.step(alloc, &mut self.state, op)?;
+        let reply = step(alloc, &self.plain, &mut self.state, op)?;
         Ok(line.answer == Answer::Replied(reply) && line.incarnation == self.number)
     }
 
@@ -88,6 +119,22 @@ impl Object {
         }
     }
 
+    /// What a swap leaves that is carried out: a watch counts from 0, whatever was counted.
+    fn keep_as(&mut self, to: &To)
+        ensures { self.new ≡
+            record self.old { state = (one_thread self.old).swapped self.old.state to.now } }
+    {
+        match to {
+            To::Layout(_) => {}
+            To::Dead => {
+                self.state.inner = AnyState::Dead;
+                self.state.seen = None;
+            }
+            To::Watch => self.state.seen = Some(0),
+            To::Unwatch => self.state.seen = None,
+        }
+    }
+
     fn carry_out(&mut self, incarnation: u32, number: u32, to: &To) -> bool
         ensures legal { Decides result (IsNextSwap self.old incarnation number) }
         ensures moved { result ≡ true →
@@ -99,9 +146,7 @@ impl Object {
             && incarnation == self.number;
         if legal {
             self.number = number;
-            if matches!(to, To::Dead) {
-                self.state = AnyState::Dead;
-            }
+            self.keep_as(to);
         }
         legal
     }

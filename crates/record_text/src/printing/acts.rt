@@ -31,6 +31,7 @@ fn operation_word(op: &Op) -> &'static [u8]
         Op::Read(_) => b"read",
         Op::Dirty => b"dirty",
         Op::Clean => b"clean",
+        Op::Seen => b"seen",
     }
 }
 
@@ -51,7 +52,7 @@ fn put_arguments(out: &mut Vec<u8>, op: &Op) -> Result<(), Memory>
             put_token(out, text.bytes())
         }
         Op::Read(page) => put_number(out, u64::from(*page)),
-        Op::Get | Op::Drain | Op::Size | Op::Dirty | Op::Clean => Ok(()),
+        Op::Get | Op::Drain | Op::Size | Op::Dirty | Op::Clean | Op::Seen => Ok(()),
     }
 }
 
@@ -73,6 +74,14 @@ pub fn put_act(out: &mut Vec<u8>, object: &[u8], act: &Act) -> Result<(), Memory
         }
         Act::Swap(To::Dead) => {
             put_token(out, b"destroy")?;
+            put_token(out, object)
+        }
+        Act::Swap(To::Watch) => {
+            put_token(out, b"watch")?;
+            put_token(out, object)
+        }
+        Act::Swap(To::Unwatch) => {
+            put_token(out, b"unwatch")?;
             put_token(out, object)
         }
     }

@@ -217,17 +217,27 @@ fn take_pages_operation(left: &mut Left<'_>, word: &[u8]) -> Option<Op>
     None
 }
 
+/// Takes what is left of the operation that begins with this word and belongs to this kind.
+fn take_own_operation(left: &mut Left<'_>, word: &[u8], kind: KindName) -> Option<Op>
+    ensures { Takes result left.new (parts.own_operation kind word.now (left_tokens left.old)) }
+{
+    match kind {
+        KindName::Counter => take_counter_operation(left, word),
+        KindName::Directory => take_directory_operation(left, word),
+        KindName::Pages => take_pages_operation(left, word),
+    }
+}
+
 /// Takes an operation on an object of this kind.
 #[tactic(auto, unfolding(crate::specs::Reader::ActParts::operation_at))]
 fn take_operation(left: &mut Left<'_>, kind: KindName) -> Option<Op>
     ensures { Takes result left.new (parts.operation_at kind (left_tokens left.old)) }
 {
     let word = take_token(left)?;
-    match kind {
-        KindName::Counter => take_counter_operation(left, word),
-        KindName::Directory => take_directory_operation(left, word),
-        KindName::Pages => take_pages_operation(left, word),
+    if is_word(word, "seen") {
+        return Some(Op::Seen);
     }
+    take_own_operation(left, word, kind)
 }
 
 #[tactic(auto, unfolding(crate::specs::Reader::ActParts::swap_at))]
@@ -243,15 +253,17 @@ fn take_swap(left: &mut Left<'_>, script: &Script) -> Option<Asked>
     })
 }
 
+/// Takes the object of a destroy, a watch or an unwatch.
 #[tactic(auto, unfolding(crate::specs::Reader::ActParts::swap_at))]
-fn take_destroy(left: &mut Left<'_>, script: &Script) -> Option<Asked>
+fn take_swap_to(left: &mut Left<'_>, script: &Script, to: To) -> Option<Asked>
     requires { length script.now.objects ≤ OBJECTS }
-    ensures { Takes result left.new (parts.swap_at script.now parts.dead_at (left_tokens left.old)) }
+    ensures { Takes result left.new
+        (parts.swap_at script.now (parts.said_before to) (left_tokens left.old)) }
 {
     let object = take_object(left, script)?;
     Some(Asked {
         object,
-        act: Act::Swap(To::Dead),
+        act: Act::Swap(to),
     })
 }
 
@@ -280,7 +292,13 @@ pub fn take_act(left: &mut Left<'_>, script: &Script) -> Option<Asked>
         return take_swap(left, script);
     }
     if is_word(word, "destroy") {
-        return take_destroy(left, script);
+        return take_swap_to(left, script, To::Dead);
+    }
+    if is_word(word, "watch") {
+        return take_swap_to(left, script, To::Watch);
+    }
+    if is_word(word, "unwatch") {
+        return take_swap_to(left, script, To::Unwatch);
     }
     take_call(left, script, word)
 }

@@ -232,7 +232,7 @@ fn the_first_line_must_give_1_to_8_processors(rt: HostRuntime) -> Result<(), Fai
 
 #[test]
 fn each_cause_is_told_at_its_line(rt: HostRuntime) -> Result<(), Fail> {
-    let cases: [(&[u8], u32, ScriptCause); 37] = [
+    let cases: [(&[u8], u32, ScriptCause); 38] = [
         (b"hits frob", 4, ScriptCause::UnknownWord),
         (b"hits", 4, ScriptCause::UnknownWord),
         (b"hits add", 4, ScriptCause::UnknownWord),
@@ -242,7 +242,8 @@ fn each_cause_is_told_at_its_line(rt: HostRuntime) -> Result<(), Fail> {
         (b"swap hits", 4, ScriptCause::UnknownWord),
         (b"swap hits round", 4, ScriptCause::UnknownWord),
         (b"destroy", 4, ScriptCause::UnknownWord),
-        (b"watch hits", 4, ScriptCause::UnknownWord),
+        (b"hits watch", 4, ScriptCause::UnknownWord),
+        (b"hits seen 1", 4, ScriptCause::UnknownWord),
         (b"worker b", 4, ScriptCause::UnknownWord),
         (b"object d list shared", 4, ScriptCause::UnknownWord),
         (b"object d counter wide", 4, ScriptCause::UnknownWord),
@@ -269,7 +270,7 @@ fn each_cause_is_told_at_its_line(rt: HostRuntime) -> Result<(), Fail> {
         (b"object hits pages spread", 4, ScriptCause::NameTwice),
         (b"worker a 0", 4, ScriptCause::NameTwice),
         (b"other get", 4, ScriptCause::UnknownObject),
-        (b"watch get", 4, ScriptCause::UnknownObject),
+        (b"other seen", 4, ScriptCause::UnknownObject),
         (b"Hits get", 4, ScriptCause::UnknownObject),
         (b"swap other shared", 4, ScriptCause::UnknownObject),
         (b"hits size", 4, ScriptCause::WrongKind),
@@ -283,9 +284,36 @@ fn each_cause_is_told_at_its_line(rt: HostRuntime) -> Result<(), Fail> {
 }
 
 #[test]
+fn a_watch_and_an_unwatch_are_refused_where_a_destroy_is(rt: HostRuntime) -> Result<(), Fail> {
+    let without_worker: &[u8] = b"procs 1\nobject hits counter shared\n";
+    let open = repeated(rt.alloc(), HEAD, b"begin\nhits seen\n", 1, b"")?;
+    let cases: [(&[u8], &[u8], u32, ScriptCause); 7] = [
+        (b"", b" hits", 1, ScriptCause::ProcsExpected),
+        (HEAD, b"", 4, ScriptCause::UnknownWord),
+        (HEAD, b" hits spread", 4, ScriptCause::UnknownWord),
+        (HEAD, b" get", 4, ScriptCause::UnknownObject),
+        (HEAD, b" Hits", 4, ScriptCause::UnknownObject),
+        (without_worker, b" hits", 3, ScriptCause::WorkerExpected),
+        (open.as_slice(), b" hits", 6, ScriptCause::BlockFault),
+    ];
+    let words: [&[u8]; 3] = [b"destroy", b"watch", b"unwatch"];
+    for word in words {
+        for (head, behind, line, cause) in cases {
+            let text = repeated(rt.alloc(), head, word, 1, behind)?;
+            let end = Some(refusal(line, cause));
+            assert_eq!(rt; end_of(rt.alloc(), &text), end, "{word:?}{behind:?}");
+        }
+        let text = repeated(rt.alloc(), HEAD, word, 1, b" hits")?;
+        assert_eq!(rt; end_of(rt.alloc(), &text), None, "{word:?}");
+    }
+    Ok(())
+}
+
+#[test]
 fn a_line_that_asks_something_stands_behind_a_worker_line(rt: HostRuntime) -> Result<(), Fail> {
-    let cases: [(&[u8], u32, ScriptCause); 7] = [
+    let cases: [(&[u8], u32, ScriptCause); 8] = [
         (b"hits get", 3, ScriptCause::WorkerExpected),
+        (b"hits seen", 3, ScriptCause::WorkerExpected),
         (b"begin", 3, ScriptCause::WorkerExpected),
         (b"end", 3, ScriptCause::WorkerExpected),
         (b"swap hits spread", 3, ScriptCause::WorkerExpected),
@@ -376,6 +404,31 @@ fn each_worker_has_the_lines_behind_its_own(rt: HostRuntime) -> Result<(), Fail>
 }
 
 #[test]
+fn objects_of_each_kind_are_watched_and_tell_what_was_seen(rt: HostRuntime) -> Result<(), Fail> {
+    let text = b"procs 1\nobject hits counter shared\nobject d directory spread\n\
+        object p pages shared\nworker a 0\nwatch hits\nwatch d\nwatch p\n\
+        begin\nhits seen\nd seen\np seen\nend\nunwatch p\np seen\nunwatch p\n";
+    let script = parse(rt.alloc(), text)?;
+    let items = [
+        asks(6, 0, Act::Swap(To::Watch)),
+        asks(7, 1, Act::Swap(To::Watch)),
+        asks(8, 2, Act::Swap(To::Watch)),
+        Item::Begin,
+        asks(10, 0, Act::Call(Op::Seen)),
+        asks(11, 1, Act::Call(Op::Seen)),
+        asks(12, 2, Act::Call(Op::Seen)),
+        Item::End,
+        asks(14, 2, Act::Swap(To::Unwatch)),
+        asks(15, 2, Act::Call(Op::Seen)),
+        asks(16, 2, Act::Swap(To::Unwatch)),
+    ];
+    let workers = script.workers.as_slice();
+    assert_eq!(rt; workers.len(), 1);
+    assert_eq!(rt; workers[0].items.as_slice(), items.as_slice());
+    Ok(())
+}
+
+#[test]
 fn a_script_has_at_most_65536_calls(rt: HostRuntime) -> Result<(), Fail> {
     let full = repeated(rt.alloc(), HEAD, b"hits drain\nhits add 7\n", 32_768, b"")?;
     let script = parse(rt.alloc(), &full)?;
@@ -385,6 +438,13 @@ fn a_script_has_at_most_65536_calls(rt: HostRuntime) -> Result<(), Fail> {
     assert_eq!(rt; items.as_slice()[65_534], call(65_538, Op::Drain));
     assert_eq!(rt; items.as_slice()[65_535], call(65_539, Op::Add(7)));
     let over = repeated(rt.alloc(), HEAD, b"hits get\n", 65_537, b"")?;
+    assert_eq!(rt;
+        end_of(rt.alloc(), &over),
+        Some(refusal(65_540, ScriptCause::TooMany))
+    );
+    let watched = repeated(rt.alloc(), HEAD, b"watch hits\nhits seen\n", 32_768, b"")?;
+    assert_eq!(rt; end_of(rt.alloc(), &watched), None);
+    let over = repeated(rt.alloc(), &watched, b"unwatch hits\n", 1, b"")?;
     assert_eq!(rt;
         end_of(rt.alloc(), &over),
         Some(refusal(65_540, ScriptCause::TooMany))
