@@ -8,11 +8,10 @@ use Rattle.k42_kinds.specs.declared.entry.Answer.TheVariants.{Replied}
 use Rattle.k42_board.specs.Plan.{layouts_on}
 use Rattle.k42_board.specs.Generations.{MOST}
 use Rattle.k42_board.specs.Drawing.{MayDrawCall, drawn_at, entry_call, numbers_of}
-use Rattle.k42_board.specs.Taking.{MayPut, CELLS, taken_view}
-use Rattle.k42_board.specs.declared.cell.Content.{Content}
+use Rattle.k42_board.specs.Taking.{MayPut, CELLS}
 use Rattle.k42_board.specs.declared.view.PassView.{PassView}
-use Rattle.rule_tests.proofs.OneCell.{at_one, mine_stays, reached, within, may_draw, may_put_drawn, told_last}
-use Rattle.rule_tests.proofs.tests.calls.step_at.Goals as goal
+use Rattle.table_crews.proofs.OneCell.{taken_from, at_one, mine_stays, reached, within, may_draw, may_put_drawn, told_last}
+use Rattle.table_crews.proofs.steps.step_at.Goals as goal
 
 pub step_part-requires-clause-reached : goal.step_part-requires-clause-reached
 step_part-requires-clause-reached g c κs inside_lifetimes =
@@ -21,11 +20,12 @@ step_part-requires-clause-reached g c κs inside_lifetimes =
     let laws = c.layouts_are_lawful.ensures in
     let met = g.met.L.Layout g.world.𝓛 g.world.𝓜 g.world.𝓡 ((λ s x. x), (λ x. x), (λ x. x), λ x. x) in
     let layout = c.args.layout.now in let op = c.args.op.now in let inside = c.args.inside.now in let p : ℕ = c.in-One.place in let content = c.take-cell.result in
-    let e = c.take-cell.ensures.knows ∙ ap (taken_view content) c.lock.ensures.knows in
+    let n : ℕ = (inside.object * 2 + inside.incarnation % 2) * 8 + p in
+    let e = taken_from n c.lock.result content v c.reserve.new.self.view c.lock.new.pass.view w c.in_ok-reserve.ensures.same.view c.lock.ensures.knows c.take-cell.ensures.knows in
     let reach =
     subst (λ (z : ℕ × ℕ). (g.L.Layout.ways layout).reach z.0 op z.1 ≡ One p) (λ k. (c.procs.ensures.is k, c.processor.ensures.is k)) (sym c.reach.ensures ∙ c.in-One.is) in
     let is =
-    at_one F laws c.args.sys.now.layouts met.agrees v w ((inside.object * 2 + inside.incarnation % 2) * 8 + p) c.lock.result content inside layout op p c.requires.serving
+    at_one F laws c.args.sys.now.layouts met.agrees v w n c.lock.result content inside layout op p c.requires.serving
     c.requires.inside.0 c.requires.layout.0 c.requires.layout.1 c.requires.layout.2 c.requires.free.ours.proc c.requires.takes reach e in
     subst (λ (k : ℕ). IsReached (g.L.Layout.ways layout) (g.L.Layout.whole layout) (unwrap_or content.part ((g.L.Layout.ways layout).empty k p)) op) (sym c.procs-3.ensures.is)
     (reached F laws c.args.sys.now.layouts met.agrees content c.lock.new.pass.view w c.take-cell.ensures.knows layout op inside.object inside.incarnation p is c.take-cell.ensures.number c.take-cell.ensures.row)
@@ -37,11 +37,12 @@ draw_call-stamp-requires-clause-may g c κs inside_lifetimes =
     let laws = c.layouts_are_lawful.ensures in
     let met = g.met.L.Layout g.world.𝓛 g.world.𝓜 g.world.𝓡 ((λ s x. x), (λ x. x), (λ x. x), λ x. x) in
     let layout = c.args.layout.now in let op = c.args.op.now in let inside = c.args.inside.now in let p : ℕ = c.in-One.place in let content = c.take-cell.result in
-    let e = c.take-cell.ensures.knows ∙ ap (taken_view content) c.lock.ensures.knows in
+    let n : ℕ = (inside.object * 2 + inside.incarnation % 2) * 8 + p in
+    let e = taken_from n c.lock.result content v c.reserve.new.self.view c.lock.new.pass.view w c.in_ok-reserve.ensures.same.view c.lock.ensures.knows c.take-cell.ensures.knows in
     let reach =
     subst (λ (z : ℕ × ℕ). (g.L.Layout.ways layout).reach z.0 op z.1 ≡ One p) (λ k. (c.procs.ensures.is k, c.processor.ensures.is k)) (sym c.reach.ensures ∙ c.in-One.is) in
     let is =
-    at_one F laws c.args.sys.now.layouts met.agrees v w ((inside.object * 2 + inside.incarnation % 2) * 8 + p) c.lock.result content inside layout op p c.requires.serving
+    at_one F laws c.args.sys.now.layouts met.agrees v w n c.lock.result content inside layout op p c.requires.serving
     c.requires.inside.0 c.requires.layout.0 c.requires.layout.1 c.requires.layout.2 c.requires.free.ours.proc c.requires.takes reach e in
     let due = unwrap_or content.part ((g.L.Layout.ways layout).empty procs p) in
     let after = (g.L.Layout.ways layout).part_after due op in
@@ -49,14 +50,13 @@ draw_call-stamp-requires-clause-may g c κs inside_lifetimes =
     let moved =
     subst (λ (k : ℕ). c.step_part.new.cell ≡ record content { part = Some ((g.L.Layout.ways layout).part_after (unwrap_or content.part ((g.L.Layout.ways layout).empty k p)) op) }) count
     c.in_ok-reply.ensures.moved in
-    let items : c.push.new.self.items ≡ record content { part = Some after } ∷ [] = c.in_ok-push.ensures.items ∙ (λ k. c.new-cells.ensures.items k ++ moved k ∷ []) in
-    let same : c.reserve.new.self.view ≡ w = c.in_ok-reserve.ensures.same.view in
+    let items : c.push_reserved.new.self.items ≡ record content { part = Some after } ∷ [] = c.push_reserved.ensures.items ∙ (λ k. c.in_ok-cells.ensures.items k ++ moved k ∷ []) in
     let replied =
     subst (λ (k : ℕ). c.in_ok-reply.reply ≡ (g.L.Layout.ways layout).part_reply (unwrap_or content.part ((g.L.Layout.ways layout).empty k p)) op) count c.in_ok-reply.ensures.replied in
-    let mine : length w.taker.mine ≡ length v.taker.mine = ap (λ (x : PassView _). length x.taker.mine) e ∙ ap length (mine_stays _ c.lock.result v) in
+    let mine : length w.taker.mine ≡ length v.taker.mine = ap (λ (x : PassView _). length x.taker.mine) e ∙ ap length (mine_stays n c.lock.result v) in
     let read = ap length c.entries.ensures.are in
     let few : length w.taker.mine < MOST = grind (arith, nat_tests, c.if-entries-ge1048576.false, mine, read) in
-    subst (λ (z : List (Content _) × PassView _). MayDrawCall F c.args.sys.now.layouts z.0 op c.in_ok-reply.reply z.1) (λ k. (sym items k, sym same k))
+    subst (λ cells. MayDrawCall F c.args.sys.now.layouts cells op c.in_ok-reply.reply w) (sym items)
     (may_draw F laws c.args.sys.now.layouts met.agrees content c.lock.new.pass.view w c.take-cell.ensures.knows layout op inside.object inside.incarnation p is c.take-cell.ensures.number
     after c.in_ok-reply.reply replied refl few)
 
@@ -67,11 +67,12 @@ put-requires-clause-may g c κs inside_lifetimes =
     let laws = c.layouts_are_lawful.ensures in
     let met = g.met.L.Layout g.world.𝓛 g.world.𝓜 g.world.𝓡 ((λ s x. x), (λ x. x), (λ x. x), λ x. x) in
     let layout = c.args.layout.now in let op = c.args.op.now in let inside = c.args.inside.now in let p : ℕ = c.in-One.place in let content = c.take-cell.result in
-    let e = c.take-cell.ensures.knows ∙ ap (taken_view content) c.lock.ensures.knows in
+    let n : ℕ = (inside.object * 2 + inside.incarnation % 2) * 8 + p in
+    let e = taken_from n c.lock.result content v c.reserve.new.self.view c.lock.new.pass.view w c.in_ok-reserve.ensures.same.view c.lock.ensures.knows c.take-cell.ensures.knows in
     let reach =
     subst (λ (z : ℕ × ℕ). (g.L.Layout.ways layout).reach z.0 op z.1 ≡ One p) (λ k. (c.procs.ensures.is k, c.processor.ensures.is k)) (sym c.reach.ensures ∙ c.in-One.is) in
     let is =
-    at_one F laws c.args.sys.now.layouts met.agrees v w ((inside.object * 2 + inside.incarnation % 2) * 8 + p) c.lock.result content inside layout op p c.requires.serving
+    at_one F laws c.args.sys.now.layouts met.agrees v w n c.lock.result content inside layout op p c.requires.serving
     c.requires.inside.0 c.requires.layout.0 c.requires.layout.1 c.requires.layout.2 c.requires.free.ours.proc c.requires.takes reach e in
     let due = unwrap_or content.part ((g.L.Layout.ways layout).empty procs p) in
     let after = (g.L.Layout.ways layout).part_after due op in
@@ -79,16 +80,15 @@ put-requires-clause-may g c κs inside_lifetimes =
     let moved =
     subst (λ (k : ℕ). c.step_part.new.cell ≡ record content { part = Some ((g.L.Layout.ways layout).part_after (unwrap_or content.part ((g.L.Layout.ways layout).empty k p)) op) }) count
     c.in_ok-reply.ensures.moved in
-    let items : c.push.new.self.items ≡ record content { part = Some after } ∷ [] = c.in_ok-push.ensures.items ∙ (λ k. c.new-cells.ensures.items k ++ moved k ∷ []) in
-    let same : c.reserve.new.self.view ≡ w = c.in_ok-reserve.ensures.same.view in
+    let items : c.push_reserved.new.self.items ≡ record content { part = Some after } ∷ [] = c.push_reserved.ensures.items ∙ (λ k. c.in_ok-cells.ensures.items k ++ moved k ∷ []) in
     let there = within F laws c.args.sys.now.layouts met.agrees content c.lock.new.pass.view w c.take-cell.ensures.knows layout op inside.object inside.incarnation p is c.take-cell.ensures.number in
     let number = c.take-cell.ensures.number in let object = c.requires.inside.1 in let most = c.procs.ensures.few in let count = c.procs.ensures.is in
     let few : content.number < CELLS = omega (arith, number, object, most, count, there) in
-    let known = c.draw_call-stamp.ensures.knows ∙ (λ k. drawn_at (items k) (entry_call c.reserve.new.self.view (numbers_of c.push.new.self.items) (Call op) (Replied c.in_ok-reply.reply)) (same k)) in
+    let known = c.draw_call-stamp.ensures.knows ∙ (λ k. drawn_at (items k) (entry_call w (numbers_of c.push_reserved.new.self.items) (Call op) (Replied c.in_ok-reply.reply)) w) in
     let u = c.draw_call-stamp.new.pass in
     subst (λ (n : ℕ). MayPut F c.args.sys.now.layouts u.seat n c.in-Some.cell u.view) number
     (may_put_drawn F laws c.args.sys.now.layouts u.seat content after _ c.lock.new.pass.view u.view
-    (known ∙ ap (λ (x : PassView _). drawn_at (record content { part = Some after } ∷ []) (entry_call c.reserve.new.self.view (numbers_of c.push.new.self.items) (Call op) (Replied c.in_ok-reply.reply)) x) c.take-cell.ensures.knows)
+    (known ∙ ap (λ (x : PassView _). drawn_at (record content { part = Some after } ∷ []) (entry_call w (numbers_of c.push_reserved.new.self.items) (Call op) (Replied c.in_ok-reply.reply)) x) c.take-cell.ensures.knows)
     c.in-Some.cell few
-    (told_last u.view.notes (record content { part = Some after }) c.push.new.self.items c.draw_call-stamp.new.cells.items c.pop.new.self.items c.in-Some.cell items c.draw_call-stamp.ensures.told
+    (told_last u.view.notes (record content { part = Some after }) c.push_reserved.new.self.items c.draw_call-stamp.new.cells.items c.pop.new.self.items c.in-Some.cell items c.draw_call-stamp.ensures.told
     c.in-Some.ensures.items))

@@ -36,7 +36,7 @@ use Rattle.k42_board.specs.declared.view.Note.{Note}
 use Rattle.k42_board.specs.declared.view.PassView.{PassView}
 use Rattle.k42_board.proofs.PartLaws.{noted_always}
 use Rattle.k42_rule.proofs.PartsDue.{first_note, part_reached}
-use Rattle.rule_tests.specs.Ready.{IsServing, IsLayoutOf}
+use Rattle.table_crews.specs.Ready.{IsServing, IsLayoutOf}
 use Rattle.k42_rule.proofs.PutBack.{taken_agrees, taken_part, may_put}
 
 pub served_inside : (place : Place) → is_served place ≡ true → IsInside place (object_of place) (row_of place)
@@ -56,6 +56,11 @@ mine_stays n found v = go (eqb found 0) where
   go : (b : Bool) → (cond b (caller_locked n v.taker) v.taker).mine ≡ v.taker.mine
   go true = refl
   go false = refl
+
+-- a cell that was taken, once its lock was found free
+pub taken_from : {P : Type 0} (n found : ℕ) (content : Content P) (v roomy locked w : PassView P) → roomy ≡ v → locked ≡ locked_view n found roomy
+    → w ≡ taken_view content locked → w ≡ taken_view content (locked_view n found v)
+taken_from n found content v roomy locked w same is taken = taken ∙ ap (taken_view content) (is ∙ ap (locked_view n found) same)
 
 few_cells : (tag procs p : ℕ) → 0 < procs → p < cells_of tag procs → p < procs
 few_cells tag procs p some = go (eqb tag 1) where

@@ -1,7 +1,6 @@
--- Passes between two phases of a test.
-use Rattle.std.specs.Prelude.{◌≡◌, ◌+◌, ℕ, true, [], is_some, List, Some, slice_get, length}
+-- Passes between two phases of a test, and in an activity.
+use Rattle.std.specs.Prelude.{◌≡◌, ℕ, ◌+◌, ◌==◌, ◌&&◌, Bool, true, ⊤, List, [], ◌∷◌, Some, is_some, slice_get}
 use Rattle.k42_kinds.specs.OneThread.{OneThread}
-use Rattle.k42_places.specs.Places.{EachPlace}
 use Rattle.phase_core.specs.Stages.{is_out}
 use Rattle.k42_board.specs.Phases.{is_served}
 use Rattle.k42_board.specs.Seen.{SysSeen, PassSeen, IsPassOf, is_at_rest}
@@ -12,6 +11,20 @@ pub record HoldsNoCell {L P : Type 0} (sys : SysSeen L) (pass : PassSeen P) : Ty
   pub ours : IsPassOf sys pass
   pub held : pass.view.taker.held ≡ []
   pub notes : pass.view.notes ≡ []
+
+-- so are all of them
+abbrev pub HoldNoCells : {L P : Type 0} → SysSeen L → List (PassSeen P) → Type 0
+HoldNoCells sys [] = ⊤
+HoldNoCells sys (pass ∷ passes) = HoldsNoCell sys pass × HoldNoCells sys passes
+
+-- it is the pass of this caller, and nothing of it is under way
+abbrev pub rests_at : {P : Type 0} → ℕ → PassSeen P → Bool
+rests_at number pass = (pass.view.number == number) && is_at_rest pass.view
+
+-- so are all of them, whose callers are counted up from the first
+abbrev pub rest_from : {P : Type 0} → ℕ → List (PassSeen P) → Bool
+rest_from first [] = true
+rest_from first (pass ∷ passes) = rests_at first pass && rest_from (first + 1) passes
 
 -- it is in an activity, and inside no call
 pub record IsIn {P : Type 0} (v : PassView P) : Type 0 where
@@ -29,20 +42,3 @@ pub record IsLayoutOf {S L : Type 0} (object_of : L → OneThread S) (layouts : 
   pub declaration : L
   pub declares : slice_get layouts object ≡ Some declaration
   pub same : object_of layout ≡ object_of declaration
-
--- so are all of them
-abbrev pub HoldNoCells : {L P : Type 0} → SysSeen L → List (PassSeen P) → Type 0
-HoldNoCells sys passes = EachPlace (λ c pass. HoldsNoCell sys pass) passes
-
--- and they are as many as the callers
-pub record IsCrewOf {L P : Type 0} (sys : SysSeen L) (passes : List (PassSeen P)) : Type 0 where
-  pub many : length passes ≡ length sys.callers
-  pub free : HoldNoCells sys passes
-
--- it is the pass of this caller, and nothing of it is under way
-pub record RestsAt {P : Type 0} (c : ℕ) (pass : PassSeen P) : Type 0 where
-  pub number : pass.view.number ≡ c
-  pub rests : is_at_rest pass.view ≡ true
-
-abbrev pub RestFrom : {P : Type 0} → ℕ → List (PassSeen P) → Type 0
-RestFrom first passes = EachPlace (λ c pass. RestsAt (first + c) pass) passes
