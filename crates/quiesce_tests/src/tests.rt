@@ -5,10 +5,10 @@ ghost use Rattle.k42_board.specs.Generating.{CanLeave};
 ghost use Rattle.k42_board.specs.Gracing.{MayTakeRole};
 ghost use Rattle.k42_quiesce.specs.Gracing.{MayStep};
 ghost use Rattle.std.specs.Thread.{IsSync};
-ghost use Rattle.quiesce_tests.specs.Ready.{HoldsNoCell};
+ghost use Rattle.table_crews.specs.Ready.{HoldsNoCell};
 
-use crate::tests::crews::{Walk, finish, last, start};
 use co_any::AnyLayout;
+use k42_kinds::LayoutName;
 use k42_quiesce::{Grace, GraceStep, Held, collect, enter, grace, hand_over, leave, reclaim};
 use k42_rule::Sys;
 use std::process::Abort;
@@ -16,8 +16,7 @@ use std::sync::Wait;
 use std::test::Fail;
 use std::thread;
 use std::thread::Threads;
-
-mod crews;
+use table_crews::{Walk, finish, last, may_enter, start_counter};
 
 /// Begins an activity.
 fn begin(rt: &impl Abort, sys: &Sys<AnyLayout>, pass: &mut Walk)
@@ -25,7 +24,7 @@ fn begin(rt: &impl Abort, sys: &Sys<AnyLayout>, pass: &mut Walk)
     ensures free { HoldsNoCell sys.now pass.new }
     ensures entered { CanLeave pass.new.view }
 {
-    assert!(rt; pass.is_idle() && pass.activities() < 1_048_576);
+    assert!(rt; may_enter::<AnyLayout>(pass));
     enter(sys, pass);
 }
 
@@ -62,7 +61,8 @@ fn wait_for_one(
 
 #[test]
 fn a_grace_waits_for_the_activity_that_was_open(rt: HostRuntime) -> Result<(), Fail> {
-    let (sys, mut passes) = start(rt.alloc())?;
+    let callers = vec![in rt.alloc(); 0, 0, 0]?;
+    let (sys, mut passes) = start_counter(rt.alloc(), LayoutName::Shared, 1, callers)?;
     let (Some(mut two), Some(mut one), Some(mut zero)) = (
         last(&sys, &mut passes),
         last(&sys, &mut passes),
@@ -72,7 +72,8 @@ fn a_grace_waits_for_the_activity_that_was_open(rt: HostRuntime) -> Result<(), F
     };
     zero.reserve()?;
     wait_for_one(&rt, &sys, &mut zero, &mut one, &mut two);
-    let Some(lists) = finish(rt.alloc(), sys, zero, one, two)? else {
+    let passes = vec![in rt.alloc(); zero, one, two]?;
+    let Some(lists) = finish(rt.alloc(), sys, passes)? else {
         return Err("a pass does not rest")?;
     };
     assert_eq!(rt; lists.len(), 3);
@@ -125,7 +126,8 @@ fn leave_meanwhile<R: Threads + Wait + Sync>(
 
 #[test]
 fn a_grace_waits_on_a_thread_of_its_own(rt: HostRuntime) -> Result<(), Fail> {
-    let (sys, mut passes) = start(rt.alloc())?;
+    let callers = vec![in rt.alloc(); 0, 0, 0]?;
+    let (sys, mut passes) = start_counter(rt.alloc(), LayoutName::Shared, 1, callers)?;
     let (Some(two), Some(one), Some(mut zero)) = (
         last(&sys, &mut passes),
         last(&sys, &mut passes),
@@ -136,13 +138,15 @@ fn a_grace_waits_on_a_thread_of_its_own(rt: HostRuntime) -> Result<(), Fail> {
     begin(&rt, &sys, &mut zero);
     assert!(rt; may_begin(&one));
     let (zero, one) = leave_meanwhile(&rt, &sys, zero, one);
-    assert!(rt; finish(rt.alloc(), sys, zero, one, two)?.is_some());
+    let passes = vec![in rt.alloc(); zero, one, two]?;
+    assert!(rt; finish(rt.alloc(), sys, passes)?.is_some());
     Ok(())
 }
 
 #[test]
 fn where_no_row_is_held_none_is_handed_over(rt: HostRuntime) -> Result<(), Fail> {
-    let (sys, mut passes) = start(rt.alloc())?;
+    let callers = vec![in rt.alloc(); 0, 0, 0]?;
+    let (sys, mut passes) = start_counter(rt.alloc(), LayoutName::Shared, 1, callers)?;
     let Some(mut pass) = last(&sys, &mut passes) else {
         return Err("no pass")?;
     };

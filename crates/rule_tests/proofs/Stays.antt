@@ -5,7 +5,7 @@ use Rattle.k42_board.specs.Gracing.{role_view}
 use Rattle.k42_board.specs.Noting.{due_note}
 use Rattle.k42_board.specs.Seen.{SysSeen, PassSeen, IsSamePass}
 use Rattle.k42_board.specs.declared.view.PassView.{PassView}
-use Rattle.rule_tests.specs.Ready.{HoldsNoCell}
+use Rattle.table_crews.specs.Ready.{HoldsNoCell}
 
 length_made : {A : Type 0} (f : ℕ → A) (first many : ℕ) → length (made_from f first many) ≡ many
 length_made f first zero = refl

@@ -1,6 +1,4 @@
 //! Calls, graces and rows of one system, each step by a call of its own.
-mod calls;
-mod crews;
 mod graces;
 mod kept;
 mod rows;

@@ -1,16 +1,17 @@
 //! Two swaps of one object, with the entries that each caller has drawn.
-ghost use Rattle.std.specs.Prelude.{◌<◌};
+ghost use Rattle.std.specs.Prelude.{◌≡◌, ◌<◌, length, IfOk};
+ghost use Rattle.table_crews.specs.Ready.{HoldsNoCell, HoldNoCells};
 
-use crate::tests::calls::call;
-use crate::tests::crews::{finish, last, start};
 use crate::tests::phases::swap;
+use co_any::AnyLayout;
 use k42_kinds::{Act, Answer, Entry, LayoutName, Op, Reply, To};
-use k42_rule::Row;
+use k42_memory::Memory;
+use k42_rule::{Row, Sys};
+use std::alloc::Global;
 use std::test::Fail;
+use table_crews::{Walk, call, finish, last, start_counter};
 
-mod calls;
 mod counted;
-mod crews;
 mod given_up;
 mod phases;
 mod rows;
@@ -67,9 +68,34 @@ fn has_drawn_nothing(lists: &[Vec<Entry>], caller: usize) -> bool {
     }
 }
 
+/// A system of one counter on one processor, and the passes of its three callers.
+fn start_three(alloc: Global) -> Result<(Sys<AnyLayout>, Vec<Walk>), Memory>
+    ensures free { IfOk result (λ made. HoldNoCells made.0 made.1.items) }
+    ensures callers { IfOk result (λ made. length made.0.callers ≡ 3) }
+{
+    let callers = vec![in alloc; 0, 0, 0]?;
+    let (sys, passes) = start_counter(alloc, LayoutName::Shared, 1, callers)?;
+    Ok((sys, passes))
+}
+
+/// The lists of the three, where they rest.
+fn finish_three(
+    alloc: Global,
+    sys: Sys<AnyLayout>,
+    zero: Walk,
+    one: Walk,
+    two: Walk,
+) -> Result<Option<Vec<Vec<Entry>>>, Memory>
+    requires callers { length sys.callers ≡ 3 }
+    requires free { HoldsNoCell sys zero × HoldsNoCell sys one × HoldsNoCell sys two }
+{
+    let passes = vec![in alloc; zero, one, two]?;
+    finish(alloc, sys, passes)
+}
+
 #[test]
 fn a_swap_hands_the_state_on_and_a_second_one_frees_its_row(rt: HostRuntime) -> Result<(), Fail> {
-    let (sys, mut passes) = start(rt.alloc())?;
+    let (sys, mut passes) = start_three(rt.alloc())?;
     let (Some(two), Some(mut one), Some(mut zero)) = (
         last(&sys, &mut passes),
         last(&sys, &mut passes),
@@ -89,7 +115,7 @@ fn a_swap_hands_the_state_on_and_a_second_one_frees_its_row(rt: HostRuntime) -> 
     swap(&rt, alloc, &sys, &mut one, 0, 0, 1)?;
     assert_eq!(rt; one.rows().len(), 1);
     assert_eq!(rt; call(alloc, &sys, &mut zero, 0, &Op::Get)?, Some(5));
-    let Some(lists) = finish(alloc, sys, zero, one, two)? else {
+    let Some(lists) = finish_three(alloc, sys, zero, one, two)? else {
         return Err("a pass does not rest")?;
     };
     assert_eq!(rt; lists.len(), 3);

@@ -1,7 +1,7 @@
 //! A grace, step by step.
 ghost use Rattle.std.specs.Prelude.{◌≡◌, ◌<◌, true, length};
 ghost use Rattle.gen_core.specs.declared.state.GraceAt.TheVariants.{Flipping};
-ghost use Rattle.rule_tests.specs.Ready.{HoldsNoCell};
+ghost use Rattle.table_crews.specs.Ready.{HoldsNoCell};
 
 use gen_core::GraceAt;
 use k42_kinds::Layout;

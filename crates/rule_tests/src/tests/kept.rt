@@ -1,14 +1,13 @@
 //! What a system keeps of the calls of one pass.
 ghost use Rattle.std.specs.Prelude.{◌<◌};
-ghost use Rattle.rule_tests.specs.Ready.{HoldsNoCell};
+ghost use Rattle.table_crews.specs.Ready.{HoldsNoCell};
 
-use crate::tests::calls::call;
-use crate::tests::crews::{finish, keep, last, start};
 use crate::tests::graces::{give, go_on, take};
 use co_any::AnyLayout;
-use k42_kinds::{Act, Answer, Entry, KindName, LayoutName, Op, Reply};
-use k42_rule::{Pass, Sys};
+use k42_kinds::{Act, Answer, Entry, LayoutName, Op, Reply};
+use k42_rule::Sys;
 use std::test::Fail;
+use table_crews::{Walk, call, finish, last, start_counter};
 
 /// The entry of a call of object 0 by caller 0 on processor 0.
 fn called(stamp: u64, index: u32, incarnation: u32, op: Op, reply: Reply, generation: u32) -> Entry
@@ -30,17 +29,14 @@ fn called(stamp: u64, index: u32, incarnation: u32, op: Op, reply: Reply, genera
 
 #[test]
 fn a_call_is_found_in_the_list_of_its_caller(rt: HostRuntime) -> Result<(), Fail> {
-    let layouts = vec![in rt.alloc(); AnyLayout::of(KindName::Counter, LayoutName::Shared)]?;
     let callers = vec![in rt.alloc(); 0]?;
-    let Some((sys, mut passes)) = start(rt.alloc(), layouts, 1, callers)? else {
-        return Err("no start")?;
-    };
+    let (sys, mut passes) = start_counter(rt.alloc(), LayoutName::Shared, 1, callers)?;
     let Some(mut pass) = last(&sys, &mut passes) else {
         return Err("no pass")?;
     };
     assert_eq!(rt; call(rt.alloc(), &sys, &mut pass, 0, &Op::Add(5))?, Some(1));
-    keep(&sys, &mut passes, pass)?;
-    let Some(lists) = finish(rt.alloc(), sys, passes) else {
+    let passes = vec![in rt.alloc(); pass]?;
+    let Some(lists) = finish(rt.alloc(), sys, passes)? else {
         return Err("no lists")?;
     };
     let due = [called(1, 0, 0, Op::Add(5), Reply::Done, 0)];
@@ -50,7 +46,7 @@ fn a_call_is_found_in_the_list_of_its_caller(rt: HostRuntime) -> Result<(), Fail
 }
 
 /// A grace by a pass that holds no row: true where it was quiet and noted nothing of the object.
-fn graced(sys: &Sys<AnyLayout>, pass: &mut Pass<AnyLayout>) -> bool
+fn graced(sys: &Sys<AnyLayout>, pass: &mut Walk) -> bool
     requires free { HoldsNoCell sys.now pass.old }
     ensures free { HoldsNoCell sys.now pass.new }
 {
@@ -60,19 +56,16 @@ fn graced(sys: &Sys<AnyLayout>, pass: &mut Pass<AnyLayout>) -> bool
 
 #[test]
 fn a_call_after_a_grace_bears_the_next_generation(rt: HostRuntime) -> Result<(), Fail> {
-    let layouts = vec![in rt.alloc(); AnyLayout::of(KindName::Counter, LayoutName::Shared)]?;
     let callers = vec![in rt.alloc(); 0]?;
-    let Some((sys, mut passes)) = start(rt.alloc(), layouts, 1, callers)? else {
-        return Err("no start")?;
-    };
+    let (sys, mut passes) = start_counter(rt.alloc(), LayoutName::Shared, 1, callers)?;
     let Some(mut pass) = last(&sys, &mut passes) else {
         return Err("no pass")?;
     };
     assert_eq!(rt; call(rt.alloc(), &sys, &mut pass, 0, &Op::Add(5))?, Some(1));
     assert!(rt; graced(&sys, &mut pass));
     assert_eq!(rt; call(rt.alloc(), &sys, &mut pass, 0, &Op::Get)?, Some(2));
-    keep(&sys, &mut passes, pass)?;
-    let Some(lists) = finish(rt.alloc(), sys, passes) else {
+    let passes = vec![in rt.alloc(); pass]?;
+    let Some(lists) = finish(rt.alloc(), sys, passes)? else {
         return Err("no lists")?;
     };
     let due = [

@@ -1,12 +1,11 @@
 //! Rows that are handed from pass to pass.
-ghost use Rattle.rule_tests.specs.Ready.{HoldsNoCell};
+ghost use Rattle.table_crews.specs.Ready.{HoldsNoCell};
 
-use crate::tests::crews::{last, start};
-use co_any::AnyLayout;
-use k42_kinds::{KindName, Layout, LayoutName};
+use k42_kinds::{Layout, LayoutName};
 use k42_rule::{Pass, Sys, pop_row};
 use std::sync::Wait;
 use std::test::Fail;
+use table_crews::{last, start_counter};
 
 /// Pops a row, where there is room.
 fn pop<L: Layout>(rt: &impl Wait, sys: &Sys<L>, pass: &mut Pass<L>) -> bool
@@ -18,11 +17,8 @@ fn pop<L: Layout>(rt: &impl Wait, sys: &Sys<L>, pass: &mut Pass<L>) -> bool
 
 #[test]
 fn a_pop_finds_the_queue_empty_where_no_row_was_pushed(rt: HostRuntime) -> Result<(), Fail> {
-    let layouts = vec![in rt.alloc(); AnyLayout::of(KindName::Counter, LayoutName::Shared)]?;
     let callers = vec![in rt.alloc(); 0, 0]?;
-    let Some((sys, mut passes)) = start(rt.alloc(), layouts, 1, callers)? else {
-        return Err("no start")?;
-    };
+    let (sys, mut passes) = start_counter(rt.alloc(), LayoutName::Shared, 1, callers)?;
     let (Some(mut one), Some(mut other)) = (last(&sys, &mut passes), last(&sys, &mut passes)) else {
         return Err("no passes")?;
     };

@@ -1,9 +1,7 @@
 //! A swap under which calls are in the row.
 ghost use Rattle.std.specs.Prelude.{◌≡◌, true, false, OnOk};
-ghost use Rattle.swap_tests.specs.Ready.{HoldsNoCell, IsIn, IsServing};
+ghost use Rattle.table_crews.specs.Ready.{HoldsNoCell, IsIn, IsServing};
 
-use crate::tests::calls::{end, enter, leave, look_up, step};
-use crate::tests::crews::{Walk, finish, last, start};
 use crate::tests::phases::{close, lead_in, move_out, open, transfer_to, try_early, wait_free};
 use crate::tests::{called, has_drawn, has_drawn_nothing, swapped};
 use co_any::AnyLayout;
@@ -13,6 +11,7 @@ use k42_rule::Sys;
 use std::alloc::Global;
 use std::process::Abort;
 use std::test::Fail;
+use table_crews::{Walk, end, enter, finish, last, leave, look_up, may_enter, start_counter, step};
 
 /// Begins an activity and a call of the first object, which is let in or not.
 fn come_in(rt: &impl Abort, sys: &Sys<AnyLayout>, pass: &mut Walk, served: bool)
@@ -21,7 +20,8 @@ fn come_in(rt: &impl Abort, sys: &Sys<AnyLayout>, pass: &mut Walk, served: bool)
     ensures serving { served ≡ true → IsServing pass.new.view }
     ensures out { served ≡ false → IsIn pass.new.view }
 {
-    assert!(rt; sys.objects() > 0 && enter(sys, pass).is_some());
+    assert!(rt; sys.objects() > 0 && may_enter::<AnyLayout>(pass));
+    enter(sys, pass);
     assert_eq!(rt; look_up(sys, pass, 0).served, served);
 }
 
@@ -44,7 +44,8 @@ fn go_out(
 
 #[test]
 fn a_swap_waits_for_the_call_that_is_counted(rt: HostRuntime) -> Result<(), Fail> {
-    let (sys, mut passes) = start(rt.alloc())?;
+    let callers = vec![in rt.alloc(); 0, 0, 0]?;
+    let (sys, mut passes) = start_counter(rt.alloc(), LayoutName::Shared, 1, callers)?;
     let (Some(mut two), Some(mut one), Some(mut zero)) = (
         last(&sys, &mut passes),
         last(&sys, &mut passes),
@@ -64,7 +65,7 @@ fn a_swap_waits_for_the_call_that_is_counted(rt: HostRuntime) -> Result<(), Fail
     move_out(&rt, &sys, &mut one);
     transfer_to(&rt, alloc, &sys, &mut one, 0, 1)?;
     open(&rt, &sys, &mut one);
-    let Some(lists) = finish(alloc, sys, zero, one, two)? else {
+    let Some(lists) = finish(alloc, sys, vec![in alloc; zero, one, two]?)? else {
         return Err("a pass does not rest")?;
     };
     assert_eq!(rt; lists.len(), 3);

@@ -1,16 +1,16 @@
 //! A swap that is given up.
 
-use crate::tests::calls::call;
-use crate::tests::crews::{finish, last, start};
 use crate::tests::phases::{begin_late, give_up, lead_in, shut, swap, wait_free};
 use crate::tests::{called, has_drawn, swapped};
 use k42_kinds::{Answer, LayoutName, Op, Reply};
 use k42_mediator::Phase;
 use std::test::Fail;
+use table_crews::{call, finish, last, start_counter};
 
 #[test]
 fn a_swap_that_is_given_up_leaves_the_row_as_it_was(rt: HostRuntime) -> Result<(), Fail> {
-    let (sys, mut passes) = start(rt.alloc())?;
+    let callers = vec![in rt.alloc(); 0, 0, 0]?;
+    let (sys, mut passes) = start_counter(rt.alloc(), LayoutName::Shared, 1, callers)?;
     let (Some(mut two), Some(mut one), Some(mut zero)) = (
         last(&sys, &mut passes),
         last(&sys, &mut passes),
@@ -29,7 +29,7 @@ fn a_swap_that_is_given_up_leaves_the_row_as_it_was(rt: HostRuntime) -> Result<(
     assert!(rt; one.rows().is_empty());
     assert_eq!(rt; call(alloc, &sys, &mut zero, 0, &Op::Get)?, Some(2));
     swap(&rt, alloc, &sys, &mut two, 0, 1, 0)?;
-    let Some(lists) = finish(alloc, sys, zero, one, two)? else {
+    let Some(lists) = finish(alloc, sys, vec![in alloc; zero, one, two]?)? else {
         return Err("a pass does not rest")?;
     };
     assert_eq!(rt; lists.len(), 3);

@@ -1,14 +1,10 @@
 //! A swap of one pass, phase by phase.
 ghost use Rattle.std.specs.Prelude.{◌≡◌, true, None, OnOk};
-ghost use Rattle.phase_core.specs.declared.caller.SwapAt.TheVariants.{Moved};
-ghost use Rattle.k42_board.specs.Gracing.{MayTakeRole};
-ghost use Rattle.k42_board.specs.Swapping.{object_swapped, MayBlock, MayMove};
+ghost use Rattle.k42_board.specs.Swapping.{MayMove};
 ghost use Rattle.k42_mediator.specs.Swaps.{HasBegun, HasMoved, HasTransferred, HasOpened};
-ghost use Rattle.swap_tests.specs.Ready.{HoldsNoCell};
+ghost use Rattle.table_crews.specs.Ready.{HoldsNoCell};
 
-use crate::tests::crews::Walk;
 use co_any::AnyLayout;
-use gen_core::GraceAt;
 use k42_kinds::Layout;
 use k42_mediator::{
     Begun, Moving, Phase, abandon, begin, block, end, interpose, open_entries, transfer, try_move,
@@ -20,6 +16,7 @@ use phase_core::SwapAt;
 use std::alloc::Global;
 use std::process::Abort;
 use std::sync::Wait;
+use table_crews::{Walk, has_moved, may_block, may_move, may_wait};
 
 fn has_begun(pass: &Walk) -> bool
     ensures { result ≡ true → HasBegun pass.now.view }
@@ -47,48 +44,18 @@ pub(super) fn lead_in(rt: &impl Abort, sys: &Sys<AnyLayout>, pass: &mut Walk, ob
     interpose(sys, pass);
 }
 
-/// Whether the pass may begin a grace.
-fn may_wait(pass: &Walk) -> bool
-    ensures { result ≡ true → MayTakeRole pass.now.view }
-{
-    !pass.is_active()
-        && pass.grace() == GraceAt::Idle
-        && matches!(pass.swap(), SwapAt::Idle | SwapAt::Interposed(_))
-        && pass.graces() < 1_048_576
-}
-
 /// Waits for a grace, which is to free so many rows.
 pub(super) fn wait_free<R: Abort + Wait>(rt: &R, sys: &Sys<AnyLayout>, pass: &mut Walk, freed: u32)
     requires free { HoldsNoCell sys.now pass.old }
     ensures free { HoldsNoCell sys.now pass.new }
 {
-    assert!(rt; may_wait(pass));
+    assert!(rt; may_wait::<AnyLayout>(pass));
     grace(rt, sys, pass);
     assert_eq!(rt; reclaim(sys, pass), freed);
 }
 
-fn may_block(pass: &Walk) -> bool
-    ensures { result ≡ true → MayBlock pass.now.view }
-{
-    matches!(pass.swap(), SwapAt::Drained(_)) && pass.grace() == GraceAt::Idle
-}
-
-#[tactic(auto, using(crate::proofs::Handed::unhanded))]
-fn may_move(pass: &Walk) -> bool
-    ensures may { result ≡ true → MayMove pass.now.view }
-    ensures unhanded { result ≡ true → pass.now.view.handed ≡ None }
-{
-    matches!(pass.swap(), SwapAt::Blocking(_))
-}
-
-fn has_moved(pass: &Walk) -> bool
-    ensures { result ≡ true → pass.now.view.visitor.swap ≡ Moved (object_swapped pass.now.view) }
-{
-    matches!(pass.swap(), SwapAt::Moved(_))
-}
-
 /// Begins to move the state of a shut object: nobody is counted.
-#[tactic(auto, using(crate::proofs::Handed::still_unhanded))]
+#[tactic(auto, using(table_crews::proofs::Handed::still_unhanded))]
 fn move_now(rt: &impl Abort, sys: &Sys<AnyLayout>, pass: &mut Walk)
     requires free { HoldsNoCell sys.now pass.old }
     requires may { MayMove pass.old.view }
@@ -104,7 +71,7 @@ pub(super) fn close(rt: &impl Abort, sys: &Sys<AnyLayout>, pass: &mut Walk)
     requires free { HoldsNoCell sys.now pass.old }
     ensures free { HoldsNoCell sys.now pass.new }
 {
-    assert!(rt; may_block(pass));
+    assert!(rt; may_block::<AnyLayout>(pass));
     block(sys, pass);
 }
 
@@ -113,7 +80,7 @@ pub(super) fn try_early(rt: &impl Abort, sys: &Sys<AnyLayout>, pass: &mut Walk, 
     requires free { HoldsNoCell sys.now pass.old }
     ensures free { HoldsNoCell sys.now pass.new }
 {
-    assert!(rt; may_move(pass));
+    assert!(rt; may_move::<AnyLayout>(pass));
     assert_eq!(rt; try_move(sys, pass), Moving::InFlight { count });
 }
 
@@ -123,9 +90,9 @@ pub(super) fn move_out(rt: &impl Abort, sys: &Sys<AnyLayout>, pass: &mut Walk)
     ensures free { HoldsNoCell sys.now pass.new }
     ensures moved { HasMoved pass.new.view }
 {
-    assert!(rt; may_move(pass));
+    assert!(rt; may_move::<AnyLayout>(pass));
     move_now(rt, sys, pass);
-    assert!(rt; has_moved(pass));
+    assert!(rt; has_moved::<AnyLayout>(pass));
 }
 
 /// Keeps the object shut, and begins to move its state.

@@ -1,10 +1,10 @@
 //! Rows that are handed from pass to pass.
 ghost use Rattle.std.specs.Prelude.{OnOk};
-ghost use Rattle.swap_tests.specs.Ready.{HoldsNoCell};
+ghost use Rattle.table_crews.specs.Ready.{HoldsNoCell};
 
-use crate::tests::crews::{Walk, last, start};
 use crate::tests::phases::{swap, wait_free};
 use co_any::AnyLayout;
+use k42_kinds::LayoutName;
 use k42_memory::Memory;
 use k42_quiesce::collect;
 use k42_rule::{Row, Sys, pop_row, push_row};
@@ -12,6 +12,7 @@ use std::alloc::Global;
 use std::process::Abort;
 use std::sync::Wait;
 use std::test::Fail;
+use table_crews::{Walk, last, start_counter};
 
 /// Pushes the newest row that the pass holds.
 fn push<R: Abort + Wait>(rt: &R, sys: &Sys<AnyLayout>, pass: &mut Walk) -> Result<(), Memory>
@@ -33,7 +34,8 @@ fn pop<R: Abort + Wait>(rt: &R, sys: &Sys<AnyLayout>, pass: &mut Walk) -> bool
 
 #[test]
 fn a_row_that_one_pass_pushed_is_freed_by_another(rt: HostRuntime) -> Result<(), Fail> {
-    let (sys, mut passes) = start(rt.alloc())?;
+    let callers = vec![in rt.alloc(); 0, 0, 0]?;
+    let (sys, mut passes) = start_counter(rt.alloc(), LayoutName::Shared, 1, callers)?;
     let (Some(mut other), Some(mut one)) = (last(&sys, &mut passes), last(&sys, &mut passes)) else {
         return Err("no passes")?;
     };
@@ -100,7 +102,8 @@ fn collect_due<R: Abort + Wait>(
 fn a_collect_takes_the_rows_that_there_is_room_for(rt: HostRuntime) -> Result<(), Fail> {
     // A pass starts with room for 64 rows, and a collect leaves room for one. Only the youngest row was not freed yet.
     for (rows, rest) in [(64, 1), (100, 37)] {
-        let (sys, mut passes) = start(rt.alloc())?;
+        let callers = vec![in rt.alloc(); 0, 0, 0]?;
+        let (sys, mut passes) = start_counter(rt.alloc(), LayoutName::Shared, 1, callers)?;
         let (Some(mut other), Some(mut one)) = (last(&sys, &mut passes), last(&sys, &mut passes))
         else {
             return Err("no passes")?;

@@ -1,4 +1,4 @@
-use Rattle.rule_tests.specs.Ready.{HoldsNoCell}
+use Rattle.table_crews.specs.Ready.{HoldsNoCell}
 use Rattle.rule_tests.proofs.tests.graces.go_on.Given as goal
 
 abbrev pub invariant-loop : goal.invariant-loop

@@ -1,4 +1,4 @@
-use Rattle.swap_tests.specs.Ready.{HoldsNoCell}
+use Rattle.table_crews.specs.Ready.{HoldsNoCell}
 use Rattle.swap_tests.proofs.tests.rows.hand_many.Given as goal
 
 abbrev pub invariant-loop-number : goal.invariant-loop-number

@@ -1,6 +1,0 @@
-use Rattle.std.proofs.Common.{rules}
-use Rattle.quiesce_tests.proofs.Crews.{new_three}
-use Rattle.quiesce_tests.proofs.tests.crews.start.Goals as goal
-
-pub returns : goal.returns
-returns c = new_three _ _ _ _ _ c.in_ok-sys.ensures.started (search rules)

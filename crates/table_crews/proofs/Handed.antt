@@ -1,0 +1,24 @@
+-- What a pass that blocks its object has handed on: nothing yet.
+use Rattle.std.proofs.Common.{◌≡◌, ℕ, Bool, true, false, Option, Some, None, refl, ap, ◌∙◌, ◌==◌, if◌then◌else◌}
+use Rattle.phase_core.specs.Stages.{is_moved}
+use Rattle.phase_core.specs.declared.caller.SwapAt.{SwapAt}
+use Rattle.k42_board.specs.Swapping.{FitsSwap, object_swapped, at_swap, moved_view, blocked_word}
+use Rattle.phase_core.specs.declared.caller.SwapAt.TheVariants.{Moved}
+use Rattle.k42_board.specs.Views.{hears, stalled}
+use Rattle.k42_board.specs.declared.view.LastBegin.{LastBegin}
+use Rattle.k42_board.specs.declared.view.PassView.{PassView}
+
+pub unhanded : (swap : SwapAt) (turned : Bool) (handed : Option ℕ) (last : Option LastBegin) → FitsSwap swap turned handed last
+    → is_moved swap ≡ false → handed ≡ None
+unhanded swap turned None last fits e = refl
+unhanded swap turned (Some tag) last fits e = let moved = fits.moved refl in absurd (cc (moved, e))
+
+either : {P : Type 0} (b : Bool) (v w : PassView P) (handed : Option ℕ) → v.handed ≡ handed → w.handed ≡ handed → (if b then v else w).handed ≡ handed
+either true v w handed first second = first
+either false v w handed first second = second
+
+-- a try to move hands nothing on
+pub still_unhanded : {P : Type 0} (found : ℕ) (v w : PassView P) → w ≡ moved_view found v → v.handed ≡ None → w.handed ≡ None
+still_unhanded {P} found v w is none =
+    ap (λ (x : PassView P). x.handed) is
+    ∙ either (found == blocked_word v) (at_swap found v (Moved (object_swapped v))) (hears found (stalled found v)) None none none

@@ -1,0 +1,94 @@
+use Rattle.std.proofs.Common.{◌≡◌, ◌<◌, ℕ, ◌+◌, ◌*◌, ◌%◌, ◌++◌, List, [], ◌∷◌, Some, length, arith, refl, sym, ap, ◌∙◌, subst}
+use Rattle.std.specs.Option.{unwrap_or}
+use Rattle.std.proofs.lemmas.Bool.Decides.{nat_tests}
+use Rattle.k42_kinds.specs.LayoutLaws.{IsReached}
+use Rattle.k42_kinds.specs.declared.entry.Reach.TheVariants.{One}
+use Rattle.k42_kinds.specs.declared.entry.Act.TheVariants.{Call}
+use Rattle.k42_kinds.specs.declared.entry.Answer.TheVariants.{Replied}
+use Rattle.k42_board.specs.Plan.{layouts_on}
+use Rattle.k42_board.specs.Generations.{MOST}
+use Rattle.k42_board.specs.Drawing.{MayDrawCall, drawn_at, entry_call, numbers_of}
+use Rattle.k42_board.specs.Taking.{MayPut, CELLS}
+use Rattle.k42_board.specs.declared.view.PassView.{PassView}
+use Rattle.table_crews.proofs.OneCell.{taken_from, at_one, mine_stays, reached, within, may_draw, may_put_drawn, told_last}
+use Rattle.table_crews.proofs.steps.step_at.Goals as goal
+
+pub step_part-requires-clause-reached : goal.step_part-requires-clause-reached
+step_part-requires-clause-reached g c κs inside_lifetimes =
+    let procs : ℕ = c.args.sys.now.procs in let callers : List ℕ = c.args.sys.now.callers in let v = c.args.pass.now.view in let w = c.take-cell.new.pass.view in
+    let F = layouts_on g.L.Kind.object g.L.Layout.tag_of g.L.Layout.ways g.L.Layout.whole g.L.Layout.serves g.L.Layout.admitted g.L.Layout.act_of procs callers in
+    let laws = c.layouts_are_lawful.ensures in
+    let met = g.met.L.Layout g.world.𝓛 g.world.𝓜 g.world.𝓡 ((λ s x. x), (λ x. x), (λ x. x), λ x. x) in
+    let layout = c.args.layout.now in let op = c.args.op.now in let inside = c.args.inside.now in let p : ℕ = c.in-One.place in let content = c.take-cell.result in
+    let n : ℕ = (inside.object * 2 + inside.incarnation % 2) * 8 + p in
+    let e = taken_from n c.lock.result content v c.reserve.new.self.view c.lock.new.pass.view w c.in_ok-reserve.ensures.same.view c.lock.ensures.knows c.take-cell.ensures.knows in
+    let reach =
+    subst (λ (z : ℕ × ℕ). (g.L.Layout.ways layout).reach z.0 op z.1 ≡ One p) (λ k. (c.procs.ensures.is k, c.processor.ensures.is k)) (sym c.reach.ensures ∙ c.in-One.is) in
+    let is =
+    at_one F laws c.args.sys.now.layouts met.agrees v w n c.lock.result content inside layout op p c.requires.serving
+    c.requires.inside.0 c.requires.layout.0 c.requires.layout.1 c.requires.layout.2 c.requires.free.ours.proc c.requires.takes reach e in
+    subst (λ (k : ℕ). IsReached (g.L.Layout.ways layout) (g.L.Layout.whole layout) (unwrap_or content.part ((g.L.Layout.ways layout).empty k p)) op) (sym c.procs-3.ensures.is)
+    (reached F laws c.args.sys.now.layouts met.agrees content c.lock.new.pass.view w c.take-cell.ensures.knows layout op inside.object inside.incarnation p is c.take-cell.ensures.number c.take-cell.ensures.row)
+
+pub draw_call-stamp-requires-clause-may : goal.draw_call-stamp-requires-clause-may
+draw_call-stamp-requires-clause-may g c κs inside_lifetimes =
+    let procs : ℕ = c.args.sys.now.procs in let callers : List ℕ = c.args.sys.now.callers in let v = c.args.pass.now.view in let w = c.take-cell.new.pass.view in
+    let F = layouts_on g.L.Kind.object g.L.Layout.tag_of g.L.Layout.ways g.L.Layout.whole g.L.Layout.serves g.L.Layout.admitted g.L.Layout.act_of procs callers in
+    let laws = c.layouts_are_lawful.ensures in
+    let met = g.met.L.Layout g.world.𝓛 g.world.𝓜 g.world.𝓡 ((λ s x. x), (λ x. x), (λ x. x), λ x. x) in
+    let layout = c.args.layout.now in let op = c.args.op.now in let inside = c.args.inside.now in let p : ℕ = c.in-One.place in let content = c.take-cell.result in
+    let n : ℕ = (inside.object * 2 + inside.incarnation % 2) * 8 + p in
+    let e = taken_from n c.lock.result content v c.reserve.new.self.view c.lock.new.pass.view w c.in_ok-reserve.ensures.same.view c.lock.ensures.knows c.take-cell.ensures.knows in
+    let reach =
+    subst (λ (z : ℕ × ℕ). (g.L.Layout.ways layout).reach z.0 op z.1 ≡ One p) (λ k. (c.procs.ensures.is k, c.processor.ensures.is k)) (sym c.reach.ensures ∙ c.in-One.is) in
+    let is =
+    at_one F laws c.args.sys.now.layouts met.agrees v w n c.lock.result content inside layout op p c.requires.serving
+    c.requires.inside.0 c.requires.layout.0 c.requires.layout.1 c.requires.layout.2 c.requires.free.ours.proc c.requires.takes reach e in
+    let due = unwrap_or content.part ((g.L.Layout.ways layout).empty procs p) in
+    let after = (g.L.Layout.ways layout).part_after due op in
+    let count = c.procs-3.ensures.is in
+    let moved =
+    subst (λ (k : ℕ). c.step_part.new.cell ≡ record content { part = Some ((g.L.Layout.ways layout).part_after (unwrap_or content.part ((g.L.Layout.ways layout).empty k p)) op) }) count
+    c.in_ok-reply.ensures.moved in
+    let items : c.push_reserved.new.self.items ≡ record content { part = Some after } ∷ [] = c.push_reserved.ensures.items ∙ (λ k. c.in_ok-cells.ensures.items k ++ moved k ∷ []) in
+    let replied =
+    subst (λ (k : ℕ). c.in_ok-reply.reply ≡ (g.L.Layout.ways layout).part_reply (unwrap_or content.part ((g.L.Layout.ways layout).empty k p)) op) count c.in_ok-reply.ensures.replied in
+    let mine : length w.taker.mine ≡ length v.taker.mine = ap (λ (x : PassView _). length x.taker.mine) e ∙ ap length (mine_stays n c.lock.result v) in
+    let read = ap length c.entries.ensures.are in
+    let few : length w.taker.mine < MOST = grind (arith, nat_tests, c.if-entries-ge1048576.false, mine, read) in
+    subst (λ cells. MayDrawCall F c.args.sys.now.layouts cells op c.in_ok-reply.reply w) (sym items)
+    (may_draw F laws c.args.sys.now.layouts met.agrees content c.lock.new.pass.view w c.take-cell.ensures.knows layout op inside.object inside.incarnation p is c.take-cell.ensures.number
+    after c.in_ok-reply.reply replied refl few)
+
+pub put-requires-clause-may : goal.put-requires-clause-may
+put-requires-clause-may g c κs inside_lifetimes =
+    let procs : ℕ = c.args.sys.now.procs in let callers : List ℕ = c.args.sys.now.callers in let v = c.args.pass.now.view in let w = c.take-cell.new.pass.view in
+    let F = layouts_on g.L.Kind.object g.L.Layout.tag_of g.L.Layout.ways g.L.Layout.whole g.L.Layout.serves g.L.Layout.admitted g.L.Layout.act_of procs callers in
+    let laws = c.layouts_are_lawful.ensures in
+    let met = g.met.L.Layout g.world.𝓛 g.world.𝓜 g.world.𝓡 ((λ s x. x), (λ x. x), (λ x. x), λ x. x) in
+    let layout = c.args.layout.now in let op = c.args.op.now in let inside = c.args.inside.now in let p : ℕ = c.in-One.place in let content = c.take-cell.result in
+    let n : ℕ = (inside.object * 2 + inside.incarnation % 2) * 8 + p in
+    let e = taken_from n c.lock.result content v c.reserve.new.self.view c.lock.new.pass.view w c.in_ok-reserve.ensures.same.view c.lock.ensures.knows c.take-cell.ensures.knows in
+    let reach =
+    subst (λ (z : ℕ × ℕ). (g.L.Layout.ways layout).reach z.0 op z.1 ≡ One p) (λ k. (c.procs.ensures.is k, c.processor.ensures.is k)) (sym c.reach.ensures ∙ c.in-One.is) in
+    let is =
+    at_one F laws c.args.sys.now.layouts met.agrees v w n c.lock.result content inside layout op p c.requires.serving
+    c.requires.inside.0 c.requires.layout.0 c.requires.layout.1 c.requires.layout.2 c.requires.free.ours.proc c.requires.takes reach e in
+    let due = unwrap_or content.part ((g.L.Layout.ways layout).empty procs p) in
+    let after = (g.L.Layout.ways layout).part_after due op in
+    let count = c.procs-3.ensures.is in
+    let moved =
+    subst (λ (k : ℕ). c.step_part.new.cell ≡ record content { part = Some ((g.L.Layout.ways layout).part_after (unwrap_or content.part ((g.L.Layout.ways layout).empty k p)) op) }) count
+    c.in_ok-reply.ensures.moved in
+    let items : c.push_reserved.new.self.items ≡ record content { part = Some after } ∷ [] = c.push_reserved.ensures.items ∙ (λ k. c.in_ok-cells.ensures.items k ++ moved k ∷ []) in
+    let there = within F laws c.args.sys.now.layouts met.agrees content c.lock.new.pass.view w c.take-cell.ensures.knows layout op inside.object inside.incarnation p is c.take-cell.ensures.number in
+    let number = c.take-cell.ensures.number in let object = c.requires.inside.1 in let most = c.procs.ensures.few in let count = c.procs.ensures.is in
+    let few : content.number < CELLS = omega (arith, number, object, most, count, there) in
+    let known = c.draw_call-stamp.ensures.knows ∙ (λ k. drawn_at (items k) (entry_call w (numbers_of c.push_reserved.new.self.items) (Call op) (Replied c.in_ok-reply.reply)) w) in
+    let u = c.draw_call-stamp.new.pass in
+    subst (λ (n : ℕ). MayPut F c.args.sys.now.layouts u.seat n c.in-Some.cell u.view) number
+    (may_put_drawn F laws c.args.sys.now.layouts u.seat content after _ c.lock.new.pass.view u.view
+    (known ∙ ap (λ (x : PassView _). drawn_at (record content { part = Some after } ∷ []) (entry_call w (numbers_of c.push_reserved.new.self.items) (Call op) (Replied c.in_ok-reply.reply)) x) c.take-cell.ensures.knows)
+    c.in-Some.cell few
+    (told_last u.view.notes (record content { part = Some after }) c.push_reserved.new.self.items c.draw_call-stamp.new.cells.items c.pop.new.self.items c.in-Some.cell items c.draw_call-stamp.ensures.told
+    c.in-Some.ensures.items))

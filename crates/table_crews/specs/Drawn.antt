@@ -1,0 +1,14 @@
+-- What a step has added to the entries of a pass.
+use Rattle.std.specs.Prelude.{◌≡◌, ℕ, [], ◌∷◌, ◌++◌}
+use Rattle.k42_kinds.specs.declared.entry.Entry.{Entry}
+use Rattle.k42_board.specs.declared.view.PassView.{PassView}
+
+-- no entry
+abbrev pub HasDrawnNone : {P : Type 0} → PassView P → PassView P → Type 0
+HasDrawnNone old new = new.taker.mine ≡ old.taker.mine
+
+-- one entry, with this stamp
+pub record HasDrawn {P : Type 0} (stamp : ℕ) (old new : PassView P) : Type 0 where
+  pub entry : Entry
+  pub stamped : entry.stamp ≡ stamp
+  pub mine : new.taker.mine ≡ old.taker.mine ++ entry ∷ []

@@ -1,0 +1,102 @@
+//! Systems, and the passes that are taken from their lists and given back in the end.
+ghost use Rattle.std.specs.Prelude.{◌≡◌, ◌+◌, ◌<◌, ◌^◌, ◌++◌, ◌∷◌, [], ◌↔◌, true, length, map, vec_items, IfOk, IfSome, IsSome};
+ghost use Rattle.std.specs.Option.{option_to_list};
+ghost use Rattle.gen_core.specs.State.{IsPlan};
+ghost use Rattle.k42_kinds.specs.declared.operation.KindName.TheVariants.{Counter};
+ghost use Rattle.co_any.specs.Layouts.{tag_named};
+ghost use Rattle.k42_board.specs.Starting.{IsStart, IsStarted};
+ghost use Rattle.k42_rule.specs.Finishing.{lists_in};
+ghost use Rattle.k42_rule.specs.Tags.{HaveTags};
+ghost use Rattle.table_crews.specs.Ready.{HoldsNoCell, HoldNoCells, rests_at, rest_from};
+
+use co_any::AnyLayout;
+use k42_kinds::{Entry, KindName, Layout, LayoutName};
+use k42_memory::Memory;
+use k42_rule::{Pass, Sys};
+use std::alloc::Global;
+
+/// A pass of a system of any layouts.
+pub type Walk = Pass<AnyLayout>;
+
+/// Starts a system. Its passes hold no cell.
+pub fn start<L: Layout>(
+    alloc: Global,
+    layouts: Vec<L>,
+    procs: u32,
+    callers: Vec<u32>,
+) -> Result<(Sys<L>, Vec<Pass<L>>), Memory>
+    requires start { IsStart L.tag_of layouts.items procs callers.items }
+    requires tags { HaveTags L.has_tag layouts.items }
+    ensures started { IfOk result (λ made. IsStarted layouts.items procs callers.items made.0 made.1.items) }
+    ensures free { IfOk result (λ made. HoldNoCells made.0 made.1.items) }
+    ensures callers { IfOk result (λ made. length made.0.callers ≡ length callers.items) }
+{
+    let (sys, passes) = Sys::start(alloc, layouts, procs, callers)?;
+    Ok((sys, passes))
+}
+
+/// Starts a system of one counter.
+#[tactic(auto, using(crate::proofs::PassLists::any_tags))]
+pub fn start_counter(
+    alloc: Global,
+    layout: LayoutName,
+    procs: u32,
+    callers: Vec<u32>,
+) -> Result<(Sys<AnyLayout>, Vec<Walk>), Memory>
+    requires { IsPlan procs callers.items }
+    ensures started { IfOk result (λ made. IsStarted (record { kind = Counter; tag = tag_named layout } ∷ []) procs callers.items made.0 made.1.items) }
+    ensures free { IfOk result (λ made. HoldNoCells made.0 made.1.items) }
+    ensures callers { IfOk result (λ made. length made.0.callers ≡ length callers.items) }
+{
+    let layouts = vec![in alloc; AnyLayout::of(KindName::Counter, layout)]?;
+    start(alloc, layouts, procs, callers)
+}
+
+/// Takes the last pass out of the list, if there is one.
+pub fn last<L: Layout>(sys: &Sys<L>, passes: &mut Vec<Pass<L>>) -> Option<Pass<L>>
+    requires free { HoldNoCells sys.now passes.old.items }
+    ensures taken { passes.old.items ≡ passes.new.items ++ option_to_list result }
+    ensures some { IsSome result ↔ (0 < length passes.old.items) }
+    ensures free { HoldNoCells sys.now passes.new.items }
+    ensures out { IfSome result (λ pass. HoldsNoCell sys.now pass) }
+{
+    passes.pop()
+}
+
+/// Whether the pass is that of the caller with the number, and nothing of it is under way.
+fn rests<L: Layout>(pass: &Pass<L>, number: usize) -> bool
+    ensures { result ≡ rests_at number pass.now }
+{
+    pass.caller() as usize == number && pass.is_idle()
+}
+
+/// Whether the passes, from one number on, are those of the callers in their order, at rest.
+fn rest<L: Layout>(passes: &[Pass<L>], first: usize) -> bool
+    requires { first + length passes.now < 2 ^ 64 }
+    ensures { result ≡ rest_from first passes.now }
+{
+    let Some((pass, others)) = passes.split_first() else {
+        return true;
+    };
+    rests::<L>(pass, first) && rest::<L>(others, first + 1)
+}
+
+/// The lists of all callers. There are none where a pass is not in its place, or has something under way.
+pub fn finish<L: Layout>(
+    alloc: Global,
+    sys: Sys<L>,
+    passes: Vec<Pass<L>>,
+) -> Result<Option<Vec<Vec<Entry>>>, Memory>
+    requires many { length passes.items ≡ length sys.callers }
+    requires free { HoldNoCells sys passes.items }
+    ensures rest { IfOk result (λ lists. IsSome lists ↔ (rest_from 0 passes.items ≡ true)) }
+    ensures lists { IfOk result (λ lists. IfSome lists (λ drawn. map vec_items drawn.items ≡ lists_in passes.items)) }
+{
+    if !rest::<L>(passes.as_slice(), 0) {
+        return Ok(None);
+    }
+    match sys.finish(alloc, passes) {
+        Ok(lists) => Ok(Some(lists)),
+        Err(_) => Err(Memory),
+    }
+}
