@@ -1,0 +1,115 @@
+//! What the passes do, and whether it is answered as it is due.
+ghost use Rattle.std.specs.Prelude.{OnOk, IfOk};
+ghost use Rattle.k42_crews.specs.Ready.{IsFree, IsIn};
+ghost use Rattle.swap_probe.specs.Ready.{IsSwapping};
+
+use k42_crews::{may_call, may_swap};
+use k42_kinds::{LayoutName, Op, Reply, To};
+use k42_memory::Memory;
+use k42_runtime::{Pass, Step, Swap, System};
+use std::alloc::Global;
+use std::sync::Wait;
+
+/// Why the passes do not go on.
+#[derive(Clone, Copy, Debug, PartialEq, Eq)]
+pub enum Fault {
+    Memory,
+    /// An answer was not the one that is due.
+    Wrong,
+}
+
+impl From<Memory> for Fault {
+    fn from(_: Memory) -> Fault {
+        Fault::Memory
+    }
+}
+
+/// Goes on only where this holds.
+pub(crate) fn due(holds: bool) -> Result<(), Fault> {
+    if holds { Ok(()) } else { Err(Fault::Wrong) }
+}
+
+/// Begins an activity.
+pub(crate) fn come_in(system: &System, pass: &mut Pass) -> Result<(), Fault>
+    requires { IsFree system.now pass.old }
+    ensures { OnOk result (IsIn system.now pass.new) }
+{
+    if !may_call(pass) {
+        return Err(Fault::Wrong);
+    }
+    system.enter(pass);
+    Ok(())
+}
+
+/// Makes a call in the activity.
+pub(crate) fn ask<R: Wait>(
+    rt: &R,
+    alloc: Global,
+    system: &System,
+    pass: &mut Pass,
+    op: Op,
+    reply: Reply,
+) -> Result<(), Fault>
+    requires { IsIn system.now pass.old }
+    ensures { OnOk result (IsIn system.now pass.new) }
+{
+    if !system.takes(0, &op) || !may_call(pass) {
+        return Err(Fault::Wrong);
+    }
+    due(system.call(rt, alloc, pass, 0, op)? == reply)
+}
+
+/// A swap of the object that has not begun.
+pub(crate) fn new_swap(system: &System, pass: &Pass) -> Result<Swap, Fault>
+    requires { IsFree system.now pass.now }
+    ensures { IfOk result (λ swap. IsSwapping system.now swap pass.now) }
+{
+    if system.objects() == 0 || !may_swap(pass) {
+        return Err(Fault::Wrong);
+    }
+    Ok(Swap::new(0, To::Layout(LayoutName::Spread)))
+}
+
+/// Takes a step of a swap that is not over.
+pub(crate) fn step(
+    alloc: Global,
+    system: &System,
+    pass: &mut Pass,
+    swap: &mut Swap,
+) -> Result<Step, Fault>
+    requires { IsSwapping system.now swap.old pass.old }
+    ensures { OnOk result (IsSwapping system.now swap.new pass.new) }
+{
+    if swap.ended() {
+        return Err(Fault::Wrong);
+    }
+    Ok(swap.step(alloc, system, pass))
+}
+
+/// Leaves a swap that is over.
+pub(crate) fn end_swap(system: &System, pass: &Pass, swap: &Swap) -> Result<(), Fault>
+    requires { IsSwapping system.now swap.now pass.now }
+    ensures { OnOk result (IsFree system.now pass.now) }
+{
+    // What `due` has found is told by no contract of it.
+    if !swap.ended() {
+        return Err(Fault::Wrong);
+    }
+    Ok(())
+}
+
+/// Frees just so many rows.
+pub(crate) fn free<R: Wait>(
+    rt: &R,
+    system: &System,
+    pass: &mut Pass,
+    rows: u32,
+) -> Result<(), Fault>
+    requires { IsFree system.now pass.old }
+    ensures { OnOk result (IsFree system.now pass.new) }
+{
+    if !may_swap(pass) {
+        return Err(Fault::Wrong);
+    }
+    due(system.reclaim(rt, pass) == rows)
+}
