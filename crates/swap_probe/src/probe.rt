@@ -6,11 +6,30 @@ ghost use Rattle.swap_probe.specs.Ready.{IsSwapping};
 use crate::closing::{are_answered, closed};
 use crate::steps::{Fault, ask, come_in, due, end_swap, free, new_swap, step};
 use k42_crews::{call_once, last, start, swap_once};
-use k42_kinds::{Answer, KindName, LayoutName, Op, Reply};
+use k42_kinds::{Answer, Entry, KindName, LayoutName, Op, Reply};
 use k42_memory::Memory;
 use k42_runtime::{Cause, ObjectPlan, Pass, Plan, Step, Swap, Swapped, System};
 use std::alloc::Global;
 use std::sync::Wait;
+
+/// What the entries answer but for those of swaps that were given up.
+const DONE_AT_ONCE: [Answer; 5] = [
+    Answer::Replied(Reply::Done),
+    Answer::Busy(1),
+    Answer::Replied(Reply::Number(5)),
+    Answer::Swapped(1),
+    Answer::Replied(Reply::Number(5)),
+];
+
+/// The same where one was given up, after which the counter was found open once more.
+const DONE_AT_LAST: [Answer; 6] = [
+    Answer::Replied(Reply::Done),
+    Answer::Busy(1),
+    Answer::Replied(Reply::Number(5)),
+    Answer::Replied(Reply::Number(5)),
+    Answer::Swapped(1),
+    Answer::Replied(Reply::Number(5)),
+];
 
 /// Passes of the callers 0 to 2.
 #[derive(Drop)]
@@ -172,21 +191,21 @@ fn swap_beside<R: Wait>(
     Ok(given_up)
 }
 
+/// Whether the history tells what was answered, where so many swaps were given up.
+fn is_told(entries: &[Entry], given_up: usize) -> bool {
+    let last_at = entries.last().map_or(0, |entry| entry.incarnation);
+    if given_up == 0 {
+        last_at == 1 && are_answered(entries, &DONE_AT_ONCE, 0)
+    } else {
+        last_at == 1 && are_answered(entries, &DONE_AT_LAST, given_up)
+    }
+}
+
 /// Whether all is answered as it is due, and the history tells it.
 pub fn probe<R: Wait>(rt: &R, alloc: Global) -> Result<(), Fault> {
     let (system, mut crew) = started(alloc)?;
     let given_up = swap_beside(rt, alloc, &system, &mut crew)?;
     let Three { zero, one, two } = crew;
     let history = closed(alloc, system, zero, one, two)?;
-    let five = Answer::Replied(Reply::Number(5));
-    let added = Answer::Replied(Reply::Done);
-    let (busy, done) = (Answer::Busy(1), Answer::Swapped(1));
-    let entries = history.entries();
-    due(entries.last().is_some_and(|entry| entry.incarnation == 1))?;
-    if given_up == 0 {
-        due(are_answered(entries, &[added, busy, five, done, five], 0))
-    } else {
-        // The counter was found open once more.
-        due(are_answered(entries, &[added, busy, five, five, done, five], given_up))
-    }
+    due(is_told(history.entries(), given_up))
 }

@@ -91,7 +91,6 @@ pub(crate) fn end_swap(system: &System, pass: &Pass, swap: &Swap) -> Result<(), 
     requires { IsSwapping system.now swap.now pass.now }
     ensures { OnOk result (IsFree system.now pass.now) }
 {
-    // What `due` has found is told by no contract of it.
     if !swap.ended() {
         return Err(Fault::Wrong);
     }
