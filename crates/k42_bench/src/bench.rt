@@ -2,16 +2,13 @@
 ghost use Rattle.k42_crews.specs.Ready.{IsFree, StaysFree};
 
 use crate::load::{Load, op_of};
-use k42_crews::{Work, close, may_call, may_swap, start, work_all};
+use k42_crews::{LIMIT, Work, close, may_call, may_swap, start, work_all};
 use k42_kinds::{Answer, LayoutName};
 use k42_memory::Memory;
 use k42_runtime::{History, ObjectPlan, Pass, Plan, System};
 use std::alloc::Global;
 use std::sync::Wait;
 use std::thread::Threads;
-
-/// A pass makes fewer calls.
-const LIMIT: u32 = 1_048_576;
 
 /// How many calls and swaps were done, and whether the history has just the entries of the passes.
 #[derive(Clone, Copy, Debug, PartialEq, Eq)]

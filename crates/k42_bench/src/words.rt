@@ -1,9 +1,7 @@
 //! The words of the command line.
 use crate::load::{Load, Ops};
+use k42_crews::LIMIT;
 use k42_kinds::{KindName, LayoutName};
-
-/// Calls and swaps are fewer.
-const LIMIT: u32 = 1_048_576;
 
 fn kind_of(word: &str) -> Option<KindName> {
     if word == "counter" {

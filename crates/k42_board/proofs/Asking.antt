@@ -1,5 +1,5 @@
 -- Asking for the generation of the processors is allowed to a pass that is about to flip the first.
-use Rattle.std.proofs.Common.{◌≡◌, ◌≢◌, ℕ, false, ltb, List, [], ◌∷◌, Some, get_or, set, sym, refl, ap, ◌∙◌, arith, le_refl}
+use Rattle.std.proofs.Common.{◌≡◌, ◌≢◌, ℕ, false, ltb, List, [], ◌∷◌, Some, get_or, set, sym, refl, ap, ◌∙◌, subst, arith, le_refl}
 use Rattle.std.specs.List.{slice_get}
 use Rattle.std.proofs.lemmas.Bool.{le-ltb}
 use Rattle.std.proofs.lemmas.Option.{slice_get-get_or, same_Some}
@@ -15,13 +15,16 @@ use Rattle.gen_core.proofs.Ranges.{next_fits}
 use Rattle.k42_stamp.specs.Layouts.{Layouts}
 use Rattle.k42_board.specs.Cells.{Slot}
 use Rattle.k42_board.specs.Gracing.{MayAskGeneration, asked_view, GenerationFound}
+use Rattle.k42_board.specs.Log.{took}
 use Rattle.k42_board.specs.Rule.{Rule}
 use Rattle.k42_board.specs.Values.{generation_in}
 use Rattle.k42_board.specs.Words.{generation_word}
 use Rattle.k42_board.specs.declared.view.PassView.{PassView}
+use Rattle.k42_board.specs.declared.view.StepName.TheVariants as steps
 use Rattle.k42_board.specs.declared.view.View.{View}
 use Rattle.k42_board.specs.declared.view.View.TheVariants.{Crew}
 use Rattle.k42_board.proofs.Holding.{s, knows, sound, there, turn, procs_some, in_step}
+use Rattle.k42_board.proofs.Logged.{logged_stays_at}
 use Rattle.k42_board.proofs.Moves.{Stays, Finds}
 use Rattle.k42_board.proofs.OnePass.{with_pass}
 use Rattle.k42_board.proofs.Turning.{own_goes, rows_kept, same_swap, stayed}
@@ -61,7 +64,7 @@ module _ {S L P : Type 0} (F : Layouts S L P) (declared : List L)
   asks =
       let old = knows F declared table r id v at in
       stayed F declared table r id v at (generation_word 0) (asked_view found v)
-      (own_goes r.state r.state.phases.turns r.state.phases.callers v v.turn v.visitor v.activities v.graces (Some (generation_in found)) v.rows v.granted v.swept found
+      (own_goes r.state r.state.phases.turns r.state.phases.callers v v.turn v.visitor v.activities v.graces (Some (generation_in found)) v.rows v.granted
       F.tag_of r.beside r.beside.counts id old
       (record {
         many = refl;
@@ -78,8 +81,8 @@ module _ {S L P : Type 0} (F : Layouts S L P) (declared : List L)
         proc = refl;
         names = old.names;
         rows_known =
-            rows_kept r.state r.state.phases.turns [] v v.turn v.visitor v.activities v.graces (Some (generation_in found)) v.rows v.granted v.swept found
-            refl refl refl refl refl old.phases.rows;
+            rows_kept r.state r.state.phases.turns [] v v.turn v.visitor v.activities v.graces (Some (generation_in found)) v.rows v.granted
+            refl refl refl refl old.phases.rows;
       }))
 
   pub generation_found : GenerationFound v found
@@ -88,10 +91,13 @@ module _ {S L P : Type 0} (F : Layouts S L P) (declared : List L)
       let fits = next_fits (s F declared table r id v at) v.number (sound F declared table r id v at) (there F declared table r id v at) 0 grace in
       let is = asked in omega (arith, fits, is)
 
-pub ask_stays : {S L P : Type 0} (F : Layouts S L P) (declared : List L) (id : ℕ) (v : PassView P) → MayAskGeneration v
-    → Stays F declared (generation_word 0) (λ word. word) asked_view id v
-ask_stays F declared id v may = record { from = λ table r at. asks F declared table r id v at may }
+pub ask_stays : {S L P : Type 0} (F : Layouts S L P) (declared : List L) (id i : ℕ) (v : PassView P) → MayAskGeneration v → i ≡ generation_word 0
+    → Stays F declared i (λ word. word) (λ found v. took steps.AskGeneration i found (asked_view found v)) id v
+ask_stays {S} {L} {P} F declared id i v may same = logged_stays_at steps.AskGeneration (λ n. n) (λ found o before is. is) same goes where
+  goes : Stays F declared (generation_word 0) (λ word. word) asked_view id v
+  goes = record { from = λ table r at. asks F declared table r id v at may }
 
-pub ask_finds : {S L P : Type 0} (F : Layouts S L P) (declared : List L) (id : ℕ) (v : PassView P) → MayAskGeneration v
-    → Finds F declared (generation_word 0) GenerationFound id v
-ask_finds F declared id v may table r at = generation_found F declared table r id v at may
+pub ask_finds : {S L P : Type 0} (F : Layouts S L P) (declared : List L) (id i : ℕ) (v : PassView P) → MayAskGeneration v → i ≡ generation_word 0
+    → Finds F declared i GenerationFound id v
+ask_finds F declared id i v may same table r at =
+    subst (λ (j : ℕ). GenerationFound v (get_or table.words j 0)) (sym same) (generation_found F declared table r id v at may)

@@ -211,9 +211,9 @@ module _ {L : Type 0} (s : Joined L) (objects : List Object) (visitors : List Vi
 
 -- the pass with this in place of what it knew of tables and swaps
 abbrev pub told :
-    {P : Type 0} → PassView P → Visitor → Option LastBegin → Option Answer → Bool → Bool → Option ℕ → Option ℕ → List Row → ℕ
+    {P : Type 0} → PassView P → Visitor → Option LastBegin → Option Answer → Bool → Bool → Option ℕ → Option ℕ → List Row
     → PassView P
-told v x last found abandoned turned layout handed rows heard = record v {
+told v x last found abandoned turned layout handed rows = record v {
   visitor = x;
   last = last;
   found = found;
@@ -222,16 +222,15 @@ told v x last found abandoned turned layout handed rows heard = record v {
   layout = layout;
   handed = handed;
   rows = rows;
-  heard = heard;
 }
 
 -- The pass itself: what it knows of its activity and its cells stays.
 module _ {L P : Type 0} (tag_of : L → ℕ) (s : Joined L) (objects : List Object) (visitors : List Visitor) (kept : List Kept)
     (beside : Beside P) (id : ℕ) (v : PassView P) (knows : KnowsPass tag_of s beside id v)
     (x : Visitor) (last : Option LastBegin) (found : Option Answer) (abandoned turned : Bool) (layout handed : Option ℕ)
-    (rows : List Row) (heard : ℕ) where
+    (rows : List Row) where
   abbrev own : PassView P
-  own = told v x last found abandoned turned layout handed rows heard
+  own = told v x last found abandoned turned layout handed rows
 
   pub own_after : (naming : Row → ℕ) → length visitors ≡ length s.phases.callers → NamesRows (record beside { row_seat = naming }) id rows
       → KnowsPhases (visited s objects visitors kept).phases own → KnowsTrace tag_of (visited s objects visitors kept) own
@@ -335,7 +334,7 @@ module _ {S L P : Type 0} (F : Layouts S L P) (laws : AreLaws F) (declared : Lis
 module _ {S L P : Type 0} (F : Layouts S L P) (laws : AreLaws F) (declared : List L)
     (table : State (Slot P) (View P)) (r : Rule F declared table) (id : ℕ) (v : PassView P)
     (at : get_elem? table.views id ≡ some (Crew (v ∷ [])))
-    (objects : List Object) (place : Place) (read : List (ℕ × ℕ)) (layout : Option ℕ) (heard : ℕ) where
+    (objects : List Object) (place : Place) (read : List (ℕ × ℕ)) (layout : Option ℕ) where
   abbrev pub visitor_gone : Visitor
   visitor_gone = record v.visitor { place = place; read = read }
 
@@ -351,7 +350,7 @@ module _ {S L P : Type 0} (F : Layouts S L P) (laws : AreLaws F) (declared : Lis
     pub learned : is_served place ≡ true → layout ≢ None
 
   pub goes : (rows : AreSameRows r.state objects visitors_gone r.state.kept) → HasLearned
-      → KnowsPass F.tag_of state_gone r.beside id (went heard v visitor_gone layout)
+      → KnowsPass F.tag_of state_gone r.beside id (went v visitor_gone layout)
   goes rows learns =
       let before = known F declared table r id v at in
       let left = same_left r.state objects visitors_gone r.state.kept rows v in
@@ -360,7 +359,7 @@ module _ {S L P : Type 0} (F : Layouts S L P) (laws : AreLaws F) (declared : Lis
       let old = rows_stay r.state state_gone v on left.spans before.phases.rows in
       let trace = trace_stays r.state objects visitors_gone r.state.kept v left F.tag_of refl before.trace in
       own_after F.tag_of r.state objects visitors_gone r.state.kept r.beside id v before
-      visitor_gone v.last v.found v.abandoned v.turned layout v.handed v.rows heard
+      visitor_gone v.last v.found v.abandoned v.turned layout v.handed v.rows
       r.beside.row_seat (length-set r.state.phases.callers v.number visitor_gone) before.names
       (record {
         visitor = get_or-set_same r.state.phases.callers v.number visitor_gone fresh_visitor before.there;

@@ -20,12 +20,14 @@ use Rattle.k42_board.specs.Cells.{Slot}
 use Rattle.k42_board.specs.Phases.{is_served, KnowsSwap, KnowsRows}
 use Rattle.k42_board.specs.Rule.{KnowsPass, Rule, Ruled}
 use Rattle.k42_board.specs.Seen.{IsSeatOf}
+use Rattle.k42_board.specs.Log.{took}
 use Rattle.k42_board.specs.Views.{pass_in}
 use Rattle.k42_board.specs.Steps.{Seated, Tells, TellsWith}
 use Rattle.k42_board.specs.Tabling.{ObjectFound, word_object, MayBegin, is_over_in, stage_begun, begun_view}
 use Rattle.k42_board.specs.Values.{has_bit, answer_in}
 use Rattle.k42_board.specs.Words.{object_word}
 use Rattle.k42_board.specs.declared.view.PassView.{PassView}
+use Rattle.k42_board.specs.declared.view.StepName.TheVariants as steps
 use Rattle.k42_board.specs.declared.view.View.{View}
 use Rattle.k42_board.specs.declared.view.View.TheVariants.{Crew}
 use Rattle.k42_board.proofs.AtTables.{visited, Steps, AreSameRows, same_on, same_left, same_visit, visits, rows_stay, own_after, rows_told, of_object, object_written, rows_same, few_entries, written_shows}
@@ -40,8 +42,10 @@ use Rattle.k42_joined.specs.Answers.{is_turned}
 use Rattle.gen_core.specs.Events.{is_free}
 use Rattle.phase_core.specs.declared.caller.SwapAt.{SwapAt}
 use Rattle.phase_core.specs.declared.caller.SwapAt.TheVariants.{Idle}
-use Rattle.k42_board.proofs.Moves.{Moves, seat_allowed_with}
+use Rattle.k42_board.proofs.Logged.{logged_moves}
+use Rattle.k42_board.proofs.Moves.{Moves}
 use Rattle.k42_board.proofs.OnePass.{with_pass, known}
+use Rattle.k42_board.proofs.Retold.{retold, retold_allowed_with}
 
 idle_is : (swap : SwapAt) → is_idle swap ≡ true → swap ≡ Idle
 idle_is Idle e = refl
@@ -197,13 +201,13 @@ module _ {S L P : Type 0} (F : Layouts S L P) (laws : AreLaws F) (declared : Lis
       let old = rows_stay r.state after v (same_on r.state objects (set s.callers c x) kept rows)
       (same_left r.state objects (set s.callers c x) kept rows v).spans knows.phases.rows in
       rows_told F.tag_of r.state objects (set s.callers c x) kept r.beside id v knows
-      x (Some (record { object = o; word = found })) (answer_in found) v.abandoned v.turned v.layout v.handed v.rows found
+      x (Some (record { object = o; word = found })) (answer_in found) v.abandoned v.turned v.layout v.handed v.rows
       after.phases x_is.noted x_is.freeing refl old.old old
 
   pass_after : KnowsPass F.tag_of after r.beside id (begun_view o found v)
   pass_after =
       own_after F.tag_of r.state objects (set s.callers c x) kept r.beside id v knows
-      x (Some (record { object = o; word = found })) (answer_in found) v.abandoned v.turned v.layout v.handed v.rows found
+      x (Some (record { object = o; word = found })) (answer_in found) v.abandoned v.turned v.layout v.handed v.rows
       r.beside.row_seat (length-set s.callers c x) knows.names
       (record {
         visitor = get_or-set_same s.callers c x _ knows.there;
@@ -235,18 +239,29 @@ module _ {S L P : Type 0} (F : Layouts S L P) (laws : AreLaws F) (declared : Lis
       (swap_set k found (object_fits s r.sound.phases o there) (object_shown F laws declared table r id v at o there)) r.shows.objects))
       pass_after
 
-pub begin_moves : {S L P : Type 0} (F : Layouts S L P) → AreLaws F → (declared : List L) (id o : ℕ) (v : PassView P) → MayBegin (length declared) o v
+begin_goes : {S L P : Type 0} (F : Layouts S L P) → AreLaws F → (declared : List L) (id o : ℕ) (v : PassView P) → MayBegin (length declared) o v
     → Moves F declared (AtPhases (Begin v.number o)) (object_word o) (λ word. bit_or word 16777216) (begun_view o) id v
-begin_moves F laws declared id o v may = record { from = λ table r at. begins F laws declared table r id v at o may }
+begin_goes F laws declared id o v may = record { from = λ table r at. begins F laws declared table r id v at o may }
 
+pub begin_moves : {S L P : Type 0} (F : Layouts S L P) → AreLaws F → (declared : List L) (id o : ℕ) (v : PassView P) → MayBegin (length declared) o v
+    → Moves F declared (AtPhases (Begin v.number o)) (object_word o) (λ word. bit_or word 16777216) (λ found x. took steps.Begin (object_word o) found (begun_view o found x)) id v
+begin_moves F laws declared id o v may = logged_moves steps.Begin (λ n. n) (λ found q before is. is) (begin_goes F laws declared id o v may)
+
+-- as the play tells it, at the word that the step names
 module _ {S L P : Type 0} (F : Layouts S L P) (laws : AreLaws F) (declared : List L) (id o : ℕ)
-    (me : Seated P) (is : IsSeatOf me (pass_in me.0)) (may : MayBegin (length declared) o (pass_in me.0)) where
-  pub begin_allowed : {callers : ℕ} (slots : ℕ) (step : Step (Slot P))
-      → Allows (Ruled F declared callers) slots id me (object_word o) (λ n. bit_or n 16777216) (TellsWith (begun_view (word_object (object_word o))) ObjectFound step me)
-  begin_allowed {callers} slots step =
-      subst (λ q. Allows (Ruled F declared callers) slots id me (object_word o) (λ n. bit_or n 16777216) (TellsWith (begun_view q) ObjectFound step me)) (sym (word_object_is o))
-      (seat_allowed_with (begin_moves F laws declared id o (pass_in me.0) may) ObjectFound (object_finds F laws declared id o (pass_in me.0) may.there) me is slots step)
+    (me : Seated P) (is : IsSeatOf me (pass_in me.0)) (may : MayBegin (length declared) o (pass_in me.0)) (word : ℕ) (there : word ≡ object_word o) where
+  abbrev begin_at : ℕ × ℕ → ℕ → PassView P → PassView P
+  begin_at at found x = took steps.Begin at.0 found (begun_view at.1 found x)
 
-  pub begin_told : (step : Step (Slot P)) (found : ℕ) (after : Seated P) → TellsWith (begun_view (word_object (object_word o))) ObjectFound step me found after
-      → Tells (begun_view o) step me found after
-  begin_told step found after told = subst (λ q. Tells (begun_view q) step me found after) (word_object_is o) told.0
+  begin_same : (found : ℕ) → begin_at (object_word o, o) found (pass_in me.0) ≡ begin_at (word, word_object word) found (pass_in me.0)
+  begin_same found = ap (λ at. begin_at at found (pass_in me.0)) (λ j. (sym there j, sym (word_object_is o word there) j))
+
+  pub begin_allowed : {callers : ℕ} (slots : ℕ) (step : Step (Slot P))
+      → Allows (Ruled F declared callers) slots id me word (λ n. bit_or n 16777216) (TellsWith (begin_at (word, word_object word)) ObjectFound step me)
+  begin_allowed slots step =
+      retold_allowed_with (begin_at (object_word o, o)) (begin_at (word, word_object word)) begin_same (begin_moves F laws declared id o (pass_in me.0) may) ObjectFound
+      (object_finds F laws declared id o (pass_in me.0) may.there) me is word there slots step
+
+  pub begin_told : (step : Step (Slot P)) (found : ℕ) (after : Seated P) → TellsWith (begin_at (word, word_object word)) ObjectFound step me found after
+      → Tells (begin_at (object_word o, o)) step me found after
+  begin_told step found after told = retold (begin_at (object_word o, o)) (begin_at (word, word_object word)) begin_same me after is step found told.0

@@ -1,5 +1,5 @@
 -- Blocking the object that is swapped.
-use Rattle.std.proofs.Common.{◌≡◌, ℕ, true, false, List, [], ◌∷◌, Some, get_or, set, refl, ap, ◌∙◌, subst, length-set}
+use Rattle.std.proofs.Common.{◌≡◌, ℕ, true, false, List, [], ◌∷◌, Some, get_or, set, sym, refl, ap, ◌∙◌, length-set}
 use Rattle.std.specs.Int.RustNames.{bit_or}
 use Rattle.std.proofs.lemmas.Option.{slice_get-get_or}
 use mathlib.Core.Option.{some}
@@ -27,16 +27,20 @@ use Rattle.k42_board.specs.Rule.{KnowsPass, Rule, Ruled}
 use Rattle.k42_board.specs.Seen.{IsSeatOf}
 use Rattle.k42_board.specs.Steps.{Seated, Tells}
 use Rattle.k42_board.specs.Swapping.{object_swapped, MayBlock, blocked_view}
+use Rattle.k42_board.specs.Log.{took}
 use Rattle.k42_board.specs.Views.{pass_in}
 use Rattle.k42_board.specs.Words.{object_word}
 use Rattle.k42_board.specs.declared.view.PassView.{PassView}
+use Rattle.k42_board.specs.declared.view.StepName.TheVariants as steps
 use Rattle.k42_board.specs.declared.view.View.{View}
 use Rattle.k42_board.specs.declared.view.View.TheVariants.{Crew}
 use Rattle.k42_board.proofs.AtTables.{visited, Steps, visits, of_object, object_written, few_entries, written_shows}
 use Rattle.k42_board.proofs.Fields.{object_fits, block_set}
 use Rattle.k42_board.proofs.Looking.{object_shown}
-use Rattle.k42_board.proofs.Moves.{Moves, seat_allowed}
+use Rattle.k42_board.proofs.Logged.{logged_moves}
+use Rattle.k42_board.proofs.Moves.{Moves}
 use Rattle.k42_board.proofs.OnePass.{with_pass, known}
+use Rattle.k42_board.proofs.Retold.{retold, retold_allowed}
 use Rattle.k42_board.proofs.Staging.{IsStaged, stays_staged, stage_is, there, few, bits, staged_effect, staged_visit, swap_staged, rows_staged, rows_old, own_staged}
 
 -- what a drained stage tells
@@ -101,11 +105,11 @@ module _ {S L P : Type 0} (F : Layouts S L P) (laws : AreLaws F) (declared : Lis
   effect_is : after ≡ effect r.state (AtPhases (Block c))
   effect_is = staged_effect F laws declared table r id v at stage.named (λ q. Blocking q) (λ (l : Object). record l { block = true }) r.state.kept
 
-  pass_after : KnowsPass F.tag_of after r.beside id (blocked_view found v)
+  pass_after : KnowsPass F.tag_of after r.beside id (blocked_view v)
   pass_after =
-      own_staged F laws declared table r id v at stage.named (Block c) k' r.state.kept (Blocking o) staged v.abandoned v.turned v.handed v.rows found
+      own_staged F laws declared table r id v at stage.named (Block c) k' r.state.kept (Blocking o) staged v.abandoned v.turned v.handed v.rows
       r.beside.row_seat knows.names
-      (swap_staged F laws declared table r id v at stage.named (Block c) k' r.state.kept (Blocking o) staged v.abandoned v.turned v.handed v.rows found
+      (swap_staged F laws declared table r id v at stage.named (Block c) k' r.state.kept (Blocking o) staged v.abandoned v.turned v.handed v.rows
       (record {
         names = refl;
         turned_is = knows.phases.swap.turned ∙ stage.unturned k;
@@ -113,19 +117,19 @@ module _ {S L P : Type 0} (F : Layouts S L P) (laws : AreLaws F) (declared : Lis
         begun = knows.phases.swap.begun o stage.named;
         next = knows.phases.swap.next o stage.named;
       }))
-      (rows_staged F laws declared table r id v at stage.named (Block c) k' r.state.kept (Blocking o) staged v.abandoned v.turned v.handed v.rows found refl
-      (rows_old F laws declared table r id v at stage.named (Block c) k' r.state.kept (Blocking o) staged v.abandoned v.turned v.handed v.rows found))
+      (rows_staged F laws declared table r id v at stage.named (Block c) k' r.state.kept (Blocking o) staged v.abandoned v.turned v.handed v.rows refl
+      (rows_old F laws declared table r id v at stage.named (Block c) k' r.state.kept (Blocking o) staged v.abandoned v.turned v.handed v.rows))
       knows.trace.kept
       (λ tag e. absurd (let old = (knows.trace.handed tag e).0 in let not = stage.unmoved in cc))
       (λ moved. absurd (cc))
 
-  pub blocks : Steps F declared r.state (AtPhases (Block c)) (with_pass table (set table.words (object_word o) (bit_or found 33554432)) table.homes id (blocked_view found v))
+  pub blocks : Steps F declared r.state (AtPhases (Block c)) (with_pass table (set table.words (object_word o) (bit_or found 33554432)) table.homes id (blocked_view v))
   blocks =
       let lt = there F laws declared table r id v at stage.named in let small = few F laws declared table r id v at stage.named in
       visits F laws declared table r id v at (Block c) (set s.objects o k') r.state.kept (at_stage v.visitor (Blocking o))
       (staged_visit F laws declared table r id v at stage.named (Block c) k' r.state.kept (Blocking o) staged possible effect_is (λ d not. refl))
-      (set table.words (object_word o) (bit_or found 33554432)) (blocked_view found v)
-      (written_shows F laws declared table r id v at (set s.objects o k') (at_stage v.visitor (Blocking o)) r.state.kept (object_word o) (bit_or found 33554432) (blocked_view found v)
+      (set table.words (object_word o) (bit_or found 33554432)) (blocked_view v)
+      (written_shows F laws declared table r id v at (set s.objects o k') (at_stage v.visitor (Blocking o)) r.state.kept (object_word o) (bit_or found 33554432) (blocked_view v)
       (of_object o small) (length-set s.objects o k')
       (object_written table.words s.objects o k k' (bit_or found 33554432) r.shows.many_words r.shows.few_objects
       (few_entries F laws declared table r id v at) small (slice_get-get_or s.objects o fresh_object lt) refl refl
@@ -135,13 +139,33 @@ module _ {S L P : Type 0} (F : Layouts S L P) (laws : AreLaws F) (declared : Lis
       r.shows.objects))
       pass_after
 
-pub block_moves : {S L P : Type 0} (F : Layouts S L P) → AreLaws F → (declared : List L) (id : ℕ) (v : PassView P) → MayBlock v
-    → Moves F declared (AtPhases (Block v.number)) (object_word (object_swapped v)) (λ word. bit_or word 33554432) blocked_view id v
-block_moves F laws declared id v may = record { from = λ table r at. blocks F laws declared table r id v at may }
+block_goes : {S L P : Type 0} (F : Layouts S L P) → AreLaws F → (declared : List L) (id : ℕ) (v : PassView P) → MayBlock v
+    → Moves F declared (AtPhases (Block v.number)) (object_word (object_swapped v)) (λ word. bit_or word 33554432) (λ found. blocked_view) id v
+block_goes F laws declared id v may = record { from = λ table r at. blocks F laws declared table r id v at may }
 
-pub block_allowed : {S L P : Type 0} {callers : ℕ} (F : Layouts S L P) → AreLaws F → (declared : List L) (id o : ℕ) (me : Seated P)
-    → object_swapped (pass_in me.0) ≡ o → IsSeatOf me (pass_in me.0) → MayBlock (pass_in me.0)
-    → (slots : ℕ) (step : Step (Slot P)) → Allows (Ruled F declared callers) slots id me (object_word o) (λ n. bit_or n 33554432) (Tells blocked_view step me)
-block_allowed {P = P} {callers = callers} F laws declared id o me same is may slots step =
-    subst (λ (z : ℕ). Allows (Ruled F declared callers) slots id me (object_word z) (λ n. bit_or n 33554432) (Tells blocked_view step me)) same
-    (seat_allowed (block_moves F laws declared id (pass_in me.0) may) me is slots step)
+pub block_moves : {S L P : Type 0} (F : Layouts S L P) → AreLaws F → (declared : List L) (id : ℕ) (v : PassView P) → MayBlock v
+    → Moves F declared (AtPhases (Block v.number)) (object_word (object_swapped v)) (λ word. bit_or word 33554432) (λ found x. took steps.Block (object_word (object_swapped x)) found (blocked_view x))
+    id v
+block_moves F laws declared id v may = record { from = (logged_moves steps.Block (λ n. n) (λ found q before is. is) (block_goes F laws declared id v may)).from }
+
+-- as the play tells it, at the word that the step names
+module _ {S L P : Type 0} (F : Layouts S L P) (laws : AreLaws F) (declared : List L) (id : ℕ)
+    (me : Seated P) (is : IsSeatOf me (pass_in me.0)) (may : MayBlock (pass_in me.0))
+    (word o : ℕ) (at : word ≡ object_word o) (same : object_swapped (pass_in me.0) ≡ o) where
+  block_there : word ≡ object_word (object_swapped (pass_in me.0))
+  block_there = at ∙ ap object_word (sym same)
+
+  abbrev block_row : ℕ → PassView P → PassView P
+  block_row found x = took steps.Block (object_word (object_swapped x)) found (blocked_view x)
+
+  abbrev block_play : ℕ → PassView P → PassView P
+  block_play found x = took steps.Block word found (blocked_view x)
+
+  block_same : (found : ℕ) → block_row found (pass_in me.0) ≡ block_play found (pass_in me.0)
+  block_same found = ap (λ i. took steps.Block i found (blocked_view (pass_in me.0))) (sym block_there)
+
+  pub block_allowed : {callers : ℕ} (slots : ℕ) (step : Step (Slot P)) → Allows (Ruled F declared callers) slots id me word (λ n. bit_or n 33554432) (Tells block_play step me)
+  block_allowed slots step = retold_allowed block_row block_play block_same (block_moves F laws declared id (pass_in me.0) may) me is word block_there slots step
+
+  pub block_told : (step : Step (Slot P)) (found : ℕ) (after : Seated P) → Tells block_play step me found after → Tells block_row step me found after
+  block_told step found after told = retold block_row block_play block_same me after is step found told

@@ -21,6 +21,9 @@ use Rattle.k42_board.proofs.Begun.{processor_stays}
 pub cell_of_lock : (n : ℕ) → n < 256 → cell_at_lock (lock_word n) ≡ n
 cell_of_lock n few = omega (arith, few)
 
+pub cell_at_word : (n : ℕ) → n < 256 → (word : ℕ) → word ≡ lock_word n → cell_at_lock word ≡ n
+cell_at_word n few word same = ap cell_at_lock same ∙ cell_of_lock n few
+
 pub locks_apart : (n m : ℕ) → n < 256 → m < 256 → m ≢ n → lock_word m ≢ lock_word n
 locks_apart n m few small not e = not (omega (arith, few, small, e))
 

@@ -204,7 +204,7 @@ module _ {S L P : Type 0} (F : Layouts S L P) (laws : AreLaws F) (declared : Lis
 
     pass_after : KnowsPass F.tag_of (moved_to s t (kept_drawn s c false)) (with_contents r.beside told_contents) id w
     pass_after =
-        pass_drawn F.tag_of s t s.hands (kept_drawn s c false) r.beside told_contents id v k entry (told_notes cells entry fresh v.notes) v.abandoned v.handed cells entry.stamp
+        pass_drawn F.tag_of s t s.hands (kept_drawn s c false) r.beside told_contents id v k entry (told_notes cells entry fresh v.notes) v.abandoned v.handed cells
         (record {
           cells = knows;
           kept_is = get_or-set_same s.kept c _ nothing_kept kept_there ∙ ap (λ (z : Kept). record z { found = None }) k.trace.kept;

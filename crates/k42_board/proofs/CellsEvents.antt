@@ -107,7 +107,7 @@ module _ {S L P : Type 0} (F : Layouts S L P) (laws : AreLaws F) (declared : Lis
 
   abbrev pub IsLocked : ℕ → Caller → Type 0
   IsLocked new taker =
-      (after : Rule F declared (with_pass table (set table.words i new) table.homes id (record v { taker = taker; heard = found })))
+      (after : Rule F declared (with_pass table (set table.words i new) table.homes id (record v { taker = taker })))
       × (after.state ≡ effect s (AtCells (Lock c n))) × IsPossible F declared s (AtCells (Lock c n))
 
   module _ (may : MayLock F.procs n v) where
@@ -158,8 +158,8 @@ module _ {S L P : Type 0} (F : Layouts S L P) (laws : AreLaws F) (declared : Lis
           let free = free_word x.lock (sym word ∙ eqb-true found 0 e) in
           let callers : List Caller = set s.turns.callers c (caller_locked n (caller_at s.turns c)) in
           let after =
-          cell_moved F declared table r id v at n (c + 1) table.homes r.beside.contents (cell_locked c x) callers (caller_locked n v.taker) v.notes v.out found
-          (relock F laws declared table r id v at n lock_there touched (Some c) (c + 1) callers (caller_locked n v.taker) found (home_free free x.home refl) idle
+          cell_moved F declared table r id v at n (c + 1) table.homes r.beside.contents (cell_locked c x) callers (caller_locked n v.taker) v.notes v.out
+          (relock F laws declared table r id v at n lock_there touched (Some c) (c + 1) callers (caller_locked n v.taker) (home_free free x.home refl) idle
           (λ d not e'. absurd (cc)) (λ d not e'. not (sym (some_one c d e'))) refl (λ d not. get_or-set_other s.turns.callers c d _ fresh_caller not)
           (get_or-set_same s.turns.callers c _ fresh_caller c_there ∙ ap (caller_locked n) knows.taker) refl)
           (effect s (AtCells (Lock c n))) (λ k. record s { turns = locked s.turns c n (sym free k); kept = s.kept })
@@ -201,8 +201,8 @@ module _ {S L P : Type 0} (F : Layouts S L P) (laws : AreLaws F) (declared : Lis
       let home = in_place is.held may.home in
       let callers : List Caller = set s.turns.callers c (caller_unlocked n (caller_at s.turns c)) in
       let after =
-      cell_moved F declared table r id v at n 0 table.homes r.beside.contents (cell_unlocked x) callers (caller_unlocked n v.taker) v.notes v.out v.heard
-      (relock F laws declared table r id v at n is.there is.touched None 0 callers (caller_unlocked n v.taker) v.heard home idle
+      cell_moved F declared table r id v at n 0 table.homes r.beside.contents (cell_unlocked x) callers (caller_unlocked n v.taker) v.notes v.out
+      (relock F laws declared table r id v at n is.there is.touched None 0 callers (caller_unlocked n v.taker) home idle
       (λ d not e. not (some_one d c (sym e ∙ is.held))) (λ d not e. absurd (cc)) refl (λ d not. get_or-set_other s.turns.callers c d _ fresh_caller not)
       (get_or-set_same s.turns.callers c _ fresh_caller c_there ∙ ap (caller_unlocked n) knows.taker) refl)
       (effect s (AtCells (Unlock c n))) refl (joined_keeps F laws declared s r.sound (AtCells (Unlock c n)) (unlock_possible is home)) in
@@ -226,7 +226,7 @@ module _ {S L P : Type 0} (F : Layouts S L P) (laws : AreLaws F) (declared : Lis
       let is = listed may.held in
       let home = in_place is.held may.home in
       cell_moved F declared table r id v at n found (set table.homes (slot_of n) none)
-      (record r.beside.contents { out = written r.beside.contents.out n true }) (cell_taken x) s.turns.callers v.taker (noted content ∷ v.notes) (Some content.number) v.heard
+      (record r.beside.contents { out = written r.beside.contents.out n true }) (cell_taken x) s.turns.callers v.taker (noted content ∷ v.notes) (Some content.number)
       (take_move F laws declared table r id v at n is.there is.touched is.held idle home content full)
       (effect s (AtCells (Take c n))) refl (joined_keeps F laws declared s r.sound (AtCells (Take c n)) (take_possible is home))
 
@@ -238,7 +238,7 @@ module _ {S L P : Type 0} (F : Layouts S L P) (laws : AreLaws F) (declared : Lis
       let is' = knows.out n out in
       let is = locked_there is'.held in
       cell_moved F declared table r id v at n found (set table.homes (slot_of n) (some None))
-      (record r.beside.contents { out = written r.beside.contents.out n false }) x s.turns.callers v.taker v.notes None v.heard
+      (record r.beside.contents { out = written r.beside.contents.out n false }) x s.turns.callers v.taker v.notes None
       (slot_move F laws declared table r id v at n is.there is.touched is.held false (set table.homes (slot_of n) (some None)) (some None) None is'.away refl refl
       (λ m e. some_one m n (sym e ∙ out)) (λ m e. absurd (cc)) (λ e. absurd (cc)))
       s (λ k. record s { turns = before F laws declared table r id v at n is.there is.touched k }) r.sound
@@ -288,7 +288,7 @@ module _ {S L P : Type 0} (F : Layouts S L P) (laws : AreLaws F) (declared : Lis
   reaches idle place note e named =
       let is = away_by place note e named in
       cell_moved F declared table r id v at n found (set table.homes (slot_of n) none)
-      (record r.beside.contents { out = written r.beside.contents.out n true }) x s.turns.callers v.taker v.notes (Some n) v.heard
+      (record r.beside.contents { out = written r.beside.contents.out n true }) x s.turns.callers v.taker v.notes (Some n)
       (slot_move F laws declared table r id v at n is.held.there is.held.touched is.held.held true (set table.homes (slot_of n) none) none (Some n) is.away refl refl
       (λ m e'. absurd (cc)) (λ m e'. (sym (some_one n m e'), refl)) (λ e'. refl))
       s (λ k. record s { turns = before F laws declared table r id v at n is.held.there is.held.touched k }) r.sound
@@ -304,7 +304,7 @@ module _ {S L P : Type 0} (F : Layouts S L P) (laws : AreLaws F) (declared : Lis
       let closed : x.closed ≡ note.closed = ap (λ k. (cell_at s.turns k).closed) (sym named) ∙ is.noted.closed in
       cell_moved F declared table r id v at n found (set table.homes (slot_of n) (some (Some content)))
       (record { part = written r.beside.contents.part n content.part; out = written r.beside.contents.out n false }) (cell_put x) s.turns.callers v.taker
-      (without n v.notes) None v.heard
+      (without n v.notes) None
       (put_move F laws declared table r id v at n is.held.there is.held.touched is.held.held out is.away content
       (subst (λ (z : List Entry × Bool). IsCell n z.0 z.1 content.part content) (λ k. (sym history k, sym closed k)) whole) part)
       (effect s (AtCells (Put c n))) refl (joined_keeps F laws declared s r.sound (AtCells (Put c n)) (put_possible is.held is.away))

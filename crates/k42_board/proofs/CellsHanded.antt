@@ -353,7 +353,7 @@ module _ {S L P : Type 0} (F : Layouts S L P) (laws : AreLaws F) (declared : Lis
     pass_after : KnowsPass F.tag_of after (with_contents r.beside handed_contents) id w
     pass_after =
         pass_drawn F.tag_of s t (hands_with s entry.object to) (kept_drawn s c false) r.beside handed_contents id v k entry (map (handed_note from onto entry fresh) v.notes)
-        v.abandoned (Some (F.tag_of to)) (from ++ onto) entry.stamp
+        v.abandoned (Some (F.tag_of to)) (from ++ onto)
         (record {
           cells = knows;
           kept_is = get_or-set_same s.kept c _ nothing_kept kept_there ∙ ap (λ (z : Kept). record z { found = None }) k.trace.kept;

@@ -34,7 +34,6 @@ use Rattle.k42_board.specs.Trace.{KnowsTrace, IsOfTime}
 use Rattle.k42_board.specs.Phases.{KnowsPhases}
 use Rattle.k42_board.specs.Rule.{Beside, KnowsPass, NamesRows, Shows, Rule}
 use Rattle.k42_board.specs.Words.{lock_word, slot_of}
-use Rattle.k42_board.specs.Views.{hears}
 use Rattle.k42_board.specs.declared.view.Note.{Note}
 use Rattle.k42_board.specs.declared.view.PassView.{PassView}
 use Rattle.k42_board.specs.declared.view.Row as named
@@ -80,8 +79,8 @@ pub names_stay : {P : Type 0} (beside : Beside P) (contents : Contents P) (id : 
 names_stay beside contents id rows is = record { named = is.named; once = is.once }
 
 -- the pass with other notes of cells and entries
-abbrev pub re_noted : {P : Type 0} → PassView P → Caller → Option Answer → Bool → Option ℕ → List (Note P) → Option ℕ → List ℕ → ℕ → PassView P
-re_noted v taker found abandoned handed notes out untold heard = record v {
+abbrev pub re_noted : {P : Type 0} → PassView P → Caller → Option Answer → Bool → Option ℕ → List (Note P) → Option ℕ → List ℕ → PassView P
+re_noted v taker found abandoned handed notes out untold = record v {
   taker = taker;
   found = found;
   abandoned = abandoned;
@@ -89,17 +88,16 @@ re_noted v taker found abandoned handed notes out untold heard = record v {
   notes = notes;
   out = out;
   untold = untold;
-  heard = heard;
 }
 
 -- what it knows of generations, and of its call, its swap and its rows, does not hang on these
 module _ {P : Type 0} (v : PassView P) (taker : Caller) (found : Option Answer) (abandoned : Bool) (handed : Option ℕ) (notes : List (Note P)) (out : Option ℕ)
-    (untold : List ℕ) (heard : ℕ) where
+    (untold : List ℕ) where
   pub generations_stay : (g : Generations) (counts : Counts) → KnowsGenerations g counts v
-      → KnowsGenerations g counts (re_noted v taker found abandoned handed notes out untold heard)
+      → KnowsGenerations g counts (re_noted v taker found abandoned handed notes out untold)
   generations_stay g counts k = record { turn = k.turn; activities = k.activities; graces = k.graces; base = k.base }
 
-  pub phases_stay : (p : Phases) → KnowsPhases p v → KnowsPhases p (re_noted v taker found abandoned handed notes out untold heard)
+  pub phases_stay : (p : Phases) → KnowsPhases p v → KnowsPhases p (re_noted v taker found abandoned handed notes out untold)
   phases_stay p k = record {
     visitor = k.visitor;
     layout = k.layout;
@@ -107,19 +105,6 @@ module _ {P : Type 0} (v : PassView P) (taker : Caller) (found : Option Answer) 
     swap = record { turned = k.swap.turned; layout_begun = k.swap.layout_begun; begun = k.swap.begun; next = k.swap.next };
     rows = record { old = k.rows.old; granted = k.rows.granted; swept = k.rows.swept; spans = k.rows.spans };
   }
-
--- nor does the word that it found
-pub known_heard : {L P : Type 0} (tag_of : L → ℕ) (s : Joined L) (beside : Beside P) (id : ℕ) (v : PassView P) (heard : ℕ)
-    → KnowsPass tag_of s beside id v → KnowsPass tag_of s beside id (hears heard v)
-known_heard tag_of s beside id v heard k = record {
-  there = k.there;
-  seat = k.seat;
-  names = k.names;
-  generations = generations_stay v v.taker v.found v.abandoned v.handed v.notes v.out v.untold heard s.phases.turns beside.counts k.generations;
-  phases = phases_stay v v.taker v.found v.abandoned v.handed v.notes v.out v.untold heard s.phases k.phases;
-  cells = record { taker = k.cells.taker; notes = k.cells.notes; noted = k.cells.noted; out = k.cells.out; only = k.cells.only };
-  trace = record { kept = k.trace.kept; found = k.trace.found; over = k.trace.over; handed = k.trace.handed; unhanded = k.trace.unhanded; times = k.trace.times };
-}
 
 -- no view is shown
 pub shows_again : {L P : Type 0} (s : Joined L) (beside : Beside P) (table : State (Slot P) (View P)) (words : List ℕ) (id : ℕ) (w : PassView P) → Shows s beside table
@@ -279,12 +264,12 @@ module _ {S L P : Type 0} (F : Layouts S L P) (declared : List L)
 
   -- one cell moved, told as before, and with it what one pass knows
   module _ (n new : ℕ) (homes : List (maybe.Option (Slot P))) (contents : Contents P) (y : Cell) (callers : List Caller)
-      (taker : Caller) (notes : List (Note P)) (out : Option ℕ) (heard : ℕ) where
+      (taker : Caller) (notes : List (Note P)) (out : Option ℕ) where
     abbrev pub t : Turns
     t = record { cells = set s.turns.cells n y; callers = callers }
 
     abbrev pub w : PassView P
-    w = record v { taker = taker; notes = notes; out = out; heard = heard }
+    w = record v { taker = taker; notes = notes; out = out }
 
     -- the cell was nobody else's, and is nobody else's now
     pub record IsMove : Type 0 where
@@ -370,8 +355,8 @@ module _ {S L P : Type 0} (F : Layouts S L P) (declared : List L)
             there = k.there;
             seat = k.seat;
             names = names_stay r.beside contents id v.rows k.names;
-            generations = generations_stay v taker v.found v.abandoned v.handed notes out v.untold heard s.phases.turns r.beside.counts k.generations;
-            phases = phases_stay v taker v.found v.abandoned v.handed notes out v.untold heard s.phases k.phases;
+            generations = generations_stay v taker v.found v.abandoned v.handed notes out v.untold s.phases.turns r.beside.counts k.generations;
+            phases = phases_stay v taker v.found v.abandoned v.handed notes out v.untold s.phases k.phases;
             cells = cells_after;
             trace = record {
               kept = k.trace.kept;

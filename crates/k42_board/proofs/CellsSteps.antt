@@ -22,14 +22,13 @@ use Rattle.k42_board.specs.Rule.{Rule}
 use Rattle.k42_board.specs.Taking.{noted, without}
 use Rattle.k42_board.specs.Words.{lock_word, slot_of}
 use Rattle.k42_board.specs.Values.{holder_value}
-use Rattle.k42_board.specs.Views.{hears}
 use Rattle.k42_board.specs.declared.cell.Content as code
 use Rattle.k42_board.specs.declared.view.Note.{Note}
 use Rattle.k42_board.specs.declared.view.PassView.{PassView}
 use Rattle.k42_board.specs.declared.view.View.{View}
 use Rattle.k42_board.specs.declared.view.View.TheVariants.{Crew}
 use Rattle.k42_board.proofs.CellsApart.{written, written_here, written_else, each_first, first_noted, further_noted, each_without, still_noted}
-use Rattle.k42_board.proofs.CellsMoved.{same_told', IsMove, few_cells, known_heard, shows_again}
+use Rattle.k42_board.proofs.CellsMoved.{same_told', IsMove, few_cells, shows_again}
 use Rattle.k42_board.proofs.OnePass.{with_pass, known, moved}
 
 -- a word that is none but the holder's
@@ -67,13 +66,13 @@ module _ {S L P : Type 0} (F : Layouts S L P) (laws : AreLaws F) (declared : Lis
 
   -- a word is written as it was found, and nothing else moves
   pub stands : (found : ℕ) → get_or table.words i 0 ≡ found
-      → (after : Rule F declared (with_pass table (set table.words i found) table.homes id (hears found v))) × (after.state ≡ s)
+      → (after : Rule F declared (with_pass table (set table.words i found) table.homes id v)) × (after.state ≡ s)
   stands found is =
       let same : set table.words i found ≡ table.words = ap (set table.words i) (sym is) ∙ set-get_or table.words i 0 in
-      moved F declared table r id v at s r.beside (set table.words i found) table.homes (hears found v)
+      moved F declared table r id v at s r.beside (set table.words i found) table.homes v
       (record { passes = λ j y not k. k; named = λ j row not old is. (old, is) }) r.sound
-      (shows_again s r.beside table (set table.words i found) id (hears found v) r.shows same) r.parts
-      (known_heard F.tag_of s r.beside id v found (known F declared table r id v at))
+      (shows_again s r.beside table (set table.words i found) id v r.shows same) r.parts
+      (known F declared table r id v at)
 
   -- the cell, of which the pass holds the lock or may take it
   module _ (there : n < length s.turns.cells) (touched : MayTouch s c n) where
@@ -112,13 +111,13 @@ module _ {S L P : Type 0} (F : Layouts S L P) (laws : AreLaws F) (declared : Lis
         absurd (cc)
 
     -- the lock of a cell at home is taken or left
-    module _ (lock : Option ℕ) (new : ℕ) (callers : List Caller) (taker : Caller) (heard : ℕ) where
+    module _ (lock : Option ℕ) (new : ℕ) (callers : List Caller) (taker : Caller) where
       abbrev relocked : Cell
       relocked = record x { lock = lock }
 
       pub relock : x.home ≡ true → v.out ≡ None → ((d : ℕ) → d ≢ c → x.lock ≢ Some d) → ((d : ℕ) → d ≢ c → lock ≢ Some d) → new ≡ holder_value lock
           → ((d : ℕ) → d ≢ c → get_or callers d fresh_caller ≡ caller_at s.turns d) → get_or callers c fresh_caller ≡ taker → taker.mine ≡ v.taker.mine
-          → IsMove F declared table r id v at n new table.homes contents relocked callers taker v.notes v.out heard
+          → IsMove F declared table r id v at n new table.homes contents relocked callers taker v.notes v.out
       relock home idle was now word others own mine = record {
         one = record {
           there = there;
@@ -205,7 +204,7 @@ module _ {S L P : Type 0} (F : Layouts S L P) (laws : AreLaws F) (declared : Lis
       -- the cell leaves its place
       pub take_move : v.out ≡ None → x.home ≡ true → (content : code.Content P) → get_elem? table.homes (slot_of n) ≡ some (some (Some content))
           → IsMove F declared table r id v at n (get_or table.words i 0) (set table.homes (slot_of n) none) (with_out true) (cell_taken x) s.turns.callers v.taker
-          (noted content ∷ v.notes) (Some content.number) v.heard
+          (noted content ∷ v.notes) (Some content.number)
       take_move idle home content full =
           let has = has_content home in
           let same : has.2.content ≡ content = same_content (sym (has.1 ∙ ap some has.2.full) ∙ full) in
@@ -247,7 +246,7 @@ module _ {S L P : Type 0} (F : Layouts S L P) (laws : AreLaws F) (declared : Lis
       pub slot_move : (out' : Bool) (homes : List (maybe.Option (Slot P))) (slot : maybe.Option (Slot P)) (out : Option ℕ)
           → x.home ≡ false → homes ≡ set table.homes (slot_of n) slot → IsSlot n x (contents.part n) slot out' false
           → ((m : ℕ) → v.out ≡ Some m → m ≡ n) → ((m : ℕ) → out ≡ Some m → (m ≡ n) × (out' ≡ true)) → (out' ≡ true → out ≡ Some n)
-          → IsMove F declared table r id v at n (get_or table.words i 0) homes (with_out out') x s.turns.callers v.taker v.notes out v.heard
+          → IsMove F declared table r id v at n (get_or table.words i 0) homes (with_out out') x s.turns.callers v.taker v.notes out
       slot_move out' homes slot out away are is old new' only =
           let here : cell_at as_before n ≡ x = ap (λ t. cell_at t n) before in
           record {
@@ -285,7 +284,7 @@ module _ {S L P : Type 0} (F : Layouts S L P) (laws : AreLaws F) (declared : Lis
       pub put_move : v.out ≡ Some n → x.home ≡ false → (content : code.Content P) → IsCell n x.history x.closed content.part content
           → IsPart F declared s n content.part
           → IsMove F declared table r id v at n (get_or table.words i 0) (set table.homes (slot_of n) (some (Some content))) (with_own content.part) (cell_put x)
-          s.turns.callers v.taker (without n v.notes) None v.heard
+          s.turns.callers v.taker (without n v.notes) None
       put_move idle away content is part = record {
         one = record {
           there = there;

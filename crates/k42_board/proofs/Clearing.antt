@@ -30,20 +30,25 @@ use Rattle.k42_board.specs.Cells.{Slot}
 use Rattle.k42_board.specs.Phases.{IsOld, KnowsSwap}
 use Rattle.k42_board.specs.Rule.{NamesRows, KnowsPass, Rule, Ruled}
 use Rattle.k42_board.specs.Seen.{IsSeatOf}
-use Rattle.k42_board.specs.Steps.{Seated, Tells}
-use Rattle.k42_board.specs.Swapping.{object_swapped, at_swap, MayClearAt, MayClear, clear_event, kept_bits, clears, rows_ended, cleared_view}
+use Rattle.k42_board.specs.Steps.{Seated, Tells, TellsWith}
+use Rattle.k42_board.specs.Swapping.{object_swapped, at_swap, MayClearAt, MayClear, clear_event, kept_bits, clears, ClearFound, rows_ended, cleared_view}
 use Rattle.k42_board.specs.Values.{incarnation_in}
+use Rattle.k42_board.specs.Log.{took}
 use Rattle.k42_board.specs.Views.{kept_in, pass_in, word_begun}
 use Rattle.k42_board.specs.Words.{object_word}
 use Rattle.k42_board.specs.declared.view.PassView.{PassView}
+use Rattle.k42_board.specs.declared.view.StepName.TheVariants as steps
 use Rattle.k42_board.specs.declared.view.Row.{Row}
 use Rattle.k42_board.specs.declared.view.View.{View}
 use Rattle.k42_board.specs.declared.view.View.TheVariants.{Crew}
 use Rattle.k42_board.proofs.AtTables.{visited, Steps, visits, visits_naming, of_object, object_written, few_entries, written_shows}
 use Rattle.k42_board.proofs.Fields.{object_fits, unblocked_value, cleared_value}
 use Rattle.k42_board.proofs.Looking.{object_shown}
-use Rattle.k42_board.proofs.Moves.{Moves, seat_allowed}
+use Rattle.k42_board.proofs.Logged.{logged_moves}
+use Rattle.k42_board.proofs.Moves.{Moves}
 use Rattle.k42_board.proofs.OnePass.{with_pass, known}
+use Rattle.k42_board.proofs.Restored.{clear_finds}
+use Rattle.k42_board.proofs.Retold.{retold, retold_allowed_with}
 use Rattle.k42_board.proofs.Staging.{IsStaged, stays_staged, stage_is, there, few, object_is, staged_effect, staged_visit, swap_staged, rows_staged, rows_old, own_staged}
 use Rattle.k42_board.proofs.TurningOver.{stage, o_there, small, fits, unturned}
 
@@ -145,7 +150,7 @@ module _ {S L P : Type 0} (F : Layouts S L P) (laws : AreLaws F) (declared : Lis
     reopening = visited r.state (set s.objects o u) (set s.callers c (at_stage v.visitor (Reopening o 0))) kept
 
     abbrev giving_up : PassView P
-    giving_up = record (at_swap found v (Reopening o 0)) { abandoned = false }
+    giving_up = record (at_swap v (Reopening o 0)) { abandoned = false }
 
     kept_is : kept_of reopening c ≡ kept_in giving_up
     kept_is =
@@ -155,9 +160,9 @@ module _ {S L P : Type 0} (F : Layouts S L P) (laws : AreLaws F) (declared : Lis
     pass_giving_up : KnowsPass F.tag_of reopening r.beside id giving_up
     pass_giving_up =
         let is = stage F laws declared table r id v at moves in let not = unturned F laws declared table r id v at moves in
-        own_staged F laws declared table r id v at is.named (Unblock c) u kept (Reopening o 0) given_up false v.turned v.handed v.rows found
+        own_staged F laws declared table r id v at is.named (Unblock c) u kept (Reopening o 0) given_up false v.turned v.handed v.rows
         r.beside.row_seat knows.names
-        (swap_staged F laws declared table r id v at is.named (Unblock c) u kept (Reopening o 0) given_up false v.turned v.handed v.rows found
+        (swap_staged F laws declared table r id v at is.named (Unblock c) u kept (Reopening o 0) given_up false v.turned v.handed v.rows
         (record {
           names = refl;
           turned_is = not;
@@ -165,8 +170,8 @@ module _ {S L P : Type 0} (F : Layouts S L P) (laws : AreLaws F) (declared : Lis
           begun = knows.phases.swap.begun o is.named;
           next = knows.phases.swap.next o is.named;
         }))
-        (rows_staged F laws declared table r id v at is.named (Unblock c) u kept (Reopening o 0) given_up false v.turned v.handed v.rows found refl
-        (rows_old F laws declared table r id v at is.named (Unblock c) u kept (Reopening o 0) given_up false v.turned v.handed v.rows found))
+        (rows_staged F laws declared table r id v at is.named (Unblock c) u kept (Reopening o 0) given_up false v.turned v.handed v.rows refl
+        (rows_old F laws declared table r id v at is.named (Unblock c) u kept (Reopening o 0) given_up false v.turned v.handed v.rows))
         kept_is
         (λ tag e. absurd (let none = unhanded in cc))
         (λ moved. absurd (cc))
@@ -225,7 +230,7 @@ module _ {S L P : Type 0} (F : Layouts S L P) (laws : AreLaws F) (declared : Lis
     -- with these rows
     module _ (rows : List Row) (naming : Row → ℕ) where
       abbrev ending : PassView P
-      ending = record (at_swap found v Idle) { turned = false; rows = rows }
+      ending = record (at_swap v Idle) { turned = false; rows = rows }
 
       knows_none : KnowsSwap idle.phases ending
       knows_none = record {
@@ -250,15 +255,15 @@ module _ {S L P : Type 0} (F : Layouts S L P) (laws : AreLaws F) (declared : Lis
           (object_written table.words s.objects o k l new r.shows.many_words r.shows.few_objects
           (few_entries F laws declared table r id v at) low (slice_get-get_or s.objects o fresh_object there') refl refl
           (cleared_value k found (object_fits s r.sound.phases o there') (object_shown F laws declared table r id v at o there')) r.shows.objects))
-          (own_staged F laws declared table r id v at is_end.named (Clear c) l r.state.kept Idle over v.abandoned false v.handed rows found
+          (own_staged F laws declared table r id v at is_end.named (Clear c) l r.state.kept Idle over v.abandoned false v.handed rows
           naming names knows_none
-          (rows_staged F laws declared table r id v at is_end.named (Clear c) l r.state.kept Idle over v.abandoned false v.handed rows found granted old)
+          (rows_staged F laws declared table r id v at is_end.named (Clear c) l r.state.kept Idle over v.abandoned false v.handed rows granted old)
           knows.trace.kept
           (λ tag e. absurd (let was = (knows.trace.handed tag e).0 in let not = is_end.unmoved in cc))
           (λ moved. absurd (cc)))
 
     still_old : EachPlace (λ place row. IsOld idle.phases row) v.rows
-    still_old = rows_old F laws declared table r id v at is_end.named (Clear c) l r.state.kept Idle over v.abandoned false v.handed v.rows found
+    still_old = rows_old F laws declared table r id v at is_end.named (Clear c) l r.state.kept Idle over v.abandoned false v.handed v.rows
 
     -- the row that it has turned over
     abbrev row : Row
@@ -335,31 +340,52 @@ module _ {S L P : Type 0} (F : Layouts S L P) (laws : AreLaws F) (declared : Lis
 
     by_turned : (b : Bool) → v.turned ≡ b → Steps F declared r.state (AtPhases (Clear c))
         (with_pass table (set table.words (object_word o) (bit_and found (2 ^ 64 - 1 - 2 ^ 24 - 2 ^ 27))) table.homes id
-        (record (at_swap found v Idle) { turned = false; rows = cond b (v.rows ++ row ∷ []) v.rows }))
+        (record (at_swap v Idle) { turned = false; rows = cond b (v.rows ++ row ∷ []) v.rows }))
     by_turned true is = ends_turned is
     by_turned false is = ends v.rows r.beside.row_seat (λ other old. refl) knows.names refl still_old
 
   clears_at : (b : Bool) → is_moved v.visitor.swap ≡ b → MayClear v → v.granted ≤ length v.rows
       → Steps F declared r.state (AtPhases (cond b (Unblock c) (Clear c)))
       (with_pass table (set table.words (object_word o) (bit_and found (cond b (2 ^ 64 - 1 - 2 ^ 25 - 2 ^ 26) (2 ^ 64 - 1 - 2 ^ 24 - 2 ^ 27)))) table.homes id
-      (cond b (record (at_swap found v (Reopening o 0)) { abandoned = false }) (record (at_swap found v Idle) { turned = false; rows = rows_ended v })))
+      (cond b (record (at_swap v (Reopening o 0)) { abandoned = false }) (record (at_swap v Idle) { turned = false; rows = rows_ended v })))
   clears_at true is may few_granted = let asked = moved_may v v.visitor.swap is may in gives_up is asked.0 asked.1
   clears_at false is may few_granted = by_turned (ended_may v v.visitor.swap is may) may few_granted v.turned refl
 
   pub clears_step : MayClear v → v.granted ≤ length v.rows → Steps F declared r.state (AtPhases (clear_event c v.visitor.swap))
-      (with_pass table (set table.words (object_word o) (clears v.visitor.swap found)) table.homes id (cleared_view found v))
+      (with_pass table (set table.words (object_word o) (clears v.visitor.swap found)) table.homes id (cleared_view v))
   clears_step may few_granted = clears_at (is_moved v.visitor.swap) refl may few_granted
 
-pub clear_moves : {S L P : Type 0} (F : Layouts S L P) → AreLaws F → (declared : List L) (id : ℕ) (v : PassView P) → MayClear v → v.granted ≤ length v.rows
-    → Moves F declared (AtPhases (clear_event v.number v.visitor.swap)) (object_word (object_swapped v)) (clears v.visitor.swap) cleared_view id v
-clear_moves F laws declared id v may few_granted = record { from = λ table r at. clears_step F laws declared table r id v at may few_granted }
+clear_goes : {S L P : Type 0} (F : Layouts S L P) → AreLaws F → (declared : List L) (id : ℕ) (v : PassView P) → MayClear v → v.granted ≤ length v.rows
+    → Moves F declared (AtPhases (clear_event v.number v.visitor.swap)) (object_word (object_swapped v)) (clears v.visitor.swap) (λ found. cleared_view) id v
+clear_goes F laws declared id v may few_granted = record { from = λ table r at. clears_step F laws declared table r id v at may few_granted }
 
--- as what is left under this mask
-pub clear_allowed : {S L P : Type 0} {callers : ℕ} (F : Layouts S L P) → AreLaws F → (declared : List L) (id o : ℕ) (me : Seated P)
-    → object_swapped (pass_in me.0) ≡ o → IsSeatOf me (pass_in me.0) → MayClear (pass_in me.0) → (pass_in me.0).granted ≤ length (pass_in me.0).rows
-    → (mask : ℕ) → mask ≡ kept_bits (pass_in me.0).visitor.swap → (slots : ℕ) (step : Step (Slot P))
-    → Allows (Ruled F declared callers) slots id me (object_word o) (λ n. bit_and n mask) (Tells cleared_view step me)
-clear_allowed {P = P} {callers = callers} F laws declared id o me same is may few_granted mask keeps slots step =
-    subst (λ (z : ℕ × ℕ). Allows (Ruled F declared callers) slots id me (object_word z.0) (λ n. bit_and n z.1) (Tells cleared_view step me))
-    (λ j. (same j, sym keeps j))
-    (seat_allowed (clear_moves F laws declared id (pass_in me.0) may few_granted) me is slots step)
+pub clear_moves : {S L P : Type 0} (F : Layouts S L P) → AreLaws F → (declared : List L) (id : ℕ) (v : PassView P) → MayClear v → v.granted ≤ length v.rows
+    → Moves F declared (AtPhases (clear_event v.number v.visitor.swap)) (object_word (object_swapped v)) (clears v.visitor.swap) (λ found x. took steps.Clear (object_word (object_swapped x)) found (cleared_view x))
+    id v
+clear_moves F laws declared id v may few_granted = record { from = (logged_moves steps.Clear (λ n. n) (λ found q before is. is) (clear_goes F laws declared id v may few_granted)).from }
+
+-- as the play tells it, of what is left under this mask at the word that the step names
+module _ {S L P : Type 0} (F : Layouts S L P) (laws : AreLaws F) (declared : List L) (id : ℕ)
+    (me : Seated P) (is : IsSeatOf me (pass_in me.0)) (may : MayClear (pass_in me.0)) (few_granted : (pass_in me.0).granted ≤ length (pass_in me.0).rows)
+    (word o : ℕ) (at : word ≡ object_word o) (same : object_swapped (pass_in me.0) ≡ o) (mask : ℕ) (keeps : mask ≡ kept_bits (pass_in me.0).visitor.swap) where
+  clear_there : word ≡ object_word (object_swapped (pass_in me.0))
+  clear_there = at ∙ ap object_word (sym same)
+
+  abbrev clear_row : ℕ → PassView P → PassView P
+  clear_row found x = took steps.Clear (object_word (object_swapped x)) found (cleared_view x)
+
+  abbrev clear_play : ℕ → PassView P → PassView P
+  clear_play found x = took steps.Clear word found (cleared_view x)
+
+  clear_same : (found : ℕ) → clear_row found (pass_in me.0) ≡ clear_play found (pass_in me.0)
+  clear_same found = ap (λ i. took steps.Clear i found (cleared_view (pass_in me.0))) (sym clear_there)
+
+  pub clear_allowed : {callers : ℕ} (slots : ℕ) (step : Step (Slot P))
+      → Allows (Ruled F declared callers) slots id me word (λ n. bit_and n mask) (TellsWith clear_play ClearFound step me)
+  clear_allowed {callers} slots step =
+      subst (λ (z : ℕ). Allows (Ruled F declared callers) slots id me word (λ n. bit_and n z) (TellsWith clear_play ClearFound step me)) (sym keeps)
+      (retold_allowed_with clear_row clear_play clear_same (clear_moves F laws declared id (pass_in me.0) may few_granted) ClearFound
+      (clear_finds F declared id (pass_in me.0)) me is word clear_there slots step)
+
+  pub clear_told : (step : Step (Slot P)) (found : ℕ) (after : Seated P) → TellsWith clear_play ClearFound step me found after → Tells clear_row step me found after
+  clear_told step found after told = retold clear_row clear_play clear_same me after is step found told.0

@@ -24,40 +24,43 @@ use Rattle.k42_joined.specs.State.{kept_of, is_handed}
 use Rattle.k42_joined.specs.Swapping.{may_turn_over}
 use Rattle.k42_board.specs.Cells.{Slot, Contents, KnowsCells}
 use Rattle.k42_board.specs.Drawing.{HasSmallStamp, untold_view}
+use Rattle.k42_board.specs.Log.{took}
 use Rattle.k42_board.specs.Phases.{KnowsPhases}
 use Rattle.k42_board.specs.Rule.{Beside, KnowsPass, Rule, Ruled}
 use Rattle.k42_board.specs.Seats.{LAST_STAMP}
 use Rattle.k42_board.specs.Seen.{IsSeatOf}
-use Rattle.k42_board.specs.Steps.{Seated, on_pass, TellsWith, StepIs}
+use Rattle.k42_board.specs.Steps.{Seated, Tells, TellsWith, StepIs}
 use Rattle.k42_board.specs.Trace.{IsOfTime}
 use Rattle.k42_board.specs.Views.{kept_in, pass_in}
 use Rattle.k42_board.specs.declared.view.Note.{Note}
 use Rattle.k42_board.specs.declared.view.PassView.{PassView}
+use Rattle.k42_board.specs.declared.view.StepName.TheVariants as steps
 use Rattle.k42_board.specs.declared.view.View.{View}
 use Rattle.k42_board.specs.declared.view.View.TheVariants.{Crew}
-use Rattle.k42_board.proofs.Moves.{Moves, Finds, seat_allowed_with, moves_is}
+use Rattle.k42_board.proofs.CellsApart.{at_within}
+use Rattle.k42_board.proofs.Logged.{logged_moves}
+use Rattle.k42_board.proofs.Moves.{Moves, Finds, seat_allowed_with, seat_is}
 use Rattle.k42_board.proofs.OnePass.{known}
 
 -- the pass after a draw: it has forgotten what its last Begin found
-abbrev pub drawer : {P : Type 0} → PassView P → Caller → List (Note P) → Bool → Option ℕ → List ℕ → ℕ → PassView P
-drawer v taker notes abandoned handed untold heard = record v {
+abbrev pub drawer : {P : Type 0} → PassView P → Caller → List (Note P) → Bool → Option ℕ → List ℕ → PassView P
+drawer v taker notes abandoned handed untold = record v {
   taker = taker;
   notes = notes;
   found = None;
   abandoned = abandoned;
   handed = handed;
   untold = untold;
-  heard = heard;
 }
 
 module _ {L P : Type 0} (tag_of : L → ℕ) (s : Joined L) (turns : Turns) (hands : List (List L)) (kept : List Kept) (beside : Beside P)
     (contents : Contents P) (id : ℕ) (v : PassView P) (k : KnowsPass tag_of s beside id v) (entry : Entry) (notes : List (Note P))
-    (abandoned : Bool) (handed : Option ℕ) (untold : List ℕ) (heard : ℕ) where
+    (abandoned : Bool) (handed : Option ℕ) (untold : List ℕ) where
   abbrev pub after : Joined L
   after = record s { turns = turns; hands = hands; kept = kept }
 
   abbrev pub w : PassView P
-  w = drawer v (caller_drawn entry v.taker) notes abandoned handed untold heard
+  w = drawer v (caller_drawn entry v.taker) notes abandoned handed untold
 
   pub record Draws : Type 0 where
     pub cells : KnowsCells turns contents w
@@ -173,11 +176,6 @@ small_stamps F declared table r id v at =
     let many = r.sound.cells.locks.many.callers in
     subst (λ (x : Caller). last_stamp x.mine ≤ LAST_STAMP) k.cells.taker (omega (arith, bounded, most, few, long, many))
 
-at_within : {A : Type 0} (xs : List A) (i : ℕ) (x : A) → get_elem? xs i ≡ some x → i < length xs
-at_within [] i x e = absurd (cc)
-at_within (y ∷ ys) zero x e = omega arith
-at_within (y ∷ ys) (suc i) x e = let rest = at_within ys i x e in omega (arith, rest)
-
 -- a step that makes this of its pass, whatever it finds
 module _ {S L P : Type 0} {F : Layouts S L P} {declared : List L} {event : Event L} {word : ℕ} {becomes : PassView P → PassView P} {id : ℕ} {v : PassView P}
     (moves : Moves F declared event word (λ n. n) (λ found. becomes) id v) where
@@ -186,21 +184,25 @@ module _ {S L P : Type 0} {F : Layouts S L P} {declared : List L} {event : Event
       let after = moves.from table r at in
       small_stamps F declared _ after.0 id (becomes v) (set_here table.views id (Crew (becomes v ∷ [])) (at_within table.views id (Crew (v ∷ [])) at))
 
-  pub draw_allowed : {callers : ℕ} (said : PassView P → PassView P) → said ≡ becomes → (me : Seated P) → IsSeatOf me v → (slots : ℕ) (step : Step (Slot P))
-      → Allows (Ruled F declared callers) slots id me word (λ n. n) (TellsWith (λ found. said) (λ v found. HasSmallStamp (said v)) step me)
-  draw_allowed {callers} said same me is slots step =
-      subst (λ (b : PassView P → PassView P). Allows (Ruled F declared callers) slots id me word (λ n. n) (TellsWith (λ found. b) (λ v found. HasSmallStamp (b v)) step me))
-      (sym same) (seat_allowed_with moves (λ v found. HasSmallStamp (becomes v)) finds_small me is slots step)
+  draw_moves : Moves F declared event word (λ n. n) (λ found x. took steps.Draw word 0 (becomes x)) id v
+  draw_moves = logged_moves steps.Draw (λ n. 0) (λ found o before is. is) moves
 
-  -- what the step has told
-  pub draw_told : (said : PassView P → PassView P) → said ≡ becomes → (me seated : Seated P) → IsSeatOf me v → (step : Step (Slot P)) (found : ℕ)
-      → TellsWith (λ found. said) (λ v found. HasSmallStamp (said v)) step me found seated → IsSeatOf seated (becomes v) × HasSmallStamp (becomes v)
-  draw_told said same me seated is step found told = (
-    told.0 ∙ (λ i. (on_pass (same i) (is i).0, (is i).1)),
-    subst (λ (z : PassView P). HasSmallStamp z) (λ i. same i (pass_in (is i).0)) told.1,
-  )
+  -- at a word that is this one
+  pub draw_allowed : {callers : ℕ} (said : PassView P → PassView P) → said ≡ becomes → (place : ℕ) → place ≡ word → (me : Seated P) → IsSeatOf me v → (slots : ℕ) (step : Step (Slot P))
+      → Allows (Ruled F declared callers) slots id me place (λ n. n) (TellsWith (λ found x. took steps.Draw place 0 (said x)) (λ v found. HasSmallStamp (said v)) step me)
+  draw_allowed {callers} said same place there me is slots step =
+      subst (λ (z : ℕ × (PassView P → PassView P)). Allows (Ruled F declared callers) slots id me z.0 (λ n. n) (TellsWith (λ found x. took steps.Draw z.0 0 (z.1 x)) (λ v found. HasSmallStamp (z.1 v)) step me))
+      (λ k. (sym there k, sym same k)) (seat_allowed_with draw_moves (λ v found. HasSmallStamp (becomes v)) finds_small me is slots step)
 
-  pub draw_is : (said : PassView P → PassView P) → said ≡ becomes → (me seated : Seated P) → IsSeatOf me v → (step : Step (Slot P)) (found : ℕ)
-      → TellsWith (λ found. said) (λ v found. HasSmallStamp (said v)) step me found seated → (word_found : ℕ) → StepIs F declared event word (λ n. n) id v word_found (pass_in seated.0)
-  draw_is said same me seated is step found told word_found =
-      subst (StepIs F declared event word (λ n. n) id v word_found) (sym (ap (λ (m : Seated P). pass_in m.0) (draw_told said same me seated is step found told).0)) (moves_is moves word_found)
+  pub draw_is : (me seated : Seated P) → IsSeatOf me v → (step : Step (Slot P)) (found : ℕ) → Tells (λ found x. took steps.Draw word 0 (becomes x)) step me found seated
+      → StepIs F declared event word (λ n. n) id v found (pass_in seated.0)
+  draw_is me seated is step found told = seat_is draw_moves me seated is step found told
+
+-- what the step has told
+pub draw_told : {P : Type 0} {word : ℕ} {becomes : PassView P → PassView P} (said : PassView P → PassView P) → said ≡ becomes → (place : ℕ) → place ≡ word
+    → (me seated : Seated P) (step : Step (Slot P)) (found : ℕ)
+    → TellsWith (λ found x. took steps.Draw place 0 (said x)) (λ v found. HasSmallStamp (said v)) step me found seated
+    → TellsWith (λ found x. took steps.Draw word 0 (becomes x)) (λ v found. HasSmallStamp (becomes v)) step me found seated
+draw_told said same place there me seated step found told =
+    subst (λ (z : ℕ × (PassView _ → PassView _)). TellsWith (λ found x. took steps.Draw z.0 0 (z.1 x)) (λ v found. HasSmallStamp (z.1 v)) step me found seated)
+    (λ k. (there k, same k)) told

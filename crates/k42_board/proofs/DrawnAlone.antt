@@ -196,7 +196,7 @@ module _ {S L P : Type 0} (F : Layouts S L P) (laws : AreLaws F) (declared : Lis
 
   pass_after : KnowsPass F.tag_of (effect s (AtCells (Alone c entry))) r.beside id (alone_view entry v)
   pass_after =
-      pass_drawn F.tag_of s t s.hands kept r.beside r.beside.contents id v k entry v.notes (tells_abandoned answer || v.abandoned) v.handed v.untold entry.stamp
+      pass_drawn F.tag_of s t s.hands kept r.beside r.beside.contents id v k entry v.notes (tells_abandoned answer || v.abandoned) v.handed v.untold
       (record {
         cells = knows;
         kept_is =
@@ -231,6 +231,9 @@ module _ {S L P : Type 0} (F : Layouts S L P) (laws : AreLaws F) (declared : Lis
       pass_after) in
       (after.0, after.1, possible)
 
-pub alone_moves : {S L P : Type 0} (F : Layouts S L P) → AreLaws F → (declared : List L) (id : ℕ) (v : PassView P) (act : Act) (answer : Answer) → MayDrawAlone act answer v
-    → Moves F declared (AtCells (Alone v.number (entry_alone v act answer))) role_word (λ word. word) (λ found. alone_view (entry_alone v act answer)) id v
-alone_moves F laws declared id v act answer may = record { from = λ table r at. alone_draws F laws declared table r id v at act answer may role_word }
+pub alone_moves : {S L P : Type 0} (F : Layouts S L P) → AreLaws F → (declared : List L) (id : ℕ) (v : PassView P) (entry : Entry)
+    → MayDrawAlone entry.act entry.answer v × (entry ≡ entry_alone v entry.act entry.answer)
+    → Moves F declared (AtCells (Alone v.number entry)) role_word (λ word. word) (λ found. alone_view entry) id v
+alone_moves F laws declared id v entry may =
+    subst (λ (e : Entry). Moves F declared (AtCells (Alone v.number e)) role_word (λ word. word) (λ found. alone_view e) id v) (sym may.1)
+    (record { from = λ table r at. alone_draws F laws declared table r id v at entry.act entry.answer may.0 role_word })

@@ -484,7 +484,7 @@ module _ {S L P : Type 0} (F : Layouts S L P) (laws : AreLaws F) (agree : AgreeO
       }) word in
       (after.0, after.1, possible)
 
-pub call_moves : {S L P : Type 0} (F : Layouts S L P) → AreLaws F → AgreeOn F → (declared : List L) (id : ℕ) (v : PassView P) (contents : List (Content P)) (op : Op) (reply : Reply)
+call_moves : {S L P : Type 0} (F : Layouts S L P) → AreLaws F → AgreeOn F → (declared : List L) (id : ℕ) (v : PassView P) (contents : List (Content P)) (op : Op) (reply : Reply)
     → MayDrawCall F declared contents op reply v
     → Moves F declared (AtCells (Draw v.number (numbers_of contents) (entry_call v (numbers_of contents) (Call op) (Replied reply))))
     (lock_word (first_cell (numbers_of contents))) (λ word. word) (λ found. draws_at contents (entry_call v (numbers_of contents) (Call op) (Replied reply))) id v
@@ -492,12 +492,19 @@ call_moves F laws agree declared id v contents op reply may =
     record { from = λ table r at. call_draws F laws agree declared table r id v at contents op reply may (lock_word (first_cell (numbers_of contents))) }
 
 -- by its act and its answer
-pub drawn_moves : {S L P : Type 0} (F : Layouts S L P) → AreLaws F → AgreeOn F → (declared : List L) (id : ℕ) (v : PassView P) (contents : List (Content P)) (act : Act) (answer : Answer)
+moves_as : {S L P : Type 0} (F : Layouts S L P) → AreLaws F → AgreeOn F → (declared : List L) (id : ℕ) (v : PassView P) (contents : List (Content P)) (act : Act) (answer : Answer)
     → MayDrawAs F declared contents act answer v
     → Moves F declared (AtCells (Draw v.number (numbers_of contents) (entry_call v (numbers_of contents) act answer)))
     (lock_word (first_cell (numbers_of contents))) (λ word. word) (λ found. draws_at contents (entry_call v (numbers_of contents) act answer)) id v
-drawn_moves F laws agree declared id v contents (Call op) (Replied reply) may = call_moves F laws agree declared id v contents op reply may
-drawn_moves F laws agree declared id v contents act answer may = absurd may
+moves_as F laws agree declared id v contents (Call op) (Replied reply) may = call_moves F laws agree declared id v contents op reply may
+moves_as F laws agree declared id v contents act answer may = absurd may
+
+pub drawn_moves : {S L P : Type 0} (F : Layouts S L P) → AreLaws F → AgreeOn F → (declared : List L) (id : ℕ) (v : PassView P) (contents : List (Content P)) (entry : Entry)
+    → MayDrawAs F declared contents entry.act entry.answer v × (entry ≡ entry_call v (numbers_of contents) entry.act entry.answer)
+    → Moves F declared (AtCells (Draw v.number (numbers_of contents) entry)) (lock_word (first_cell (numbers_of contents))) (λ word. word) (λ found. draws_at contents entry) id v
+drawn_moves F laws agree declared id v contents entry may =
+    subst (λ (e : Entry). Moves F declared (AtCells (Draw v.number (numbers_of contents) e)) (lock_word (first_cell (numbers_of contents))) (λ word. word) (λ found. draws_at contents e) id v)
+    (sym may.1) (moves_as F laws agree declared id v contents entry.act entry.answer may.0)
 
 -- the cells that it draws at are held, and it is a call
 pub drawn_held : {S L P : Type 0} (F : Layouts S L P) (declared : List L) (v : PassView P) (contents : List (Content P)) (act : Act) (answer : Answer)

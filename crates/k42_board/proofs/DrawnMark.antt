@@ -197,8 +197,9 @@ module _ {S L P : Type 0} (F : Layouts S L P) (laws : AreLaws F) (declared : Lis
       }) (lock_word n) in
       (after.0, after.1, possible)
 
-pub mark_moves : {S L P : Type 0} (F : Layouts S L P) → AreLaws F → (declared : List L) (id : ℕ) (v : PassView P) (content : Content P) (act : Act) (answer : Answer)
-    → MayDrawMark content act answer v
-    → Moves F declared (AtCells (Draw v.number (content.number ∷ []) (entry_mark v content.number act answer))) (lock_word content.number) (λ word. word)
-    (λ found. draws_at (content ∷ []) (entry_mark v content.number act answer)) id v
-mark_moves F laws declared id v content act answer may = record { from = λ table r at. mark_draws F laws declared table r id v at content act answer may }
+pub mark_moves : {S L P : Type 0} (F : Layouts S L P) → AreLaws F → (declared : List L) (id : ℕ) (v : PassView P) (content : Content P) (entry : Entry)
+    → MayDrawMark content entry.act entry.answer v × (entry ≡ entry_mark v content.number entry.act entry.answer)
+    → Moves F declared (AtCells (Draw v.number (content.number ∷ []) entry)) (lock_word content.number) (λ word. word) (λ found. draws_at (content ∷ []) entry) id v
+mark_moves F laws declared id v content entry may =
+    subst (λ (e : Entry). Moves F declared (AtCells (Draw v.number (content.number ∷ []) e)) (lock_word content.number) (λ word. word) (λ found. draws_at (content ∷ []) e) id v)
+    (sym may.1) (record { from = λ table r at. mark_draws F laws declared table r id v at content entry.act entry.answer may.0 })

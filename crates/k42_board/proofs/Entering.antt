@@ -35,14 +35,17 @@ use Rattle.k42_joined.specs.Possible.{IsPossible}
 use Rattle.k42_board.specs.Cells.{Slot}
 use Rattle.k42_board.specs.Generating.{MayEnter, entered_view, EnteredFound}
 use Rattle.k42_board.specs.Generations.{Counts, MOST, IsProcessorShown, AreGenerations}
+use Rattle.k42_board.specs.Log.{took}
 use Rattle.k42_board.specs.Rule.{KnowsPass, Rule}
 use Rattle.k42_board.specs.Values.{generation_value, generation_in}
 use Rattle.k42_board.specs.Words.{generation_word, exits_word, role_word}
 use Rattle.k42_board.specs.declared.view.PassView.{PassView}
+use Rattle.k42_board.specs.declared.view.StepName.TheVariants as steps
 use Rattle.k42_board.specs.declared.view.View.{View}
 use Rattle.k42_board.specs.declared.view.View.TheVariants.{Crew}
 use Rattle.k42_board.proofs.Apart.{IsOfGenerations, of_processor}
 use Rattle.k42_board.proofs.Begun.{few_begun, one_more, processor_stays, begun_goes, flips_same, entered_so_far, rises_by}
+use Rattle.k42_board.proofs.Logged.{logged_moves}
 use Rattle.k42_board.proofs.Moves.{Moves, Finds}
 use Rattle.k42_board.proofs.OnePass.{with_pass, known}
 use Rattle.k42_board.proofs.Turning.{IsTurn, turned, visitors_after, state_after, with_counts, own_goes, rows_kept, same_swap}
@@ -211,7 +214,7 @@ module _ {S L P : Type 0} (F : Layouts S L P) (laws : AreLaws F) (declared : Lis
   pass_after : KnowsPass F.tag_of (state_after F laws declared table r id v at (Turn (Enter c)) g (visitor_at r.state.phases c) counts) (with_counts r.beside counts) id (entered_view found v)
   pass_after =
       own_goes r.state g (visitors_after F laws declared table r id v at (Turn (Enter c)) g (visitor_at r.state.phases c) counts) v
-      (record v.turn { active = Some (generation_in found) }) v.visitor (v.activities + 1) v.graces v.base v.rows v.granted v.swept found
+      (record v.turn { active = Some (generation_in found) }) v.visitor (v.activities + 1) v.graces v.base v.rows v.granted
       F.tag_of r.beside counts id knows
       (record {
         many = length-set r.state.phases.callers c _;
@@ -230,8 +233,8 @@ module _ {S L P : Type 0} (F : Layouts S L P) (laws : AreLaws F) (declared : Lis
         proc = refl;
         names = knows.names;
         rows_known =
-            rows_kept r.state g [] v (record v.turn { active = Some (generation_in found) }) v.visitor (v.activities + 1) v.graces v.base v.rows v.granted v.swept found
-            refl refl refl refl refl knows.phases.rows;
+            rows_kept r.state g [] v (record v.turn { active = Some (generation_in found) }) v.visitor (v.activities + 1) v.graces v.base v.rows v.granted
+            refl refl refl refl knows.phases.rows;
       })
 
   -- the rule after the step, and its state
@@ -241,19 +244,24 @@ module _ {S L P : Type 0} (F : Layouts S L P) (laws : AreLaws F) (declared : Lis
       turned F laws declared table r id v at (Turn (Enter c)) g (visitor_at r.state.phases c) counts turn_is i new (entered_view found v)
       (subst (λ z. IsOfGenerations z) (omega arith) (of_processor x.proc 0 p_few (omega arith))) generations_after pass_after
 
-pub enter_moves : {S L P : Type 0} (F : Layouts S L P) → AreLaws F → (declared : List L) (id home : ℕ) (v : PassView P) → MayEnter v → v.turn.proc ≡ home
-    → Moves F declared (AtPhases (Turn (Enter v.number))) (generation_word home) (λ word. (word + 1) % 2 ^ 64) entered_view id v
-enter_moves {S} {L} {P} F laws declared id home v may same = record {
+enter_goes : {S L P : Type 0} (F : Layouts S L P) → AreLaws F → (declared : List L) (id i : ℕ) (v : PassView P) → MayEnter v → i ≡ generation_word v.turn.proc
+    → Moves F declared (AtPhases (Turn (Enter v.number))) i (λ n. (n + 1) % 2 ^ 64) entered_view id v
+enter_goes {S} {L} {P} F laws declared id i v may same = record {
   from = λ table r at.
-      subst (λ i. (after : Rule F declared (with_pass table (set table.words i ((get_or table.words i 0 + 1) % 2 ^ 64)) table.homes id (entered_view (get_or table.words i 0) v)))
+      subst (λ j. (after : Rule F declared (with_pass table (set table.words j ((get_or table.words j 0 + 1) % 2 ^ 64)) table.homes id (entered_view (get_or table.words j 0) v)))
       × (after.state ≡ effect r.state (AtPhases (Turn (Enter v.number)))) × IsPossible F declared r.state (AtPhases (Turn (Enter v.number))))
-      (ap (λ (z : Caller). generation_word z.proc) (known F declared table r id v at).generations.turn ∙ ap generation_word same)
+      (ap (λ (z : Caller). generation_word z.proc) (known F declared table r id v at).generations.turn ∙ sym same)
       (enters F laws declared table r id v at may);
 }
 
-pub enter_finds : {S L P : Type 0} (F : Layouts S L P) → AreLaws F → (declared : List L) (id home : ℕ) (v : PassView P) → MayEnter v → v.turn.proc ≡ home
-    → Finds F declared (generation_word home) EnteredFound id v
-enter_finds F laws declared id home v may same table r at =
-    subst (λ i. EnteredFound v (get_or table.words i 0))
-    (ap (λ (z : Caller). generation_word z.proc) (known F declared table r id v at).generations.turn ∙ ap generation_word same)
+pub enter_moves : {S L P : Type 0} (F : Layouts S L P) → AreLaws F → (declared : List L) (id i : ℕ) (v : PassView P) → MayEnter v → i ≡ generation_word v.turn.proc
+    → Moves F declared (AtPhases (Turn (Enter v.number))) i (λ n. (n + 1) % 2 ^ 64) (λ found v. took steps.Enter i found (entered_view found v)) id v
+enter_moves F laws declared id i v may same =
+    logged_moves steps.Enter (λ n. n) (λ found o before is. is) (enter_goes F laws declared id i v may same)
+
+pub enter_finds : {S L P : Type 0} (F : Layouts S L P) → AreLaws F → (declared : List L) (id i : ℕ) (v : PassView P) → MayEnter v → i ≡ generation_word v.turn.proc
+    → Finds F declared i EnteredFound id v
+enter_finds F laws declared id i v may same table r at =
+    subst (λ j. EnteredFound v (get_or table.words j 0))
+    (ap (λ (z : Caller). generation_word z.proc) (known F declared table r id v at).generations.turn ∙ sym same)
     (entered_found F laws declared table r id v at may)

@@ -1,5 +1,5 @@
 -- Changing the next entry of the object that is swapped: to a mediator, or to an empty one.
-use Rattle.std.proofs.Common.{◌≡◌, ℕ, ◌+◌, ◌<◌, Bool, true, false, cond, ltb, List, [], ◌∷◌, Some, length, get_or, set, sym, refl, ap, ◌∙◌, subst, arith, length-set}
+use Rattle.std.proofs.Common.{◌≡◌, ℕ, ◌+◌, ◌<◌, Bool, true, false, cond, ltb, List, [], ◌∷◌, Some, length, set, sym, refl, ap, ◌∙◌, subst, arith, length-set}
 use Rattle.std.proofs.lemmas.Option.{slice_get-get_or, same_Some}
 use mathlib.Core.Option.{some}
 use lib.ListN.{get_elem?}
@@ -28,14 +28,18 @@ use Rattle.k42_board.specs.Seen.{IsSeatOf}
 use Rattle.k42_board.specs.Steps.{Seated, Tells}
 use Rattle.k42_board.specs.Swapping.{object_swapped, incarnation_swapped, next_entry, after_entry, MayChangeEntry, entry_after, entry_event, changed_view}
 use Rattle.k42_board.specs.Values.{incarnation_in}
+use Rattle.k42_board.specs.Log.{took}
 use Rattle.k42_board.specs.Views.{pass_in, word_begun}
 use Rattle.k42_board.specs.Words.{local_word}
 use Rattle.k42_board.specs.declared.view.PassView.{PassView}
+use Rattle.k42_board.specs.declared.view.StepName.TheVariants as steps
 use Rattle.k42_board.specs.declared.view.View.{View}
 use Rattle.k42_board.specs.declared.view.View.TheVariants.{Crew}
 use Rattle.k42_board.proofs.AtTables.{visited, Steps, visits, of_entry, entry_written, few_entries, written_shows}
-use Rattle.k42_board.proofs.Moves.{Moves, seat_allowed}
+use Rattle.k42_board.proofs.Logged.{logged_moves}
+use Rattle.k42_board.proofs.Moves.{Moves}
 use Rattle.k42_board.proofs.OnePass.{with_pass, known}
+use Rattle.k42_board.proofs.Retold.{retold, retold_allowed}
 use Rattle.k42_board.proofs.Staging.{IsStaged, StaysInRow, stays_staged, gen_there, stage_is, there, few, bits, staged_visit, KnowsStaged, swap_staged, rows_staged, rows_old, own_staged}
 
 either : (Q : SwapAt → Type 0) (b : Bool) (x y : SwapAt) → Q x → Q y → Q (cond b x y)
@@ -103,9 +107,6 @@ module _ {S L P : Type 0} (F : Layouts S L P) (laws : AreLaws F) (declared : Lis
 
   abbrev k : Object
   k = object_at s o
-
-  abbrev found : ℕ
-  found = get_or table.words (local_word p o) 0
 
   knows : KnowsPass F.tag_of r.state r.beside id v
   knows = known F declared table r id v at
@@ -206,7 +207,7 @@ module _ {S L P : Type 0} (F : Layouts S L P) (laws : AreLaws F) (declared : Lis
   staged : IsStaged r.state o k'
   staged = stays_staged r.state o k' stays
 
-  knows_staged : KnowsStaged F laws declared table r id v at next.named (entry_event c v.visitor.swap) k' r.state.kept swap' staged v.abandoned v.turned v.handed v.rows found
+  knows_staged : KnowsStaged F laws declared table r id v at next.named (entry_event c v.visitor.swap) k' r.state.kept swap' staged v.abandoned v.turned v.handed v.rows
   knows_staged = record {
     names = next.on_named;
     turned_is = knows.phases.swap.turned ∙ next.turned k (bits F laws declared table r id v at next.named) ∙ turned_as swap' k k' refl;
@@ -215,37 +216,59 @@ module _ {S L P : Type 0} (F : Layouts S L P) (laws : AreLaws F) (declared : Lis
     next = knows.phases.swap.next o next.named;
   }
 
-  pass_after : KnowsPass F.tag_of after r.beside id (changed_view found v)
+  pass_after : KnowsPass F.tag_of after r.beside id (changed_view v)
   pass_after =
-      own_staged F laws declared table r id v at next.named (entry_event c v.visitor.swap) k' r.state.kept swap' staged v.abandoned v.turned v.handed v.rows found
+      own_staged F laws declared table r id v at next.named (entry_event c v.visitor.swap) k' r.state.kept swap' staged v.abandoned v.turned v.handed v.rows
       r.beside.row_seat knows.names
-      (swap_staged F laws declared table r id v at next.named (entry_event c v.visitor.swap) k' r.state.kept swap' staged v.abandoned v.turned v.handed v.rows found knows_staged)
-      (rows_staged F laws declared table r id v at next.named (entry_event c v.visitor.swap) k' r.state.kept swap' staged v.abandoned v.turned v.handed v.rows found refl
-      (rows_old F laws declared table r id v at next.named (entry_event c v.visitor.swap) k' r.state.kept swap' staged v.abandoned v.turned v.handed v.rows found))
+      (swap_staged F laws declared table r id v at next.named (entry_event c v.visitor.swap) k' r.state.kept swap' staged v.abandoned v.turned v.handed v.rows knows_staged)
+      (rows_staged F laws declared table r id v at next.named (entry_event c v.visitor.swap) k' r.state.kept swap' staged v.abandoned v.turned v.handed v.rows refl
+      (rows_old F laws declared table r id v at next.named (entry_event c v.visitor.swap) k' r.state.kept swap' staged v.abandoned v.turned v.handed v.rows))
       knows.trace.kept
       (λ tag e. absurd (let old = (knows.trace.handed tag e).0 in let not = next.unmoved in cc))
       (λ moved. absurd (let not = next.on_unmoved in cc))
 
-  pub changes : Steps F declared r.state (AtPhases (entry_event c v.visitor.swap)) (with_pass table (set table.words (local_word p o) (entry_after v)) table.homes id (changed_view found v))
+  pub changes : Steps F declared r.state (AtPhases (entry_event c v.visitor.swap)) (with_pass table (set table.words (local_word p o) (entry_after v)) table.homes id (changed_view v))
   changes =
       let lt = there F laws declared table r id v at next.named in let small = few F laws declared table r id v at next.named in
       visits F laws declared table r id v at (entry_event c v.visitor.swap) (set s.objects o k') r.state.kept (at_stage v.visitor swap')
       (staged_visit F laws declared table r id v at next.named (entry_event c v.visitor.swap) k' r.state.kept swap' staged event_is.possible effect_is (λ e not. refl))
-      (set table.words (local_word p o) (entry_after v)) (changed_view found v)
-      (written_shows F laws declared table r id v at (set s.objects o k') (at_stage v.visitor swap') r.state.kept (local_word p o) (entry_after v) (changed_view found v)
+      (set table.words (local_word p o) (entry_after v)) (changed_view v)
+      (written_shows F laws declared table r id v at (set s.objects o k') (at_stage v.visitor swap') r.state.kept (local_word p o) (entry_after v) (changed_view v)
       (of_entry p o p_few small) (length-set s.objects o k')
       (entry_written table.words s.objects o p k d (entry_after v) r.shows.many_words r.shows.few_objects
       (few_entries F laws declared table r id v at) p_few small (slice_get-get_or s.objects o fresh_object lt) refl r.shows.objects))
       pass_after
 
-pub entry_moves : {S L P : Type 0} (F : Layouts S L P) → AreLaws F → (declared : List L) (id p : ℕ) (v : PassView P) → MayChangeEntry p v
-    → Moves F declared (AtPhases (entry_event v.number v.visitor.swap)) (local_word p (object_swapped v)) (λ word. entry_after v) changed_view id v
-entry_moves F laws declared id p v may = record { from = λ table r at. changes F laws declared table r id v at p may }
+entry_goes : {S L P : Type 0} (F : Layouts S L P) → AreLaws F → (declared : List L) (id p : ℕ) (v : PassView P) → MayChangeEntry p v
+    → Moves F declared (AtPhases (entry_event v.number v.visitor.swap)) (local_word p (object_swapped v)) (λ word. entry_after v) (λ found. changed_view) id v
+entry_goes F laws declared id p v may = record { from = λ table r at. changes F laws declared table r id v at p may }
 
--- as a swap of the word for this one
-pub entry_allowed : {S L P : Type 0} {callers : ℕ} (F : Layouts S L P) → AreLaws F → (declared : List L) (id p o : ℕ) (me : Seated P)
-    → object_swapped (pass_in me.0) ≡ o → IsSeatOf me (pass_in me.0) → MayChangeEntry p (pass_in me.0) → (new : ℕ) → new ≡ entry_after (pass_in me.0)
-    → (slots : ℕ) (step : Step (Slot P)) → Allows (Ruled F declared callers) slots id me (local_word p o) (λ n. new) (Tells changed_view step me)
-entry_allowed {P = P} {callers = callers} F laws declared id p o me same is may new word slots step =
-    subst (λ (z : ℕ × ℕ). Allows (Ruled F declared callers) slots id me (local_word p z.0) (λ n. z.1) (Tells changed_view step me)) (λ j. (same j, sym word j))
-    (seat_allowed (entry_moves F laws declared id p (pass_in me.0) may) me is slots step)
+pub entry_moves : {S L P : Type 0} (F : Layouts S L P) → AreLaws F → (declared : List L) (id p : ℕ) (v : PassView P) → MayChangeEntry p v
+    → Moves F declared (AtPhases (entry_event v.number v.visitor.swap)) (local_word p (object_swapped v)) (λ word. entry_after v) (λ found x. took steps.ChangeEntry (local_word p (object_swapped x)) found (changed_view x))
+    id v
+entry_moves F laws declared id p v may = record { from = (logged_moves steps.ChangeEntry (λ n. n) (λ found q before is. is) (entry_goes F laws declared id p v may)).from }
+
+-- as the play tells it, of a swap for this word at the word that the step names
+module _ {S L P : Type 0} (F : Layouts S L P) (laws : AreLaws F) (declared : List L) (id p : ℕ)
+    (me : Seated P) (is : IsSeatOf me (pass_in me.0)) (may : MayChangeEntry p (pass_in me.0))
+    (word o : ℕ) (at : word ≡ local_word p o) (same : object_swapped (pass_in me.0) ≡ o) (new : ℕ) (is_new : new ≡ entry_after (pass_in me.0)) where
+  entry_there : word ≡ local_word p (object_swapped (pass_in me.0))
+  entry_there = at ∙ ap (local_word p) (sym same)
+
+  abbrev entry_row : ℕ → PassView P → PassView P
+  entry_row found x = took steps.ChangeEntry (local_word p (object_swapped x)) found (changed_view x)
+
+  abbrev entry_play : ℕ → PassView P → PassView P
+  entry_play found x = took steps.ChangeEntry word found (changed_view x)
+
+  entry_same : (found : ℕ) → entry_row found (pass_in me.0) ≡ entry_play found (pass_in me.0)
+  entry_same found = ap (λ i. took steps.ChangeEntry i found (changed_view (pass_in me.0))) (sym entry_there)
+
+  pub entry_allowed : {callers : ℕ} (slots : ℕ) (step : Step (Slot P))
+      → Allows (Ruled F declared callers) slots id me word (λ n. new) (Tells entry_play step me)
+  entry_allowed {callers} slots step =
+      subst (λ (z : ℕ). Allows (Ruled F declared callers) slots id me word (λ n. z) (Tells entry_play step me)) (sym is_new)
+      (retold_allowed entry_row entry_play entry_same (entry_moves F laws declared id p (pass_in me.0) may) me is word entry_there slots step)
+
+  pub entry_told : (step : Step (Slot P)) (found : ℕ) (after : Seated P) → Tells entry_play step me found after → Tells entry_row step me found after
+  entry_told step found after told = retold entry_row entry_play entry_same me after is step found told

@@ -30,17 +30,20 @@ use Rattle.k42_joined.specs.Possible.{IsPossible}
 use Rattle.k42_board.specs.Cells.{Slot}
 use Rattle.k42_board.specs.Generations.{IsProcessorShown, AreGenerations, will_flip, grace_of}
 use Rattle.k42_board.specs.Gracing.{MayFlip, flip_word, flipped_view, turn_flipped, entries_in}
+use Rattle.k42_board.specs.Log.{took}
 use Rattle.k42_board.specs.Rule.{KnowsPass, Rule, Ruled}
 use Rattle.k42_board.specs.Seen.{IsSeatOf}
 use Rattle.k42_board.specs.Steps.{Seated, Tells}
 use Rattle.k42_board.specs.Values.{generation_value}
 use Rattle.k42_board.specs.Words.{generation_word, exits_word, role_word}
 use Rattle.k42_board.specs.declared.view.PassView.{PassView}
+use Rattle.k42_board.specs.declared.view.StepName.TheVariants as steps
 use Rattle.k42_board.specs.declared.view.View.{View}
 use Rattle.k42_board.specs.declared.view.View.TheVariants.{Crew}
 use Rattle.k42_board.proofs.Apart.{IsOfGenerations, of_processor}
 use Rattle.k42_board.proofs.Begun.{processor_stays, begun_goes, flips_of, rises_by}
 use Rattle.k42_board.proofs.Holding.{knows, sound, there, turn, procs_few, waits_many, in_step, base_is, role, alone, busy_test, ltb_same}
+use Rattle.k42_board.proofs.Logged.{logged_moves_at}
 use Rattle.k42_board.proofs.Moves.{Moves, seat_allowed}
 use Rattle.k42_board.proofs.OnePass.{with_pass}
 use Rattle.k42_board.proofs.Turning.{IsTurn, turned, visitors_after, state_after, with_counts, own_goes, rows_kept, same_swap}
@@ -237,7 +240,7 @@ module _ {S L P : Type 0} (F : Layouts S L P) (laws : AreLaws F) (declared : Lis
   pass_after =
       let old = knows F declared table r id v at in
       own_goes r.state g (visitors_after F laws declared table r id v at (Turn (Flip c)) g (visitor_at r.state.phases c) r.beside.counts) v
-      (turn_flipped v.turn (entries_in found)) v.visitor v.activities v.graces v.base v.rows v.granted v.swept found
+      (turn_flipped v.turn (entries_in found)) v.visitor v.activities v.graces v.base v.rows v.granted
       F.tag_of r.beside r.beside.counts id old
       (record {
         many = length-set r.state.phases.callers c _;
@@ -255,8 +258,8 @@ module _ {S L P : Type 0} (F : Layouts S L P) (laws : AreLaws F) (declared : Lis
         proc = refl;
         names = old.names;
         rows_known =
-            rows_kept r.state g [] v (turn_flipped v.turn (entries_in found)) v.visitor v.activities v.graces v.base v.rows v.granted v.swept found
-            refl refl refl refl refl old.phases.rows;
+            rows_kept r.state g [] v (turn_flipped v.turn (entries_in found)) v.visitor v.activities v.graces v.base v.rows v.granted
+            refl refl refl refl old.phases.rows;
       })
 
   -- the rule after the step, and its state
@@ -266,13 +269,15 @@ module _ {S L P : Type 0} (F : Layouts S L P) (laws : AreLaws F) (declared : Lis
       turned F laws declared table r id v at (Turn (Flip c)) g (visitor_at r.state.phases c) r.beside.counts turn_is i (flip_word v) (flipped_view found v)
       (subst (λ z. IsOfGenerations z) (omega arith) (of_processor p 0 p_few (omega arith))) generations_after pass_after
 
-pub flip_moves : {S L P : Type 0} (F : Layouts S L P) → AreLaws F → (declared : List L) (id p : ℕ) (v : PassView P) → MayFlip p v
-    → Moves F declared (AtPhases (Turn (Flip v.number))) (generation_word p) (λ word. flip_word v) flipped_view id v
-flip_moves F laws declared id p v may = record { from = λ table r at. flips_on F laws declared table r id v at p may }
+pub flip_moves : {S L P : Type 0} (F : Layouts S L P) → AreLaws F → (declared : List L) (id i p : ℕ) (v : PassView P) → MayFlip p v → i ≡ generation_word p
+    → Moves F declared (AtPhases (Turn (Flip v.number))) i (λ word. flip_word v) (λ found v. took steps.Flip i found (flipped_view found v)) id v
+flip_moves {S} {L} {P} F laws declared id i p v may same = logged_moves_at steps.Flip (λ n. n) (λ found o before is. is) same goes where
+  goes : Moves F declared (AtPhases (Turn (Flip v.number))) (generation_word p) (λ word. flip_word v) flipped_view id v
+  goes = record { from = λ table r at. flips_on F laws declared table r id v at p may }
 
-pub flip_allowed : {S L P : Type 0} (F : Layouts S L P) → AreLaws F → (declared : List L) (id callers p : ℕ) (v : PassView P) (me : Seated P) → IsSeatOf me v
-    → MayFlip p v → (stored : ℕ) → stored ≡ flip_word v → (slots : ℕ) (step : Step (Slot P))
-    → Allows (Ruled F declared callers) slots id me (generation_word p) (λ n. stored) (Tells flipped_view step me)
-flip_allowed F laws declared id callers p v me is may stored same slots step =
-    subst (λ (z : ℕ). Allows (Ruled F declared callers) slots id me (generation_word p) (λ n. z) (Tells flipped_view step me)) (sym same)
-    (seat_allowed (flip_moves F laws declared id p v may) me is slots step)
+pub flip_allowed : {S L P : Type 0} (F : Layouts S L P) → AreLaws F → (declared : List L) (id callers i p : ℕ) (v : PassView P) (me : Seated P) → IsSeatOf me v
+    → MayFlip p v → i ≡ generation_word p → (stored : ℕ) → stored ≡ flip_word v → (slots : ℕ) (step : Step (Slot P))
+    → Allows (Ruled F declared callers) slots id me i (λ n. stored) (Tells (λ found v. took steps.Flip i found (flipped_view found v)) step me)
+flip_allowed F laws declared id callers i p v me is may here stored same slots step =
+    subst (λ (z : ℕ). Allows (Ruled F declared callers) slots id me i (λ n. z) (Tells (λ found v. took steps.Flip i found (flipped_view found v)) step me)) (sym same)
+    (seat_allowed (flip_moves F laws declared id i p v may here) me is slots step)

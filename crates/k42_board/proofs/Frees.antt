@@ -13,13 +13,12 @@ use Rattle.atomic_table.specs.Table.{State, Step, Allows}
 use Rattle.k42_places.specs.Places.{EachPlace}
 use Rattle.k42_places.proofs.EachPlaces.{EachPlace-set_else}
 use Rattle.gen_core.specs.Plain.{Caller}
-use Rattle.gen_core.specs.State.{caller_at, proc_at}
+use Rattle.gen_core.specs.State.{caller_at}
 use Rattle.gen_core.specs.declared.state.GraceAt.TheVariants as graces
 use Rattle.phase_core.specs.Event as phases
 use Rattle.phase_core.specs.Plain.{Object, Visitor, Phases}
 use Rattle.phase_core.specs.State.{object_at, visitor_at, note_at, span_at, fresh_object}
 use Rattle.phase_core.proofs.InSound.{object_known, visitor_known}
-use Rattle.turn_core.specs.Names.{names}
 use Rattle.k42_stamp.specs.Laws.{AreLaws}
 use Rattle.k42_stamp.specs.Layouts.{Layouts}
 use Rattle.k42_joined.specs.Effects.{effect}
@@ -27,23 +26,25 @@ use Rattle.k42_joined.specs.Event.{AtPhases}
 use Rattle.k42_joined.specs.Plain.{Joined}
 use Rattle.k42_joined.specs.Possible.{IsPossible}
 use Rattle.k42_board.specs.Cells.{Slot}
-use Rattle.k42_board.specs.Freeing.{MayFree, number_noted, freed_view, freed_object, MarkFound}
+use Rattle.k42_board.specs.Freeing.{MayFree, number_noted, freed_view, MarkFound}
+use Rattle.k42_board.specs.Log.{took, step_at, has_swept}
 use Rattle.k42_board.specs.Phases.{IsObjectShown, AreObjects, IsLastFreed, KnowsRows}
 use Rattle.k42_board.specs.Rule.{KnowsPass, Rule, Ruled}
 use Rattle.k42_board.specs.Seen.{IsSeatOf}
 use Rattle.k42_board.specs.Steps.{Seated, TellsWith}
-use Rattle.k42_board.specs.Views.{hears}
-use Rattle.k42_board.specs.Words.{local_word, object_word, freed_word, many_words}
+use Rattle.k42_board.specs.Words.{local_word, object_word, freed_word, freed_object, many_words}
 use Rattle.k42_board.specs.declared.view.PassView.{PassView}
+use Rattle.k42_board.specs.declared.view.StepName.TheVariants as steps
+use Rattle.k42_board.specs.declared.view.Taken.{Taken}
 use Rattle.k42_board.specs.declared.view.View.{View}
 use Rattle.k42_board.specs.declared.view.View.TheVariants.{Crew}
 use Rattle.k42_board.proofs.AtTables.{visited, Steps, AreSameRows, rows_same, same_visit, same_left, same_on, swap_stays, rows_stay, trace_stays, visits, written_shows, few_entries, IsOfTables}
 use Rattle.k42_board.proofs.Holding.{role}
+use Rattle.k42_board.proofs.Logged.{known_relogged}
 use Rattle.k42_board.proofs.Moves.{Moves, Finds, seat_allowed_with}
 use Rattle.k42_board.proofs.Notings.{note_there}
 use Rattle.k42_board.proofs.OnePass.{with_pass, known}
-use Rattle.k42_board.proofs.Recounted.{recounted}
-use Rattle.k42_board.proofs.Turning.{own_goes, same_swap, stayed}
+use Rattle.k42_board.proofs.Turning.{stayed}
 
 of_freed : (o : ℕ) → o < 16 → IsOfTables (freed_word o)
 of_freed o small = record {
@@ -77,6 +78,9 @@ freed_written words objects o k n wide many long small here shown =
           let near : p < 8 = let there = slice_get_within m.entries p x f in let most = long q m e in omega (arith, there, most) in
           get_or-set_other words (freed_word o) (local_word p q) n 0 (λ h. omega (arith, small, near, lt, h)) ∙ old.entries p x f;
     })
+
+freed_object_is : (o : ℕ) → freed_object (freed_word o) ≡ o
+freed_object_is o = omega arith
 
 module _ {S L P : Type 0} (F : Layouts S L P) (laws : AreLaws F) (declared : List L)
     (table : State (Slot P) (View P)) (r : Rule F declared table) (id : ℕ) (v : PassView P)
@@ -167,13 +171,17 @@ module _ {S L P : Type 0} (F : Layouts S L P) (laws : AreLaws F) (declared : Lis
   number_is : unwrap_or (note_at (visitor_at s c).noted o) 0 ≡ n
   number_is = ap (λ (z : Visitor). unwrap_or (note_at z.noted o) 0) visitor_here
 
+  -- what the pass has taken then
+  abbrev log : List Taken
+  log = step_at steps.Free (freed_word o) found ∷ v.log
+
   -- of which objects all noted rows are freed now
   swept_now : (t : Phases) → ((q : ℕ) → (object_at s q).freed ≤ (object_at t q).freed) → n ≤ (object_at t o).freed
-      → (q m : ℕ) → names (o ∷ v.swept) q ≡ true → note_at v.visitor.noted q ≡ Some m → m ≤ (object_at t q).freed
-  swept_now t more done q m named note = by_test (eqb o q) refl named where
-    by_test : (b : Bool) → eqb o q ≡ b → (b || names v.swept q) ≡ true → m ≤ (object_at t q).freed
+      → (q m : ℕ) → has_swept log q ≡ true → note_at v.visitor.noted q ≡ Some m → m ≤ (object_at t q).freed
+  swept_now t more done q m named note = by_test (eqb (freed_object (freed_word o)) q) refl named where
+    by_test : (b : Bool) → eqb (freed_object (freed_word o)) q ≡ b → (b || has_swept v.log q) ≡ true → m ≤ (object_at t q).freed
     by_test true e is =
-        let same : o ≡ q = eqb-true o q e in
+        let same : o ≡ q = sym (freed_object_is o) ∙ eqb-true (freed_object (freed_word o)) q e in
         let number : n ≡ m = same_Some n m (sym noted ∙ ap (note_at v.visitor.noted) same ∙ note) in
         subst (λ (z : ℕ). m ≤ (object_at t z).freed) same (omega (arith, done, number))
     by_test false e is = let was = mine.phases.rows.swept q m is note in let rise = more q in omega (arith, was, rise)
@@ -193,7 +201,7 @@ module _ {S L P : Type 0} (F : Layouts S L P) (laws : AreLaws F) (declared : Lis
   y = record v.visitor { freeing = set v.visitor.freeing o (found, n) }
 
   abbrev w : PassView P
-  w = hears found (record v { visitor = y; swept = o ∷ v.swept })
+  w = took steps.Free (freed_word o) found (record v { visitor = y })
 
   abbrev t : Joined L
   t = visited r.state (set s.objects o k') (set s.callers c x) r.state.kept
@@ -275,89 +283,64 @@ module _ {S L P : Type 0} (F : Layouts S L P) (laws : AreLaws F) (declared : Lis
         (freed_written table.words s.objects o k m r.shows.many_words r.shows.few_objects (few_entries F laws declared table r id v at) small at_o r.shows.objects))
         pass_after
 
-    -- the pass lists the row
-    rows_listed : Steps F declared r.state (AtPhases (phases.Free c o))
-        (with_pass table (set table.words (freed_word o) m) table.homes id (record w { freed = record { object = o; incarnation = found } ∷ v.freed }))
-    rows_listed =
-        let after = frees_rows in
-        let again = recounted F declared table (set table.words (freed_word o) m) table.homes id w at after.0 (record { object = o; incarnation = found } ∷ v.freed)
-        v.installed v.refused v.knocked v.stalls in
-        (again.0, again.1 ∙ after.1, after.2)
-
   -- or not: nothing is freed
 
   abbrev w' : PassView P
-  w' = hears found (record v { swept = o ∷ v.swept })
+  w' = took steps.Free (freed_word o) found v
 
   nothing_freed : m ≤ k.freed → Steps F declared r.state (AtPhases (phases.Free c o)) (with_pass table (set table.words (freed_word o) found) table.homes id w')
   nothing_freed above =
       let after = stayed F declared table r id v at (freed_word o) w'
-      (own_goes r.state r.state.phases.turns r.state.phases.callers v v.turn v.visitor v.activities v.graces v.base v.rows v.granted (o ∷ v.swept) found
-      F.tag_of r.beside r.beside.counts id mine
-      (record {
-        many = refl;
-        rises = λ p. le_refl (proc_at r.state.phases.turns p).generation;
-        generations = record { turn = mine.generations.turn; activities = mine.generations.activities; graces = mine.generations.graces; base = mine.generations.base };
-        visitor_is = mine.phases.visitor;
-        place = refl;
-        swap = same_swap v.visitor.swap;
-        proc = refl;
-        names = mine.names;
-        rows_known = record {
-          old = mine.phases.rows.old;
-          granted = mine.phases.rows.granted;
-          swept = swept_now s (λ q. le_refl (object_at s q).freed) (let number = number_is in omega (arith, number, above));
-          spans = mine.phases.rows.spans;
-        };
-      })) in
+      (known_relogged F.tag_of r.state r.beside id v log (swept_now s (λ q. le_refl (object_at s q).freed) (let number = number_is in omega (arith, number, above))) mine) in
       (after.0, after.1 ∙ ap (λ (b : Bool). record r.state { phases = cond b (record s { objects = set s.objects o k'; callers = set s.callers c x }) s }) (sym (le-ltb k.freed m above)), frees)
 
   -- the rule after the step, and its state
-  pub frees_on : Steps F declared r.state (AtPhases (phases.Free c o)) (with_pass table (set table.words (freed_word o) (max found n)) table.homes id (freed_view o found v))
+  pub frees_on : Steps F declared r.state (AtPhases (phases.Free c o)) (with_pass table (set table.words (freed_word o) (max found n)) table.homes id (took steps.Free (freed_word o) found (freed_view o found v)))
   frees_on = by_test (ltb found n) refl where
     by_test : (b : Bool) → ltb found n ≡ b
         → Steps F declared r.state (AtPhases (phases.Free c o))
         (with_pass table (set table.words (freed_word o) (max found n)) table.homes id
-        (hears found (record v {
+        (took steps.Free (freed_word o) found (record v {
           visitor = cond b (record v.visitor { freeing = set v.visitor.freeing o (found, n) }) v.visitor;
-          swept = o ∷ v.swept;
-          freed = cond b (record { object = o; incarnation = found } ∷ v.freed) v.freed;
         })))
     by_test true e =
         let less : found < n = ltb-true found n e in
         let is = found_is in let number = number_is in
-        subst (λ (z : ℕ). Steps F declared r.state (AtPhases (phases.Free c o)) (with_pass table (set table.words (freed_word o) z) table.homes id
-        (record w { freed = record { object = o; incarnation = found } ∷ v.freed })))
-        (number ∙ sym (max-eq_right {n = found} {m = n} (omega (arith, less)))) (rows_listed (omega (arith, less, is, number)))
+        subst (λ (z : ℕ). Steps F declared r.state (AtPhases (phases.Free c o)) (with_pass table (set table.words (freed_word o) z) table.homes id w))
+        (number ∙ sym (max-eq_right {n = found} {m = n} (omega (arith, less)))) (frees_rows (omega (arith, less, is, number)))
     by_test false e =
         let more : n ≤ found = ltb-false found n e in
         let is = found_is in let number = number_is in
         subst (λ (z : ℕ). Steps F declared r.state (AtPhases (phases.Free c o)) (with_pass table (set table.words (freed_word o) z) table.homes id w'))
         (sym (max-eq_left {n = found} {m = n} more)) (nothing_freed (omega (arith, more, is, number)))
 
-pub free_moves : {S L P : Type 0} (F : Layouts S L P) → AreLaws F → (declared : List L) (id objects o : ℕ) (v : PassView P) → MayFree objects o v
-    → Moves F declared (AtPhases (phases.Free v.number o)) (freed_word o) (λ word. max word (number_noted v o)) (freed_view o) id v
-free_moves F laws declared id objects o v may = record { from = λ table r at. frees_on F laws declared table r id v at objects o may }
+pub free_moves : {S L P : Type 0} (F : Layouts S L P) → AreLaws F → (declared : List L) (id i objects o : ℕ) (v : PassView P) → MayFree objects o v → i ≡ freed_word o
+    → Moves F declared (AtPhases (phases.Free v.number o)) i (λ word. max word (number_noted v o)) (λ found v. took steps.Free i found (freed_view o found v)) id v
+free_moves F laws declared id i objects o v may same =
+    subst (λ (j : ℕ). Moves F declared (AtPhases (phases.Free v.number o)) j (λ word. max word (number_noted v o)) (λ found v. took steps.Free j found (freed_view o found v)) id v)
+    (sym same) (record { from = λ table r at. frees_on F laws declared table r id v at objects o may })
 
-pub free_finds : {S L P : Type 0} (F : Layouts S L P) → AreLaws F → (declared : List L) (id objects o : ℕ) (v : PassView P) → MayFree objects o v
-    → Finds F declared (freed_word o) (MarkFound o) id v
-free_finds F laws declared id objects o v may table r at = mark_found F laws declared table r id v at objects o may
+free_finds : {S L P : Type 0} (F : Layouts S L P) → AreLaws F → (declared : List L) (id i objects o : ℕ) (v : PassView P) → MayFree objects o v → i ≡ freed_word o
+    → Finds F declared i (MarkFound o) id v
+free_finds F laws declared id i objects o v may same table r at =
+    subst (λ (j : ℕ). MarkFound o v (get_or table.words j 0)) (sym same) (mark_found F laws declared table r id v at objects o may)
 
-freed_object_is : (o : ℕ) → freed_object (freed_word o) ≡ o
-freed_object_is o = omega arith
+-- the object of the step's word is this one
+object_of_word : (i o : ℕ) → i ≡ freed_word o → freed_object i ≡ o
+object_of_word i o same = ap freed_object same ∙ freed_object_is o
 
-pub free_allowed : {S L P : Type 0} (F : Layouts S L P) → AreLaws F → (declared : List L) (id callers objects o : ℕ) (v : PassView P) (me : Seated P) → IsSeatOf me v
-    → MayFree objects o v → (number : ℕ) → number_noted v o ≡ number → (slots : ℕ) (step : Step (Slot P))
-    → Allows (Ruled F declared callers) slots id me (freed_word o) (λ n. max n number)
-    (TellsWith (freed_view (freed_object (freed_word o))) (MarkFound (freed_object (freed_word o))) step me)
-free_allowed F laws declared id callers objects o v me is may number same slots step =
-    subst (λ (z : ℕ × ℕ). Allows (Ruled F declared callers) slots id me (freed_word o) (λ n. max n z.0) (TellsWith (freed_view z.1) (MarkFound z.1) step me))
-    (λ j. (same j, sym (freed_object_is o) j))
-    (seat_allowed_with (free_moves F laws declared id objects o v may) (MarkFound o) (free_finds F laws declared id objects o v may) me is slots step)
+pub free_allowed : {S L P : Type 0} (F : Layouts S L P) → AreLaws F → (declared : List L) (id callers i objects o : ℕ) (v : PassView P) (me : Seated P) → IsSeatOf me v
+    → MayFree objects o v → i ≡ freed_word o → (number : ℕ) → number_noted v o ≡ number → (slots : ℕ) (step : Step (Slot P))
+    → Allows (Ruled F declared callers) slots id me i (λ n. max n number)
+    (TellsWith (λ found v. took steps.Free i found (freed_view (freed_object i) found v)) (MarkFound (freed_object i)) step me)
+free_allowed F laws declared id callers i objects o v me is may here number same slots step =
+    subst (λ (z : ℕ × ℕ). Allows (Ruled F declared callers) slots id me i (λ n. max n z.0) (TellsWith (λ found v. took steps.Free i found (freed_view z.1 found v)) (MarkFound z.1) step me))
+    (λ j. (same j, sym (object_of_word i o here) j))
+    (seat_allowed_with (free_moves F laws declared id i objects o v may here) (MarkFound o) (free_finds F laws declared id i objects o v may here) me is slots step)
 
 -- what the step tells is of this object
-pub free_told : {P : Type 0} (o : ℕ) (me after : Seated P) (step : Step (Slot P)) (found : ℕ)
-    → TellsWith (freed_view (freed_object (freed_word o))) (MarkFound (freed_object (freed_word o))) step me found after
-    → TellsWith (freed_view o) (MarkFound o) step me found after
-free_told o me after step found told =
-    subst (λ (z : ℕ). TellsWith (freed_view z) (MarkFound z) step me found after) (freed_object_is o) told
+pub free_told : {P : Type 0} (i o : ℕ) (me after : Seated P) → i ≡ freed_word o → (step : Step (Slot P)) (found : ℕ)
+    → TellsWith (λ found v. took steps.Free i found (freed_view (freed_object i) found v)) (MarkFound (freed_object i)) step me found after
+    → TellsWith (λ found v. took steps.Free i found (freed_view o found v)) (MarkFound o) step me found after
+free_told i o me after here step found told =
+    subst (λ (z : ℕ). TellsWith (λ found v. took steps.Free i found (freed_view z found v)) (MarkFound z) step me found after) (object_of_word i o here) told

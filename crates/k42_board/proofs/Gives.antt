@@ -34,18 +34,21 @@ use Rattle.k42_joined.specs.Swapping.{holds_none}
 use Rattle.k42_board.specs.Cells.{Slot}
 use Rattle.k42_board.specs.Generations.{AreGenerations}
 use Rattle.k42_board.specs.Gracing.{MayGiveRole, given_view, RowsGiven}
+use Rattle.k42_board.specs.Log.{took}
 use Rattle.k42_board.specs.Phases.{IsOld}
 use Rattle.k42_board.specs.Rule.{AreOnce, KnowsPass, Rule, Ruled}
 use Rattle.k42_board.specs.Seen.{IsSeatOf}
 use Rattle.k42_board.specs.Steps.{Seated, TellsWith}
 use Rattle.k42_board.specs.Words.{role_word}
 use Rattle.k42_board.specs.declared.view.PassView.{PassView}
+use Rattle.k42_board.specs.declared.view.StepName.TheVariants as steps
 use Rattle.k42_board.specs.declared.view.Row.{Row}
 use Rattle.k42_board.specs.declared.view.View.{View}
 use Rattle.k42_board.specs.declared.view.View.TheVariants.{Crew}
 use Rattle.k42_board.proofs.Apart.{of_role}
 use Rattle.k42_board.proofs.Begun.{processor_stays, begun_goes}
 use Rattle.k42_board.proofs.Holding.{knows, sound, there, turn, procs_few, role}
+use Rattle.k42_board.proofs.Logged.{logged_moves}
 use Rattle.k42_board.proofs.Moves.{Moves, Finds, seat_allowed_with}
 use Rattle.k42_board.proofs.OnePass.{with_pass}
 use Rattle.k42_board.proofs.Turning.{IsTurn, turned, visitors_after, state_after, with_counts, own_goes, same_swap}
@@ -174,7 +177,7 @@ module _ {S L P : Type 0} (F : Layouts S L P) (laws : AreLaws F) (declared : Lis
   pass_after : KnowsPass F.tag_of (state_after F laws declared table r id v at (Turn (GiveRole c)) g y r.beside.counts) (with_counts r.beside r.beside.counts) id w
   pass_after =
       own_goes r.state g (visitors_after F laws declared table r id v at (Turn (GiveRole c)) g y r.beside.counts) v
-      (role_given v.turn) (record v.visitor { freeing = replicate (length v.visitor.freeing) (0, 0) }) v.activities v.graces v.base (drop v.granted v.rows) 0 v.swept v.heard
+      (role_given v.turn) (record v.visitor { freeing = replicate (length v.visitor.freeing) (0, 0) }) v.activities v.graces v.base (drop v.granted v.rows) 0
       F.tag_of r.beside r.beside.counts id mine
       (record {
         many = length-set r.state.phases.callers c y;
@@ -215,8 +218,10 @@ module _ {S L P : Type 0} (F : Layouts S L P) (laws : AreLaws F) (declared : Lis
   rows_given found = mine.phases.rows.granted
 
 pub give_moves : {S L P : Type 0} (F : Layouts S L P) → AreLaws F → (declared : List L) (id : ℕ) (v : PassView P) → MayGiveRole v
-    → Moves F declared (AtPhases (Turn (GiveRole v.number))) role_word (λ word. 0) (λ found x. given_view x) id v
-give_moves F laws declared id v may = record { from = λ table r at. gives_on F laws declared table r id v at may }
+    → Moves F declared (AtPhases (Turn (GiveRole v.number))) role_word (λ word. 0) (λ found v. took steps.GiveRole role_word 0 (given_view v)) id v
+give_moves {S} {L} {P} F laws declared id v may = logged_moves steps.GiveRole (λ n. 0) (λ found o before is. is) goes where
+  goes : Moves F declared (AtPhases (Turn (GiveRole v.number))) role_word (λ word. 0) (λ found x. given_view x) id v
+  goes = record { from = λ table r at. gives_on F laws declared table r id v at may }
 
 pub give_finds : {S L P : Type 0} (F : Layouts S L P) → AreLaws F → (declared : List L) (id : ℕ) (v : PassView P) → MayGiveRole v
     → Finds F declared role_word RowsGiven id v
@@ -224,6 +229,6 @@ give_finds F laws declared id v may table r at = rows_given F laws declared tabl
 
 pub give_allowed : {S L P : Type 0} (F : Layouts S L P) → AreLaws F → (declared : List L) (id callers : ℕ) (v : PassView P) (me : Seated P) → IsSeatOf me v
     → MayGiveRole v → (slots : ℕ) (step : Step (Slot P))
-    → Allows (Ruled F declared callers) slots id me role_word (λ n. 0) (λ n. TellsWith (λ stored x. given_view x) RowsGiven step me 0)
+    → Allows (Ruled F declared callers) slots id me role_word (λ n. 0) (λ n. TellsWith (λ stored v. took steps.GiveRole role_word 0 (given_view v)) RowsGiven step me 0)
 give_allowed F laws declared id callers v me is may slots step =
     seat_allowed_with (give_moves F laws declared id v may) RowsGiven (give_finds F laws declared id v may) me is slots step

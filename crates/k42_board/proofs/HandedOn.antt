@@ -383,8 +383,9 @@ module _ {S L P : Type 0} (F : Layouts S L P) (laws : AreLaws F) (agree : AreOne
       }) n in
       (after.0, after.1, possible)
 
-pub hand_moves : {S L P : Type 0} (F : Layouts S L P) → AreLaws F → AreOneWay F → (declared : List L) (id : ℕ) (v : PassView P) (from onto : List (Content P)) (to : L) (answer : Answer)
-    → MayHandOn F declared from onto to answer v → (n : ℕ)
-    → Moves F declared (HandWith v.number (numbers_of from) (numbers_of onto) to (entry_hand v (numbers_of from) (numbers_of onto) (F.act_of to) answer)) n (λ word. word)
-    (λ found. hands_at from onto (entry_hand v (numbers_of from) (numbers_of onto) (F.act_of to) answer) (F.tag_of to)) id v
-hand_moves F laws agree declared id v from onto to answer may n = record { from = λ table r at. hand_steps F laws agree declared table r id v at from onto to answer may n }
+pub hand_moves : {S L P : Type 0} (F : Layouts S L P) → AreLaws F → AreOneWay F → (declared : List L) (id : ℕ) (v : PassView P) (from onto : List (Content P)) (to : L) (entry : Entry)
+    → MayHandOn F declared from onto to entry.answer v × (entry ≡ entry_hand v (numbers_of from) (numbers_of onto) (F.act_of to) entry.answer) → (n : ℕ)
+    → Moves F declared (HandWith v.number (numbers_of from) (numbers_of onto) to entry) n (λ word. word) (λ found. hands_at from onto entry (F.tag_of to)) id v
+hand_moves F laws agree declared id v from onto to entry may n =
+    subst (λ (e : Entry). Moves F declared (HandWith v.number (numbers_of from) (numbers_of onto) to e) n (λ word. word) (λ found. hands_at from onto e (F.tag_of to)) id v)
+    (sym may.1) (record { from = λ table r at. hand_steps F laws agree declared table r id v at from onto to entry.answer may.0 n })

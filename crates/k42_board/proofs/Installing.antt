@@ -25,20 +25,23 @@ use Rattle.turn_core.specs.Plain as turns
 use Rattle.k42_board.specs.Cells.{Slot}
 use Rattle.k42_board.specs.Rule.{KnowsPass, Rule, Ruled}
 use Rattle.k42_board.specs.Seen.{IsSeatOf}
-use Rattle.k42_board.specs.Views.{stalled, pass_in}
+use Rattle.k42_board.specs.Log.{took}
+use Rattle.k42_board.specs.Views.{pass_in}
 use Rattle.k42_board.specs.Steps.{Seated, Tells}
-use Rattle.k42_board.specs.Tabling.{went, entry_object, layout_learned, MayInstall, empty_before, direct_after, direct_view, installs, installed_view}
+use Rattle.k42_board.specs.Tabling.{went, entry_object, layout_learned, MayInstall, empty_before, direct_after, direct_view, ended_view, installs, installed_view}
 use Rattle.k42_board.specs.Values.{local_value}
 use Rattle.k42_board.specs.Words.{local_word}
 use Rattle.k42_board.specs.declared.view.PassView.{PassView}
+use Rattle.k42_board.specs.declared.view.StepName.TheVariants as steps
 use Rattle.k42_board.specs.declared.view.View.{View}
 use Rattle.k42_board.specs.declared.view.View.TheVariants.{Crew}
 use Rattle.k42_board.proofs.AtTables.{Steps, AreSameRows, same_visit, visits, goes, of_entry, entry_written, rows_same, few_entries, written_shows}
 use Rattle.k42_board.proofs.Fields.{IsEntryOf}
 use Rattle.k42_board.proofs.Looking.{missed_is, place_is, reads, entry_at_home, home_there', object_is}
-use Rattle.k42_board.proofs.Moves.{Moves, seat_allowed}
+use Rattle.k42_board.proofs.Logged.{logged_moves}
+use Rattle.k42_board.proofs.Moves.{Moves}
 use Rattle.k42_board.proofs.OnePass.{with_pass, known}
-use Rattle.k42_board.proofs.Recounted.{recounted}
+use Rattle.k42_board.proofs.Retold.{retold, retold_allowed}
 
 pub both_or_none : (a b : Bool) → (a ≡ true → b ≡ true) → (b ≡ true → a ≡ true) → a ≡ b
 both_or_none true b f g = sym (f refl)
@@ -151,7 +154,7 @@ module _ {S L P : Type 0} (F : Layouts S L P) (laws : AreLaws F) (declared : Lis
   abbrev Goal : Bool → Type 0
   Goal b =
       Steps F declared r.state (AtPhases (Install c o)) (with_pass table (set table.words (local_word p o) (cond b (direct_after v) found)) table.homes id
-      (cond b (went found v (at_place v.visitor (Direct o i)) v.layout) (went found v (at_place v.visitor Out) None)))
+      (cond b (direct_view o v) (ended_view v)))
 
   abbrev x : Visitor
   x = at_place v.visitor (Direct o i)
@@ -164,59 +167,59 @@ module _ {S L P : Type 0} (F : Layouts S L P) (laws : AreLaws F) (declared : Lis
 
   by_test : (b : Bool) → effect r.state (AtPhases (Install c o)) ≡ inst b v.visitor p l → Goal b
   by_test false is =
-      reads F laws declared table r id v at (Install c o) Out v.visitor.read None found possible (sym is)
+      reads F laws declared table r id v at (Install c o) Out v.visitor.read None possible (sym is)
       (λ m q j told inside. absurd inside) (λ served none. absurd (cc)) (local_word p o)
   by_test true is =
       visits F laws declared table r id v at (Install c o) objects r.state.kept x
       (same_visit F laws declared table r id v at (Install c o) objects r.state.kept x possible (sym is) rows (λ e not. refl))
-      (set table.words (local_word p o) (direct_after v)) (went found v x v.layout)
-      (written_shows F laws declared table r id v at objects x r.state.kept (local_word p o) (direct_after v) (went found v x v.layout)
+      (set table.words (local_word p o) (direct_after v)) (went v x v.layout)
+      (written_shows F laws declared table r id v at objects x r.state.kept (local_word p o) (direct_after v) (went v x v.layout)
       (of_entry p o p_few few) rows.many
       (entry_written table.words s.objects o p k d (direct_after v) r.shows.many_words r.shows.few_objects
       (few_entries F laws declared table r id v at) p_few few (slice_get-get_or s.objects o fresh_object there) refl r.shows.objects))
-      (goes F laws declared table r id v at objects (Direct o i) v.visitor.read v.layout found rows
+      (goes F laws declared table r id v at objects (Direct o i) v.visitor.read v.layout rows
       (record {
         layout_is = λ m q j told inside. (rows.each q).layout ∙ ap (λ z. (object_at s z).layout) (sym inside.0) ∙ layout_is ∙ ap (λ z. unwrap_or z 0) told;
         learned = λ served none. absurd (let has = may.rooted in cc);
       }))
 
-  -- the pass keeps that it has installed, or by which word it was held up
-  abbrev Counted : Bool → Type 0
-  Counted b =
-      Steps F declared r.state (AtPhases (Install c o)) (with_pass table (set table.words (local_word p o) (cond b (direct_after v) found)) table.homes id
-      (cond b (direct_view o found v) (stalled found (went found v (at_place v.visitor Out) None))))
+  pub installed : Goal (eqb found (empty_before v))
+  installed = by_test (eqb found (empty_before v)) effect_is
 
-  counted : (b : Bool) → Goal b → Counted b
-  counted false after =
-      let again = recounted F declared table (set table.words (local_word p o) found) table.homes id (went found v (at_place v.visitor Out) None) at after.0 v.freed v.installed v.refused v.knocked
-      (found ∷ v.stalls) in
-      (again.0, again.1 ∙ after.1, after.2)
-  counted true after =
-      let again = recounted F declared table (set table.words (local_word p o) (direct_after v)) table.homes id (went found v x v.layout) at after.0 v.freed (o ∷ v.installed) v.refused v.knocked v.stalls in
-      (again.0, again.1 ∙ after.1, after.2)
+install_goes : {S L P : Type 0} (F : Layouts S L P) → AreLaws F → (declared : List L) (id o cell : ℕ) (v : PassView P) → MayInstall (length declared) o cell v
+    → Moves F declared (AtPhases (Install v.number o)) (local_word v.turn.proc o) (installs v) (installed_view o) id v
+install_goes F laws declared id o cell v may = record { from = λ table r at. installed F laws declared table r id v at o cell may }
 
-  pub installed : Counted (eqb found (empty_before v))
-  installed = counted (eqb found (empty_before v)) (by_test (eqb found (empty_before v)) effect_is)
+pub install_moves : {S L P : Type 0} (F : Layouts S L P) → AreLaws F → (declared : List L) (id o cell : ℕ) (v : PassView P) → MayInstall (length declared) o cell v
+    → Moves F declared (AtPhases (Install v.number o)) (local_word v.turn.proc o) (installs v)
+    (λ found x. took steps.Install (local_word x.turn.proc o) found (installed_view o found x)) id v
+install_moves F laws declared id o cell v may = record { from = (logged_moves steps.Install (λ n. n) (λ found q before is. is) (install_goes F laws declared id o cell v may)).from }
 
-pub install_moves : {S L P : Type 0} (F : Layouts S L P) → AreLaws F → (declared : List L) (id home o cell : ℕ) (v : PassView P)
-    → MayInstall (length declared) o cell v → v.turn.proc ≡ home
-    → Moves F declared (AtPhases (Install v.number o)) (local_word home o) (installs v) (installed_view o) id v
-install_moves F laws declared id home o cell v may same =
-    subst (λ p. Moves F declared (AtPhases (Install v.number o)) (local_word p o) (installs v) (installed_view o) id v) same
-    (record { from = λ table r at. installed F laws declared table r id v at o cell may })
-
--- as an exchange of these words
-module _ {S L P : Type 0} (F : Layouts S L P) (laws : AreLaws F) (declared : List L) (id home o cell : ℕ) (few : o < 16)
+-- as the play tells it, of an exchange of these words at the word that the step names
+module _ {S L P : Type 0} (F : Layouts S L P) (laws : AreLaws F) (declared : List L) (id o cell : ℕ) (few : o < 16)
     (me : Seated P) (is : IsSeatOf me (pass_in me.0)) (may : MayInstall (length declared) o cell (pass_in me.0))
-    (same : (pass_in me.0).turn.proc ≡ home) (old new : ℕ)
-    (words : (old ≡ empty_before (pass_in me.0)) × (new ≡ direct_after (pass_in me.0))) where
-  pub install_allowed : {callers : ℕ} (slots : ℕ) (step : Step (Slot P))
-      → Allows (Ruled F declared callers) slots id me (local_word home o) (λ n. either (eqb n old) new n) (Tells (installed_view (entry_object (local_word home o))) step me)
-  install_allowed {callers} slots step =
-      subst (λ (z : ℕ × ℕ × ℕ). Allows (Ruled F declared callers) slots id me (local_word home o) (λ n. either (eqb n z.0) z.1 n) (Tells (installed_view z.2) step me))
-      (λ j. (sym words.0 j, sym words.1 j, sym (object_is home o few) j))
-      (seat_allowed (install_moves F laws declared id home o cell (pass_in me.0) may same) me is slots step)
+    (word home : ℕ) (at : word ≡ local_word home o) (same : (pass_in me.0).turn.proc ≡ home)
+    (old new : ℕ) (words : (old ≡ empty_before (pass_in me.0)) × (new ≡ direct_after (pass_in me.0))) where
+  install_there : word ≡ local_word (pass_in me.0).turn.proc o
+  install_there = at ∙ ap (λ p. local_word p o) (sym same)
 
-  pub install_told : (step : Step (Slot P)) (found : ℕ) (after : Seated P) → Tells (installed_view (entry_object (local_word home o))) step me found after
-      → Tells (installed_view o) step me found after
-  install_told step found after told = subst (λ q. Tells (installed_view q) step me found after) (object_is home o few) told
+  abbrev install_row : ℕ → PassView P → PassView P
+  install_row found x = took steps.Install (local_word x.turn.proc o) found (installed_view o found x)
+
+  abbrev install_play : ℕ → PassView P → PassView P
+  install_play found x = took steps.Install word found (installed_view (entry_object word) found x)
+
+  install_same : (found : ℕ) → install_row found (pass_in me.0) ≡ install_play found (pass_in me.0)
+  install_same found =
+      ap (λ (z : ℕ × ℕ). took steps.Install z.0 found (installed_view z.1 found (pass_in me.0)))
+      (λ j. (sym install_there j, sym (object_is home o word few at) j))
+
+  pub install_allowed : {callers : ℕ} (slots : ℕ) (step : Step (Slot P))
+      → Allows (Ruled F declared callers) slots id me word (λ n. either (eqb n old) new n) (Tells install_play step me)
+  install_allowed {callers} slots step =
+      subst (λ (z : ℕ × ℕ). Allows (Ruled F declared callers) slots id me word (λ n. either (eqb n z.0) z.1 n) (Tells install_play step me))
+      (λ j. (sym words.0 j, sym words.1 j))
+      (retold_allowed install_row install_play install_same (install_moves F laws declared id o cell (pass_in me.0) may) me is word install_there slots step)
+
+  pub install_told : (step : Step (Slot P)) (found : ℕ) (after : Seated P) → Tells install_play step me found after → Tells install_row step me found after
+  install_told step found after told = retold install_row install_play install_same me after is step found told

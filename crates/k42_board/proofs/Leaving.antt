@@ -32,13 +32,16 @@ use Rattle.k42_joined.specs.Possible.{IsPossible}
 use Rattle.k42_board.specs.Cells.{Slot}
 use Rattle.k42_board.specs.Generating.{MayLeave, left_view}
 use Rattle.k42_board.specs.Generations.{IsProcessorShown, AreGenerations}
+use Rattle.k42_board.specs.Log.{took}
 use Rattle.k42_board.specs.Rule.{KnowsPass, Rule}
 use Rattle.k42_board.specs.Words.{generation_word, exits_word, role_word, many_words}
 use Rattle.k42_board.specs.declared.view.PassView.{PassView}
+use Rattle.k42_board.specs.declared.view.StepName.TheVariants as steps
 use Rattle.k42_board.specs.declared.view.View.{View}
 use Rattle.k42_board.specs.declared.view.View.TheVariants.{Crew}
 use Rattle.k42_board.proofs.Apart.{IsOfGenerations, of_processor}
 use Rattle.k42_board.proofs.Begun.{processor_stays, begun_goes, flips_same, rises_by}
+use Rattle.k42_board.proofs.Logged.{logged_moves}
 use Rattle.k42_board.proofs.Moves.{Moves}
 use Rattle.k42_board.proofs.OnePass.{with_pass, known}
 use Rattle.k42_board.proofs.Turning.{IsTurn, turned, visitors_after, state_after, with_counts, own_goes, rows_kept, same_swap}
@@ -232,10 +235,10 @@ module _ {S L P : Type 0} (F : Layouts S L P) (laws : AreLaws F) (declared : Lis
         0 (omega arith) (flips_same s g refl graces generations_same) r.shows.generations.begun;
   }
 
-  pass_after : KnowsPass F.tag_of (state_after F laws declared table r id v at (Turn (Leave c)) g y r.beside.counts) (with_counts r.beside r.beside.counts) id (left_view found v)
+  pass_after : KnowsPass F.tag_of (state_after F laws declared table r id v at (Turn (Leave c)) g y r.beside.counts) (with_counts r.beside r.beside.counts) id (left_view v)
   pass_after =
       own_goes r.state g (visitors_after F laws declared table r id v at (Turn (Leave c)) g y r.beside.counts) v
-      (record v.turn { active = None }) (record v.visitor { read = [] }) v.activities v.graces v.base v.rows v.granted v.swept found
+      (record v.turn { active = None }) (record v.visitor { read = [] }) v.activities v.graces v.base v.rows v.granted
       F.tag_of r.beside r.beside.counts id knows
       (record {
         many = length-set r.state.phases.callers c _;
@@ -254,15 +257,15 @@ module _ {S L P : Type 0} (F : Layouts S L P) (laws : AreLaws F) (declared : Lis
         proc = refl;
         names = knows.names;
         rows_known =
-            rows_kept r.state g [] v (record v.turn { active = None }) (record v.visitor { read = [] }) v.activities v.graces v.base v.rows v.granted v.swept found
-            refl refl refl refl refl knows.phases.rows;
+            rows_kept r.state g [] v (record v.turn { active = None }) (record v.visitor { read = [] }) v.activities v.graces v.base v.rows v.granted
+            refl refl refl refl knows.phases.rows;
       })
 
   -- the rule after the step, and its state
-  pub leaves : (after : Rule F declared (with_pass table (set table.words i new) table.homes id (left_view found v)))
+  pub leaves : (after : Rule F declared (with_pass table (set table.words i new) table.homes id (left_view v)))
       × (after.state ≡ effect r.state (AtPhases (Turn (Leave c)))) × IsPossible F declared r.state (AtPhases (Turn (Leave c)))
   leaves =
-      turned F laws declared table r id v at (Turn (Leave c)) g y r.beside.counts turn_is i new (left_view found v)
+      turned F laws declared table r id v at (Turn (Leave c)) g y r.beside.counts turn_is i new (left_view v)
       (exits_of_generations x.proc even p_few) generations_after pass_after
 
 parity_is : (a : ℕ) → a % 2 ≡ cond (is_even a) 0 1
@@ -271,13 +274,19 @@ parity_is a = by_parity (eqb (a % 2) 0) refl where
   by_parity true e = eqb-true (a % 2) 0 e
   by_parity false e = let not = eqb-false (a % 2) 0 e in omega (arith, not)
 
-pub leave_moves : {S L P : Type 0} (F : Layouts S L P) → AreLaws F → (declared : List L) (id home generation : ℕ) (v : PassView P) → MayLeave generation v → v.turn.proc ≡ home
-    → Moves F declared (AtPhases (Turn (Leave v.number))) (exits_word home (generation % 2)) (λ word. (word + 1) % 2 ^ 64) left_view id v
-leave_moves {S} {L} {P} F laws declared id home generation v may same = record {
+leave_goes : {S L P : Type 0} (F : Layouts S L P) → AreLaws F → (declared : List L) (id i generation : ℕ) (v : PassView P) → MayLeave generation v
+    → i ≡ exits_word v.turn.proc (generation % 2) → Moves F declared (AtPhases (Turn (Leave v.number))) i (λ n. (n + 1) % 2 ^ 64) (λ found x. left_view x) id v
+leave_goes {S} {L} {P} F laws declared id i generation v may same = record {
   from = λ table r at.
-      subst (λ i. (after : Rule F declared (with_pass table (set table.words i ((get_or table.words i 0 + 1) % 2 ^ 64)) table.homes id (left_view (get_or table.words i 0) v)))
+      subst (λ j. (after : Rule F declared (with_pass table (set table.words j ((get_or table.words j 0 + 1) % 2 ^ 64)) table.homes id (left_view v)))
       × (after.state ≡ effect r.state (AtPhases (Turn (Leave v.number)))) × IsPossible F declared r.state (AtPhases (Turn (Leave v.number))))
-      (ap (λ (z : Caller). exits_at z.proc (is_even generation)) (known F declared table r id v at).generations.turn ∙ ap (λ p. exits_at p (is_even generation)) same
-      ∙ ap (λ (b : ℕ). exits_word home b) (sym (parity_is generation)))
+      (ap (λ (z : Caller). exits_at z.proc (is_even generation)) (known F declared table r id v at).generations.turn
+      ∙ ap (λ (b : ℕ). exits_word v.turn.proc b) (sym (parity_is generation)) ∙ sym same)
       (leaves F laws declared table r id v at generation may);
 }
+
+pub leave_moves : {S L P : Type 0} (F : Layouts S L P) → AreLaws F → (declared : List L) (id i generation : ℕ) (v : PassView P) → MayLeave generation v
+    → i ≡ exits_word v.turn.proc (generation % 2)
+    → Moves F declared (AtPhases (Turn (Leave v.number))) i (λ n. (n + 1) % 2 ^ 64) (λ found v. took steps.Leave i found (left_view v)) id v
+leave_moves F laws declared id i generation v may same =
+    logged_moves steps.Leave (λ n. n) (λ found o before is. is) (leave_goes F laws declared id i generation v may same)

@@ -4,8 +4,12 @@ pub mod Turning
 pub mod Begun
 pub mod Entering
 pub mod Leaving
-pub mod Recounted
 pub mod Moves
+pub mod Gained
+pub mod Logged
+pub mod Stepped
+pub mod Restored
+pub mod Retold
 pub mod Notings
 pub mod Roles
 pub mod Holding

@@ -14,7 +14,7 @@ use Rattle.phase_core.specs.Callers.{IsAtPlace}
 use Rattle.phase_core.specs.Effects.{root_of, at_place, looked_up, place_found}
 use Rattle.phase_core.specs.Event.{Event, RootLoad, LookUp, EndCall}
 use Rattle.phase_core.specs.Plain.{Object, Visitor, Phases}
-use Rattle.phase_core.specs.Stages.{IsInside, is_missed, is_out, row_of}
+use Rattle.phase_core.specs.Stages.{IsInside, is_missed, is_out, object_of, row_of}
 use Rattle.phase_core.specs.State.{object_at, visitor_at, entry_at, fresh_object, fresh_visitor, empty_entry, with_row}
 use Rattle.phase_core.specs.declared.caller.Place.{Place}
 use Rattle.phase_core.specs.declared.caller.Place.TheVariants.{Out, Missed, Direct, AtMediator}
@@ -35,17 +35,21 @@ use Rattle.k42_board.specs.Cells.{Slot}
 use Rattle.k42_board.specs.Phases.{is_served}
 use Rattle.k42_board.specs.Rule.{KnowsPass, Rule, Ruled}
 use Rattle.k42_board.specs.Seen.{IsSeatOf}
+use Rattle.k42_board.specs.Log.{took}
 use Rattle.k42_board.specs.Views.{pass_in}
 use Rattle.k42_board.specs.Steps.{Seated, Tells, TellsWith}
 use Rattle.k42_board.specs.Tabling.{went, EntryFound, ObjectFound, RootFound, entry_in, entry_object, layout_told, MayLookUp, looked_up_view, MayLoadRoot, rooted_view, MayEndCall, ended_view}
 use Rattle.k42_board.specs.Values.{layout_in, local_value, object_value}
 use Rattle.k42_board.specs.Words.{object_word, local_word}
 use Rattle.k42_board.specs.declared.view.PassView.{PassView}
+use Rattle.k42_board.specs.declared.view.StepName.TheVariants as steps
 use Rattle.k42_board.specs.declared.view.View.{View}
 use Rattle.k42_board.specs.declared.view.View.TheVariants.{Crew}
 use Rattle.k42_board.proofs.Fields.{IsEntryOf, IsRead, object_fits, object_read, entry_known, entry_read}
-use Rattle.k42_board.proofs.Moves.{Moves, Finds, seat_allowed_with}
+use Rattle.k42_board.proofs.Logged.{logged_moves}
+use Rattle.k42_board.proofs.Moves.{Moves, Finds}
 use Rattle.k42_board.proofs.OnePass.{with_pass, known}
+use Rattle.k42_board.proofs.Retold.{retold, retold_allowed, retold_allowed_with}
 use Rattle.k42_board.proofs.AtTables.{visited, Steps, same_row, AreSameRows, same_visit, visits, goes}
 
 pub missed_is : (place : Place) (o : ℕ) → is_missed place o ≡ true → (i : ℕ) × (place ≡ Missed o i)
@@ -70,7 +74,7 @@ served_told tag o i layout served = by_tests (eqb tag 0) (eqb tag 1) served wher
 module _ {S L P : Type 0} (F : Layouts S L P) (laws : AreLaws F) (declared : List L)
     (table : State (Slot P) (View P)) (r : Rule F declared table) (id : ℕ) (v : PassView P)
     (at : get_elem? table.views id ≡ some (Crew (v ∷ [])))
-    (e : Event) (place : Place) (read : List (ℕ × ℕ)) (layout : Option ℕ) (heard : ℕ) where
+    (e : Event) (place : Place) (read : List (ℕ × ℕ)) (layout : Option ℕ) where
   abbrev objects : List Object
   objects = r.state.phases.objects
 
@@ -86,13 +90,13 @@ module _ {S L P : Type 0} (F : Layouts S L P) (laws : AreLaws F) (declared : Lis
   pub reads : IsPossible F declared r.state (AtPhases e) → after_reading ≡ effect r.state (AtPhases e)
       → ((l o i : ℕ) → layout ≡ Some l → IsInside place o i → (object_at r.state.phases o).layout ≡ l)
       → (is_served place ≡ true → layout ≢ None) → (i : ℕ)
-      → Steps F declared r.state (AtPhases e) (with_pass table (set table.words i (get_or table.words i 0)) table.homes id (went heard v gone layout))
+      → Steps F declared r.state (AtPhases e) (with_pass table (set table.words i (get_or table.words i 0)) table.homes id (went v gone layout))
   reads possible is told learned i =
-      subst (λ words. Steps F declared r.state (AtPhases e) (with_pass table words table.homes id (went heard v gone layout)))
+      subst (λ words. Steps F declared r.state (AtPhases e) (with_pass table words table.homes id (went v gone layout)))
       (sym (set-get_or table.words i 0))
       (visits F laws declared table r id v at e objects r.state.kept gone
       (same_visit F laws declared table r id v at e objects r.state.kept gone possible is same_rows (λ d not. refl))
-      table.words (went heard v gone layout)
+      table.words (went v gone layout)
       (record {
         many_words = r.shows.many_words;
         many_slots = r.shows.many_slots;
@@ -102,7 +106,7 @@ module _ {S L P : Type 0} (F : Layouts S L P) (laws : AreLaws F) (declared : Lis
         objects = r.shows.objects;
         cells = r.shows.cells;
       })
-      (goes F laws declared table r id v at objects place read layout heard same_rows (record { layout_is = told; learned = learned })))
+      (goes F laws declared table r id v at objects place read layout same_rows (record { layout_is = told; learned = learned })))
 
 module _ {S L P : Type 0} (F : Layouts S L P) (laws : AreLaws F) (declared : List L)
     (table : State (Slot P) (View P)) (r : Rule F declared table) (id : ℕ) (v : PassView P)
@@ -154,7 +158,7 @@ module _ {S L P : Type 0} (F : Layouts S L P) (laws : AreLaws F) (declared : Lis
 
     pub roots : Steps F declared r.state (AtPhases (RootLoad v.number o)) (with_pass table (set table.words (object_word o) found) table.homes id (rooted_view found v))
     roots =
-        reads F laws declared table r id v at (RootLoad v.number o) v.visitor.place v.visitor.read (Some (layout_in found)) found
+        reads F laws declared table r id v at (RootLoad v.number o) v.visitor.place v.visitor.read (Some (layout_in found))
         (record {
           caller = knows.there;
           may = record { objects = missed_there o may.missed; core = rw place_is may.missed; beside = refl };
@@ -187,9 +191,9 @@ module _ {S L P : Type 0} (F : Layouts S L P) (laws : AreLaws F) (declared : Lis
     holds_no_cell = ap (λ (z : turns.Caller). holds_none z.held) knows.cells.taker ∙ may.free
 
     pub ends : (i : ℕ)
-        → Steps F declared r.state (AtPhases (EndCall v.number)) (with_pass table (set table.words i (get_or table.words i 0)) table.homes id (ended_view (get_or table.words i 0) v))
+        → Steps F declared r.state (AtPhases (EndCall v.number)) (with_pass table (set table.words i (get_or table.words i 0)) table.homes id (ended_view v))
     ends i =
-        reads F laws declared table r id v at (EndCall v.number) Out v.visitor.read None (get_or table.words i 0)
+        reads F laws declared table r id v at (EndCall v.number) Out v.visitor.read None
         (record {
           caller = knows.there;
           may = record { objects = tt; core = rw place_is may.uncounted; beside = holds_no_cell };
@@ -235,7 +239,7 @@ module _ {S L P : Type 0} (F : Layouts S L P) (laws : AreLaws F) (declared : Lis
 
     pub looks : Steps F declared r.state (AtPhases (LookUp v.number o)) (with_pass table (set table.words (local_word v.turn.proc o) seen) table.homes id (looked_up_view o seen v))
     looks =
-        reads F laws declared table r id v at (LookUp v.number o) (place_found e.tag o e.incarnation) (with_row v.visitor.read o e.incarnation) (layout_told e) seen
+        reads F laws declared table r id v at (LookUp v.number o) (place_found e.tag o e.incarnation) (with_row v.visitor.read o e.incarnation) (layout_told e)
         (record {
           caller = knows.there;
           may = record { objects = there; core = rw (ap (λ (z : Caller). is_some z.active) knows.generations.turn ∙ may.active, ap is_out place_is ∙ may.out) refl; beside = refl };
@@ -265,46 +269,108 @@ module _ {S L P : Type 0} (F : Layouts S L P) (laws : AreLaws F) (declared : Lis
 
 -- as moves of the pass
 
-pub root_moves : {S L P : Type 0} (F : Layouts S L P) → AreLaws F → (declared : List L) (id o : ℕ) (v : PassView P) → MayLoadRoot (length declared) o v
+root_goes : {S L P : Type 0} (F : Layouts S L P) → AreLaws F → (declared : List L) (id o : ℕ) (v : PassView P) → MayLoadRoot (length declared) o v
     → Moves F declared (AtPhases (RootLoad v.number o)) (object_word o) (λ word. word) rooted_view id v
-root_moves F laws declared id o v may = record { from = λ table r at. roots F laws declared table r id v at o may }
+root_goes F laws declared id o v may = record { from = λ table r at. roots F laws declared table r id v at o may }
+
+pub root_moves : {S L P : Type 0} (F : Layouts S L P) → AreLaws F → (declared : List L) (id o : ℕ) (v : PassView P) → MayLoadRoot (length declared) o v
+    → Moves F declared (AtPhases (RootLoad v.number o)) (object_word o) (λ word. word) (λ found x. took steps.LoadRoot (object_word o) found (rooted_view found x)) id v
+root_moves F laws declared id o v may = logged_moves steps.LoadRoot (λ n. n) (λ found q before is. is) (root_goes F laws declared id o v may)
 
 pub root_finds : {S L P : Type 0} (F : Layouts S L P) → AreLaws F → (declared : List L) (id o : ℕ) (v : PassView P) → MayLoadRoot (length declared) o v
     → Finds F declared (object_word o) RootFound id v
 root_finds F laws declared id o v may table r at = root_seen F laws declared table r id v at o may
 
-pub end_moves : {S L P : Type 0} (F : Layouts S L P) → AreLaws F → (declared : List L) (id word : ℕ) (v : PassView P) → MayEndCall v
-    → Moves F declared (AtPhases (EndCall v.number)) word (λ word. word) ended_view id v
-end_moves F laws declared id word v may = record { from = λ table r at. ends F laws declared table r id v at may word }
+end_goes : {S L P : Type 0} (F : Layouts S L P) → AreLaws F → (declared : List L) (id word : ℕ) (v : PassView P) → MayEndCall v
+    → Moves F declared (AtPhases (EndCall v.number)) word (λ word. word) (λ found. ended_view) id v
+end_goes F laws declared id word v may = record { from = λ table r at. ends F laws declared table r id v at may word }
 
-pub look_moves : {S L P : Type 0} (F : Layouts S L P) → AreLaws F → (declared : List L) (id home o : ℕ) (v : PassView P) → MayLookUp (length declared) o v
-    → v.turn.proc ≡ home
-    → Moves F declared (AtPhases (LookUp v.number o)) (local_word home o) (λ word. word) (looked_up_view o) id v
-look_moves F laws declared id home o v may same =
-    subst (λ p. Moves F declared (AtPhases (LookUp v.number o)) (local_word p o) (λ word. word) (looked_up_view o) id v) same
-    (record { from = λ table r at. looks F laws declared table r id v at o may })
+pub end_moves : {S L P : Type 0} (F : Layouts S L P) → AreLaws F → (declared : List L) (id : ℕ) (v : PassView P) → MayEndCall v
+    → Moves F declared (AtPhases (EndCall v.number)) (local_word v.turn.proc (object_of v.visitor.place)) (λ word. word)
+    (λ found x. took steps.EndCall (local_word x.turn.proc (object_of x.visitor.place)) found (ended_view x)) id v
+end_moves F laws declared id v may = record {
+  from = (logged_moves steps.EndCall (λ n. n) (λ found q before is. is) (end_goes F laws declared id (local_word v.turn.proc (object_of v.visitor.place)) v may)).from;
+}
 
--- the word tells the object
-pub object_is : (home o : ℕ) → o < 16 → entry_object (local_word home o) ≡ o
-object_is home o few = omega (arith, few)
+look_goes : {S L P : Type 0} (F : Layouts S L P) → AreLaws F → (declared : List L) (id o : ℕ) (v : PassView P) → MayLookUp (length declared) o v
+    → Moves F declared (AtPhases (LookUp v.number o)) (local_word v.turn.proc o) (λ word. word) (looked_up_view o) id v
+look_goes F laws declared id o v may = record { from = λ table r at. looks F laws declared table r id v at o may }
+
+pub look_moves : {S L P : Type 0} (F : Layouts S L P) → AreLaws F → (declared : List L) (id o : ℕ) (v : PassView P) → MayLookUp (length declared) o v
+    → Moves F declared (AtPhases (LookUp v.number o)) (local_word v.turn.proc o) (λ word. word)
+    (λ found x. took steps.LookUp (local_word x.turn.proc o) found (looked_up_view o found x)) id v
+look_moves F laws declared id o v may = record { from = (logged_moves steps.LookUp (λ n. n) (λ found q before is. is) (look_goes F laws declared id o v may)).from }
 
 -- what it finds
-pub look_finds : {S L P : Type 0} (F : Layouts S L P) → AreLaws F → (declared : List L) (id home o : ℕ) (v : PassView P) → MayLookUp (length declared) o v
-    → v.turn.proc ≡ home → Finds F declared (local_word home o) EntryFound id v
-look_finds F laws declared id home o v may same =
-    subst (λ p. Finds F declared (local_word p o) EntryFound id v) same
-    (λ table r at. entry_seen F laws declared table r id v at o may)
+pub look_finds : {S L P : Type 0} (F : Layouts S L P) → AreLaws F → (declared : List L) (id o : ℕ) (v : PassView P) → MayLookUp (length declared) o v
+    → Finds F declared (local_word v.turn.proc o) EntryFound id v
+look_finds F laws declared id o v may table r at = entry_seen F laws declared table r id v at o may
 
-module _ {S L P : Type 0} (F : Layouts S L P) (laws : AreLaws F) (declared : List L) (id home o : ℕ) (few : o < 16)
+-- the word tells the object
+pub object_is : (p o word : ℕ) → o < 16 → word ≡ local_word p o → entry_object word ≡ o
+object_is p o word few is = omega (arith, few, is)
+
+-- as the plays tell them, at the words that the steps name
+
+module _ {S L P : Type 0} (F : Layouts S L P) (laws : AreLaws F) (declared : List L) (id o : ℕ)
+    (me : Seated P) (is : IsSeatOf me (pass_in me.0)) (may : MayLoadRoot (length declared) o (pass_in me.0)) (word : ℕ) (there : word ≡ object_word o) where
+  abbrev root_at : ℕ → ℕ → PassView P → PassView P
+  root_at i found x = took steps.LoadRoot i found (rooted_view found x)
+
+  root_same : (found : ℕ) → root_at (object_word o) found (pass_in me.0) ≡ root_at word found (pass_in me.0)
+  root_same found = ap (λ i. root_at i found (pass_in me.0)) (sym there)
+
+  pub root_allowed : {callers : ℕ} (slots : ℕ) (step : Step (Slot P)) → Allows (Ruled F declared callers) slots id me word (λ n. n) (TellsWith (root_at word) RootFound step me)
+  root_allowed slots step =
+      retold_allowed_with (root_at (object_word o)) (root_at word) root_same (root_moves F laws declared id o (pass_in me.0) may) RootFound
+      (root_finds F laws declared id o (pass_in me.0) may) me is word there slots step
+
+  pub root_told : (step : Step (Slot P)) (found : ℕ) (after : Seated P) → TellsWith (root_at word) RootFound step me found after
+      → Tells (root_at (object_word o)) step me found after
+  root_told step found after told = retold (root_at (object_word o)) (root_at word) root_same me after is step found told.0
+
+module _ {S L P : Type 0} (F : Layouts S L P) (laws : AreLaws F) (declared : List L) (id : ℕ)
+    (me : Seated P) (is : IsSeatOf me (pass_in me.0)) (may : MayEndCall (pass_in me.0))
+    (word home o : ℕ) (at : word ≡ local_word home o) (same : (pass_in me.0).turn.proc ≡ home) (of : object_of (pass_in me.0).visitor.place ≡ o) where
+  end_there : word ≡ local_word (pass_in me.0).turn.proc (object_of (pass_in me.0).visitor.place)
+  end_there = at ∙ ap (λ (z : ℕ × ℕ). local_word z.0 z.1) (λ j. (sym same j, sym of j))
+
+  abbrev end_row : ℕ → PassView P → PassView P
+  end_row found x = took steps.EndCall (local_word x.turn.proc (object_of x.visitor.place)) found (ended_view x)
+
+  abbrev end_play : ℕ → PassView P → PassView P
+  end_play found x = took steps.EndCall word found (ended_view x)
+
+  end_same : (found : ℕ) → end_row found (pass_in me.0) ≡ end_play found (pass_in me.0)
+  end_same found = ap (λ i. took steps.EndCall i found (ended_view (pass_in me.0))) (sym end_there)
+
+  pub end_allowed : {callers : ℕ} (slots : ℕ) (step : Step (Slot P)) → Allows (Ruled F declared callers) slots id me word (λ n. n) (Tells end_play step me)
+  end_allowed slots step = retold_allowed end_row end_play end_same (end_moves F laws declared id (pass_in me.0) may) me is word end_there slots step
+
+  pub end_told : (step : Step (Slot P)) (found : ℕ) (after : Seated P) → Tells end_play step me found after → Tells end_row step me found after
+  end_told step found after told = retold end_row end_play end_same me after is step found told
+
+module _ {S L P : Type 0} (F : Layouts S L P) (laws : AreLaws F) (declared : List L) (id o : ℕ) (few : o < 16)
     (me : Seated P) (is : IsSeatOf me (pass_in me.0)) (may : MayLookUp (length declared) o (pass_in me.0))
-    (same : (pass_in me.0).turn.proc ≡ home) where
-  pub look_allowed : {callers : ℕ} (slots : ℕ) (step : Step (Slot P))
-      → Allows (Ruled F declared callers) slots id me (local_word home o) (λ n. n) (TellsWith (looked_up_view (entry_object (local_word home o))) EntryFound step me)
-  look_allowed {callers} slots step =
-      subst (λ q. Allows (Ruled F declared callers) slots id me (local_word home o) (λ n. n) (TellsWith (looked_up_view q) EntryFound step me)) (sym (object_is home o few))
-      (seat_allowed_with (look_moves F laws declared id home o (pass_in me.0) may same) EntryFound
-      (look_finds F laws declared id home o (pass_in me.0) may same) me is slots step)
+    (word home : ℕ) (at : word ≡ local_word home o) (same : (pass_in me.0).turn.proc ≡ home) where
+  look_there : word ≡ local_word (pass_in me.0).turn.proc o
+  look_there = at ∙ ap (λ p. local_word p o) (sym same)
 
-  pub look_told : (step : Step (Slot P)) (found : ℕ) (after : Seated P) → TellsWith (looked_up_view (entry_object (local_word home o))) EntryFound step me found after
-      → Tells (looked_up_view o) step me found after
-  look_told step found after told = subst (λ q. Tells (looked_up_view q) step me found after) (object_is home o few) told.0
+  abbrev look_row : ℕ → PassView P → PassView P
+  look_row found x = took steps.LookUp (local_word x.turn.proc o) found (looked_up_view o found x)
+
+  abbrev look_play : ℕ → PassView P → PassView P
+  look_play found x = took steps.LookUp word found (looked_up_view (entry_object word) found x)
+
+  look_same : (found : ℕ) → look_row found (pass_in me.0) ≡ look_play found (pass_in me.0)
+  look_same found =
+      ap (λ (z : ℕ × ℕ). took steps.LookUp z.0 found (looked_up_view z.1 found (pass_in me.0)))
+      (λ j. (sym look_there j, sym (object_is home o word few at) j))
+
+  pub look_allowed : {callers : ℕ} (slots : ℕ) (step : Step (Slot P)) → Allows (Ruled F declared callers) slots id me word (λ n. n) (TellsWith look_play EntryFound step me)
+  look_allowed slots step =
+      retold_allowed_with look_row look_play look_same (look_moves F laws declared id o (pass_in me.0) may) EntryFound
+      (look_finds F laws declared id o (pass_in me.0) may) me is word look_there slots step
+
+  pub look_told : (step : Step (Slot P)) (found : ℕ) (after : Seated P) → TellsWith look_play EntryFound step me found after → Tells look_row step me found after
+  look_told step found after told = retold look_row look_play look_same me after is step found told.0

@@ -35,18 +35,19 @@ use Rattle.k42_joined.specs.Possible.{IsPossible}
 use Rattle.k42_board.specs.Cells.{Slot}
 use Rattle.k42_board.specs.Generations.{IsProcessorShown, AreGenerations, will_flip, grace_of}
 use Rattle.k42_board.specs.Gracing.{LooksAhead, LooksBack, MayLook, look_event, looked_at, looked_view, passed_view, ExitsFound}
+use Rattle.k42_board.specs.Log.{took}
 use Rattle.k42_board.specs.Rule.{Rule}
-use Rattle.k42_board.specs.Views.{hears, stalled}
 use Rattle.k42_board.specs.Words.{exits_word}
 use Rattle.k42_board.specs.declared.view.PassView.{PassView}
+use Rattle.k42_board.specs.declared.view.StepName.TheVariants as steps
 use Rattle.k42_board.specs.declared.view.View.{View}
 use Rattle.k42_board.specs.declared.view.View.TheVariants.{Crew}
 use Rattle.k42_board.proofs.Apart.{IsOfGenerations, of_processor}
 use Rattle.k42_board.proofs.Begun.{begun_goes, flips_of}
 use Rattle.k42_board.proofs.Holding.{knows, sound, there, turn, procs_few, waits_many, in_step, base_is, role, stage, holder, busy_test, ltb_same}
+use Rattle.k42_board.proofs.Logged.{logged_moves_at}
 use Rattle.k42_board.proofs.Moves.{Moves, Finds}
 use Rattle.k42_board.proofs.OnePass.{with_pass}
-use Rattle.k42_board.proofs.Recounted.{recounted}
 use Rattle.k42_board.proofs.Turning.{IsTurn, turned, visitors_after, state_after, own_goes, rows_kept, IsSameSwap, same_swap, drained_swap}
 
 odd_is : (generation parity : ℕ) → parity ≡ generation % 2 → generation % 2 ≢ 0 → parity ≡ 1
@@ -150,15 +151,15 @@ module _ {S L P : Type 0} (F : Layouts S L P) (laws : AreLaws F) (declared : Lis
 
     pub goes_on : (i : ℕ) → IsOfGenerations i
         → (after : Rule F declared (with_pass table (set table.words i (get_or table.words i 0)) table.homes id
-        (hears (get_or table.words i 0) (record v { turn = turn'; visitor = record v.visitor { swap = swap' } }))))
+        (record v { turn = turn'; visitor = record v.visitor { swap = swap' } })))
         × (after.state ≡ effect r.state (AtPhases (Turn e))) × IsPossible F declared r.state (AtPhases (Turn e))
     goes_on i apart =
         let k = knows F declared table r id v at in
         let found : ℕ = get_or table.words i 0 in
         turned F laws declared table r id v at (Turn e) g y r.beside.counts turn_goes i found
-        (hears found (record v { turn = turn'; visitor = record v.visitor { swap = swap' } })) apart (generations_go i)
+        (record v { turn = turn'; visitor = record v.visitor { swap = swap' } }) apart (generations_go i)
         (own_goes r.state g (visitors_after F laws declared table r id v at (Turn e) g y r.beside.counts) v
-        turn' (record v.visitor { swap = swap' }) v.activities v.graces v.base v.rows v.granted v.swept found
+        turn' (record v.visitor { swap = swap' }) v.activities v.graces v.base v.rows v.granted
         F.tag_of r.beside r.beside.counts id k
         (record {
           many = length-set r.state.phases.callers c y;
@@ -179,8 +180,8 @@ module _ {S L P : Type 0} (F : Layouts S L P) (laws : AreLaws F) (declared : Lis
           proc = on.proc;
           names = k.names;
           rows_known =
-              rows_kept r.state g [] v turn' (record v.visitor { swap = swap' }) v.activities v.graces v.base v.rows v.granted v.swept found
-              refl refl refl refl refl k.phases.rows;
+              rows_kept r.state g [] v turn' (record v.visitor { swap = swap' }) v.activities v.graces v.base v.rows v.granted
+              refl refl refl refl k.phases.rows;
         }))
 
   -- before the flip
@@ -227,7 +228,7 @@ module _ {S L P : Type 0} (F : Layouts S L P) (laws : AreLaws F) (declared : Lis
     looks_ahead : (after : Rule F declared (with_pass table (set table.words i found) table.homes id (looked_view found v)))
         × (after.state ≡ effect r.state (AtPhases (Turn (look_event c v.turn.grace)))) × IsPossible F declared r.state (AtPhases (Turn (look_event c v.turn.grace)))
     looks_ahead =
-        subst (λ (grace : GraceAt). (after : Rule F declared (with_pass table (set table.words i found) table.homes id (hears found (looked_at grace found v))))
+        subst (λ (grace : GraceAt). (after : Rule F declared (with_pass table (set table.words i found) table.homes id (looked_at grace found v)))
         × (after.state ≡ effect r.state (AtPhases (Turn (look_event c grace)))) × IsPossible F declared r.state (AtPhases (Turn (look_event c grace)))) (sym looks.grace)
         (goes_on (LookAhead c) (looked_ahead x (turn_of g0 c)) (visitor_at r.state.phases c) (record v.turn { coming = Some found }) v.visitor.swap
         (record {
@@ -325,7 +326,7 @@ module _ {S L P : Type 0} (F : Layouts S L P) (laws : AreLaws F) (declared : Lis
 
     abbrev Goal : PassView P → Type 0
     Goal w =
-        (after : Rule F declared (with_pass table (set table.words i' found') table.homes id (hears found' w)))
+        (after : Rule F declared (with_pass table (set table.words i' found') table.homes id w))
         × (after.state ≡ effect r.state (AtPhases (Turn (Look c)))) × IsPossible F declared r.state (AtPhases (Turn (Look c)))
 
     abbrev n : ℕ
@@ -388,16 +389,13 @@ module _ {S L P : Type 0} (F : Layouts S L P) (laws : AreLaws F) (declared : Lis
     looks_back : (after : Rule F declared (with_pass table (set table.words i' found') table.homes id (looked_view found' v)))
         × (after.state ≡ effect r.state (AtPhases (Turn (look_event c v.turn.grace)))) × IsPossible F declared r.state (AtPhases (Turn (look_event c v.turn.grace)))
     looks_back =
-        subst (λ (grace : GraceAt). (after : Rule F declared (with_pass table (set table.words i' found') table.homes id (hears found' (looked_at grace found' v))))
+        subst (λ (grace : GraceAt). (after : Rule F declared (with_pass table (set table.words i' found') table.homes id (looked_at grace found' v)))
         × (after.state ≡ effect r.state (AtPhases (Turn (look_event c grace)))) × IsPossible F declared r.state (AtPhases (Turn (look_event c grace)))) (sym looks.grace)
         (by_test (eqb found' (slice_index v.turn.waits p)) drained_is)
       where
-        by_test : (b : Bool) → is_drained x (turn_of g0 c) ≡ b → Goal (cond b (passed_view v) (stalled found' v))
+        by_test : (b : Bool) → is_drained x (turn_of g0 c) ≡ b → Goal (cond b (passed_view v) v)
         by_test true e = passes e
-        by_test false e =
-            let after = stays e in
-            let again = recounted F declared table (set table.words i' found') table.homes id (hears found' v) at after.0 v.freed v.installed v.refused v.knocked (found' ∷ v.stalls) in
-            (again.0, again.1 ∙ after.1, after.2)
+        by_test false e = stays e
 
     -- no more have left than had entered
     found_back_is : ExitsFound v found'
@@ -424,10 +422,14 @@ module _ {S L P : Type 0} (F : Layouts S L P) (laws : AreLaws F) (declared : Lis
   pub exits_found : (p parity : ℕ) → MayLook p parity v → ExitsFound v (get_or table.words (exits_word p parity) 0)
   exits_found p parity may = ⊎_elim (λ ahead. found_ahead_is p parity ahead) (λ back. found_back_is p parity back) may
 
-pub look_moves : {S L P : Type 0} (F : Layouts S L P) → AreLaws F → (declared : List L) (id p parity : ℕ) (v : PassView P) → MayLook p parity v
-    → Moves F declared (AtPhases (Turn (look_event v.number v.turn.grace))) (exits_word p parity) (λ word. word) looked_view id v
-look_moves F laws declared id p parity v may = record { from = λ table r at. looks_on F laws declared table r id v at p parity may }
+pub look_moves : {S L P : Type 0} (F : Layouts S L P) → AreLaws F → (declared : List L) (id i p parity : ℕ) (v : PassView P) → MayLook p parity v
+    → i ≡ exits_word p parity
+    → Moves F declared (AtPhases (Turn (look_event v.number v.turn.grace))) i (λ word. word) (λ found v. took steps.Look i found (looked_view found v)) id v
+look_moves {S} {L} {P} F laws declared id i p parity v may same = logged_moves_at steps.Look (λ n. n) (λ found o before is. is) same goes where
+  goes : Moves F declared (AtPhases (Turn (look_event v.number v.turn.grace))) (exits_word p parity) (λ word. word) looked_view id v
+  goes = record { from = λ table r at. looks_on F laws declared table r id v at p parity may }
 
-pub look_finds : {S L P : Type 0} (F : Layouts S L P) → AreLaws F → (declared : List L) (id p parity : ℕ) (v : PassView P) → MayLook p parity v
-    → Finds F declared (exits_word p parity) ExitsFound id v
-look_finds F laws declared id p parity v may table r at = exits_found F laws declared table r id v at p parity may
+pub look_finds : {S L P : Type 0} (F : Layouts S L P) → AreLaws F → (declared : List L) (id i p parity : ℕ) (v : PassView P) → MayLook p parity v
+    → i ≡ exits_word p parity → Finds F declared i ExitsFound id v
+look_finds F laws declared id i p parity v may same table r at =
+    subst (λ (j : ℕ). ExitsFound v (get_or table.words j 0)) (sym same) (exits_found F laws declared table r id v at p parity may)

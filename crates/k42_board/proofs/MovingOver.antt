@@ -29,21 +29,24 @@ use Rattle.k42_joined.proofs.AnswersMoves.{not_handed_yet}
 use Rattle.k42_board.specs.Cells.{Slot}
 use Rattle.k42_board.specs.Rule.{KnowsPass, Rule, Ruled}
 use Rattle.k42_board.specs.Seen.{IsSeatOf}
-use Rattle.k42_board.specs.Steps.{Seated, TellsWith}
+use Rattle.k42_board.specs.Steps.{Seated, Tells, TellsWith}
 use Rattle.k42_board.specs.Swapping.{object_swapped, at_swap, MayMove, blocked_word, moves, moved_view, CountFound}
 use Rattle.k42_board.specs.Values.{bit, object_value, layout_in, incarnation_in}
-use Rattle.k42_board.specs.Views.{hears, stalled, pass_in, word_begun}
+use Rattle.k42_board.specs.Log.{took}
+use Rattle.k42_board.specs.Views.{pass_in, word_begun}
 use Rattle.k42_board.specs.Words.{object_word}
 use Rattle.k42_board.specs.declared.view.PassView.{PassView}
+use Rattle.k42_board.specs.declared.view.StepName.TheVariants as steps
 use Rattle.k42_board.specs.declared.view.View.{View}
 use Rattle.k42_board.specs.declared.view.View.TheVariants.{Crew}
 use Rattle.k42_board.proofs.AtTables.{visited, Steps, visits, of_object, object_written, few_entries, written_shows}
 use Rattle.k42_board.proofs.Fields.{Fits, object_fits}
 use Rattle.k42_board.proofs.Installing.{both_or_none}
 use Rattle.k42_board.proofs.Looking.{reads, object_shown}
-use Rattle.k42_board.proofs.Moves.{Moves, Finds, seat_allowed_with}
+use Rattle.k42_board.proofs.Logged.{logged_moves}
+use Rattle.k42_board.proofs.Moves.{Moves, Finds}
 use Rattle.k42_board.proofs.OnePass.{with_pass, known}
-use Rattle.k42_board.proofs.Recounted.{recounted}
+use Rattle.k42_board.proofs.Retold.{retold, retold_allowed_with}
 use Rattle.k42_board.proofs.Staging.{IsStaged, stays_staged, stage_is, there, few, bits, swap_is_set, object_is, staged_effect, staged_visit, swap_staged, rows_staged, rows_old, own_staged}
 
 -- what a blocking stage tells
@@ -177,11 +180,11 @@ module _ {S L P : Type 0} (F : Layouts S L P) (laws : AreLaws F) (declared : Lis
       (ap named_by (stage_is F laws declared table r id v at) ∙ stage.named)
       (λ moved. stage.not_moved o (sym (stage_is F laws declared table r id v at) ∙ moved)))
 
-  pass_after : KnowsPass F.tag_of after r.beside id (at_swap found v (Moved o))
+  pass_after : KnowsPass F.tag_of after r.beside id (at_swap v (Moved o))
   pass_after =
-      own_staged F laws declared table r id v at stage.named (Move c) k' r.state.kept (Moved o) staged v.abandoned v.turned v.handed v.rows found
+      own_staged F laws declared table r id v at stage.named (Move c) k' r.state.kept (Moved o) staged v.abandoned v.turned v.handed v.rows
       r.beside.row_seat knows.names
-      (swap_staged F laws declared table r id v at stage.named (Move c) k' r.state.kept (Moved o) staged v.abandoned v.turned v.handed v.rows found
+      (swap_staged F laws declared table r id v at stage.named (Move c) k' r.state.kept (Moved o) staged v.abandoned v.turned v.handed v.rows
       (record {
         names = refl;
         turned_is = unturned;
@@ -189,8 +192,8 @@ module _ {S L P : Type 0} (F : Layouts S L P) (laws : AreLaws F) (declared : Lis
         begun = knows.phases.swap.begun o stage.named;
         next = knows.phases.swap.next o stage.named;
       }))
-      (rows_staged F laws declared table r id v at stage.named (Move c) k' r.state.kept (Moved o) staged v.abandoned v.turned v.handed v.rows found refl
-      (rows_old F laws declared table r id v at stage.named (Move c) k' r.state.kept (Moved o) staged v.abandoned v.turned v.handed v.rows found))
+      (rows_staged F laws declared table r id v at stage.named (Move c) k' r.state.kept (Moved o) staged v.abandoned v.turned v.handed v.rows refl
+      (rows_old F laws declared table r id v at stage.named (Move c) k' r.state.kept (Moved o) staged v.abandoned v.turned v.handed v.rows))
       knows.trace.kept
       (λ tag e. absurd (let old = (knows.trace.handed tag e).0 in let not = stage.unmoved in cc))
       (λ moved.
@@ -200,7 +203,7 @@ module _ {S L P : Type 0} (F : Layouts S L P) (laws : AreLaws F) (declared : Lis
   abbrev Goal : Bool → Type 0
   Goal b =
       Steps F declared r.state (AtPhases (Move c)) (with_pass table (set table.words (object_word o) (cond b (blocked_word v + 2 ^ 26) found)) table.homes id
-      (cond b (at_swap found v (Moved o)) (hears found v)))
+      (cond b (at_swap v (Moved o)) (v)))
 
   by_test : (b : Bool) → eqb found (blocked_word v) ≡ b → effect r.state (AtPhases (Move c)) ≡ tries b (visitor_at s c) → Goal b
   by_test true e is =
@@ -209,32 +212,20 @@ module _ {S L P : Type 0} (F : Layouts S L P) (laws : AreLaws F) (declared : Lis
       visits F laws declared table r id v at (Move c) (set s.objects o k') r.state.kept (at_stage v.visitor (Moved o))
       (staged_visit F laws declared table r id v at stage.named (Move c) k' r.state.kept (Moved o) staged possible
       (staged_effect F laws declared table r id v at stage.named (λ q. Moved q) (λ (l : Object). record l { moving = true }) r.state.kept ∙ sym is) (λ d not. refl))
-      (set table.words (object_word o) (blocked_word v + 2 ^ 26)) (at_swap found v (Moved o))
+      (set table.words (object_word o) (blocked_word v + 2 ^ 26)) (at_swap v (Moved o))
       (written_shows F laws declared table r id v at (set s.objects o k') (at_stage v.visitor (Moved o)) r.state.kept (object_word o) (blocked_word v + 2 ^ 26)
-      (at_swap found v (Moved o)) (of_object o small) (length-set s.objects o k')
+      (at_swap v (Moved o)) (of_object o small) (length-set s.objects o k')
       (object_written table.words s.objects o k k' (blocked_word v + 2 ^ 26) r.shows.many_words r.shows.few_objects
       (few_entries F laws declared table r id v at) small (slice_get-get_or s.objects o fresh_object o_there) refl refl value r.shows.objects))
       pass_after
   by_test false e is =
-      reads F laws declared table r id v at (Move c) v.visitor.place v.visitor.read v.layout found possible
+      reads F laws declared table r id v at (Move c) v.visitor.place v.visitor.read v.layout possible
       (ap (λ z. visited r.state s.objects (set s.callers c z) r.state.kept) (sym knows.phases.visitor)
       ∙ ap (λ z. visited r.state s.objects z r.state.kept) (set-get_or s.callers c fresh_visitor) ∙ sym is)
       knows.phases.layout knows.phases.learned (object_word o)
 
-  -- the pass keeps by which word it was held up
-  abbrev Counted : Bool → Type 0
-  Counted b =
-      Steps F declared r.state (AtPhases (Move c)) (with_pass table (set table.words (object_word o) (cond b (blocked_word v + 2 ^ 26) found)) table.homes id
-      (cond b (at_swap found v (Moved o)) (hears found (stalled found v))))
-
-  counted : (b : Bool) → Goal b → Counted b
-  counted true after = after
-  counted false after =
-      let again = recounted F declared table (set table.words (object_word o) found) table.homes id (hears found v) at after.0 v.freed v.installed v.refused v.knocked (found ∷ v.stalls) in
-      (again.0, again.1 ∙ after.1, after.2)
-
-  pub tries_to_move : Counted (eqb found (blocked_word v))
-  tries_to_move = counted (eqb found (blocked_word v)) (by_test (eqb found (blocked_word v)) refl effect_is)
+  pub tries_to_move : Goal (eqb found (blocked_word v))
+  tries_to_move = by_test (eqb found (blocked_word v)) refl effect_is
 
   pub count_seen : CountFound v found
   count_seen =
@@ -244,20 +235,43 @@ module _ {S L P : Type 0} (F : Layouts S L P) (laws : AreLaws F) (declared : Lis
         few = omega (arith, a, n, l);
       }
 
-pub move_moves : {S L P : Type 0} (F : Layouts S L P) → AreLaws F → (declared : List L) (id : ℕ) (v : PassView P) → MayMove v
+move_goes : {S L P : Type 0} (F : Layouts S L P) → AreLaws F → (declared : List L) (id : ℕ) (v : PassView P) → MayMove v
     → Moves F declared (AtPhases (Move v.number)) (object_word (object_swapped v)) (moves v) moved_view id v
-move_moves F laws declared id v may = record { from = λ table r at. tries_to_move F laws declared table r id v at may }
+move_goes F laws declared id v may = record { from = λ table r at. tries_to_move F laws declared table r id v at may }
+
+pub move_moves : {S L P : Type 0} (F : Layouts S L P) → AreLaws F → (declared : List L) (id : ℕ) (v : PassView P) → MayMove v
+    → Moves F declared (AtPhases (Move v.number)) (object_word (object_swapped v)) (moves v) (λ found x. took steps.Move (object_word (object_swapped x)) found (moved_view found x))
+    id v
+move_moves F laws declared id v may = record { from = (logged_moves steps.Move (λ n. n) (λ found q before is. is) (move_goes F laws declared id v may)).from }
 
 pub move_finds : {S L P : Type 0} (F : Layouts S L P) → AreLaws F → (declared : List L) (id : ℕ) (v : PassView P) → MayMove v
     → Finds F declared (object_word (object_swapped v)) CountFound id v
 move_finds F laws declared id v may table r at = count_seen F laws declared table r id v at may
 
--- as an exchange of these words
-pub move_allowed : {S L P : Type 0} {callers : ℕ} (F : Layouts S L P) → AreLaws F → (declared : List L) (id o : ℕ) (me : Seated P)
-    → object_swapped (pass_in me.0) ≡ o → IsSeatOf me (pass_in me.0) → MayMove (pass_in me.0)
-    → (old new : ℕ) → old ≡ blocked_word (pass_in me.0) → new ≡ blocked_word (pass_in me.0) + 2 ^ 26 → (slots : ℕ) (step : Step (Slot P))
-    → Allows (Ruled F declared callers) slots id me (object_word o) (λ n. either (eqb n old) new n) (TellsWith moved_view CountFound step me)
-move_allowed {P = P} {callers = callers} F laws declared id o me same is may old new was word slots step =
-    subst (λ (z : ℕ × ℕ × ℕ). Allows (Ruled F declared callers) slots id me (object_word z.0) (λ n. either (eqb n z.1) z.2 n) (TellsWith moved_view CountFound step me))
-    (λ j. (same j, sym was j, sym word j))
-    (seat_allowed_with (move_moves F laws declared id (pass_in me.0) may) CountFound (move_finds F laws declared id (pass_in me.0) may) me is slots step)
+-- as the play tells it, of an exchange of these words at the word that the step names
+module _ {S L P : Type 0} (F : Layouts S L P) (laws : AreLaws F) (declared : List L) (id : ℕ)
+    (me : Seated P) (is : IsSeatOf me (pass_in me.0)) (may : MayMove (pass_in me.0))
+    (word o : ℕ) (at : word ≡ object_word o) (same : object_swapped (pass_in me.0) ≡ o) (old new : ℕ)
+    (words : (old ≡ blocked_word (pass_in me.0)) × (new ≡ blocked_word (pass_in me.0) + 2 ^ 26)) where
+  move_there : word ≡ object_word (object_swapped (pass_in me.0))
+  move_there = at ∙ ap object_word (sym same)
+
+  abbrev move_row : ℕ → PassView P → PassView P
+  move_row found x = took steps.Move (object_word (object_swapped x)) found (moved_view found x)
+
+  abbrev move_play : ℕ → PassView P → PassView P
+  move_play found x = took steps.Move word found (moved_view found x)
+
+  move_same : (found : ℕ) → move_row found (pass_in me.0) ≡ move_play found (pass_in me.0)
+  move_same found = ap (λ i. took steps.Move i found (moved_view found (pass_in me.0))) (sym move_there)
+
+  pub move_allowed : {callers : ℕ} (slots : ℕ) (step : Step (Slot P))
+      → Allows (Ruled F declared callers) slots id me word (λ n. either (eqb n old) new n) (TellsWith move_play CountFound step me)
+  move_allowed {callers} slots step =
+      subst (λ (z : ℕ × ℕ). Allows (Ruled F declared callers) slots id me word (λ n. either (eqb n z.0) z.1 n) (TellsWith move_play CountFound step me))
+      (λ j. (sym words.0 j, sym words.1 j))
+      (retold_allowed_with move_row move_play move_same (move_moves F laws declared id (pass_in me.0) may) CountFound
+      (move_finds F laws declared id (pass_in me.0) may) me is word move_there slots step)
+
+  pub move_told : (step : Step (Slot P)) (found : ℕ) (after : Seated P) → TellsWith move_play CountFound step me found after → Tells move_row step me found after
+  move_told step found after told = retold move_row move_play move_same me after is step found told.0

@@ -16,6 +16,7 @@ use Rattle.turn_core.specs.Names.{names, names_once}
 use Rattle.turn_core.specs.Stamps.{last_stamp, stamp_of}
 use Rattle.k42_board.specs.Cells.{cells_noted}
 use Rattle.k42_board.specs.Drawing.{history_noted, closed_noted, part_noted, last_noted, last_told, numbers_of, part_in, IsHeld, AreHeld, told_note, told_notes, draws_at, untold_view, HasSmallStamp, entry_call, stamp_next}
+use Rattle.k42_board.specs.Log.{took}
 use Rattle.k42_board.specs.Receipts.{IsDue, AreDue, closed_due}
 use Rattle.k42_board.specs.Seats.{LAST_STAMP}
 use Rattle.k42_board.specs.Seen.{IsSeatOf}
@@ -24,6 +25,7 @@ use Rattle.k42_board.specs.Views.{pass_in}
 use Rattle.k42_board.specs.declared.cell.Content.{Content}
 use Rattle.k42_board.specs.declared.view.Note.{Note}
 use Rattle.k42_board.specs.declared.view.PassView.{PassView}
+use Rattle.k42_board.specs.declared.view.StepName.TheVariants as steps
 use Rattle.k42_board.proofs.CellsDrawn.{told_cells}
 
 -- the note that counts is the first of its cell
@@ -208,26 +210,26 @@ module _ {P : Type 0} (cells : List ℕ) (entry : Entry) (fresh : ℕ → Option
 pub each_named : {P : Type 0} (contents : List (Content P)) → EachPlace (λ place (content : Content P). names (numbers_of contents) content.number ≡ true) contents
 each_named contents k content e = named_at contents k content e
 
--- the seat after a draw, and after its cells were told
+-- the seat after a draw at this word, and after its cells were told
 
 pub small_entry : {P : Type 0} (v : PassView P) (contents : List (Content P)) (entry : Entry) → HasSmallStamp (draws_at contents entry v) → entry.stamp ≤ LAST_STAMP
 small_entry v contents entry small = subst (λ z. z ≤ LAST_STAMP) (last_push v.taker.mine entry) small
 
-pub mark_due : {P : Type 0} (v : PassView P) (content : Content P) (entry : Entry) (me : Seated P) → IsSeatOf me (draws_at (content ∷ []) entry v)
+pub mark_due : {P : Type 0} (word : ℕ) (v : PassView P) (content : Content P) (entry : Entry) (me : Seated P) → IsSeatOf me (took steps.Draw word 0 (draws_at (content ∷ []) entry v))
     → HasSmallStamp (draws_at (content ∷ []) entry v) → IsHeld v.notes content → IsDue (pass_in me.0).notes content.number content.closed entry.stamp
-mark_due v content entry me is small held =
+mark_due word v content entry me is small held =
     subst (λ (m : Seated _). IsDue (pass_in m.0).notes content.number content.closed entry.stamp) (sym is)
     (due_told (content.number ∷ []) entry (part_in (content ∷ [])) v.notes content held (named_at (content ∷ []) 0 content refl) (small_entry v (content ∷ []) entry small))
 
-pub all_due : {P : Type 0} (v : PassView P) (contents : List (Content P)) (entry : Entry) (me : Seated P) → IsSeatOf me (draws_at contents entry v)
+pub all_due : {P : Type 0} (word : ℕ) (v : PassView P) (contents : List (Content P)) (entry : Entry) (me : Seated P) → IsSeatOf me (took steps.Draw word 0 (draws_at contents entry v))
     → HasSmallStamp (draws_at contents entry v) → AreHeld v.notes contents → AreDue (pass_in me.0).notes 0 false entry.stamp contents
-all_due v contents entry me is small held =
+all_due word v contents entry me is small held =
     subst (λ (m : Seated _). AreDue (pass_in m.0).notes 0 false entry.stamp contents) (sym is)
     (all_due_told (numbers_of contents) entry (part_in contents) v.notes contents held (each_named contents) (small_entry v contents entry small))
 
-pub view_back : {P : Type 0} (v : PassView P) (contents : List (Content P)) (entry : Entry) (me seated : Seated P) → IsSeatOf me (draws_at contents entry v)
+pub view_back : {P : Type 0} (word : ℕ) (v : PassView P) (contents : List (Content P)) (entry : Entry) (me seated : Seated P) → IsSeatOf me (took steps.Draw word 0 (draws_at contents entry v))
     → (cells : List ℕ) → IsSeatOf seated (untold_view cells (pass_in me.0)) → untold_view (numbers_of contents) (pass_in seated.0) ≡ pass_in me.0
-view_back v contents entry me seated is cells told =
+view_back word v contents entry me seated is cells told =
     ap (λ (m : Seated _). untold_view (numbers_of contents) (pass_in m.0)) told
     ∙ ap (λ (m : Seated _). untold_view (numbers_of contents) (pass_in m.0)) is ∙ sym (ap (λ (m : Seated _). pass_in m.0) is)
 

@@ -43,25 +43,28 @@ use Rattle.k42_joined.specs.Possible.{IsPossible}
 use Rattle.k42_board.specs.Cells.{Slot}
 use Rattle.k42_board.specs.Generations.{Counts, MOST, AreGenerations, grace_of}
 use Rattle.k42_board.specs.Gracing.{MayTakeRole, role_view, RoleFound}
+use Rattle.k42_board.specs.Log.{took, step_at}
 use Rattle.k42_board.specs.Noting.{after_rows, is_of, due_note, notes_due, pairs_from}
 use Rattle.k42_board.specs.Phases.{IsOld, IsGranted}
 use Rattle.k42_board.specs.Rule.{KnowsPass, Rule, Ruled}
 use Rattle.k42_board.specs.Seen.{IsSeatOf}
 use Rattle.k42_board.specs.Steps.{Seated, TellsWith}
 use Rattle.k42_board.specs.Values.{holder_value, incarnation_in}
-use Rattle.k42_board.specs.Views.{hears, stalled, word_begun}
+use Rattle.k42_board.specs.Views.{word_begun}
 use Rattle.k42_board.specs.Words.{role_word}
 use Rattle.k42_board.specs.declared.view.PassView.{PassView}
+use Rattle.k42_board.specs.declared.view.StepName.TheVariants as steps
 use Rattle.k42_board.specs.declared.view.Row.{Row}
+use Rattle.k42_board.specs.declared.view.Taken.{Taken}
 use Rattle.k42_board.specs.declared.view.View.{View}
 use Rattle.k42_board.specs.declared.view.View.TheVariants.{Crew}
 use Rattle.k42_board.proofs.Apart.{of_role}
 use Rattle.k42_board.proofs.Begun.{few_begun, one_more, processor_stays, begun_goes, will_flip_once}
+use Rattle.k42_board.proofs.Logged.{relogged, AreSweptAs, known_relogged}
 use Rattle.k42_board.proofs.Moves.{Moves, Finds, seat_allowed_with}
 use Rattle.k42_board.proofs.Notings.{note_there, noted_of, numbers_noted, named_once, fitting, pairs_there, made_length, made_note, rows_fit, rows_below, all_from}
 use Rattle.k42_board.proofs.OnePass.{with_pass, known}
-use Rattle.k42_board.proofs.Recounted.{recounted}
-use Rattle.k42_board.proofs.Turning.{IsTurn, turned, visitors_after, state_after, with_counts, own_goes, draining_swap, known_heard, stayed}
+use Rattle.k42_board.proofs.Turning.{IsTurn, turned, visitors_after, state_after, with_counts, own_goes, draining_swap, stayed}
 
 is_of_named : (named : Option ℕ) (o : ℕ) → is_of named o ≡ true → named ≡ Some o
 is_of_named None o e = absurd (cc)
@@ -267,13 +270,27 @@ module _ {S L P : Type 0} (F : Layouts S L P) (laws : AreLaws F) (declared : Lis
     graces = v.graces + 1;
     base = None;
     granted = length v.rows;
-    swept = [];
   }
 
   abbrev w : PassView P
-  w = hears found taken
+  w = took steps.TakeRole role_word found taken
+
+  -- what the pass has taken then
+  abbrev log : List Taken
+  log = step_at steps.TakeRole role_word found ∷ v.log
+
+  -- with the role it has swept nothing yet
+  none_swept : eqb found 0 ≡ true → AreSweptAs r.state log v
+  none_swept free o n swept = absurd (let nothing : false ≡ true = rw free at swept in cc)
+
+  -- and without it what it had
+  as_swept : eqb found 0 ≡ false → AreSweptAs r.state log v
+  as_swept held o n swept = knows.phases.rows.swept o n (rw held at swept)
 
   module _ (nobody : s.role ≡ None) where
+    is_free_role : eqb found 0 ≡ true
+    is_free_role = eq-eqb found 0 (found_is ∙ ap holder_value nobody)
+
     turn_is : IsTurn F laws declared table r id v at (TakeRoleWith c notes) g y counts
     turn_is = record {
       possible = takes_role;
@@ -310,9 +327,9 @@ module _ {S L P : Type 0} (F : Layouts S L P) (laws : AreLaws F) (declared : Lis
 
     pass_after : KnowsPass F.tag_of (state_after F laws declared table r id v at (TakeRoleWith c notes) g y counts) (with_counts r.beside counts) id w
     pass_after =
-        own_goes r.state g (visitors_after F laws declared table r id v at (TakeRoleWith c notes) g y counts) v
-        (role_taken v.turn) (role_taken_with v.visitor (notes_due v)) v.activities (v.graces + 1) None v.rows (length v.rows) [] found
-        F.tag_of r.beside counts id knows
+        own_goes r.state g (visitors_after F laws declared table r id v at (TakeRoleWith c notes) g y counts) (relogged v log)
+        (role_taken v.turn) (role_taken_with v.visitor (notes_due v)) v.activities (v.graces + 1) None v.rows (length v.rows)
+        F.tag_of r.beside counts id (known_relogged F.tag_of r.state r.beside id v log (none_swept is_free_role) knows)
         (record {
           many = length-set r.state.phases.callers c y;
           rises = turn_is.rises;
@@ -333,40 +350,37 @@ module _ {S L P : Type 0} (F : Layouts S L P) (laws : AreLaws F) (declared : Lis
           rows_known = record {
             old = knows.phases.rows.old;
             granted = λ place row e. granted_row place row (subst (λ (rows : List Row). slice_get rows place ≡ Some row) (take-length v.rows) e);
-            swept = λ o n named. absurd (cc);
+            swept = λ o n swept. absurd (let nothing : false ≡ true = rw is_free_role at swept in cc);
             spans = knows.phases.rows.spans;
           };
         })
 
-    -- the pass lists no freed rows
-    takes : (after : Rule F declared (with_pass table (set table.words role_word (c + 1)) table.homes id (record w { freed = [] })))
+    takes : (after : Rule F declared (with_pass table (set table.words role_word (c + 1)) table.homes id w))
         × (after.state ≡ effect r.state (AtPhases (TakeRoleWith c notes))) × IsPossible F declared r.state (AtPhases (TakeRoleWith c notes))
     takes =
-        let after = turned F laws declared table r id v at (TakeRoleWith c notes) g y counts turn_is role_word (c + 1) w of_role generations_after pass_after in
-        let again = recounted F declared table (set table.words role_word (c + 1)) table.homes id w at after.0 [] v.installed v.refused v.knocked v.stalls in
-        (again.0, again.1 ∙ after.1, after.2)
+        turned F laws declared table r id v at (TakeRoleWith c notes) g y counts turn_is role_word (c + 1) w of_role generations_after pass_after
 
   -- the rule after the step, and its state
   pub takes_or_not :
       (after : Rule F declared
-      (with_pass table (set table.words role_word (cond (eqb found 0) (c + 1) found)) table.homes id (role_view found v)))
+      (with_pass table (set table.words role_word (cond (eqb found 0) (c + 1) found)) table.homes id (took steps.TakeRole role_word found (role_view found v))))
       × (after.state ≡ effect r.state (AtPhases (TakeRoleWith c notes))) × IsPossible F declared r.state (AtPhases (TakeRoleWith c notes))
   takes_or_not = by_role s.role refl where
     Goal : Bool → Type 0
     Goal b =
-        (after : Rule F declared (with_pass table (set table.words role_word (cond b (c + 1) found)) table.homes id (hears found (cond b (record taken { freed = [] }) (stalled found v)))))
+        (after : Rule F declared (with_pass table (set table.words role_word (cond b (c + 1) found)) table.homes id (took steps.TakeRole role_word found (cond b taken v))))
         × (after.state ≡ effect r.state (AtPhases (TakeRoleWith c notes))) × IsPossible F declared r.state (AtPhases (TakeRoleWith c notes))
 
     by_role : (role : Option ℕ) → s.role ≡ role → Goal (eqb found 0)
     by_role None e =
-        subst Goal (sym (let is = found_is in eq-eqb found 0 (found_is ∙ ap holder_value e))) (takes e)
+        subst Goal (sym (is_free_role e)) (takes e)
     by_role (Some holder) e =
         let held : found ≡ holder + 1 = found_is ∙ ap holder_value e in
-        subst Goal (sym (ne_eqb found 0 (λ none. omega (arith, held, none))))
-        (let after = stayed F declared table r id v at role_word (hears found v) (known_heard F.tag_of r.state r.beside id v found knows) in
-        let again = recounted F declared table (set table.words role_word found) table.homes id (hears found v) at after.0 v.freed v.installed v.refused v.knocked (found ∷ v.stalls) in (
-          again.0,
-          again.1 ∙ after.1 ∙ ap (λ (role : Option ℕ). record r.state { phases = taken_with r.state.phases c notes role }) (sym e),
+        let another : eqb found 0 ≡ false = ne_eqb found 0 (λ none. omega (arith, held, none)) in
+        subst Goal (sym another)
+        (let after = stayed F declared table r id v at role_word (took steps.TakeRole role_word found v) (known_relogged F.tag_of r.state r.beside id v log (as_swept another) knows) in (
+          after.0,
+          after.1 ∙ ap (λ (role : Option ℕ). record r.state { phases = taken_with r.state.phases c notes role }) (sym e),
           takes_role,
         ))
 
@@ -401,7 +415,8 @@ module _ {S L P : Type 0} (F : Layouts S L P) (laws : AreLaws F) (declared : Lis
         omega (arith, held, lt, few)
 
 pub role_moves : {S L P : Type 0} (F : Layouts S L P) → AreLaws F → (declared : List L) (id : ℕ) (v : PassView P) → MayTakeRole v
-    → Moves F declared (AtPhases (TakeRoleWith v.number (pairs_from 0 (notes_due v)))) role_word (λ word. cond (eqb word 0) (v.number + 1) word) role_view id v
+    → Moves F declared (AtPhases (TakeRoleWith v.number (pairs_from 0 (notes_due v)))) role_word (λ word. cond (eqb word 0) (v.number + 1) word)
+    (λ found v. took steps.TakeRole role_word found (role_view found v)) id v
 role_moves F laws declared id v may = record { from = λ table r at. takes_or_not F laws declared table r id v at may }
 
 pub role_finds : {S L P : Type 0} (F : Layouts S L P) → AreLaws F → (declared : List L) (id : ℕ) (v : PassView P) → MayTakeRole v
@@ -414,8 +429,8 @@ either_is false new word = refl
 
 pub role_allowed : {S L P : Type 0} (F : Layouts S L P) → AreLaws F → (declared : List L) (id callers : ℕ) (v : PassView P) (me : Seated P) → IsSeatOf me v
     → MayTakeRole v → (number : ℕ) → v.number ≡ number → (slots : ℕ) (step : Step (Slot P))
-    → Allows (Ruled F declared callers) slots id me role_word (λ n. either (eqb n 0) (number + 1) n) (TellsWith role_view RoleFound step me)
+    → Allows (Ruled F declared callers) slots id me role_word (λ n. either (eqb n 0) (number + 1) n) (TellsWith (λ found v. took steps.TakeRole role_word found (role_view found v)) RoleFound step me)
 role_allowed F laws declared id callers v me is may number same slots step =
-    subst (λ (f : ℕ → ℕ). Allows (Ruled F declared callers) slots id me role_word f (TellsWith role_view RoleFound step me))
+    subst (λ (f : ℕ → ℕ). Allows (Ruled F declared callers) slots id me role_word f (TellsWith (λ found v. took steps.TakeRole role_word found (role_view found v)) RoleFound step me))
     (λ k word. (ap (λ (c : ℕ). cond (eqb word 0) (c + 1) word) same ∙ sym (either_is (eqb word 0) (number + 1) word)) k)
     (seat_allowed_with (role_moves F laws declared id v may) RoleFound (role_finds F laws declared id v may) me is slots step)

@@ -228,9 +228,9 @@ module _ {S L P : Type 0} (F : Layouts S L P) (laws : AreLaws F) (declared : Lis
         staged_visit possible is kept_else = record { possible = possible; effect_is = is; on = on; left = left; kept_else = kept_else }
 
         -- what the pass knows then
-        module _ (abandoned turned : Bool) (handed : Option ℕ) (rows : List Row) (heard : ℕ) where
+        module _ (abandoned turned : Bool) (handed : Option ℕ) (rows : List Row) where
           abbrev pub staged_view : PassView P
-          staged_view = told v stage_after v.last v.found abandoned turned v.layout handed rows heard
+          staged_view = told v stage_after v.last v.found abandoned turned v.layout handed rows
 
           -- of an object that it swaps on
           pub record KnowsStaged : Type 0 where
@@ -256,7 +256,7 @@ module _ {S L P : Type 0} (F : Layouts S L P) (laws : AreLaws F) (declared : Lis
               → KnowsRows staged_state.phases staged_view
           rows_staged granted old =
               rows_told F.tag_of r.state objects_after callers_after kept r.beside id v knows
-              stage_after v.last v.found abandoned turned v.layout handed rows heard staged_state.phases refl refl granted old
+              stage_after v.last v.found abandoned turned v.layout handed rows staged_state.phases refl refl granted old
               (rows_stay r.state staged_state v on
               (spans_stay c v.visitor.freeing knows.there (ap (λ (z : Visitor). z.freeing) knows.phases.visitor)) knows.phases.rows)
 
@@ -269,7 +269,7 @@ module _ {S L P : Type 0} (F : Layouts S L P) (laws : AreLaws F) (declared : Lis
               → KnowsPass F.tag_of staged_state (record r.beside { row_seat = naming }) id staged_view
           own_staged naming names swap known_rows kept_is none unhanded =
               own_after F.tag_of r.state objects_after callers_after kept r.beside id v knows
-              stage_after v.last v.found abandoned turned v.layout handed rows heard naming (length-set s.callers c stage_after) names
+              stage_after v.last v.found abandoned turned v.layout handed rows naming (length-set s.callers c stage_after) names
               (record {
                 visitor = get_or-set_same s.callers c stage_after fresh_visitor knows.there;
                 layout = λ l q i e inside.

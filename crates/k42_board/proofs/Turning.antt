@@ -1,5 +1,5 @@
 -- An event of generations, as a step of one pass.
-use Rattle.std.proofs.Common.{◌≡◌, ◌≢◌, ℕ, ◌≤◌, false, List, [], ◌∷◌, Option, Some, length, get_or, set, sym, refl, ap, ◌∙◌, subst, arith, le_refl, length-set, get_or-set_other}
+use Rattle.std.proofs.Common.{◌≡◌, ◌≢◌, ℕ, ◌≤◌, false, List, [], ◌∷◌, Option, Some, length, get_or, set, sym, refl, ap, ◌∙◌, subst, arith, length-set, get_or-set_other}
 use Rattle.std.specs.List.{slice_get, slice_index}
 use Rattle.std.specs.Option.{unwrap_or}
 use Rattle.std.proofs.lemmas.List.{set-get_or}
@@ -37,7 +37,6 @@ use Rattle.k42_board.specs.Generations.{Counts, AreGenerations, KnowsGenerations
 use Rattle.k42_board.specs.Parts.{IsPart}
 use Rattle.k42_board.specs.Phases.{KnowsSwap, KnowsRows}
 use Rattle.k42_board.specs.Trace.{KnowsTrace}
-use Rattle.k42_board.specs.Views.{hears}
 use Rattle.k42_board.specs.Rule.{Beside, NamesRows, KnowsPass, Shows, Rule}
 use Rattle.k42_board.specs.declared.view.PassView.{PassView}
 use Rattle.k42_board.specs.declared.view.Row.{Row}
@@ -56,8 +55,8 @@ with_counts beside counts = record beside { counts = counts }
 
 -- what a step of generations makes of a pass
 abbrev pub turned_pass :
-    {P : Type 0} → PassView P → Caller → Visitor → ℕ → ℕ → Option ℕ → List Row → ℕ → List ℕ → ℕ → PassView P
-turned_pass x turn visitor activities graces base rows granted swept heard = record x {
+    {P : Type 0} → PassView P → Caller → Visitor → ℕ → ℕ → Option ℕ → List Row → ℕ → PassView P
+turned_pass x turn visitor activities graces base rows granted = record x {
   turn = turn;
   visitor = visitor;
   activities = activities;
@@ -65,8 +64,6 @@ turned_pass x turn visitor activities graces base rows granted swept heard = rec
   base = base;
   rows = rows;
   granted = granted;
-  swept = swept;
-  heard = heard;
 }
 
 -- the swap is of the object that it was of, as far as it had moved it
@@ -117,9 +114,9 @@ module _ {L : Type 0} (s : Joined L) (g : Generations) (visitors : List Visitor)
   }
 
   module _ {P : Type 0} (x : PassView P) (turn : Caller) (visitor : Visitor) (activities graces : ℕ) (base : Option ℕ)
-      (rows : List Row) (granted : ℕ) (swept : List ℕ) (heard : ℕ) where
+      (rows : List Row) (granted : ℕ) where
     abbrev y : PassView P
-    y = turned_pass x turn visitor activities graces base rows granted swept heard
+    y = turned_pass x turn visitor activities graces base rows granted
 
     swap_goes : IsSameSwap x.visitor.swap visitor.swap → KnowsSwap s.phases x → KnowsSwap t.phases y
     swap_goes same knows = record {
@@ -182,12 +179,12 @@ module _ {L : Type 0} (s : Joined L) (g : Generations) (visitors : List Visitor)
     }
 
     -- its rows and notes as they were
-    pub rows_kept : visitor.noted ≡ x.visitor.noted → visitor.freeing ≡ x.visitor.freeing → rows ≡ x.rows → granted ≡ x.granted → swept ≡ x.swept
+    pub rows_kept : visitor.noted ≡ x.visitor.noted → visitor.freeing ≡ x.visitor.freeing → rows ≡ x.rows → granted ≡ x.granted
         → KnowsRows s.phases x → KnowsRows s.phases y
-    rows_kept noted freeing same first all knows = record {
+    rows_kept noted freeing same first knows = record {
       old = rw same knows.old;
       granted = rw (same, first, noted) knows.granted;
-      swept = rw (all, noted) knows.swept;
+      swept = rw noted knows.swept;
       spans = rw freeing knows.spans;
     }
 
@@ -195,7 +192,7 @@ module _ {L : Type 0} (s : Joined L) (g : Generations) (visitors : List Visitor)
       → Rises → IsOther beside.counts counts' x.number → KnowsPass tag_of s beside j x
       → KnowsPass tag_of t (with_counts beside counts') j x
   pass_stays tag_of beside counts' j x many rises other knows =
-      own_goes x x.turn x.visitor x.activities x.graces x.base x.rows x.granted x.swept x.heard tag_of beside counts' j knows
+      own_goes x x.turn x.visitor x.activities x.graces x.base x.rows x.granted tag_of beside counts' j knows
       (record {
         many = many;
         rises = rises;
@@ -216,23 +213,6 @@ module _ {L : Type 0} (s : Joined L) (g : Generations) (visitors : List Visitor)
         is.due declaration chain row declares (record { fits = rows.fits; layouts = rows.layouts }) here kept;
     before = is.before;
   }
-
--- a pass that hears a word knows what it knew
-pub known_heard : {L P : Type 0} (tag_of : L → ℕ) (s : Joined L) (beside : Beside P) (id : ℕ) (x : PassView P) (heard : ℕ) → KnowsPass tag_of s beside id x
-    → KnowsPass tag_of s beside id (hears heard x)
-known_heard tag_of s beside id x heard knows =
-    own_goes s s.phases.turns s.phases.callers x x.turn x.visitor x.activities x.graces x.base x.rows x.granted x.swept heard tag_of beside beside.counts id knows
-    (record {
-      many = refl;
-      rises = λ p. le_refl (proc_at s.phases.turns p).generation;
-      generations = record { turn = knows.generations.turn; activities = knows.generations.activities; graces = knows.generations.graces; base = knows.generations.base };
-      visitor_is = knows.phases.visitor;
-      place = refl;
-      swap = same_swap x.visitor.swap;
-      proc = refl;
-      names = knows.names;
-      rows_known = record { old = knows.phases.rows.old; granted = knows.phases.rows.granted; swept = knows.phases.rows.swept; spans = knows.phases.rows.spans };
-    })
 
 -- what is read of two lists at a place where they have the same
 pub same_at : {A : Type 0} (xs ys : List A) (i : ℕ) (d : A) → slice_get ys i ≡ slice_get xs i → get_or ys i d ≡ get_or xs i d

@@ -32,16 +32,20 @@ use Rattle.k42_board.specs.Seen.{IsSeatOf}
 use Rattle.k42_board.specs.Steps.{Seated, Tells}
 use Rattle.k42_board.specs.Swapping.{object_swapped, MayTurnOver, turn_amount, turned_view}
 use Rattle.k42_board.specs.Values.{bit, object_value}
+use Rattle.k42_board.specs.Log.{took}
 use Rattle.k42_board.specs.Views.{pass_in}
 use Rattle.k42_board.specs.Words.{object_word}
 use Rattle.k42_board.specs.declared.view.PassView.{PassView}
+use Rattle.k42_board.specs.declared.view.StepName.TheVariants as steps
 use Rattle.k42_board.specs.declared.view.View.{View}
 use Rattle.k42_board.specs.declared.view.View.TheVariants.{Crew}
 use Rattle.k42_board.proofs.AtTables.{visited, Steps, visits, of_object, object_written, few_entries, written_shows}
 use Rattle.k42_board.proofs.Fields.{bit_small, Fits, object_fits}
 use Rattle.k42_board.proofs.Looking.{object_shown}
-use Rattle.k42_board.proofs.Moves.{Moves, seat_allowed}
+use Rattle.k42_board.proofs.Logged.{logged_moves}
+use Rattle.k42_board.proofs.Moves.{Moves}
 use Rattle.k42_board.proofs.OnePass.{with_pass, known}
+use Rattle.k42_board.proofs.Retold.{retold, retold_allowed}
 use Rattle.k42_board.proofs.Staging.{IsStaged, stage_is, there, few, bits, staged_effect, staged_visit, swap_staged, rows_staged, rows_old, own_staged}
 
 -- what a stage tells at which the object is moved
@@ -162,11 +166,11 @@ module _ {S L P : Type 0} (F : Layouts S L P) (laws : AreLaws F) (declared : Lis
     effect_is : after ≡ effect r.state (AtPhases (TurnOver c tag))
     effect_is = staged_effect F laws declared table r id v at stage.named (λ q. Opening q 0) (λ l. turned_over l tag) r.state.kept
 
-    pass_after : KnowsPass F.tag_of after r.beside id (turned_view found v)
+    pass_after : KnowsPass F.tag_of after r.beside id (turned_view v)
     pass_after =
-        own_staged F laws declared table r id v at stage.named (TurnOver c tag) k' r.state.kept (Opening o 0) staged v.abandoned true None v.rows found
+        own_staged F laws declared table r id v at stage.named (TurnOver c tag) k' r.state.kept (Opening o 0) staged v.abandoned true None v.rows
         r.beside.row_seat knows.names
-        (swap_staged F laws declared table r id v at stage.named (TurnOver c tag) k' r.state.kept (Opening o 0) staged v.abandoned true None v.rows found
+        (swap_staged F laws declared table r id v at stage.named (TurnOver c tag) k' r.state.kept (Opening o 0) staged v.abandoned true None v.rows
         (record {
           names = refl;
           turned_is = refl;
@@ -174,8 +178,8 @@ module _ {S L P : Type 0} (F : Layouts S L P) (laws : AreLaws F) (declared : Lis
           begun = λ not. absurd (cc);
           next = λ is. ap (λ n. n + 1) (knows.phases.swap.begun o stage.named unturned);
         }))
-        (rows_staged F laws declared table r id v at stage.named (TurnOver c tag) k' r.state.kept (Opening o 0) staged v.abandoned true None v.rows found refl
-        (rows_old F laws declared table r id v at stage.named (TurnOver c tag) k' r.state.kept (Opening o 0) staged v.abandoned true None v.rows found))
+        (rows_staged F laws declared table r id v at stage.named (TurnOver c tag) k' r.state.kept (Opening o 0) staged v.abandoned true None v.rows refl
+        (rows_old F laws declared table r id v at stage.named (TurnOver c tag) k' r.state.kept (Opening o 0) staged v.abandoned true None v.rows))
         knows.trace.kept
         (λ told e. absurd (cc))
         (λ moved. absurd (cc))
@@ -185,27 +189,47 @@ module _ {S L P : Type 0} (F : Layouts S L P) (laws : AreLaws F) (declared : Lis
         ap (λ z. (found + (2 ^ 32 + 2 ^ 28 * tag + 2 ^ 25 - 2 ^ 28 * z)) % 2 ^ 64) (knows.phases.swap.layout_begun o stage.named unturned)
         ∙ turned_value k found tag fits bits_are.0 may.known (object_shown F laws declared table r id v at o o_there)
 
-    pub turns_over : Steps F declared r.state (AtPhases (TurnOver c tag)) (with_pass table (set table.words (object_word o) ((found + turn_amount tag v) % 2 ^ 64)) table.homes id (turned_view found v))
+    pub turns_over : Steps F declared r.state (AtPhases (TurnOver c tag)) (with_pass table (set table.words (object_word o) ((found + turn_amount tag v) % 2 ^ 64)) table.homes id (turned_view v))
     turns_over =
         visits F laws declared table r id v at (TurnOver c tag) (set s.objects o k') r.state.kept (at_stage v.visitor (Opening o 0))
         (staged_visit F laws declared table r id v at stage.named (TurnOver c tag) k' r.state.kept (Opening o 0) staged possible effect_is (λ d not. refl))
-        (set table.words (object_word o) ((found + turn_amount tag v) % 2 ^ 64)) (turned_view found v)
+        (set table.words (object_word o) ((found + turn_amount tag v) % 2 ^ 64)) (turned_view v)
         (written_shows F laws declared table r id v at (set s.objects o k') (at_stage v.visitor (Opening o 0)) r.state.kept (object_word o)
-        ((found + turn_amount tag v) % 2 ^ 64) (turned_view found v) (of_object o small) (length-set s.objects o k')
+        ((found + turn_amount tag v) % 2 ^ 64) (turned_view v) (of_object o small) (length-set s.objects o k')
         (object_written table.words s.objects o k k' ((found + turn_amount tag v) % 2 ^ 64) r.shows.many_words r.shows.few_objects
         (few_entries F laws declared table r id v at) small (slice_get-get_or s.objects o fresh_object o_there) refl refl value r.shows.objects))
         pass_after
 
-pub turn_moves : {S L P : Type 0} (F : Layouts S L P) → AreLaws F → (declared : List L) (id tag : ℕ) (v : PassView P) → MayTurnOver tag v
-    → Moves F declared (AtPhases (TurnOver v.number tag)) (object_word (object_swapped v)) (λ word. (word + turn_amount tag v) % 2 ^ 64) turned_view id v
-turn_moves F laws declared id tag v may = record { from = λ table r at. turns_over F laws declared table r id v at may.moved tag may }
+turn_goes : {S L P : Type 0} (F : Layouts S L P) → AreLaws F → (declared : List L) (id tag : ℕ) (v : PassView P) → MayTurnOver tag v
+    → Moves F declared (AtPhases (TurnOver v.number tag)) (object_word (object_swapped v)) (λ word. (word + turn_amount tag v) % 2 ^ 64) (λ found. turned_view) id v
+turn_goes F laws declared id tag v may = record { from = λ table r at. turns_over F laws declared table r id v at may.moved tag may }
 
--- as an addition of this amount
-pub turn_allowed : {S L P : Type 0} {callers : ℕ} (F : Layouts S L P) → AreLaws F → (declared : List L) (id o tag : ℕ) (me : Seated P)
-    → object_swapped (pass_in me.0) ≡ o → IsSeatOf me (pass_in me.0) → MayTurnOver tag (pass_in me.0)
-    → (amount : ℕ) → amount ≡ turn_amount tag (pass_in me.0) → (slots : ℕ) (step : Step (Slot P))
-    → Allows (Ruled F declared callers) slots id me (object_word o) (λ n. (n + amount) % 2 ^ 64) (Tells turned_view step me)
-turn_allowed {P = P} {callers = callers} F laws declared id o tag me same is may amount adds slots step =
-    subst (λ (z : ℕ × ℕ). Allows (Ruled F declared callers) slots id me (object_word z.0) (λ n. (n + z.1) % 2 ^ 64) (Tells turned_view step me))
-    (λ j. (same j, sym adds j))
-    (seat_allowed (turn_moves F laws declared id tag (pass_in me.0) may) me is slots step)
+pub turn_moves : {S L P : Type 0} (F : Layouts S L P) → AreLaws F → (declared : List L) (id tag : ℕ) (v : PassView P) → MayTurnOver tag v
+    → Moves F declared (AtPhases (TurnOver v.number tag)) (object_word (object_swapped v)) (λ word. (word + turn_amount tag v) % 2 ^ 64) (λ found x. took steps.TurnOver (object_word (object_swapped x)) found (turned_view x))
+    id v
+turn_moves F laws declared id tag v may = record { from = (logged_moves steps.TurnOver (λ n. n) (λ found q before is. is) (turn_goes F laws declared id tag v may)).from }
+
+-- as the play tells it, of an addition of this amount at the word that the step names
+module _ {S L P : Type 0} (F : Layouts S L P) (laws : AreLaws F) (declared : List L) (id tag : ℕ)
+    (me : Seated P) (is : IsSeatOf me (pass_in me.0)) (may : MayTurnOver tag (pass_in me.0))
+    (word o : ℕ) (at : word ≡ object_word o) (same : object_swapped (pass_in me.0) ≡ o) (amount : ℕ) (adds : amount ≡ turn_amount tag (pass_in me.0)) where
+  turn_word_there : word ≡ object_word (object_swapped (pass_in me.0))
+  turn_word_there = at ∙ ap object_word (sym same)
+
+  abbrev turn_row : ℕ → PassView P → PassView P
+  turn_row found x = took steps.TurnOver (object_word (object_swapped x)) found (turned_view x)
+
+  abbrev turn_play : ℕ → PassView P → PassView P
+  turn_play found x = took steps.TurnOver word found (turned_view x)
+
+  turn_same : (found : ℕ) → turn_row found (pass_in me.0) ≡ turn_play found (pass_in me.0)
+  turn_same found = ap (λ i. took steps.TurnOver i found (turned_view (pass_in me.0))) (sym turn_word_there)
+
+  pub turn_allowed : {callers : ℕ} (slots : ℕ) (step : Step (Slot P))
+      → Allows (Ruled F declared callers) slots id me word (λ n. (n + amount) % 2 ^ 64) (Tells turn_play step me)
+  turn_allowed {callers} slots step =
+      subst (λ (z : ℕ). Allows (Ruled F declared callers) slots id me word (λ n. (n + z) % 2 ^ 64) (Tells turn_play step me)) (sym adds)
+      (retold_allowed turn_row turn_play turn_same (turn_moves F laws declared id tag (pass_in me.0) may) me is word turn_word_there slots step)
+
+  pub turn_told : (step : Step (Slot P)) (found : ℕ) (after : Seated P) → Tells turn_play step me found after → Tells turn_row step me found after
+  turn_told step found after told = retold turn_row turn_play turn_same me after is step found told

@@ -156,7 +156,6 @@ drawn_view cells entry fresh v = record v {
   taker = caller_drawn entry v.taker;
   notes = told_notes cells entry fresh v.notes;
   found = None;
-  heard = entry.stamp;
 }
 
 abbrev pub alone_view : {P : Type 0} → Entry → PassView P → PassView P
@@ -164,7 +163,6 @@ alone_view entry v = record v {
   taker = caller_drawn entry v.taker;
   found = None;
   abandoned = tells_abandoned entry.answer || v.abandoned;
-  heard = entry.stamp;
 }
 
 -- the first cells are closed, and the others begin with the entry
@@ -181,7 +179,6 @@ handed_view from onto entry tag fresh v = record v {
   notes = map (handed_note from onto entry fresh) v.notes;
   found = None;
   handed = Some tag;
-  heard = entry.stamp;
 }
 
 -- the seats of these cells do not tell of it yet

@@ -1,11 +1,9 @@
 -- The step that frees rows, for one pass: where it may be taken, and what the pass knows after it.
-use Rattle.std.specs.Prelude.{◌≡◌, ℕ, ◌+◌, ◌-◌, ◌/◌, ◌<◌, if◌then◌else◌, nat_lt, List, ◌∷◌, Some, length, slice_set, unwrap_or}
+use Rattle.std.specs.Prelude.{◌≡◌, ℕ, ◌+◌, ◌<◌, if◌then◌else◌, nat_lt, Some, length, slice_set, unwrap_or}
 use Rattle.gen_core.specs.declared.state.GraceAt.TheVariants.{Quiet}
 use Rattle.phase_core.specs.Plain.{Visitor}
 use Rattle.phase_core.specs.State.{note_at}
-use Rattle.k42_board.specs.Views.{hears}
 use Rattle.k42_board.specs.declared.view.PassView.{PassView}
-use Rattle.k42_board.specs.declared.view.Row.{Row}
 
 -- its grace is quiet, and noted a number of the object
 pub record MayFree {P : Type 0} (objects o : ℕ) (v : PassView P) : Type 0 where
@@ -21,21 +19,8 @@ number_noted v o = unwrap_or (note_at v.visitor.noted o) 0
 abbrev pub visitor_freed : Visitor → ℕ → ℕ → ℕ → Visitor
 visitor_freed x o found n = if nat_lt found n then record x { freeing = slice_set x.freeing o (found, n) } else x
 
--- By `MarkFound` that is one row at most.
-abbrev pub rows_freed : List Row → ℕ → ℕ → ℕ → List Row
-rows_freed rows o found n = if nat_lt found n then record { object = o; incarnation = found } ∷ rows else rows
-
 abbrev pub freed_view : {P : Type 0} → ℕ → ℕ → PassView P → PassView P
-freed_view o found v =
-    hears found (record v {
-      visitor = visitor_freed v.visitor o found (number_noted v o);
-      swept = o ∷ v.swept;
-      freed = rows_freed v.freed o found (number_noted v o);
-    })
-
--- the object of its word
-abbrev pub freed_object : ℕ → ℕ
-freed_object word = (word - 784) / 16
+freed_view o found v = record v { visitor = visitor_freed v.visitor o found (number_noted v o) }
 
 -- the mark is short of the noted number by one row at most
 pub record MarkFound {P : Type 0} (o : ℕ) (v : PassView P) (found : ℕ) : Type 0 where

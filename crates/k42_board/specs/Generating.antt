@@ -6,7 +6,6 @@ use Rattle.gen_core.specs.Events.{is_free}
 use Rattle.phase_core.specs.Stages.{is_idle, is_out}
 use Rattle.k42_board.specs.Generations.{MOST}
 use Rattle.k42_board.specs.Values.{generation_in}
-use Rattle.k42_board.specs.Views.{hears}
 use Rattle.k42_board.specs.declared.view.PassView.{PassView}
 
 -- it has no activity, no grace and no swap under way, and has begun few activities
@@ -17,7 +16,7 @@ pub record MayEnter {P : Type 0} (v : PassView P) : Type 0 where
 
 abbrev pub entered_view : {P : Type 0} → ℕ → PassView P → PassView P
 entered_view found v =
-    hears found (record v { turn = record v.turn { active = Some (generation_in found) }; activities = v.activities + 1 })
+    record v { turn = record v.turn { active = Some (generation_in found) }; activities = v.activities + 1 }
 
 -- no entry of it is of a later generation than the one found; and it is inside no call
 pub record EnteredFound {P : Type 0} (v : PassView P) (found : ℕ) : Type 0 where
@@ -39,6 +38,5 @@ CanLeave v = (generation : ℕ) × MayLeave generation v
 abbrev pub active_in : {P : Type 0} → PassView P → ℕ
 active_in v = unwrap_or v.turn.active 0
 
-abbrev pub left_view : {P : Type 0} → ℕ → PassView P → PassView P
-left_view found v =
-    hears found (record v { turn = record v.turn { active = None }; visitor = record v.visitor { read = [] } })
+abbrev pub left_view : {P : Type 0} → PassView P → PassView P
+left_view v = record v { turn = record v.turn { active = None }; visitor = record v.visitor { read = [] } }

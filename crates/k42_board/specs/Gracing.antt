@@ -12,14 +12,13 @@ use Rattle.phase_core.specs.Effects.{drained_at, role_taken_with}
 use Rattle.phase_core.specs.Stages.{may_take}
 use Rattle.phase_core.specs.State.{note_at}
 use Rattle.phase_core.specs.declared.caller.SwapAt.TheVariants.{Drained}
-use Rattle.turn_core.specs.Names.{names}
 use Rattle.k42_joined.specs.Swapping.{holds_none}
 use Rattle.k42_board.specs.Generations.{MOST}
+use Rattle.k42_board.specs.Log.{has_swept}
 use Rattle.k42_board.specs.Noting.{notes_due}
 use Rattle.k42_board.specs.Phases.{IsGranted}
 use Rattle.k42_board.specs.Seen.{PassSeen}
 use Rattle.k42_board.specs.Values.{generation_in}
-use Rattle.k42_board.specs.Views.{hears, stalled}
 use Rattle.k42_board.specs.declared.view.PassView.{PassView}
 
 -- it has no activity and no grace under way, its swap is none or has interposed the mediator, and it has begun few graces
@@ -28,17 +27,15 @@ pub record MayTakeRole {P : Type 0} (v : PassView P) : Type 0 where
   pub swap : may_take v.visitor.swap ≡ true
   pub few : v.graces < MOST
 
--- the role of nobody is taken, with what is noted then; another's holds the pass up
+-- the role of nobody is taken, with what is noted then
 abbrev pub role_view : {P : Type 0} → ℕ → PassView P → PassView P
-role_view found v = hears found (if found == 0 then record v {
+role_view found v = if found == 0 then record v {
   turn = role_taken v.turn;
   visitor = role_taken_with v.visitor (notes_due v);
   graces = v.graces + 1;
   base = None;
   granted = length v.rows;
-  swept = [];
-  freed = [];
-} else stalled found v)
+} else v
 
 -- While a grace is under way, the processor that it comes to next is one of so many; it has asked for the generation
 -- before it flips a second one.
@@ -64,7 +61,7 @@ abbrev pub MayAskGeneration : {P : Type 0} → PassView P → Type 0
 MayAskGeneration v = v.turn.grace ≡ Flipping 0
 
 abbrev pub asked_view : {P : Type 0} → ℕ → PassView P → PassView P
-asked_view found v = hears found (record v { base = Some (generation_in found) })
+asked_view found v = record v { base = Some (generation_in found) }
 
 -- a generation is left
 abbrev pub GenerationFound : {P : Type 0} → PassView P → ℕ → Type 0
@@ -99,11 +96,11 @@ passed_view v =
 
 abbrev pub looked_at : {P : Type 0} → GraceAt → ℕ → PassView P → PassView P
 looked_at (Flipping p) found v = record v { turn = record v.turn { coming = Some found } }
-looked_at (Looking p) found v = if found == slice_index v.turn.waits p then passed_view v else stalled found v
+looked_at (Looking p) found v = if found == slice_index v.turn.waits p then passed_view v else v
 looked_at grace found v = v
 
 abbrev pub looked_view : {P : Type 0} → ℕ → PassView P → PassView P
-looked_view found v = hears found (looked_at v.turn.grace found v)
+looked_view found v = looked_at v.turn.grace found v
 
 -- no more have left than had entered
 pub record ExitsFound {P : Type 0} (v : PassView P) (found : ℕ) : Type 0 where
@@ -133,14 +130,14 @@ turn_flipped x entered = record x {
 }
 
 abbrev pub flipped_view : {P : Type 0} → ℕ → PassView P → PassView P
-flipped_view found v = hears found (record v { turn = turn_flipped v.turn (entries_in found) })
+flipped_view found v = record v { turn = turn_flipped v.turn (entries_in found) }
 
 -- it is quiet and holds no cell; where its swap is drained it has freed the former rows of the object, which it noted
 pub record MayGiveRole {P : Type 0} (v : PassView P) : Type 0 where
   pub quiet : v.turn.grace ≡ Quiet
   pub free : holds_none v.taker.held ≡ true
   pub swept :
-      (o n : ℕ) → v.visitor.swap ≡ Drained o → note_at v.visitor.noted o ≡ Some n → names v.swept o ≡ true
+      (o n : ℕ) → v.visitor.swap ≡ Drained o → note_at v.visitor.noted o ≡ Some n → has_swept v.log o ≡ true
 
 -- it no longer has the rows that it held as it took the role
 abbrev pub given_view : {P : Type 0} → PassView P → PassView P

@@ -1,7 +1,10 @@
 -- A pass that hands a row on.
-use Rattle.std.specs.Prelude.{ℕ, [], List, ◌++◌}
+use Rattle.std.specs.Prelude.{ℕ, [], List, ◌++◌, take, drop}
+use Rattle.k42_kinds.specs.declared.entry.Act.{Act}
+use Rattle.k42_kinds.specs.declared.entry.Answer.{Answer}
 use Rattle.k42_kinds.specs.declared.entry.Entry.{Entry}
-use Rattle.k42_board.specs.Drawing.{numbers_of, part_in, handed_view, untold_view}
+use Rattle.k42_stamp.specs.Layouts.{Layouts}
+use Rattle.k42_board.specs.Drawing.{MayHandOn, entry_hand, numbers_of, part_in, handed_view, untold_view}
 use Rattle.k42_board.specs.declared.cell.Content.{Content}
 use Rattle.k42_board.specs.declared.view.PassView.{PassView}
 
@@ -14,3 +17,11 @@ hands_at from onto entry tag v =
 abbrev pub handed_at : {P : Type 0} → List (Content P) → List (Content P) → Entry → ℕ → PassView P → PassView P
 handed_at from onto entry tag v =
     untold_view [] (handed_view (numbers_of from) (numbers_of onto) entry tag (part_in (from ++ onto)) v)
+
+-- the same of cells of which the first so many are those of the present row
+abbrev pub MayHandAt : {S L P : Type 0} → Layouts S L P → List L → List (Content P) → L → Answer → PassView P → Type 0
+MayHandAt F declared contents to answer v = MayHandOn F declared (take F.procs contents) (drop F.procs contents) to answer v
+
+abbrev pub entry_done : {P : Type 0} → ℕ → List (Content P) → Act → Answer → PassView P → Entry
+entry_done procs contents act answer v =
+    entry_hand v (numbers_of (take procs contents)) (numbers_of (drop procs contents)) act answer

@@ -1,6 +1,7 @@
 pub mod Words
 pub mod Values
 pub mod Views
+pub mod Log
 pub mod Seats
 pub mod Generations
 pub mod Phases
@@ -24,3 +25,5 @@ pub mod Plan
 pub mod Starting
 pub mod Dealing
 pub mod Queueing
+pub mod Stepping
+pub mod Protocol

@@ -1,6 +1,5 @@
 -- The words of the objects, and what a pass knows of its call and its swap.
 use Rattle.std.specs.Prelude.{◌≡◌, ◌≢◌, ℕ, ◌+◌, ◌<◌, ◌≤◌, Bool, true, false, List, Option, Some, None, take, slice_index}
-use Rattle.turn_core.specs.Names.{names}
 use Rattle.k42_places.specs.Places.{EachPlace}
 use Rattle.phase_core.specs.Plain.{Object, Phases}
 use Rattle.phase_core.specs.Stages.{IsInside, named_by, object_named}
@@ -8,6 +7,7 @@ use Rattle.phase_core.specs.State.{object_at, visitor_at, note_at, span_at}
 use Rattle.phase_core.specs.declared.caller.Place.{Place}
 use Rattle.phase_core.specs.declared.caller.Place.TheVariants.{Direct, Tracked}
 use Rattle.k42_joined.specs.Answers.{is_turned}
+use Rattle.k42_board.specs.Log.{has_swept}
 use Rattle.k42_board.specs.Words.{object_word, freed_word, local_word}
 use Rattle.k42_board.specs.Values.{object_value, local_value, layout_in, incarnation_in}
 use Rattle.k42_board.specs.Views.{word_begun}
@@ -68,7 +68,7 @@ pub record KnowsRows {P : Type 0} (s : Phases) (v : PassView P) : Type 0 where
   pub granted : EachPlace (λ place row. IsGranted v.visitor.noted row) (take v.granted v.rows)
   -- of these objects all rows are freed that it noted
   pub swept :
-      (o n : ℕ) → names v.swept o ≡ true → note_at v.visitor.noted o ≡ Some n → n ≤ (object_at s o).freed
+      (o n : ℕ) → has_swept v.log o ≡ true → note_at v.visitor.noted o ≡ Some n → n ≤ (object_at s o).freed
   -- the rows that it has freed are the last ones
   pub spans :
       (o : ℕ) → (span_at v.visitor.freeing o).0 < (span_at v.visitor.freeing o).1

@@ -1,5 +1,5 @@
 -- The layouts of a system, on its processors and for its callers.
-use Rattle.std.specs.Prelude.{ℕ, List, slice_index_or}
+use Rattle.std.specs.Prelude.{ℕ, Bool, List, slice_index_or}
 use Rattle.k42_kinds.specs.OneThread.{OneThread}
 use Rattle.k42_kinds.specs.Rows.{Ways}
 use Rattle.k42_kinds.specs.declared.entry.Act.{Act}
@@ -12,3 +12,21 @@ abbrev pub layouts_on :
     → Layouts S L P
 layouts_on object_of tag_of ways_of Whole Serves admitted act_of procs callers =
     layouts_with object_of tag_of ways_of Whole Serves admitted act_of procs (λ c. slice_index_or callers c 0)
+
+-- what a type of layouts says of them: what a clause has as `L.Layout`
+abbrev pub LayoutWords : Type 0 → Type 0 → Type 0 → Type 1
+LayoutWords S L P = record {
+  object : L → OneThread S;
+  tag_of : L → ℕ;
+  has_tag : L → ℕ → Bool;
+  ways : L → Ways S P;
+  whole : L → ℕ → List P → Type 0;
+  serves : L → S → Type 0;
+  admitted : L → S → S;
+  act_of : L → Act;
+}
+
+-- its layouts on so many processors, and for callers that are on these
+abbrev pub layouts_of : {S L P : Type 0} → LayoutWords S L P → ℕ → List ℕ → Layouts S L P
+layouts_of words procs callers =
+    layouts_on words.object words.tag_of words.ways words.whole words.serves words.admitted words.act_of procs callers

@@ -9,8 +9,8 @@ use Rattle.phase_core.specs.declared.caller.SwapAt.{SwapAt}
 use Rattle.phase_core.specs.declared.caller.SwapAt.TheVariants.{Idle, Refused, Begun, Interposing, Blocking, Moved, Opening, Reopening, Opened}
 use Rattle.k42_limits.specs.declared.TheConstants.{CALLERS, LAST_INCARNATION}
 use Rattle.k42_joined.specs.Swapping.{holds_none}
-use Rattle.k42_board.specs.Values.{local_value, count_in, layout_in, incarnation_in}
-use Rattle.k42_board.specs.Views.{hears, stalled, object_begun, word_begun}
+use Rattle.k42_board.specs.Values.{local_value, has_bit, count_in, layout_in, incarnation_in}
+use Rattle.k42_board.specs.Views.{object_begun, word_begun}
 use Rattle.k42_board.specs.declared.view.LastBegin.{LastBegin}
 use Rattle.k42_board.specs.declared.view.PassView.{PassView}
 use Rattle.k42_board.specs.declared.view.Row.{Row}
@@ -19,8 +19,8 @@ use Rattle.k42_board.specs.declared.view.Row.{Row}
 abbrev pub object_swapped : {P : Type 0} → PassView P → ℕ
 object_swapped v = object_named v.visitor.swap
 
-abbrev pub at_swap : {P : Type 0} → ℕ → PassView P → SwapAt → PassView P
-at_swap found v swap = hears found (record v { visitor = at_stage v.visitor swap })
+abbrev pub at_swap : {P : Type 0} → PassView P → SwapAt → PassView P
+at_swap v swap = record v { visitor = at_stage v.visitor swap }
 
 -- the present incarnation of the object that the pass swaps
 abbrev pub incarnation_swapped : {P : Type 0} → PassView P → ℕ
@@ -56,16 +56,16 @@ entry_after v =
 abbrev pub entry_event : ℕ → SwapAt → Event
 entry_event c swap = if is_interposing swap then Interpose c else Open c
 
-abbrev pub changed_view : {P : Type 0} → ℕ → PassView P → PassView P
-changed_view found v = at_swap found v (after_entry (length v.turn.waits) v.visitor.swap)
+abbrev pub changed_view : {P : Type 0} → PassView P → PassView P
+changed_view v = at_swap v (after_entry (length v.turn.waits) v.visitor.swap)
 
 -- its swap is drained, and its grace over
 pub record MayBlock {P : Type 0} (v : PassView P) : Type 0 where
   pub drained : is_drained v.visitor.swap ≡ true
   pub idle : graces.is_idle v.turn.grace ≡ true
 
-abbrev pub blocked_view : {P : Type 0} → ℕ → PassView P → PassView P
-blocked_view found v = at_swap found v (Blocking (object_swapped v))
+abbrev pub blocked_view : {P : Type 0} → PassView P → PassView P
+blocked_view v = at_swap v (Blocking (object_swapped v))
 
 abbrev pub MayMove : {P : Type 0} → PassView P → Type 0
 MayMove v = is_blocking v.visitor.swap ≡ true
@@ -79,7 +79,7 @@ abbrev pub moves : {P : Type 0} → PassView P → ℕ → ℕ
 moves v word = if word == blocked_word v then blocked_word v + 2 ^ 26 else word
 
 abbrev pub moved_view : {P : Type 0} → ℕ → PassView P → PassView P
-moved_view found v = if found == blocked_word v then at_swap found v (Moved (object_swapped v)) else hears found (stalled found v)
+moved_view found v = if found == blocked_word v then at_swap v (Moved (object_swapped v)) else v
 
 -- the word has the callers that are counted
 pub record CountFound {P : Type 0} (v : PassView P) (found : ℕ) : Type 0 where
@@ -97,8 +97,8 @@ pub record MayTurnOver {P : Type 0} (tag : ℕ) (v : PassView P) : Type 0 where
 abbrev pub turn_amount : {P : Type 0} → ℕ → PassView P → ℕ
 turn_amount tag v = 2 ^ 32 + 2 ^ 28 * tag + 2 ^ 25 - 2 ^ 28 * layout_in (word_begun v.last)
 
-abbrev pub turned_view : {P : Type 0} → ℕ → PassView P → PassView P
-turned_view found v = record (at_swap found v (Opening (object_swapped v) 0)) { turned = true; handed = None }
+abbrev pub turned_view : {P : Type 0} → PassView P → PassView P
+turned_view v = record (at_swap v (Opening (object_swapped v) 0)) { turned = true; handed = None }
 
 -- Its begin was refused, or it gives up what it moves and has not handed on, or it has opened all entries, and
 -- has drawn its Abandoned where it had given up.
@@ -122,6 +122,21 @@ kept_bits swap = if is_moved swap then 2 ^ 64 - 1 - 2 ^ 25 - 2 ^ 26 else 2 ^ 64 
 abbrev pub clears : SwapAt → ℕ → ℕ
 clears swap word = bit_and word (kept_bits swap)
 
+-- the word has the layout and the incarnation that a Begin found, and none of the bits of a swap
+pub record IsRestored (begun word : ℕ) : Type 0 where
+  pub layout : layout_in word ≡ layout_in begun
+  pub incarnation : incarnation_in word ≡ incarnation_in begun
+  pub swap : has_bit word 24 ≡ false
+  pub block : has_bit word 25 ≡ false
+  pub moving : has_bit word 26 ≡ false
+  pub complete : has_bit word 27 ≡ false
+
+-- where a swap ends that has not turned its object over, the object is as it was when the swap began
+abbrev pub ClearFound : {P : Type 0} → PassView P → ℕ → Type 0
+ClearFound v found =
+    v.visitor.swap ≡ Opened (object_swapped v) → v.turned ≡ false
+    → IsRestored (word_begun v.last) (clears v.visitor.swap found)
+
 -- the row that it has handed on and turned over
 abbrev pub rows_ended : {P : Type 0} → PassView P → List Row
 rows_ended v =
@@ -129,11 +144,11 @@ rows_ended v =
     then v.rows ++ record { object = object_swapped v; incarnation = incarnation_in (word_begun v.last) } ∷ []
     else v.rows
 
-abbrev pub cleared_view : {P : Type 0} → ℕ → PassView P → PassView P
-cleared_view found v =
+abbrev pub cleared_view : {P : Type 0} → PassView P → PassView P
+cleared_view v =
     if is_moved v.visitor.swap
-    then record (at_swap found v (Reopening (object_swapped v) 0)) { abandoned = false }
-    else record (at_swap found v Idle) { turned = false; rows = rows_ended v }
+    then record (at_swap v (Reopening (object_swapped v) 0)) { abandoned = false }
+    else record (at_swap v Idle) { turned = false; rows = rows_ended v }
 
 -- Stages that a swap comes to by turning its object over, and one that it comes to in no other way.
 

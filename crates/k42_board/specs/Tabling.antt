@@ -10,12 +10,11 @@ use Rattle.phase_core.specs.declared.caller.Place.TheVariants.{Out, Direct}
 use Rattle.phase_core.specs.declared.object.LocalEntry.{LocalEntry}
 use Rattle.k42_joined.specs.Swapping.{holds_none}
 use Rattle.k42_board.specs.Values.{local_value, layout_in, incarnation_in, has_bit, answer_in}
-use Rattle.k42_board.specs.Views.{hears, stalled}
 use Rattle.k42_board.specs.declared.view.PassView.{PassView}
 
--- a pass that has gone on in its call by a step that found this word, and what it has learned of the row's layout
-abbrev pub went : {P : Type 0} → ℕ → PassView P → Visitor → Option ℕ → PassView P
-went found v visitor layout = hears found (record v { visitor = visitor; layout = layout })
+-- a pass that has gone on in its call, and what it has learned of the row's layout
+abbrev pub went : {P : Type 0} → PassView P → Visitor → Option ℕ → PassView P
+went v visitor layout = record v { visitor = visitor; layout = layout }
 
 -- the entry of a processor, as its word says it
 abbrev pub entry_in : ℕ → LocalEntry
@@ -58,7 +57,7 @@ pub record MayLookUp {P : Type 0} (objects o : ℕ) (v : PassView P) : Type 0 wh
   pub there : o < objects
 
 abbrev pub looked_up_view : {P : Type 0} → ℕ → ℕ → PassView P → PassView P
-looked_up_view o found v = went found v (looked_up v.visitor o (entry_in found)) (layout_told (entry_in found))
+looked_up_view o found v = went v (looked_up v.visitor o (entry_in found)) (layout_told (entry_in found))
 
 -- it has found its processor's entry of the object empty
 pub record MayLoadRoot {P : Type 0} (objects o : ℕ) (v : PassView P) : Type 0 where
@@ -66,7 +65,7 @@ pub record MayLoadRoot {P : Type 0} (objects o : ℕ) (v : PassView P) : Type 0 
   pub there : o < objects
 
 abbrev pub rooted_view : {P : Type 0} → ℕ → PassView P → PassView P
-rooted_view found v = went found v v.visitor (Some (layout_in found))
+rooted_view found v = went v v.visitor (Some (layout_in found))
 
 -- the layout that it has learned
 abbrev pub layout_learned : {P : Type 0} → PassView P → ℕ
@@ -90,24 +89,21 @@ direct_after v = local_value (direct_entry (layout_learned v) v.turn.proc (row_o
 abbrev pub installs : {P : Type 0} → PassView P → ℕ → ℕ
 installs v word = if word == empty_before v then direct_after v else word
 
--- it has led the entry to its cell, and keeps that it has
-abbrev pub direct_view : {P : Type 0} → ℕ → ℕ → PassView P → PassView P
-direct_view o found v =
-    record (went found v (at_place v.visitor (Direct o (row_of v.visitor.place))) v.layout) {
-      installed = o ∷ v.installed;
-    }
+-- it has led the entry to its cell
+abbrev pub direct_view : {P : Type 0} → ℕ → PassView P → PassView P
+direct_view o v = went v (at_place v.visitor (Direct o (row_of v.visitor.place))) v.layout
+
+-- its call is over
+abbrev pub ended_view : {P : Type 0} → PassView P → PassView P
+ended_view v = went v (at_place v.visitor Out) None
 
 abbrev pub installed_view : {P : Type 0} → ℕ → ℕ → PassView P → PassView P
-installed_view o found v =
-    if found == empty_before v then direct_view o found v else stalled found (went found v (at_place v.visitor Out) None)
+installed_view o found v = if found == empty_before v then direct_view o v else ended_view v
 
 -- it is in a direct call, or has found its entry empty, and holds no cell
 pub record MayEndCall {P : Type 0} (v : PassView P) : Type 0 where
   pub uncounted : is_uncounted v.visitor.place ≡ true
   pub free : holds_none v.taker.held ≡ true
-
-abbrev pub ended_view : {P : Type 0} → ℕ → PassView P → PassView P
-ended_view found v = went found v (at_place v.visitor Out) None
 
 -- the object of its word
 abbrev pub word_object : ℕ → ℕ
@@ -118,11 +114,11 @@ pub record MayKnock {P : Type 0} (objects o : ℕ) (v : PassView P) : Type 0 whe
   pub sent : is_at_mediator v.visitor.place o ≡ true
   pub there : o < objects
 
--- it is let in, and learns the row and its layout, unless the swap blocks; it keeps what it found
+-- it is let in, and learns the row and its layout, unless the swap blocks
 abbrev pub knocked_view : {P : Type 0} → ℕ → ℕ → PassView P → PassView P
 knocked_view o found v =
-    record (went found v (knocked v.visitor o (incarnation_in found) (has_bit found 25))
-    (if has_bit found 25 then None else Some (layout_in found))) { knocked = found ∷ v.knocked }
+    went v (knocked v.visitor o (incarnation_in found) (has_bit found 25))
+    (if has_bit found 25 then None else Some (layout_in found))
 
 -- the mediator counts it, and it holds no cell; its call is over then
 pub record MayStepOut {P : Type 0} (v : PassView P) : Type 0 where
@@ -144,8 +140,8 @@ abbrev pub stage_begun : ℕ → ℕ → Visitor → Visitor
 stage_begun o found x = if has_bit found 24 then x else at_stage x (begun_as o (is_over_in found))
 
 abbrev pub begun_view : {P : Type 0} → ℕ → ℕ → PassView P → PassView P
-begun_view o found v = hears found (record v {
+begun_view o found v = record v {
   visitor = stage_begun o found v.visitor;
   last = Some (record { object = o; word = found });
   found = answer_in found;
-})
+}

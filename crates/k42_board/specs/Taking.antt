@@ -1,5 +1,5 @@
 -- The steps of a call on cells, for one pass: where each may be taken, and what the pass knows after it.
-use Rattle.std.specs.Prelude.{◌≡◌, ◌≢◌, ◌⊎◌, ℕ, ◌≤◌, ◌+◌, ◌*◌, ◌-◌, ◌/◌, ◌%◌, ◌<◌, ◌==◌, if◌then◌else◌, true, false, not, List, [], ◌∷◌, Some, None, slice_get, slice_index}
+use Rattle.std.specs.Prelude.{◌≡◌, ◌≢◌, ◌⊎◌, ℕ, ◌≤◌, ◌+◌, ◌*◌, ◌-◌, ◌/◌, ◌%◌, ◌<◌, ◌==◌, if◌then◌else◌, Bool, true, false, is_some, not, List, [], ◌∷◌, Some, None, slice_get, slice_index}
 use Rattle.std.specs.List.{filter}
 use mathlib.Core.Option.{some}
 use lib.ListN.{get_elem?}
@@ -23,11 +23,13 @@ use Rattle.k42_board.specs.Rule.{Rule}
 use Rattle.k42_board.specs.Seats.{told_by}
 use Rattle.k42_board.specs.Steps.{Seated, on_pass, Always}
 use Rattle.k42_board.specs.Values.{layout_in, incarnation_in}
-use Rattle.k42_board.specs.Views.{hears, pass_in, object_begun, word_begun}
+use Rattle.k42_board.specs.Log.{took, logs, put_at}
+use Rattle.k42_board.specs.Views.{pass_in, object_begun, word_begun}
 use Rattle.k42_board.specs.Words.{slot_of}
 use Rattle.k42_board.specs.declared.cell.Content.{Content}
 use Rattle.k42_board.specs.declared.view.Note.{Note}
 use Rattle.k42_board.specs.declared.view.PassView.{PassView}
+use Rattle.k42_board.specs.declared.view.StepName.TheVariants as steps
 use Rattle.k42_board.specs.declared.view.View.{View}
 use Rattle.k42_board.specs.declared.view.View.TheVariants.{Crew}
 
@@ -53,12 +55,9 @@ without n notes = filter (λ note. not (note.cell == n)) notes
 
 -- the pass after each step
 
--- it has the lock, where that was found free, and else keeps whose it is
+-- it has the lock, where that was found free
 abbrev pub locked_view : {P : Type 0} → ℕ → ℕ → PassView P → PassView P
-locked_view n found v = hears found (record v {
-  taker = if found == 0 then caller_locked n v.taker else v.taker;
-  refused = if found == 0 then v.refused else found ∷ v.refused;
-})
+locked_view n found v = record v { taker = if found == 0 then caller_locked n v.taker else v.taker }
 
 abbrev pub unlocked_view : {P : Type 0} → ℕ → PassView P → PassView P
 unlocked_view n v = record v { taker = caller_unlocked n v.taker }
@@ -80,27 +79,49 @@ taken_view content v = record v { notes = noted content ∷ v.notes; out = None 
 abbrev pub put_view : {P : Type 0} → ℕ → PassView P → PassView P
 put_view n v = record v { notes = without n v.notes; out = None }
 
+-- the slot has a cell with a part
+abbrev pub has_part : {P : Type 0} → Slot P → Bool
+has_part None = false
+has_part (Some content) = is_some content.part
+
 -- what each load of a lock tells of the slot
 
 abbrev pub Lifts : {P : Type 0} → Step (Slot P) → Seated P → ℕ → Seated P → Type 0
 Lifts step me found after =
     (content : Content _) × (content.number ≡ cell_at_lock step.word)
-    × (after ≡ (on_pass (lifted_view content) me.0, (slot_of (cell_at_lock step.word), Some content) ∷ me.1))
+    × (after
+    ≡ (
+      on_pass (λ v. took steps.Lift step.word 0 (lifted_view content v)) me.0,
+      (slot_of (cell_at_lock step.word), Some content) ∷ me.1,
+    ))
+
+abbrev pub gave_back : {P : Type 0} → ℕ → PassView P → PassView P
+gave_back word v = took steps.GiveBack word 0 (cell_given_view v)
 
 abbrev pub GivesBack : {P : Type 0} → Step (Slot P) → Seated P → ℕ → Seated P → Type 0
-GivesBack step me found after = after ≡ (on_pass cell_given_view me.0, rest me.1)
+GivesBack step me found after = after ≡ (on_pass (gave_back step.word) me.0, rest me.1)
 
 -- and what the pass knows then
 abbrev pub GivesBackKnown : {P : Type 0} → (PassView P → Type 0) → Step (Slot P) → Seated P → ℕ → Seated P → Type 0
-GivesBackKnown Known step me found after = GivesBack step me found after × Known (cell_given_view (pass_in me.0))
+GivesBackKnown Known step me found after = GivesBack step me found after × Known (gave_back step.word (pass_in me.0))
 
 abbrev pub Reaches : {P : Type 0} → Step (Slot P) → Seated P → ℕ → Seated P → Type 0
 Reaches step me found after =
     after
-    ≡ (on_pass (reaching_view (cell_at_lock step.word)) me.0, (slot_of (cell_at_lock step.word), None) ∷ me.1)
+    ≡ (
+      on_pass (λ v. took steps.Reach step.word 0 (reaching_view (cell_at_lock step.word) v)) me.0,
+      (slot_of (cell_at_lock step.word), None) ∷ me.1,
+    )
+
+-- the slot that is put back first has a part
+abbrev pub is_full : {P : Type 0} → List (ℕ × Slot P) → Bool
+is_full [] = false
+is_full (carried ∷ others) = has_part carried.1
 
 abbrev pub Puts : {P : Type 0} → Step (Slot P) → Seated P → ℕ → Seated P → Type 0
-Puts step me found after = after ≡ (on_pass (put_view (cell_at_lock step.word)) me.0, rest me.1)
+Puts step me found after =
+    after
+    ≡ (on_pass (λ v. logs (put_at step.word (is_full me.1)) (put_view (cell_at_lock step.word) v)) me.0, rest me.1)
 
 -- it holds the cell, which is in its place
 pub record HoldsHome {P : Type 0} (n : ℕ) (v : PassView P) : Type 0 where

@@ -23,14 +23,6 @@ abbrev pub object_begun : Option LastBegin → ℕ
 object_begun None = 0
 object_begun (Some begin) = begin.object
 
--- the pass has found this word
-abbrev pub hears : {P : Type 0} → ℕ → PassView P → PassView P
-hears found v = record v { heard = found }
-
--- and was held up by it
-abbrev pub stalled : {P : Type 0} → ℕ → PassView P → PassView P
-stalled found v = record v { stalls = found ∷ v.stalls }
-
 -- what the joined machine keeps of the pass
 abbrev pub kept_in : {P : Type 0} → PassView P → Kept
 kept_in v = record { begun = begun_of v.last; found = v.found; abandoned = v.abandoned }
@@ -53,16 +45,10 @@ new_pass procs objects number home = record {
   handed = None;
   rows = [];
   granted = 0;
-  swept = [];
   notes = [];
   out = None;
   untold = [];
-  heard = 0;
-  freed = [];
-  installed = [];
-  refused = [];
-  knocked = [];
-  stalls = [];
+  log = [];
 }
 
 -- the pass that alone has the view of a seat

@@ -1,7 +1,7 @@
 -- Where the words and the slots lie. A block of 64 words for each processor has what its callers change in each
 -- call; the words that all share stand 16 apart. Nobody writes words 0 to 15, which each cutting and joining
 -- of seats reads.
-use Rattle.std.specs.Prelude.{ℕ, ◌+◌, ◌*◌, ◌/◌, ◌%◌}
+use Rattle.std.specs.Prelude.{ℕ, ◌+◌, ◌-◌, ◌*◌, ◌/◌, ◌%◌}
 
 -- the generation and the entries of processor p
 abbrev pub generation_word : ℕ → ℕ
@@ -25,6 +25,10 @@ object_word o = 528 + 16 * o
 -- how many rows of object o are freed
 abbrev pub freed_word : ℕ → ℕ
 freed_word o = 784 + 16 * o
+
+-- and the object of such a word
+abbrev pub freed_object : ℕ → ℕ
+freed_object word = (word - 784) / 16
 
 abbrev pub role_word : ℕ
 role_word = 1040

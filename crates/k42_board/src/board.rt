@@ -1,18 +1,11 @@
 //! The table.
 use crate::cell::Cell;
+use crate::setup::Setup;
 use crate::view::View;
 use atomic_table::{Seat, Table, TableRule};
 use k42_kinds::Layout;
 use std::alloc::Global;
 use std::marker::PhantomData;
-
-/// What the table is told when it is made: the declared layouts, and the callers' processors.
-#[derive(Drop)]
-pub struct Setup<L> {
-    pub procs: u32,
-    pub layouts: Vec<L>,
-    pub callers: Vec<u32>,
-}
 
 pub struct Ruling<L> {
     layout: PhantomData<L>,

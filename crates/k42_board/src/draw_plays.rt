@@ -18,10 +18,12 @@ impl<P> Said<P> for Brand {
 pub(crate) struct Draw<K>(PhantomData<K>);
 
 impl<P: Drop, K: Said<P>> Play<Option<Content<P>>, View<P>> for Draw<K> {
-    ghost use Rattle.k42_board.specs.Steps.{TellsWith};
     ghost use Rattle.k42_board.specs.Drawing.{HasSmallStamp};
+    ghost use Rattle.k42_board.specs.Log.{took};
+    ghost use Rattle.k42_board.specs.Steps.{TellsWith};
+    ghost use Rattle.k42_board.specs.declared.view.StepName.TheVariants as steps;
 
-    ghost then = { TellsWith (λ found. K.becomes) (λ v found. HasSmallStamp (K.becomes v)) };
+    ghost then = { λ step. TellsWith (λ found v. took steps.Draw step.word 0 (K.becomes v)) (λ v found. HasSmallStamp (K.becomes v)) step };
 }
 
 pub(crate) struct Receipt;

@@ -5,6 +5,7 @@ ghost use Rattle.k42_board.specs.Starting.{AreFirstWords, AreFirstSlots};
 ghost use Rattle.k42_board.specs.Words.{many_slots};
 
 use crate::cell::Content;
+use crate::encoding::object_word;
 use atomic_table::Badge;
 use k42_kinds::Layout;
 use k42_memory::Memory;
@@ -17,7 +18,7 @@ pub fn first_words<L: Layout>(alloc: Global, layouts: &[L]) -> Result<Vec<u64>, 
 {
     let mut words = Vec::from_elem(alloc, 0u64, 1056)?;
     for (object, layout) in layouts.iter().enumerate() {
-        words[528 + 16 * object] = u64::from(layout.tag()) << 28;
+        words[object_word(object)] = u64::from(layout.tag()) << 28;
     }
     Ok(words)
 }

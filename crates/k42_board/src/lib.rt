@@ -5,6 +5,7 @@ mod board;
 mod cell;
 mod draw_plays;
 mod draw_words;
+mod encoding;
 mod first;
 mod grace_words;
 mod hand_words;
@@ -12,6 +13,7 @@ mod plays;
 mod queueing;
 mod receipts;
 mod retired;
+mod setup;
 mod slot_plays;
 mod slots;
 mod stamps;
@@ -22,10 +24,16 @@ mod table_words;
 mod view;
 mod words;
 
-pub use board::{Board, BoardSeat, Ruling, Setup};
+pub use board::{Board, BoardSeat, Ruling};
 pub use cell::{Cell, Content};
 pub use draw_plays::Said;
 pub use draw_words::{alone_word, call_word, first_of, mark_word};
+pub use encoding::{
+    BLOCK, COMPLETE, MOVE, SWAP, blocked_word, cell_number, count_in, direct_word, empty_word,
+    entries_in, entry_cell, entry_layout, generation_in, generation_with, incarnation_in,
+    is_blocked, is_complete, is_moving, is_over, is_swapped, layout_in, mediator_word, tag_in,
+    turn_amount,
+};
 pub use first::{first_slots, first_words};
 pub use grace_words::{
     flip_swap, free_word, generation_load, give_role_store, look_word, take_role_word,
@@ -37,6 +45,7 @@ pub use queueing::{
 };
 pub use receipts::{tell_all, tell_cell};
 pub use retired::{Carried, Retired, Slip};
+pub use setup::Setup;
 pub use slot_plays::Known;
 pub use slots::{lock_cell, put_cell, take_cell, unlock_cell};
 pub use stamps::{last_at, stamp_after};

@@ -6,73 +6,90 @@ use atomic_table::{Join, Play, Split};
 pub(crate) struct Enter;
 
 impl<P: Drop> Play<Option<Content<P>>, View<P>> for Enter {
-    ghost use Rattle.k42_board.specs.Steps.{TellsWith};
     ghost use Rattle.k42_board.specs.Generating.{entered_view, EnteredFound};
+    ghost use Rattle.k42_board.specs.Log.{took};
+    ghost use Rattle.k42_board.specs.Steps.{TellsWith};
+    ghost use Rattle.k42_board.specs.declared.view.StepName.TheVariants as steps;
 
-    ghost then = { TellsWith entered_view EnteredFound };
+    ghost then = { λ step. TellsWith (λ found v. took steps.Enter step.word found (entered_view found v)) EnteredFound step };
 }
 
 pub(crate) struct Leave;
 
 impl<P: Drop> Play<Option<Content<P>>, View<P>> for Leave {
-    ghost use Rattle.k42_board.specs.Steps.{Tells};
     ghost use Rattle.k42_board.specs.Generating.{left_view};
+    ghost use Rattle.k42_board.specs.Log.{took};
+    ghost use Rattle.k42_board.specs.Steps.{Tells};
+    ghost use Rattle.k42_board.specs.declared.view.StepName.TheVariants as steps;
 
-    ghost then = { Tells left_view };
+    ghost then = { λ step. Tells (λ found v. took steps.Leave step.word found (left_view v)) step };
 }
 
 pub(crate) struct TakeRole;
 
 impl<P: Drop> Play<Option<Content<P>>, View<P>> for TakeRole {
-    ghost use Rattle.k42_board.specs.Steps.{TellsWith};
     ghost use Rattle.k42_board.specs.Gracing.{role_view, RoleFound};
+    ghost use Rattle.k42_board.specs.Log.{took};
+    ghost use Rattle.k42_board.specs.Steps.{TellsWith};
+    ghost use Rattle.k42_board.specs.declared.view.StepName.TheVariants as steps;
 
-    ghost then = { TellsWith role_view RoleFound };
+    ghost then = { λ step. TellsWith (λ found v. took steps.TakeRole step.word found (role_view found v)) RoleFound step };
 }
 
 pub(crate) struct AskGeneration;
 
 impl<P: Drop> Play<Option<Content<P>>, View<P>> for AskGeneration {
-    ghost use Rattle.k42_board.specs.Steps.{TellsWith};
     ghost use Rattle.k42_board.specs.Gracing.{asked_view, GenerationFound};
+    ghost use Rattle.k42_board.specs.Log.{took};
+    ghost use Rattle.k42_board.specs.Steps.{TellsWith};
+    ghost use Rattle.k42_board.specs.declared.view.StepName.TheVariants as steps;
 
-    ghost then = { TellsWith asked_view GenerationFound };
+    ghost then = { λ step. TellsWith (λ found v. took steps.AskGeneration step.word found (asked_view found v)) GenerationFound step };
 }
 
 pub(crate) struct Look;
 
 impl<P: Drop> Play<Option<Content<P>>, View<P>> for Look {
-    ghost use Rattle.k42_board.specs.Steps.{TellsWith};
     ghost use Rattle.k42_board.specs.Gracing.{looked_view, ExitsFound};
+    ghost use Rattle.k42_board.specs.Log.{took};
+    ghost use Rattle.k42_board.specs.Steps.{TellsWith};
+    ghost use Rattle.k42_board.specs.declared.view.StepName.TheVariants as steps;
 
-    ghost then = { TellsWith looked_view ExitsFound };
+    ghost then = { λ step. TellsWith (λ found v. took steps.Look step.word found (looked_view found v)) ExitsFound step };
 }
 
 pub(crate) struct Flip;
 
 impl<P: Drop> Play<Option<Content<P>>, View<P>> for Flip {
-    ghost use Rattle.k42_board.specs.Steps.{Tells};
     ghost use Rattle.k42_board.specs.Gracing.{flipped_view};
+    ghost use Rattle.k42_board.specs.Log.{took};
+    ghost use Rattle.k42_board.specs.Steps.{Tells};
+    ghost use Rattle.k42_board.specs.declared.view.StepName.TheVariants as steps;
 
-    ghost then = { Tells flipped_view };
+    ghost then = { λ step. Tells (λ found v. took steps.Flip step.word found (flipped_view found v)) step };
 }
 
 pub(crate) struct GiveRole;
 
 impl<P: Drop> Play<Option<Content<P>>, View<P>> for GiveRole {
-    ghost use Rattle.k42_board.specs.Steps.{TellsWith};
     ghost use Rattle.k42_board.specs.Gracing.{given_view, RowsGiven};
+    ghost use Rattle.k42_board.specs.Log.{took};
+    ghost use Rattle.k42_board.specs.Steps.{TellsWith};
+    ghost use Rattle.k42_board.specs.declared.view.StepName.TheVariants as steps;
 
-    ghost then = { TellsWith (λ stored v. given_view v) RowsGiven };
+    ghost then = { λ step. TellsWith (λ found v. took steps.GiveRole step.word 0 (given_view v)) RowsGiven step };
 }
 
 pub(crate) struct Free;
 
 impl<P: Drop> Play<Option<Content<P>>, View<P>> for Free {
+    ghost use Rattle.k42_board.specs.Freeing.{freed_view, MarkFound};
+    ghost use Rattle.k42_board.specs.Log.{took};
     ghost use Rattle.k42_board.specs.Steps.{TellsWith};
-    ghost use Rattle.k42_board.specs.Freeing.{freed_object, freed_view, MarkFound};
+    ghost use Rattle.k42_board.specs.Words.{freed_object};
+    ghost use Rattle.k42_board.specs.declared.view.StepName.TheVariants as steps;
 
-    ghost then = { λ step. TellsWith (freed_view (freed_object step.word)) (MarkFound (freed_object step.word)) step };
+    ghost then = { λ step. TellsWith (λ found v. took steps.Free step.word found (freed_view (freed_object step.word) found v)) (MarkFound (freed_object step.word)) step };
 }
 
 pub struct Deal;

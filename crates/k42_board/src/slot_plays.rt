@@ -18,19 +18,23 @@ impl<P> Known<P> for Brand {
 pub(crate) struct Lock;
 
 impl<P: Drop> Play<Option<Content<P>>, View<P>> for Lock {
+    ghost use Rattle.k42_board.specs.Log.{took};
     ghost use Rattle.k42_board.specs.Steps.{TellsWith};
     ghost use Rattle.k42_board.specs.Taking.{LockFound, cell_at_lock, locked_view};
+    ghost use Rattle.k42_board.specs.declared.view.StepName.TheVariants as steps;
 
-    ghost then = { λ step. TellsWith (locked_view (cell_at_lock step.word)) (LockFound (cell_at_lock step.word)) step };
+    ghost then = { λ step. TellsWith (λ found v. took steps.Lock step.word found (locked_view (cell_at_lock step.word) found v)) (LockFound (cell_at_lock step.word)) step };
 }
 
 pub(crate) struct Unlock;
 
 impl<P: Drop> Play<Option<Content<P>>, View<P>> for Unlock {
+    ghost use Rattle.k42_board.specs.Log.{took};
     ghost use Rattle.k42_board.specs.Steps.{Tells};
     ghost use Rattle.k42_board.specs.Taking.{cell_at_lock, unlocked_view};
+    ghost use Rattle.k42_board.specs.declared.view.StepName.TheVariants as steps;
 
-    ghost then = { λ step. Tells (λ found. unlocked_view (cell_at_lock step.word)) step };
+    ghost then = { λ step. Tells (λ found v. took steps.Unlock step.word 0 (unlocked_view (cell_at_lock step.word) v)) step };
 }
 
 pub(crate) struct Lift;

@@ -6,44 +6,54 @@ use atomic_table::Play;
 pub(crate) struct ChangeEntry;
 
 impl<P: Drop> Play<Option<Content<P>>, View<P>> for ChangeEntry {
+    ghost use Rattle.k42_board.specs.Log.{took};
     ghost use Rattle.k42_board.specs.Steps.{Tells};
     ghost use Rattle.k42_board.specs.Swapping.{changed_view};
+    ghost use Rattle.k42_board.specs.declared.view.StepName.TheVariants as steps;
 
-    ghost then = { Tells changed_view };
+    ghost then = { λ step. Tells (λ found v. took steps.ChangeEntry step.word found (changed_view v)) step };
 }
 
 pub(crate) struct Block;
 
 impl<P: Drop> Play<Option<Content<P>>, View<P>> for Block {
+    ghost use Rattle.k42_board.specs.Log.{took};
     ghost use Rattle.k42_board.specs.Steps.{Tells};
     ghost use Rattle.k42_board.specs.Swapping.{blocked_view};
+    ghost use Rattle.k42_board.specs.declared.view.StepName.TheVariants as steps;
 
-    ghost then = { Tells blocked_view };
+    ghost then = { λ step. Tells (λ found v. took steps.Block step.word found (blocked_view v)) step };
 }
 
 pub(crate) struct Move;
 
 impl<P: Drop> Play<Option<Content<P>>, View<P>> for Move {
+    ghost use Rattle.k42_board.specs.Log.{took};
     ghost use Rattle.k42_board.specs.Steps.{TellsWith};
     ghost use Rattle.k42_board.specs.Swapping.{CountFound, moved_view};
+    ghost use Rattle.k42_board.specs.declared.view.StepName.TheVariants as steps;
 
-    ghost then = { TellsWith moved_view CountFound };
+    ghost then = { λ step. TellsWith (λ found v. took steps.Move step.word found (moved_view found v)) CountFound step };
 }
 
 pub(crate) struct TurnOver;
 
 impl<P: Drop> Play<Option<Content<P>>, View<P>> for TurnOver {
+    ghost use Rattle.k42_board.specs.Log.{took};
     ghost use Rattle.k42_board.specs.Steps.{Tells};
     ghost use Rattle.k42_board.specs.Swapping.{turned_view};
+    ghost use Rattle.k42_board.specs.declared.view.StepName.TheVariants as steps;
 
-    ghost then = { Tells turned_view };
+    ghost then = { λ step. Tells (λ found v. took steps.TurnOver step.word found (turned_view v)) step };
 }
 
 pub(crate) struct Clear;
 
 impl<P: Drop> Play<Option<Content<P>>, View<P>> for Clear {
-    ghost use Rattle.k42_board.specs.Steps.{Tells};
-    ghost use Rattle.k42_board.specs.Swapping.{cleared_view};
+    ghost use Rattle.k42_board.specs.Log.{took};
+    ghost use Rattle.k42_board.specs.Steps.{TellsWith};
+    ghost use Rattle.k42_board.specs.Swapping.{ClearFound, cleared_view};
+    ghost use Rattle.k42_board.specs.declared.view.StepName.TheVariants as steps;
 
-    ghost then = { Tells cleared_view };
+    ghost then = { λ step. TellsWith (λ found v. took steps.Clear step.word found (cleared_view v)) ClearFound step };
 }

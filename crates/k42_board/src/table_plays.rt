@@ -6,53 +6,76 @@ use atomic_table::Play;
 pub(crate) struct LookUp;
 
 impl<P: Drop> Play<Option<Content<P>>, View<P>> for LookUp {
+    ghost use Rattle.k42_board.specs.Log.{took};
     ghost use Rattle.k42_board.specs.Steps.{TellsWith};
     ghost use Rattle.k42_board.specs.Tabling.{EntryFound, entry_object, looked_up_view};
+    ghost use Rattle.k42_board.specs.declared.view.StepName.TheVariants as steps;
 
-    ghost then = { λ step. TellsWith (looked_up_view (entry_object step.word)) EntryFound step };
+    ghost then = { λ step. TellsWith (λ found v. took steps.LookUp step.word found (looked_up_view (entry_object step.word) found v)) EntryFound step };
 }
 
 pub(crate) struct LoadRoot;
 
 impl<P: Drop> Play<Option<Content<P>>, View<P>> for LoadRoot {
+    ghost use Rattle.k42_board.specs.Log.{took};
     ghost use Rattle.k42_board.specs.Steps.{TellsWith};
     ghost use Rattle.k42_board.specs.Tabling.{RootFound, rooted_view};
+    ghost use Rattle.k42_board.specs.declared.view.StepName.TheVariants as steps;
 
-    ghost then = { TellsWith rooted_view RootFound };
+    ghost then = { λ step. TellsWith (λ found v. took steps.LoadRoot step.word found (rooted_view found v)) RootFound step };
 }
 
 pub(crate) struct EndCall;
 
 impl<P: Drop> Play<Option<Content<P>>, View<P>> for EndCall {
+    ghost use Rattle.k42_board.specs.Log.{took};
     ghost use Rattle.k42_board.specs.Steps.{Tells};
     ghost use Rattle.k42_board.specs.Tabling.{ended_view};
+    ghost use Rattle.k42_board.specs.declared.view.StepName.TheVariants as steps;
 
-    ghost then = { Tells ended_view };
+    ghost then = { λ step. Tells (λ found v. took steps.EndCall step.word found (ended_view v)) step };
+}
+
+pub(crate) struct StepOut;
+
+impl<P: Drop> Play<Option<Content<P>>, View<P>> for StepOut {
+    ghost use Rattle.k42_board.specs.Log.{took};
+    ghost use Rattle.k42_board.specs.Steps.{Tells};
+    ghost use Rattle.k42_board.specs.Tabling.{ended_view};
+    ghost use Rattle.k42_board.specs.declared.view.StepName.TheVariants as steps;
+
+    ghost then = { λ step. Tells (λ found v. took steps.StepOut step.word found (ended_view v)) step };
 }
 
 pub(crate) struct Install;
 
 impl<P: Drop> Play<Option<Content<P>>, View<P>> for Install {
+    ghost use Rattle.k42_board.specs.Log.{took};
     ghost use Rattle.k42_board.specs.Steps.{Tells};
     ghost use Rattle.k42_board.specs.Tabling.{entry_object, installed_view};
+    ghost use Rattle.k42_board.specs.declared.view.StepName.TheVariants as steps;
 
-    ghost then = { λ step. Tells (installed_view (entry_object step.word)) step };
+    ghost then = { λ step. Tells (λ found v. took steps.Install step.word found (installed_view (entry_object step.word) found v)) step };
 }
 
 pub(crate) struct Knock;
 
 impl<P: Drop> Play<Option<Content<P>>, View<P>> for Knock {
+    ghost use Rattle.k42_board.specs.Log.{took};
     ghost use Rattle.k42_board.specs.Steps.{TellsWith};
     ghost use Rattle.k42_board.specs.Tabling.{ObjectFound, word_object, knocked_view};
+    ghost use Rattle.k42_board.specs.declared.view.StepName.TheVariants as steps;
 
-    ghost then = { λ step. TellsWith (knocked_view (word_object step.word)) ObjectFound step };
+    ghost then = { λ step. TellsWith (λ found v. took steps.Knock step.word found (knocked_view (word_object step.word) found v)) ObjectFound step };
 }
 
 pub(crate) struct Begin;
 
 impl<P: Drop> Play<Option<Content<P>>, View<P>> for Begin {
+    ghost use Rattle.k42_board.specs.Log.{took};
     ghost use Rattle.k42_board.specs.Steps.{TellsWith};
     ghost use Rattle.k42_board.specs.Tabling.{ObjectFound, word_object, begun_view};
+    ghost use Rattle.k42_board.specs.declared.view.StepName.TheVariants as steps;
 
-    ghost then = { λ step. TellsWith (begun_view (word_object step.word)) ObjectFound step };
+    ghost then = { λ step. TellsWith (λ found v. took steps.Begin step.word found (begun_view (word_object step.word) found v)) ObjectFound step };
 }

@@ -30,6 +30,50 @@ pub struct Inside {
     pub tracked: bool,
 }
 
+/// The steps of the protocol.
+#[derive(Clone, Copy, Debug, PartialEq, Eq)]
+pub enum StepName {
+    Enter,
+    Leave,
+    TakeRole,
+    AskGeneration,
+    Look,
+    Flip,
+    GiveRole,
+    Free,
+    LookUp,
+    LoadRoot,
+    Install,
+    EndCall,
+    Knock,
+    StepOut,
+    Begin,
+    ChangeEntry,
+    Block,
+    Move,
+    TurnOver,
+    Clear,
+    Lock,
+    Unlock,
+    Lift,
+    GiveBack,
+    Reach,
+    Put,
+    Draw,
+}
+
+/// A step that a pass has taken.
+#[derive(Clone, Copy, Debug, PartialEq, Eq)]
+pub struct Taken {
+    pub step: StepName,
+    /// The number of its word.
+    pub word: u64,
+    /// What it found there; 0 where it tells nothing of that.
+    pub found: u64,
+    /// Of a put, whether the slot has a part since.
+    pub full: bool,
+}
+
 /// What a pass knows of a cell that it has taken.
 pub struct Note<P> {
     pub cell: u32,
@@ -62,26 +106,13 @@ pub struct PassView<P> {
     /// The rows that it holds, and how many of them it held as it took the role.
     pub rows: [Row; 0],
     pub granted: u32,
-    /// The objects that its last grace has freed up to the noted number.
-    pub swept: [u32; 0],
     pub notes: LinkedList<Note<P>>,
     /// The cell whose slot is out with it.
     pub out: Option<u32>,
     /// The cells at which its last entry was drawn, and whose seats do not tell it yet.
     pub untold: [u32; 0],
-    /// The word that its last step found, or the stamp that it drew.
-    pub heard: u64,
-    /// The rows that its last grace has freed, the last first.
-    pub freed: [Row; 0],
-    /// The objects whose entry it has led to a cell, the last first.
-    pub installed: [u32; 0],
-    /// The words of the locks that it found held, the last first.
-    pub refused: [u64; 0],
-    /// The words that its knocks found, the last first.
-    pub knocked: [u64; 0],
-    /// The words by which it was held up otherwise, the last first: of the role, with another caller; of exits that are too
-    /// few; of an object with callers that are counted; of an entry that is not the empty one which it was to install in.
-    pub stalls: [u64; 0],
+    /// The steps that it has taken, the last first.
+    pub log: [Taken; 0],
 }
 
 /// What the seat of a cell knows: a copy of its history.

@@ -12,7 +12,7 @@ use k42_runtime::{History, Pass, Plan, System};
 use std::alloc::Global;
 
 /// A pass has fewer entries, activities and graces.
-const LIMIT: u32 = 1_048_576;
+pub const LIMIT: u32 = 1_048_576;
 
 /// The system of the plan, and its passes in the order of the plan's callers.
 pub fn start(alloc: Global, plan: Plan) -> Result<(System, Vec<Pass>), Memory>

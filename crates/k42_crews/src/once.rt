@@ -4,7 +4,6 @@ ghost use Rattle.k42_crews.specs.Once.{HasCalledOnce};
 ghost use Rattle.k42_crews.specs.Ready.{IsFree, MayCall, MaySwap, StaysFree};
 ghost use Rattle.k42_runtime.specs.Calls.{IsAsked};
 ghost use Rattle.k42_runtime.specs.Swaps.{EndsWithoutMemory, HasSwapped};
-ghost use Rattle.k42_runtime.specs.Systems.{layouts_in};
 ghost use Rattle.k42_kinds.specs.declared.entry.To.TheVariants as To;
 
 use crate::crews::{may_call, may_swap};
@@ -54,8 +53,7 @@ pub fn swap_once<R: Wait>(
     ensures made { IfOk result (λ end. IsSome end ↔ (MaySwap pass.old.view × (object < length system.now.plan.objects))) }
     ensures swapped { IfOk result (λ end. IfSome end (λ told. HasSwapped object (To.Layout to) told pass.old.view pass.new.view)) }
     ensures kept { IfOk result (λ end. IfNone end (pass.new ≡ pass.old)) }
-    ensures memory { OnErr result (EndsWithoutMemory (layouts_in system.now) system.now.sys.layouts pass.old.seat object (To.Layout to)
-        pass.old.view pass.new.view) }
+    ensures memory { OnErr result (EndsWithoutMemory object (To.Layout to) pass.old.view pass.new.view) }
 {
     if !may_swap(pass) || object >= system.objects() {
         return Ok(None);

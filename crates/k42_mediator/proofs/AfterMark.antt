@@ -1,29 +1,45 @@
 -- What a pass knows once it has drawn that its object is over.
-use Rattle.std.proofs.Common.{◌≡◌, ℕ, ◌+◌, ◌-◌, ◌<◌, Bool, true, false, ◌||◌, cond, eqb, List, [], ◌∷◌, ◌++◌, None, length, refl, sym, ap, ◌∙◌, subst, arith}
+use Rattle.std.proofs.Common.{◌≡◌, ℕ, ◌+◌, ◌-◌, ◌<◌, Bool, true, false, ◌||◌, cond, eqb, List, [], ◌∷◌, ◌++◌, Some, None, length, refl, sym, ap, ◌∙◌, subst, arith}
 use Rattle.std.specs.Prelude.{max}
 use Rattle.std.proofs.lemmas.Bool.{eq-eqb}
 use Rattle.std.proofs.lemmas.Bool.Decides.{nat_tests}
+use Rattle.std.proofs.lemmas.Option.{same_Some}
 use Rattle.k42_kinds.specs.Histories.{is_call}
 use Rattle.k42_kinds.specs.declared.entry.Act.{Act}
 use Rattle.k42_kinds.specs.declared.entry.Answer.{Answer}
+use Rattle.k42_kinds.specs.declared.entry.Answer.TheVariants.{Gone, Spent, Busy}
+use Rattle.k42_limits.specs.declared.TheConstants.{LAST_INCARNATION}
+use Rattle.k42_joined.specs.Found.{tells_over}
+use Rattle.k42_joined.specs.Numbers.{cell_of}
 use Rattle.k42_kinds.specs.declared.entry.Entry.{Entry}
-use Rattle.turn_core.specs.Events.{caller_drawn, caller_locked}
+use Rattle.turn_core.specs.Events.{caller_drawn}
 use Rattle.turn_core.specs.Names.{names}
 use Rattle.turn_core.specs.Stamps.{last_stamp}
 use Rattle.k42_stamp.specs.Laws.{AreLaws}
 use Rattle.k42_stamp.specs.Layouts.{Layouts}
 use Rattle.k42_joined.specs.Swapping.{holds_none}
 use Rattle.k42_board.specs.Cells.{cells_noted}
-use Rattle.k42_board.specs.Drawing.{IsTold, entry_mark, stamp_next, last_noted, drawn_at, part_in, part_noted}
+use Rattle.k42_board.specs.Drawing.{IsTold, MayDrawMark, entry_mark, stamp_next, last_noted, drawn_at, part_in, part_noted}
+use Rattle.k42_board.specs.Log.{ComesTo, step_at, took, with_log}
+use Rattle.k42_board.specs.Plan.{LayoutWords}
+use Rattle.k42_board.specs.Protocol as protocol
+use Rattle.k42_board.specs.Seen.{SysSeen, PassSeen}
+use Rattle.k42_board.specs.Stepping.{HasStepped}
 use Rattle.k42_board.specs.Taking.{CELLS, locked_view, taken_view}
-use Rattle.k42_board.specs.Values.{incarnation_in}
-use Rattle.k42_board.specs.Views.{hears, object_begun, word_begun}
+use Rattle.k42_board.specs.Generations.{MOST}
+use Rattle.k42_board.specs.Tabling.{is_over_in}
+use Rattle.k42_board.specs.Values.{answer_in, has_bit, incarnation_in, layout_in}
+use Rattle.k42_board.specs.Views.{object_begun, word_begun}
 use Rattle.k42_board.specs.declared.cell.Content.{Content}
 use Rattle.k42_board.specs.declared.view.PassView.{PassView}
+use Rattle.k42_board.specs.declared.view.StepName.TheVariants as steps
+use Rattle.k42_board.specs.declared.view.Taken.{Taken}
+use Rattle.k42_board.proofs.Gained.{extends_one}
 use Rattle.k42_mediator.specs.Entries.{IsNext}
+use Rattle.k42_mediator.specs.Marks.{cell_marked}
 use Rattle.k42_mediator.specs.Taken.{released, MayPutBack}
-use Rattle.k42_mediator.proofs.GivenBack.{released_taken, released_drawn, released_none, held_due}
-use Rattle.k42_mediator.proofs.Heard.{heard_now}
+use Rattle.k42_mediator.proofs.GivenBack.{holds_last, released_taken, released_drawn, released_none, held_due}
+use Rattle.k42_mediator.proofs.Logs.{comes_by, comes_on}
 use Rattle.k42_mediator.proofs.NotesTold.{told_part, taken_now}
 
 -- a stamp is later than all that the pass has drawn
@@ -32,19 +48,25 @@ later_stamp v cells = above (last_stamp v.taker.mine) (last_noted v.notes cells)
   above : (a b : ℕ) → a < max a b + 1
   above a b = grind (arith, nat_tests)
 
--- the lock of another caller
-pub kept_waiting : {P : Type 0} (n found : ℕ) (v : PassView P) → (found ≡ 0 → ⊥) → locked_view n found v ≡ hears (found - 1 + 1) (record v { refused = (found - 1 + 1) ∷ v.refused })
-kept_waiting n found v other =
-    let taken : eqb found 0 ≡ false = grind (arith, nat_tests, other) in
-    ap (λ b. hears found (record v { taker = cond b (caller_locked n v.taker) v.taker; refused = cond b v.refused (found ∷ v.refused) })) taken
-    ∙ ap (λ h. hears h (record v { refused = h ∷ v.refused })) (omega (arith, other))
+-- a word of an object that is over answers that
+pub over_told : (word : ℕ) (answer : Answer) → is_over_in word ≡ true → answer_in word ≡ Some answer → tells_over answer ≡ true
+over_told word answer over told = go (eqb (layout_in word) 2) (eqb (incarnation_in word) LAST_INCARNATION) over told where
+  go : (a b : Bool) → a || b ≡ true
+      → cond a (Some Gone) (cond b (Some Spent) (cond (has_bit word 24) (Some (Busy (cond (has_bit word 27) (incarnation_in word) (incarnation_in word + 1)))) None)) ≡ Some answer
+      → tells_over answer ≡ true
+  go true b over' told' = ap tells_over (sym (same_Some Gone answer told'))
+  go false true over' told' = ap tells_over (sym (same_Some Spent answer told'))
+  go false false over' told' = absurd (cc)
 
-holds_last : (held : List ℕ) (n : ℕ) → names (held ++ n ∷ []) n ≡ true
-holds_last [] n = ap (λ b. b || false) (eq-eqb n n refl)
-holds_last (m ∷ held) n = ap (λ b. eqb m n || b) (holds_last held n) ∙ or_last (eqb m n) where
-  or_last : (b : Bool) → b || true ≡ true
-  or_last true = refl
-  or_last false = refl
+pub cell_small : (o i : ℕ) → o < 16 → cell_of o i 0 < CELLS
+cell_small o i few = omega (arith, few)
+
+-- the lock of another caller
+pub held_by : {S L P : Type 0} (words : LayoutWords S L P) (sys : SysSeen L) (n m found : ℕ) (old new : PassSeen P) → n ≡ m → (found ≡ 0 → ⊥)
+    → HasStepped words sys (protocol.lock n) old found new → HasStepped words sys (protocol.lock m) old (found - 1 + 1) new
+held_by words sys n m found old new named other steps =
+    let back : found ≡ found - 1 + 1 = omega (arith, other) in
+    subst (λ (z : ℕ × ℕ). HasStepped words sys (protocol.lock z.0) old z.1 new) (λ j. (named j, back j)) steps
 
 pub holds_nothing : (held : List ℕ) (n : ℕ) → holds_none held ≡ true → names held n ≡ false
 holds_nothing [] n e = refl
@@ -60,6 +82,22 @@ module _ {P : Type 0} (v0 : PassView P) (n : ℕ) (cell : Content P) (number : c
 
   abbrev w : PassView P
   w = drawn_at (cell ∷ []) entry v
+
+  -- it may draw
+  pub may_mark : (log : List Taken) → v0.found ≡ Some answer → tells_over answer ≡ true → n ≡ cell_marked v0 → length v0.taker.mine < MOST
+      → MayDrawMark cell act answer (with_log log v)
+  may_mark log found over named few =
+      let is = taken_now cell v0.notes in
+      record { act_is = act_is; found = found; over = over; named = number ∙ named; held = is.held; part = is.part; few = few }
+
+  -- once it has drawn
+  pub comes_drawn : (word : ℕ) (v1 v2 : PassView P) → ComesTo v0 v v1
+      → v2 ≡ took steps.Draw word 0 (drawn_at (cell ∷ []) (entry_mark v1 cell.number act answer) v1) → ComesTo v0 w v2
+  comes_drawn word v1 v2 comes knows =
+      comes_on (λ (u : PassView _). drawn_at (cell ∷ []) (entry_mark u cell.number act answer) u) v0 v v1 v2 comes
+      (comes_by v1 (drawn_at (cell ∷ []) (entry_mark v1 cell.number act answer) v1) v2 (step_at steps.Draw word 0 ∷ v1.log) knows
+      (extends_one (step_at steps.Draw word 0) v1.log refl))
+      (λ log u. refl)
 
   pub marks_next : (object incarnation : ℕ) → object_begun v0.last ≡ object → incarnation_in (word_begun v0.last) ≡ incarnation
       → IsNext v0 object incarnation n act answer entry
@@ -79,19 +117,26 @@ module _ {P : Type 0} (v0 : PassView P) (n : ℕ) (cell : Content P) (number : c
     };
   }
 
-  pub marked_now : (new : PassView P) → new ≡ released (n ∷ []) w → names v0.taker.held n ≡ false → names (cells_noted v0.notes) n ≡ false
-      → v0.out ≡ None → v0.untold ≡ [] → new ≡ hears new.heard (record v0 { taker = caller_drawn entry v0.taker; found = None })
-  marked_now new e unheld unnoted settled told =
-      heard_now new (record v0 { taker = caller_drawn entry v0.taker; found = None }) entry.stamp
-      (e ∙ ap (λ m. released (m ∷ []) w) (sym number) ∙ released_drawn (cell ∷ []) entry v
-      ∙ ap (λ m. hears entry.stamp (record (released (m ∷ []) v) { taker = caller_drawn entry (released (m ∷ []) v).taker; found = None; untold = [] })) number
-      ∙ ap (λ (u : PassView _). hears entry.stamp (record u { taker = caller_drawn entry u.taker; found = None; untold = [] })) (released_taken [] n cell v0 number unheld unnoted)
-      ∙ ap (λ (u : PassView _). hears entry.stamp (record u { taker = caller_drawn entry u.taker; found = None; untold = [] })) (released_none v0 settled)
-      ∙ ap (λ cells. hears entry.stamp (record v0 { taker = caller_drawn entry v0.taker; found = None; untold = cells })) (sym told))
+  marked : names v0.taker.held n ≡ false → names (cells_noted v0.notes) n ≡ false → v0.out ≡ None → v0.untold ≡ []
+      → released (n ∷ []) w ≡ record v0 { taker = caller_drawn entry v0.taker; found = None }
+  marked unheld unnoted settled told =
+      ap (λ m. released (m ∷ []) w) (sym number) ∙ released_drawn (cell ∷ []) entry v
+      ∙ ap (λ m. record (released (m ∷ []) v) { taker = caller_drawn entry (released (m ∷ []) v).taker; found = None; untold = [] }) number
+      ∙ ap (λ (u : PassView _). record u { taker = caller_drawn entry u.taker; found = None; untold = [] }) (released_taken [] n cell v0 number unheld unnoted)
+      ∙ ap (λ (u : PassView _). record u { taker = caller_drawn entry u.taker; found = None; untold = [] }) (released_none v0 settled)
+      ∙ ap (λ cells. record v0 { taker = caller_drawn entry v0.taker; found = None; untold = cells }) (sym told)
 
-  pub mark_ready : {S L : Type 0} (F : Layouts S L P) → AreLaws F → (declared : List L) (id : ℕ) (new : Content P) → n < CELLS → IsTold w.notes cell new
-      → MayPutBack F declared id w new
-  mark_ready F laws declared id new few told =
+  -- and has given the cell back
+  pub marked_now : (m : ℕ) (v2 new : PassView P) → m ≡ n → ComesTo v0 w v2 → ComesTo v2 (released (m ∷ []) v2) new
+      → names v0.taker.held n ≡ false → names (cells_noted v0.notes) n ≡ false → v0.out ≡ None → v0.untold ≡ []
+      → ComesTo v0 (record v0 { taker = caller_drawn entry v0.taker; found = None }) new
+  marked_now m v2 new same drawn back unheld unnoted settled told =
+      subst (λ (due : PassView _). ComesTo v0 due new) (ap (λ k. released (k ∷ []) w) same ∙ marked unheld unnoted settled told)
+      (comes_on (released (m ∷ [])) v0 w v2 new drawn back (λ log u. refl))
+
+  pub mark_ready : {S L : Type 0} (F : Layouts S L P) → AreLaws F → (declared : List L) (id : ℕ) (log : List Taken) (new : Content P) → n < CELLS
+      → IsTold w.notes cell new → MayPutBack F declared id (with_log log w) new
+  mark_ready F laws declared id log new few told =
       let same : new.number ≡ n = told.number ∙ number in
       let named : names (cell.number ∷ []) new.number ≡ true = ap (λ b. b || false) (eq-eqb cell.number new.number (sym told.number)) in
       let noted : names (cells_noted v.notes) new.number ≡ true = ap (names (cells_noted v.notes)) told.number ∙ (taken_now cell v0.notes).held.noted in

@@ -1,50 +1,27 @@
 -- What a swap that is given up leaves.
-use Rattle.std.proofs.Common.{◌≡◌, ⊎_elim, ℕ, ◌+◌, ◌-◌, ◌*◌, ◌^◌, ◌<◌, ◌≤◌, false, eqb, List, [], ◌∷◌, length, get_or, sym, refl, ap, ◌∙◌, arith}
-use Rattle.std.proofs.lemmas.Option.{slice_get-get_or}
-use Rattle.std.specs.Prelude.{◌/◌, ◌%◌, bit_and}
+use Rattle.std.proofs.Common.{◌≡◌, ⊎_elim, ℕ, false, List, [], ◌∷◌, refl, sym, ap, ◌∙◌, arith}
 use mathlib.Core.Option.{some}
 use lib.ListN.{get_elem?}
 use Rattle.atomic_table.specs.Table.{State}
 use Rattle.k42_places.specs.Places.{EachPlace}
-use Rattle.phase_core.specs.Effects.{cleared}
-use Rattle.phase_core.specs.Objects.{AreClear, bits_of, IsTagged}
+use Rattle.phase_core.specs.Objects.{IsTagged}
 use Rattle.phase_core.specs.Plain.{Object, Phases}
 use Rattle.phase_core.specs.Stages.{named_by}
-use Rattle.phase_core.specs.State.{object_at, visitor_at, fresh_object}
+use Rattle.phase_core.specs.State.{object_at, visitor_at}
 use Rattle.phase_core.specs.declared.caller.SwapAt.TheVariants.{Opened}
 use Rattle.phase_core.specs.declared.object.LocalEntry.{LocalEntry}
 use Rattle.phase_core.proofs.InSound.{object_known, visitor_known}
 use Rattle.k42_stamp.specs.Layouts.{Layouts}
 use Rattle.k42_board.specs.Cells.{Slot}
 use Rattle.k42_board.specs.Rule.{KnowsPass, Rule}
-use Rattle.k42_board.specs.Values.{bit, object_value, layout_in, incarnation_in}
+use Rattle.k42_board.specs.Values.{incarnation_in}
 use Rattle.k42_board.specs.Views.{word_begun}
-use Rattle.k42_board.specs.Words.{object_word}
 use Rattle.k42_board.specs.declared.view.PassView.{PassView}
 use Rattle.k42_board.specs.declared.view.View.{View}
 use Rattle.k42_board.specs.declared.view.View.TheVariants.{Crew}
-use Rattle.k42_board.proofs.Fields.{Fits, object_fits, object_read, cleared_value}
 use Rattle.k42_board.proofs.OnePass.{known}
-use Rattle.k42_mediator.specs.Swaps.{staged, IsRestored, LeadsToRow, LeavesOpen}
-
--- the word of an object without the bits of a swap
-free_word : (k : Object) (word begun : ℕ) → Fits k → AreClear (bits_of k) → word ≡ object_value (cleared k)
-    → layout_in begun ≡ k.layout → incarnation_in begun ≡ k.incarnation → IsRestored begun word
-free_word k word begun fits clear is layout incarnation =
-    let l = cleared k in
-    let fits' : Fits l = record { count = fits.count; layout = fits.layout; incarnation = fits.incarnation } in
-    let read = object_read l word fits' is in
-    record {
-      layout = read.layout ∙ sym layout;
-      incarnation = read.incarnation ∙ sym incarnation;
-      swap = read.swap;
-      block = read.block ∙ clear.0;
-      moving = ap (λ z. eqb z 1) (unmoved (is ∙ ap (λ b. k.count + 2 ^ 24 * (bit false + 2 * bit b + 4 * bit k.moving + 8 * bit false) + 2 ^ 28 * k.layout + 2 ^ 32 * k.incarnation) clear.0 ∙ ap (λ b. k.count + 2 ^ 24 * (bit false + 2 * bit false + 4 * bit b + 8 * bit false) + 2 ^ 28 * k.layout + 2 ^ 32 * k.incarnation) clear.1) fits.count);
-      complete = read.complete;
-    }
-  where
-    unmoved : word ≡ k.count + 2 ^ 24 * (0 + 2 * 0 + 4 * 0 + 8 * 0) + 2 ^ 28 * k.layout + 2 ^ 32 * k.incarnation → k.count ≤ 16 → word / 2 ^ 26 % 2 ≡ 0
-    unmoved same few = omega (arith, same, few)
+use Rattle.k42_board.proofs.Restored.{clear_finds}
+use Rattle.k42_mediator.specs.Swaps.{staged, LeadsToRow, LeavesOpen}
 
 leads_to : (layout p i : ℕ) (e : LocalEntry) → IsTagged layout p e → e.incarnation ≡ i → LeadsToRow i e
 leads_to layout p i e tagged same =
@@ -68,27 +45,9 @@ module _ {S L P : Type 0} (F : Layouts S L P) (declared : List L) (id o : ℕ) (
   own : (visitor_at s v.number).swap ≡ Opened o
   own = ap (λ x. x.swap) knows.phases.visitor
 
-  there : o < length s.objects
-  there = let is = (r.sound.answers v.number knows.there).kept in is.there o (is.begun o (ap named_by own))
-
-  incomplete : k.complete ≡ false
-  incomplete = sym knows.phases.swap.turned ∙ unturned
-
-  clear : AreClear (bits_of k)
-  clear =
-      let stage = ((visitor_known s r.sound.phases v.number knows.there).swap_alone.owned o (ap named_by own)).1 ∙ own in
-      ⊎_elim (λ (is : AreClear (bits_of k)). is) (λ is. absurd (let done = is.0.2 in let not = incomplete in cc))
-      (rw stage at (object_known s r.sound.phases o there).bits_follow.bits)
-
-  free : IsRestored (word_begun v.last) (bit_and (get_or table.words (object_word o) 0) (2 ^ 64 - 1 - 2 ^ 24 - 2 ^ 27))
-  free =
-      let fits = object_fits s r.sound.phases o there in
-      free_word k (bit_and (get_or table.words (object_word o) 0) (2 ^ 64 - 1 - 2 ^ 24 - 2 ^ 27)) (word_begun v.last) fits clear
-      (cleared_value k (get_or table.words (object_word o) 0) fits (r.shows.objects o k (slice_get-get_or s.objects o fresh_object there)).word)
-      (knows.phases.swap.layout_begun o refl unturned) (knows.phases.swap.begun o refl unturned)
-
   entries : EachPlace (λ p e. LeadsToRow (incarnation_in (word_begun v.last)) e) k.entries
   entries p e is =
+      let answers = (r.sound.answers v.number knows.there).kept in let there = answers.there o (answers.begun o (ap named_by own)) in
       let stage = ((visitor_known s r.sound.phases v.number knows.there).swap_alone.owned o (ap named_by own)).1 ∙ own in
       let known' = object_known s r.sound.phases o there in
       let open' = rw stage at (known'.entries_follow p e is) in
@@ -96,4 +55,5 @@ module _ {S L P : Type 0} (F : Layouts S L P) (declared : List L) (id o : ℕ) (
       (open'.number ∙ sym known'.bits_follow.incarnation ∙ sym (knows.phases.swap.begun o refl unturned))
 
 pub leaves_open : {S L P : Type 0} (F : Layouts S L P) (declared : List L) (id o : ℕ) (w : PassView P) → w.turned ≡ false → LeavesOpen F declared id (staged (Opened o) w)
-leaves_open F declared id o w unturned table r at = (free F declared id o w unturned table r at, entries F declared id o w unturned table r at)
+leaves_open F declared id o w unturned table r at =
+    (clear_finds F declared id (staged (Opened o) w) table r at refl unturned, entries F declared id o w unturned table r at)

@@ -1,7 +1,11 @@
-pub mod Heard
+pub mod Logs
+pub mod LastFound
 pub mod EntriesChanged
 pub mod AfterKnock
 pub mod LeftOpen
+pub mod SamePass
+pub mod Tried
+pub mod GivenUp
 pub mod Remaining
 pub mod NotesTold
 pub mod GivenBack

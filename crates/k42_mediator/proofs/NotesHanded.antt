@@ -10,7 +10,6 @@ use Rattle.turn_core.specs.Names.{names, names_once}
 use Rattle.k42_board.specs.Cells.{cells_noted}
 use Rattle.k42_board.specs.Drawing.{part_noted, part_in, numbers_of, handed_note}
 use Rattle.k42_board.specs.Handing.{handed_at}
-use Rattle.k42_board.specs.Views.{hears}
 use Rattle.k42_board.specs.declared.cell.Content.{Content}
 use Rattle.k42_board.specs.declared.view.Note.{Note}
 use Rattle.k42_board.specs.declared.view.PassView.{PassView}
@@ -72,15 +71,15 @@ module _ {P : Type 0} (from onto : List ℕ) (entry : Entry) (fresh : ℕ → Op
 -- the pass that gives its cells back after the hand
 pub released_handed : {P : Type 0} (from onto : List (Content P)) (entry : Entry) (tag : ℕ) (v : PassView P)
     → released (numbers_of from ++ numbers_of onto) (handed_at from onto entry tag v)
-    ≡ hears entry.stamp (record (released (numbers_of from ++ numbers_of onto) v) {
+    ≡ record (released (numbers_of from ++ numbers_of onto) v) {
       taker = caller_drawn entry (released (numbers_of from ++ numbers_of onto) v).taker;
       found = None;
       handed = Some tag;
       untold = [];
-    })
+    }
 released_handed from onto entry tag v =
     let cells = numbers_of from ++ numbers_of onto in let fresh = part_in (from ++ onto) in
-    λ i. hears entry.stamp (record (released cells v) {
+    λ i. record (released cells v) {
       taker = caller_drawn entry (released cells v).taker;
       found = None;
       handed = Some tag;
@@ -88,7 +87,7 @@ released_handed from onto entry tag v =
       notes =
           remaining_mapped cell_in cells (handed_note (numbers_of from) (numbers_of onto) entry fresh)
           (cell_same (numbers_of from) (numbers_of onto) entry fresh) (other_same (numbers_of from) (numbers_of onto) entry fresh) v.notes i;
-    })
+    }
 
 not_true : (b : Bool) → not b ≡ true → b ≡ false
 not_true false e = refl

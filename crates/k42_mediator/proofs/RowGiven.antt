@@ -7,10 +7,13 @@ use Rattle.turn_core.specs.Names.{names, names_once}
 use Rattle.k42_stamp.specs.Layouts.{Layouts}
 use Rattle.k42_board.specs.Cells.{cells_noted}
 use Rattle.k42_board.specs.Drawing.{history_noted, closed_noted, part_noted, numbers_of}
+use Rattle.k42_board.specs.Log.{ComesTo, Extends, with_log}
 use Rattle.k42_board.specs.Seen.{PassSeen, IsSamePass}
 use Rattle.k42_board.specs.declared.cell.Content.{Content}
 use Rattle.k42_board.specs.declared.view.Note.{Note}
 use Rattle.k42_board.specs.declared.view.PassView.{PassView}
+use Rattle.k42_board.specs.declared.view.Taken.{Taken}
+use Rattle.k42_board.proofs.Gained.{extends_on}
 use Rattle.k42_rule.proofs.HandedNotes.{numbers_more}
 use Rattle.k42_mediator.specs.Taken.{released, MayPutBack, MayPutAllBack}
 use Rattle.k42_mediator.proofs.GivenBack.{released_twice}
@@ -72,9 +75,9 @@ module _ {P : Type 0} (n m : ℕ) (apart : eqb n m ≡ false) where
     or_cond false b = refl
 
 -- a cell that is ready stays so as another is given back
-pub ready_stays : {S L P : Type 0} (F : Layouts S L P) (declared : List L) (id n : ℕ) (v : PassView P) (content : Content P) → eqb n content.number ≡ false
-    → MayPutBack F declared id v content → MayPutBack F declared id (released (n ∷ []) v) content
-ready_stays F declared id n v content apart ready =
+pub ready_stays : {S L P : Type 0} (F : Layouts S L P) (declared : List L) (id n : ℕ) (log : List Taken) (v : PassView P) (content : Content P)
+    → eqb n content.number ≡ false → MayPutBack F declared id v content → MayPutBack F declared id (with_log log (released (n ∷ []) v)) content
+ready_stays F declared id n log v content apart ready =
     let m : ℕ = content.number in
     record {
       cell = ready.cell;
@@ -126,7 +129,8 @@ pub record IsGiving
   pub once : names_once (numbers_of cells) ≡ true
   pub back : now.view.out ≡ None
   pub ready : MayPutAllBack F declared first.seat now.view cells
-  pub released_is : released (numbers_of cells) now.view ≡ released (numbers_of before) first.view
+  pub released_is : released (numbers_of cells) now.view ≡ with_log now.view.log (released (numbers_of before) first.view)
+  pub log : Extends first.view.log now.view.log
 
 at_front : {A : Type 0} (xs : List A) (x : A) (k : ℕ) (y : A) → slice_get xs k ≡ Some y → slice_get (xs ++ x ∷ []) k ≡ Some y
 at_front [] x k y e = absurd (cc)
@@ -158,8 +162,9 @@ module _ {S L P : Type 0} (F : Layouts S L P) (declared : List L) (first now : P
   pub last_ready : MayPutBack F declared first.seat now.view content
   last_ready = let at = at_end xs content in ready at.0 content at.1
 
-  pub gives_next : (new : PassSeen P) → IsSamePass now new → new.view ≡ released (content.number ∷ []) now.view → IsGiving F declared first new before xs
-  gives_next new same e = record {
+  pub gives_next : (new : PassSeen P) → IsSamePass now new → ComesTo now.view (released (content.number ∷ []) now.view) new.view
+      → IsGiving F declared first new before xs
+  gives_next new same comes = record {
     same = record {
       table = same.table ∙ is.same.table;
       seat = same.seat ∙ is.same.seat;
@@ -170,13 +175,15 @@ module _ {S L P : Type 0} (F : Layouts S L P) (declared : List L) (first now : P
       popped = same.popped ∙ is.same.popped;
     };
     once = front.once;
-    back = ap (λ (v : PassView _). v.out) e;
+    back = ap (λ (v : PassView _). v.out) comes.knows;
     ready = λ k other at.
-        subst (λ v. MayPutBack F declared first.seat v other) (sym e)
-        (ready_stays F declared first.seat content.number now.view other (unnamed xs content.number k other front.apart at) (ready k other (at_front xs content k other at)));
+        subst (λ v. MayPutBack F declared first.seat v other) (sym comes.knows)
+        (ready_stays F declared first.seat content.number new.view.log now.view other (unnamed xs content.number k other front.apart at) (ready k other (at_front xs content k other at)));
     released_is =
-        ap (released (numbers_of xs)) e ∙ released_twice (numbers_of xs) (content.number ∷ []) now.view
-        ∙ ap (λ ns. released ns now.view) (sym numbers) ∙ is.released_is;
+        ap (released (numbers_of xs)) comes.knows
+        ∙ ap (with_log new.view.log)
+        (released_twice (numbers_of xs) (content.number ∷ []) now.view ∙ ap (λ ns. released ns now.view) (sym numbers) ∙ is.released_is);
+    log = extends_on is.log comes.log;
   }
 
 pub nothing_left : {A : Type 0} (xs : List A) → length xs ≡ 0 → xs ≡ []

@@ -21,11 +21,13 @@ use Rattle.k42_joined.proofs.LocksHand.{apart_row}
 use Rattle.k42_board.specs.Cells.{cells_noted}
 use Rattle.k42_board.specs.Drawing.{AreTold, IsDrawer, entry_hand, numbers_of, part_in, part_noted, stamp_next}
 use Rattle.k42_board.specs.Handing.{handed_at}
+use Rattle.k42_board.specs.Log.{Extends, with_log}
 use Rattle.k42_board.specs.Seen.{PassSeen}
 use Rattle.k42_board.specs.Values.{incarnation_in}
-use Rattle.k42_board.specs.Views.{hears, word_begun}
+use Rattle.k42_board.specs.Views.{word_begun}
 use Rattle.k42_board.specs.declared.cell.Content.{Content}
 use Rattle.k42_board.specs.declared.view.PassView.{PassView}
+use Rattle.k42_board.specs.declared.view.Taken.{Taken}
 use Rattle.k42_board.proofs.HandedOn.{once_both}
 use Rattle.k42_board.proofs.Noted.{each_named}
 use Rattle.k42_board.proofs.RowCells.{row_once}
@@ -34,7 +36,7 @@ use Rattle.k42_mediator.specs.Taken.{released, AreTaken, MayPutAllBack}
 use Rattle.k42_mediator.specs.Transfers.{IsDoneNext, HasHanded}
 use Rattle.k42_mediator.proofs.AfterMark.{later_stamp}
 use Rattle.k42_mediator.proofs.GivenBack.{held_due}
-use Rattle.k42_mediator.proofs.Heard.{heard_now}
+use Rattle.k42_mediator.proofs.Logs.{log_now}
 use Rattle.k42_mediator.proofs.NotesHanded.{handed_part, released_handed, part_at_once}
 use Rattle.k42_mediator.proofs.RowMoved.{at_of}
 use Rattle.k42_mediator.proofs.RowReady.{HasRows, named_small}
@@ -62,7 +64,7 @@ module _ {S L P : Type 0} (F : Layouts S L P) (laws : AreLaws F) (declared : Lis
     (agrees : (l m : L) → F.object_of l ≡ F.object_of m → F.tag_of l ≡ F.tag_of m
     → Agree (F.ways_of l) (F.ways_of m) (F.Whole l) (F.Whole m) (F.Serves l) (F.Serves m))
     (v : PassView P) (o i : ℕ) (cells : List (Content P)) (layout : L) (has : HasRows F declared v o i cells layout)
-    (news : List (Content P)) (numbers : numbers_of news ≡ numbers_of cells) (entry : Entry) (tag : ℕ) where
+    (news : List (Content P)) (numbers : numbers_of news ≡ numbers_of cells) (entry : Entry) (tag : ℕ) (log : List Taken) where
   abbrev from : List (Content P)
   from = take F.procs news
 
@@ -70,7 +72,7 @@ module _ {S L P : Type 0} (F : Layouts S L P) (laws : AreLaws F) (declared : Lis
   onto = drop F.procs news
 
   abbrev w : PassView P
-  w = handed_at from onto entry tag v
+  w = with_log log (handed_at from onto entry tag v)
 
   both : from ++ onto ≡ news
   both = take-append-drop F.procs news
@@ -138,21 +140,22 @@ module _ {S L P : Type 0} (F : Layouts S L P) (laws : AreLaws F) (declared : Lis
       first_of zero some' = absurd (omega (arith, some'))
       first_of (suc procs) some' = refl
 
-  pub has_handed : (act : Act) (old new : PassSeen P) → old.view ≡ v → new.view ≡ w → IsDrawer old new → IsDoneNext act v entry
-      → HasHanded act tag (numbers_of cells) old new
-  has_handed act old new was e drawer next = record {
+  pub has_handed : (act : Act) (old new : PassSeen P) → old.view ≡ v → new.view ≡ w → Extends old.view.log new.view.log → IsDrawer old new
+      → IsDoneNext act v entry → HasHanded act tag (numbers_of cells) old new
+  has_handed act old new was e extends drawer next = record {
     drawer = drawer;
     entry = entry;
     next = subst (λ u. IsDoneNext act u entry) (sym was) next;
+    log = extends;
     knows =
-        heard_now (released (numbers_of cells) new.view) (record (released (numbers_of cells) old.view) {
+        log_now (record (released (numbers_of cells) old.view) {
           taker = caller_drawn entry (released (numbers_of cells) old.view).taker;
           found = None;
           handed = Some tag;
           untold = [];
-        }) entry.stamp
-        (ap (released (numbers_of cells)) e ∙ ap (λ ns. released ns w) (sym both_numbers) ∙ released_handed from onto entry tag v
-        ∙ (λ j. hears entry.stamp (record (released (both_numbers j) (sym was j)) {
+        }) (released (numbers_of cells) new.view) log
+        (ap (released (numbers_of cells)) e ∙ ap (λ ns. released ns w) (sym both_numbers) ∙ ap (with_log log) (released_handed from onto entry tag v)
+        ∙ (λ j. with_log log (record (released (both_numbers j) (sym was j)) {
           taker = caller_drawn entry (released (both_numbers j) (sym was j)).taker;
           found = None;
           handed = Some tag;

@@ -7,10 +7,11 @@ use Rattle.k42_stamp.specs.Layouts.{Layouts}
 use Rattle.k42_joined.specs.Numbers.{cell_of, row_cells}
 use Rattle.k42_joined.proofs.CellNumbers.{named_in_row}
 use Rattle.k42_board.specs.Drawing.{numbers_of}
+use Rattle.k42_board.specs.Log.{Extends, with_log}
 use Rattle.k42_board.specs.Seen.{PassSeen, IsSamePass}
 use Rattle.k42_board.specs.Taking.{AreRowsNoted}
-use Rattle.k42_board.specs.Views.{hears}
 use Rattle.k42_board.specs.declared.cell.Content.{Content}
+use Rattle.k42_board.proofs.Gained.{extends_same, extends_on}
 use Rattle.k42_mediator.specs.Taken.{released, AreTaken}
 use Rattle.k42_mediator.proofs.Remaining.{names_more}
 
@@ -45,7 +46,8 @@ pub record IsTaking
   pub numbers : numbers_of cells ≡ numbers_of before ++ row_cells place o i
   pub held : now.view.taker.held ≡ numbers_of cells
   pub taken : AreTaken now.view.notes cells
-  pub released_is : released (numbers_of cells) now.view ≡ hears now.view.heard (released (numbers_of before) first.view)
+  pub released_is : released (numbers_of cells) now.view ≡ with_log now.view.log (released (numbers_of before) first.view)
+  pub log : Extends first.view.log now.view.log
   pub last : 0 < place → AreRowsNoted F declared now.view × (now.view.out ≡ None)
 
 module _ {S L P : Type 0} (F : Layouts S L P) (declared : List L) (o i : ℕ) (first : PassSeen P) (before : List (Content P)) (len_before room_before : ℕ) where
@@ -59,6 +61,7 @@ module _ {S L P : Type 0} (F : Layouts S L P) (declared : List L) (o i : ℕ) (f
     held = held;
     taken = taken;
     released_is = refl;
+    log = extends_same first.view.log;
     last = λ some. absurd (omega (arith, some));
   }
 
@@ -66,9 +69,9 @@ module _ {S L P : Type 0} (F : Layouts S L P) (declared : List L) (o i : ℕ) (f
       → IsTaking F declared o i place first now before cells len_before len room_before room
       → n ≡ cell_of o i place → IsSamePass now new → room' ≡ room → len' ≡ len + 1 → numbers_of more ≡ numbers_of cells ++ n ∷ []
       → new.view.out ≡ None → new.view.taker.held ≡ numbers_of more → AreTaken new.view.notes more
-      → released (numbers_of more) new.view ≡ hears new.view.heard (released (numbers_of cells) now.view)
-      → AreRowsNoted F declared new.view → IsTaking F declared o i (place + 1) first new before more len_before len' room_before room'
-  takes_next place now new cells more len len' room room' n is named same room_is len_is numbers back held taken released_is rows = record {
+      → released (numbers_of more) new.view ≡ with_log new.view.log (released (numbers_of cells) now.view)
+      → Extends now.view.log new.view.log → AreRowsNoted F declared new.view → IsTaking F declared o i (place + 1) first new before more len_before len' room_before room'
+  takes_next place now new cells more len len' room room' n is named same room_is len_is numbers back held taken released_is log rows = record {
     same = record {
       table = same.table ∙ is.same.table;
       seat = same.seat ∙ is.same.seat;
@@ -86,6 +89,7 @@ module _ {S L P : Type 0} (F : Layouts S L P) (declared : List L) (o i : ℕ) (f
         ∙ ap (λ k. numbers_of before ++ row_cells k o i) (after place);
     held = held;
     taken = taken;
-    released_is = released_is ∙ ap (hears new.view.heard) is.released_is;
+    released_is = released_is ∙ ap (with_log new.view.log) is.released_is;
+    log = extends_on is.log log;
     last = λ some. (rows, back);
   }

@@ -1,23 +1,22 @@
 -- The entry of a swap that found its object over.
-use Rattle.std.specs.Prelude.{◌≡◌, ◌≢◌, ℕ, ◌+◌, ◌<◌, ◌==◌, if◌then◌else◌, true, false, List, ◌∷◌, Some, None, length}
+use Rattle.std.specs.Prelude.{◌≡◌, ℕ, ◌+◌, ◌<◌, true, false, Some, None, length}
 use Rattle.k42_kinds.specs.Histories.{is_call}
 use Rattle.k42_kinds.specs.declared.entry.Act.{Act}
 use Rattle.k42_kinds.specs.declared.entry.Answer.{Answer}
 use Rattle.k42_kinds.specs.declared.entry.Entry.{Entry}
 use Rattle.turn_core.specs.Events.{caller_drawn}
-use Rattle.turn_core.specs.declared.event.TurnEvent.TheVariants.{Lock}
-use Rattle.k42_stamp.specs.Layouts.{Layouts}
-use Rattle.k42_joined.specs.Event.{AtCells}
 use Rattle.k42_joined.specs.Numbers.{cell_of}
 use Rattle.k42_joined.specs.Swapping.{holds_none}
 use Rattle.k42_board.specs.Drawing.{IsDrawer}
 use Rattle.k42_board.specs.Generations.{MOST}
-use Rattle.k42_board.specs.Seen.{PassSeen, IsSamePass}
-use Rattle.k42_board.specs.Steps.{StepIs}
+use Rattle.k42_board.specs.Log.{ComesTo}
+use Rattle.k42_board.specs.Plan.{LayoutWords}
+use Rattle.k42_board.specs.Protocol as protocol
+use Rattle.k42_board.specs.Seen.{SysSeen, PassSeen}
+use Rattle.k42_board.specs.Stepping.{HasStepped}
 use Rattle.k42_board.specs.Tabling.{is_over_in}
 use Rattle.k42_board.specs.Values.{answer_in, incarnation_in}
-use Rattle.k42_board.specs.Views.{hears, object_begun, word_begun}
-use Rattle.k42_board.specs.Words.{lock_word}
+use Rattle.k42_board.specs.Views.{object_begun, word_begun}
 use Rattle.k42_board.specs.declared.view.PassView.{PassView}
 use Rattle.k42_mediator.specs.Entries.{IsNext}
 use Rattle.k42_mediator.specs.declared.answers.Marked.{Marked}
@@ -44,19 +43,12 @@ pub record HasMarked {P : Type 0} (act : Act) (old new : PassSeen P) : Type 0 wh
   pub next :
       IsNext old.view (object_begun old.view.last) (incarnation_in (word_begun old.view.last)) (cell_marked old.view) act
       answer entry
-  pub knows :
-      new.view
-      ≡ hears new.view.heard (record old.view { taker = caller_drawn entry old.view.taker; found = None })
+  pub comes : ComesTo old.view (record old.view { taker = caller_drawn entry old.view.taker; found = None }) new.view
 
-module _ {S L P : Type 0} (F : Layouts S L P) (declared : List L) where
-  -- it has found the lock of that cell with another caller, and knows nothing else that is new
-  pub record IsHeldBy (holder : ℕ) (old new : PassSeen P) : Type 0 where
-    pub same : IsSamePass old new
-    pub knows : new.view ≡ hears (holder + 1) (record old.view { refused = (holder + 1) ∷ old.view.refused })
-    pub another : holder ≢ old.view.number
-    pub event :
-        StepIs F declared (AtCells (Lock old.view.number (cell_marked old.view))) (lock_word (cell_marked old.view))
-        (λ word. if word == 0 then old.view.number + 1 else word) old.seat old.view (holder + 1) new.view
+module _ {S L P : Type 0} (words : LayoutWords S L P) (sys : SysSeen L) where
+  -- it has found the lock of that cell with this caller
+  abbrev pub IsHeldBy : ℕ → PassSeen P → PassSeen P → Type 0
+  IsHeldBy holder old new = HasStepped words sys (protocol.lock (cell_marked old.view)) old (holder + 1) new
 
   abbrev pub IsMarkAnswer : Marked → Act → PassSeen P → PassSeen P → Type 0
   IsMarkAnswer marks.Marked act old new = HasMarked act old new

@@ -17,11 +17,17 @@ use Rattle.k42_joined.specs.Swapping.{holds_none}
 use Rattle.k42_board.specs.Cells.{Slot}
 use Rattle.k42_board.specs.Drawing.{entry_alone}
 use Rattle.k42_board.specs.Rule.{Rule}
-use Rattle.k42_board.specs.Swapping.{object_swapped, rows_ended, clears}
-use Rattle.k42_board.specs.Values.{has_bit, answer_in, layout_in, incarnation_in}
-use Rattle.k42_board.specs.Views.{hears, word_begun}
+use Rattle.k42_board.specs.Swapping.{object_swapped, rows_ended, clears, IsRestored}
+use Rattle.k42_board.specs.Tabling.{begun_view}
+use Rattle.k42_board.specs.Values.{answer_in, incarnation_in}
+use Rattle.k42_board.specs.Log.{Extends, last_found, took, with_log}
+use Rattle.k42_board.specs.Protocol as protocol
+use Rattle.k42_board.specs.Stepping.{Takes}
+use Rattle.k42_board.specs.Views.{word_begun}
 use Rattle.k42_board.specs.Words.{object_word}
 use Rattle.k42_board.specs.declared.view.PassView.{PassView}
+use Rattle.k42_board.specs.declared.view.StepName.TheVariants as steps
+use Rattle.k42_board.specs.declared.view.Taken.{Taken}
 use Rattle.k42_board.specs.declared.view.View.{View}
 use Rattle.k42_board.specs.declared.view.View.TheVariants.{Crew}
 
@@ -82,24 +88,11 @@ swap_ended_view v = record (staged Idle v) { turned = false; rows = rows_ended v
 abbrev pub given_up_view : {P : Type 0} → Act → PassView P → PassView P
 given_up_view act v =
     let entry = entry_alone v act (Abandoned (incarnation_in (word_begun v.last) + 1)) in
-    hears entry.stamp (record (staged (Opened (object_swapped v)) v) {
-      taker = caller_drawn entry v.taker;
-      found = None;
-      abandoned = true;
-    })
+    record (staged (Opened (object_swapped v)) v) { taker = caller_drawn entry v.taker; found = None; abandoned = true }
 
 -- and swaps nothing any more
 abbrev pub abandoned_view : {P : Type 0} → Act → PassView P → PassView P
 abandoned_view act v = staged Idle (given_up_view act v)
-
--- the word has the layout and the incarnation that a Begin found, and none of the bits of a swap
-pub record IsRestored (begun word : ℕ) : Type 0 where
-  pub layout : layout_in word ≡ layout_in begun
-  pub incarnation : incarnation_in word ≡ incarnation_in begun
-  pub swap : has_bit word 24 ≡ false
-  pub block : has_bit word 25 ≡ false
-  pub moving : has_bit word 26 ≡ false
-  pub complete : has_bit word 27 ≡ false
 
 -- an entry that leads into the row, or is empty there
 pub record LeadsToRow (i : ℕ) (e : LocalEntry) : Type 0 where
@@ -114,3 +107,21 @@ module _ {S L P : Type 0} (F : Layouts S L P) (declared : List L) where
       (table : State (Slot P) (View P)) (r : Rule F declared table) → get_elem? table.views id ≡ some (Crew (v ∷ []))
       → IsRestored (word_begun v.last) (clears v.visitor.swap (slice_index table.words (object_word (object_swapped v))))
       × EachPlace (λ p e. LeadsToRow (incarnation_in (word_begun v.last)) e) (object r.state (object_swapped v)).entries
+
+  -- The pass has given its swap up: it had opened all entries again, and drawn that, when its last step ended the swap and
+  -- left the old implementation open.
+  pub record HasGivenUp (id : ℕ) (act : Act) (old new : PassView P) : Type 0 where
+    pub log : List Taken
+    pub since : Extends old.log log
+    pub cleared : Takes F declared protocol.clear id (with_log log (given_up_view act old)) (last_found new.log) new
+    pub opened : LeavesOpen id (with_log log (given_up_view act old))
+
+  -- the pass as it has asked to begin a swap of the object, by the word that it keeps
+  abbrev pub asks : ℕ → PassView P → PassView P → PassView P
+  asks o old new = took steps.Begin (object_word o) (word_begun new.last) (begun_view o (word_begun new.last) old)
+
+  -- It has asked to begin a swap of the object, and found there the word that it keeps; where the object was over it has
+  -- cleared what it had set.
+  pub record HasTried (id o : ℕ) (old new : PassView P) : Type 0 where
+    pub asked : Takes F declared (protocol.begin o) id old (word_begun new.last) (asks o old new)
+    pub log : Extends (asks o old new).log new.log

@@ -11,10 +11,11 @@ use Rattle.k42_joined.specs.Numbers.{cell_of}
 use Rattle.k42_joined.specs.Plain.{Joined}
 use Rattle.k42_joined.specs.State.{many_callers}
 use Rattle.k42_board.specs.Drawing.{IsDrawer}
+use Rattle.k42_board.specs.Log.{ComesTo, Extends, with_log}
 use Rattle.k42_board.specs.Seen.{PassSeen, IsSamePass}
 use Rattle.k42_board.specs.Swapping.{object_swapped}
 use Rattle.k42_board.specs.Values.{incarnation_in}
-use Rattle.k42_board.specs.Views.{hears, word_begun}
+use Rattle.k42_board.specs.Views.{word_begun}
 use Rattle.k42_board.specs.declared.view.PassView.{PassView}
 use Rattle.k42_mediator.specs.Entries.{IsNext}
 use Rattle.k42_mediator.specs.Taken.{released}
@@ -42,27 +43,25 @@ pub record HasHanded {P : Type 0} (act : Act) (tag : ℕ) (cells : List ℕ) (ol
   pub next : IsDoneNext act old.view entry
   pub knows :
       released cells new.view
-      ≡ hears new.view.heard (record (released cells old.view) {
+      ≡ with_log new.view.log (record (released cells old.view) {
         taker = caller_drawn entry (released cells old.view).taker;
         found = None;
         handed = Some tag;
         untold = [];
       })
+  pub log : Extends old.view.log new.view.log
 
 -- the pass has handed the row on, and has drawn that
 pub record HasDone {P : Type 0} (act : Act) (tag : ℕ) (old new : PassSeen P) : Type 0 where
   pub drawer : IsDrawer old new
   pub entry : Entry
   pub next : IsDoneNext act old.view entry
-  pub knows :
+  pub comes :
+      ComesTo old.view
+      (record old.view { taker = caller_drawn entry old.view.taker; found = None; handed = Some tag })
       new.view
-      ≡ hears new.view.heard (record old.view {
-        taker = caller_drawn entry old.view.taker;
-        found = None;
-        handed = Some tag;
-      })
 
 -- the pass has what it had
 pub record HasKept {P : Type 0} (old new : PassSeen P) : Type 0 where
   pub same : IsSamePass old new
-  pub knows : new.view ≡ hears new.view.heard old.view
+  pub comes : ComesTo old.view old.view new.view

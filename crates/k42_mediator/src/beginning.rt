@@ -1,21 +1,20 @@
 //! A swap begins.
-ghost use Rattle.std.specs.Prelude.{◌≡◌, ◌≤◌, length, bit_or};
+ghost use Rattle.std.specs.Prelude.{◌≡◌, ◌≤◌};
 ghost use Rattle.k42_limits.specs.declared.TheConstants.{LAST_INCARNATION};
-ghost use Rattle.phase_core.specs.Event as phases;
-ghost use Rattle.k42_joined.specs.Event.{AtPhases};
-ghost use Rattle.k42_board.specs.Plan.{layouts_on};
+ghost use Rattle.k42_board.specs.Log.{with_log};
+ghost use Rattle.k42_board.specs.Protocol as protocol;
 ghost use Rattle.k42_board.specs.Seen.{IsPassOf, IsSamePass};
-ghost use Rattle.k42_board.specs.Steps.{StepIs};
-ghost use Rattle.k42_board.specs.Tabling.{MayBegin, begun_view};
+ghost use Rattle.k42_board.specs.Stepping.{MayStep, layouts_in};
 ghost use Rattle.k42_board.specs.Values.{incarnation_in};
-ghost use Rattle.k42_board.specs.Views.{hears, word_begun};
-ghost use Rattle.k42_board.specs.Words.{object_word};
+ghost use Rattle.k42_board.specs.Views.{word_begun};
 ghost use Rattle.k42_mediator.specs.Answers.{phase_in, swap_in, begun_in};
-ghost use Rattle.k42_mediator.specs.Swaps.{begun_now};
+ghost use Rattle.k42_mediator.specs.Swaps.{begun_now, HasTried};
 
 use crate::answers::{Begun, Phase};
+use k42_board::{
+    incarnation_in, is_blocked, is_complete, is_moving, is_over, is_swapped, layout_in,
+};
 use k42_kinds::Layout;
-use k42_limits::LAST_INCARNATION;
 use k42_rule::{Pass, Sys, begin_step, clear_step};
 use phase_core::SwapAt;
 
@@ -23,11 +22,11 @@ use phase_core::SwapAt;
 fn phase_of(word: u64) -> Phase
     ensures { result ≡ phase_in word }
 {
-    if word / 134_217_728 % 2 == 1 {
+    if is_complete(word) {
         Phase::Complete
-    } else if word / 67_108_864 % 2 == 1 {
+    } else if is_moving(word) {
         Phase::Transfer
-    } else if word / 33_554_432 % 2 == 1 {
+    } else if is_blocked(word) {
         Phase::Block
     } else {
         Phase::Forward
@@ -39,8 +38,8 @@ fn number_of(word: u64) -> u32
     requires { incarnation_in word ≤ LAST_INCARNATION }
     ensures { result ≡ swap_in word }
 {
-    let incarnation = (word >> 32) as u32;
-    if word / 134_217_728 % 2 == 1 {
+    let incarnation = incarnation_in(word);
+    if is_complete(word) {
         incarnation
     } else {
         incarnation + 1
@@ -52,11 +51,11 @@ fn answer_to(word: u64) -> Begun
     requires { incarnation_in word ≤ LAST_INCARNATION }
     ensures { result ≡ begun_in word }
 {
-    if word / 268_435_456 % 4 == 2 {
+    if layout_in(word) == 2 {
         Begun::Gone
-    } else if word / 4_294_967_296 == u64::from(LAST_INCARNATION) {
+    } else if is_over(word) {
         Begun::Spent
-    } else if word / 16_777_216 % 2 == 1 {
+    } else if is_swapped(word) {
         Begun::Busy {
             number: number_of(word),
             phase: phase_of(word),
@@ -69,16 +68,11 @@ fn answer_to(word: u64) -> Begun
 /// Begins a swap of the object. After every other answer than `Begun` the pass is idle, and no swap of it is under way.
 pub fn begin<L: Layout>(sys: &Sys<L>, pass: &mut Pass<L>, object: u32) -> Begun
     requires ours { IsPassOf sys.now pass.old }
-    requires may { MayBegin (length sys.now.layouts) object pass.old.view }
+    requires may { MayStep L.Layout sys.now (protocol.begin object) pass.old }
     ensures same { IsSamePass pass.old pass.new }
     ensures answer { result ≡ begun_in (word_begun pass.new.view.last) }
-    ensures knows { pass.new.view ≡ hears pass.new.view.heard (begun_now object (word_begun pass.new.view.last) pass.old.view) }
-    ensures event { StepIs
-        (layouts_on L.object L.tag_of L.ways L.whole L.serves L.admitted L.act_of sys.now.procs sys.now.callers)
-        sys.now.layouts (AtPhases (phases.Begin pass.old.view.number object))
-        (object_word object) (λ word. bit_or word 16777216)
-        pass.old.seat pass.old.view (word_begun pass.new.view.last)
-        (begun_view object (word_begun pass.new.view.last) pass.old.view) }
+    ensures knows { pass.new.view ≡ with_log pass.new.view.log (begun_now object (word_begun pass.new.view.last) pass.old.view) }
+    ensures begun { HasTried (layouts_in L.Layout sys.now) sys.now.layouts pass.old.seat object pass.old.view pass.new.view }
 {
     let found = begin_step(sys, pass, object);
     if let SwapAt::Refused(_) = pass.swap() {

@@ -7,6 +7,7 @@ ghost use Rattle.k42_board.specs.Values.{layout_in, incarnation_in};
 ghost use Rattle.k42_board.specs.Views.{object_begun, word_begun};
 ghost use Rattle.k42_rule.specs.Settled.{IsSettled};
 
+use k42_board::incarnation_in;
 use k42_kinds::Layout;
 use k42_rule::{LastBegin, Pass, Row};
 use phase_core::SwapAt;
@@ -41,6 +42,6 @@ pub(crate) fn moved_row<L: Layout>(pass: &Pass<L>) -> Row
     };
     Row {
         object,
-        incarnation: (last_of::<L>(pass).word >> 32) as u32,
+        incarnation: incarnation_in(last_of::<L>(pass).word),
     }
 }

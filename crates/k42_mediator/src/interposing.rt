@@ -1,8 +1,8 @@
 //! The entries of all processors change.
 ghost use Rattle.std.specs.Prelude.{◌≡◌, Some};
+ghost use Rattle.k42_board.specs.Log.{ComesTo};
 ghost use Rattle.k42_board.specs.Seen.{IsPassOf, IsSamePass};
 ghost use Rattle.k42_board.specs.Swapping.{next_entry};
-ghost use Rattle.k42_board.specs.Views.{hears};
 ghost use Rattle.k42_mediator.specs.Swaps.{staged, stage_changed, HasBegun, interposed_view};
 
 use k42_kinds::Layout;
@@ -13,7 +13,7 @@ pub(crate) fn change_entries<L: Layout>(sys: &Sys<L>, pass: &mut Pass<L>)
     requires ours { IsPassOf sys.now pass.old }
     requires first { next_entry pass.old.view.visitor.swap ≡ Some 0 }
     ensures same { IsSamePass pass.old pass.new }
-    ensures knows { pass.new.view ≡ hears pass.new.view.heard (staged (stage_changed pass.old.view.visitor.swap) pass.old.view) }
+    ensures comes { ComesTo pass.old.view (staged (stage_changed pass.old.view.visitor.swap) pass.old.view) pass.new.view }
 {
     let procs = sys.procs();
     for proc in 0..procs {
@@ -27,7 +27,7 @@ pub fn interpose<L: Layout>(sys: &Sys<L>, pass: &mut Pass<L>)
     requires ours { IsPassOf sys.now pass.old }
     requires begun { HasBegun pass.old.view }
     ensures same { IsSamePass pass.old pass.new }
-    ensures knows { pass.new.view ≡ hears pass.new.view.heard (interposed_view pass.old.view) }
+    ensures comes { ComesTo pass.old.view (interposed_view pass.old.view) pass.new.view }
 {
     change_entries(sys, pass);
 }

@@ -1,22 +1,15 @@
 //! Callers knock at the mediator.
 ghost use Rattle.std.specs.Prelude.{◌≡◌, true, length};
 ghost use Rattle.k42_joined.specs.Swapping.{holds_none};
-ghost use Rattle.k42_board.specs.Plan.{layouts_on};
 ghost use Rattle.k42_board.specs.Seen.{IsPassOf, IsSamePass};
+ghost use Rattle.k42_board.specs.Stepping.{layouts_in};
 ghost use Rattle.k42_board.specs.Tabling.{MayKnock};
-ghost use Rattle.k42_board.specs.Values.{has_bit};
 ghost use Rattle.k42_mediator.specs.Knocks.{IsKnock};
 
 use crate::answers::Knocked;
+use k42_board::{incarnation_in, is_blocked};
 use k42_kinds::Layout;
 use k42_rule::{Pass, Sys, knock_step, step_out};
-
-/// Whether the word of an object says that its swap blocks.
-fn is_blocked(word: u64) -> bool
-    ensures { result ≡ has_bit word 25 }
-{
-    word / 33_554_432 % 2 == 1
-}
 
 /// Knocks at the mediator of the object, which lets the caller into the present row and counts it. Where the swap
 /// blocks, the caller is out of its call again, and may look the object up anew.
@@ -25,9 +18,7 @@ pub fn knock<L: Layout>(sys: &Sys<L>, pass: &mut Pass<L>, object: u32) -> Knocke
     requires sent { MayKnock (length sys.now.layouts) object pass.old.view }
     requires free { holds_none pass.old.view.taker.held ≡ true }
     ensures same { IsSamePass pass.old pass.new }
-    ensures knocked { IsKnock
-        (layouts_on L.object L.tag_of L.ways L.whole L.serves L.admitted L.act_of sys.now.procs sys.now.callers)
-        sys.now.layouts pass.old.seat object pass.old.view pass.new.view result }
+    ensures knocked { IsKnock (layouts_in L.Layout sys.now) sys.now.layouts pass.old.seat object pass.old.view pass.new.view result }
 {
     let found = knock_step(sys, pass, object);
     if is_blocked(found) {
@@ -35,6 +26,6 @@ pub fn knock<L: Layout>(sys: &Sys<L>, pass: &mut Pass<L>, object: u32) -> Knocke
         return Knocked::Blocked;
     }
     Knocked::Admitted {
-        incarnation: (found >> 32) as u32,
+        incarnation: incarnation_in(found),
     }
 }

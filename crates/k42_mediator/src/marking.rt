@@ -1,6 +1,5 @@
 //! A swap that found its object over draws that.
 ghost use Rattle.std.specs.Prelude.{◌≡◌, ◌<◌, true, Some};
-ghost use Rattle.k42_board.specs.Plan.{layouts_on};
 ghost use Rattle.k42_board.specs.Seen.{IsPassOf};
 ghost use Rattle.k42_board.specs.Tabling.{is_over_in};
 ghost use Rattle.k42_board.specs.Values.{answer_in};
@@ -8,7 +7,8 @@ ghost use Rattle.k42_mediator.specs.Marks.{MayMark, IsMarkAnswer};
 
 use crate::answers::Marked;
 use crate::begun::last_of;
-use crate::rows::{cell_number, give_next};
+use crate::rows::give_next;
+use k42_board::{cell_number, incarnation_in, layout_in};
 use k42_kinds::{Act, Answer, Layout};
 use k42_rule::{Pass, Sys, draw_mark, layouts_are_lawful, lock, take};
 
@@ -17,7 +17,7 @@ fn answer_over(word: u64) -> Answer
     requires { is_over_in word ≡ true }
     ensures { answer_in word ≡ Some result }
 {
-    if word / 268_435_456 % 4 == 2 {
+    if layout_in(word) == 2 {
         Answer::Gone
     } else {
         Answer::Spent
@@ -30,14 +30,12 @@ pub fn mark<L: Layout>(sys: &Sys<L>, pass: &mut Pass<L>, act: Act) -> Marked
     requires ours { IsPassOf sys.now pass.old }
     requires may { MayMark act pass.old.view }
     requires room { 0 < pass.old.room }
-    ensures { IsMarkAnswer
-        (layouts_on L.object L.tag_of L.ways L.whole L.serves L.admitted L.act_of sys.now.procs sys.now.callers)
-        sys.now.layouts result act pass.old pass.new }
+    ensures { IsMarkAnswer L.Layout sys.now result act pass.old pass.new }
 {
     layouts_are_lawful(sys);
     let begin = last_of::<L>(pass);
     let answer = answer_over(begin.word);
-    let number = cell_number(begin.object, (begin.word >> 32) as u32, 0);
+    let number = cell_number(begin.object, incarnation_in(begin.word), 0);
     let found = lock(sys, pass, number);
     if found != 0 {
         return Marked::Held {

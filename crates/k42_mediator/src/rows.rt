@@ -5,22 +5,15 @@ ghost use Rattle.turn_core.specs.Names.{names, names_once};
 ghost use Rattle.k42_joined.specs.Numbers.{cell_of, row_cells};
 ghost use Rattle.k42_joined.specs.Touching.{is_moving};
 ghost use Rattle.k42_board.specs.Drawing.{numbers_of};
-ghost use Rattle.k42_board.specs.Plan.{layouts_on};
+ghost use Rattle.k42_board.specs.Log.{ComesTo, Extends, with_log};
 ghost use Rattle.k42_board.specs.Seen.{IsOf, IsSamePass};
+ghost use Rattle.k42_board.specs.Stepping.{layouts_in};
 ghost use Rattle.k42_board.specs.Taking.{AreRowsNoted, TouchesMoved};
-ghost use Rattle.k42_board.specs.Views.{hears};
 ghost use Rattle.k42_mediator.specs.Taken.{released, AreTaken, MayPutBack, MayPutAllBack};
 
+use k42_board::cell_number;
 use k42_kinds::Layout;
 use k42_rule::{Cell, Pass, Sys, lock, put, take, unlock};
-
-pub(crate) fn cell_number(object: u32, row: u32, place: u32) -> u32
-    requires { (object < 16) × (place < 8) }
-    ensures is { result ≡ cell_of object row place }
-    ensures few { result < 256 }
-{
-    (object * 2 + row % 2) * 8 + place
-}
 
 /// Takes one cell of the object that it moves, whose lock is free.
 fn take_next<L: Layout>(sys: &Sys<L>, pass: &mut Pass<L>, number: u32, cells: &mut Vec<Cell<L>>)
@@ -38,10 +31,9 @@ fn take_next<L: Layout>(sys: &Sys<L>, pass: &mut Pass<L>, number: u32, cells: &m
     ensures back { pass.new.view.out ≡ None }
     ensures held { pass.new.view.taker.held ≡ numbers_of cells.new.items }
     ensures taken { AreTaken pass.new.view.notes cells.new.items }
-    ensures released { released (numbers_of cells.new.items) pass.new.view ≡ hears pass.new.view.heard (released (numbers_of cells.old.items) pass.old.view) }
-    ensures rows { AreRowsNoted
-        (layouts_on L.object L.tag_of L.ways L.whole L.serves L.admitted L.act_of sys.now.procs sys.now.callers)
-        sys.now.layouts pass.new.view }
+    ensures released { released (numbers_of cells.new.items) pass.new.view ≡ with_log pass.new.view.log (released (numbers_of cells.old.items) pass.old.view) }
+    ensures log { Extends pass.old.view.log pass.new.view.log }
+    ensures rows { AreRowsNoted (layouts_in L.Layout sys.now) sys.now.layouts pass.new.view }
 {
     lock(sys, pass, number);
     let cell = take(sys, pass, number);
@@ -71,10 +63,9 @@ pub(crate) fn take_row<L: Layout>(
     ensures back { pass.new.view.out ≡ None }
     ensures held { pass.new.view.taker.held ≡ numbers_of cells.new.items }
     ensures taken { AreTaken pass.new.view.notes cells.new.items }
-    ensures released { released (numbers_of cells.new.items) pass.new.view ≡ hears pass.new.view.heard (released (numbers_of cells.old.items) pass.old.view) }
-    ensures rows { AreRowsNoted
-        (layouts_on L.object L.tag_of L.ways L.whole L.serves L.admitted L.act_of sys.now.procs sys.now.callers)
-        sys.now.layouts pass.new.view }
+    ensures released { released (numbers_of cells.new.items) pass.new.view ≡ with_log pass.new.view.log (released (numbers_of cells.old.items) pass.old.view) }
+    ensures log { Extends pass.old.view.log pass.new.view.log }
+    ensures rows { AreRowsNoted (layouts_in L.Layout sys.now) sys.now.layouts pass.new.view }
 {
     let procs = sys.procs();
     for place in 0..procs {
@@ -85,11 +76,9 @@ pub(crate) fn take_row<L: Layout>(
 /// Puts one cell back, and leaves its lock.
 pub(crate) fn give_next<L: Layout>(sys: &Sys<L>, pass: &mut Pass<L>, cell: Cell<L>)
     requires ours { IsOf sys.now pass.old }
-    requires ready { MayPutBack
-        (layouts_on L.object L.tag_of L.ways L.whole L.serves L.admitted L.act_of sys.now.procs sys.now.callers)
-        sys.now.layouts pass.old.seat pass.old.view cell }
+    requires ready { MayPutBack (layouts_in L.Layout sys.now) sys.now.layouts pass.old.seat pass.old.view cell }
     ensures same { IsSamePass pass.old pass.new }
-    ensures released { pass.new.view ≡ released (cell.number ∷ []) pass.old.view }
+    ensures comes { ComesTo pass.old.view (released (cell.number ∷ []) pass.old.view) pass.new.view }
 {
     let number = cell.number();
     put(sys, pass, number, cell);
@@ -101,11 +90,9 @@ pub(crate) fn give_back<L: Layout>(sys: &Sys<L>, pass: &mut Pass<L>, mut cells: 
     requires ours { IsOf sys.now pass.old }
     requires once { names_once (numbers_of cells.items) ≡ true }
     requires back { pass.old.view.out ≡ None }
-    requires ready { MayPutAllBack
-        (layouts_on L.object L.tag_of L.ways L.whole L.serves L.admitted L.act_of sys.now.procs sys.now.callers)
-        sys.now.layouts pass.old.seat pass.old.view cells.items }
+    requires ready { MayPutAllBack (layouts_in L.Layout sys.now) sys.now.layouts pass.old.seat pass.old.view cells.items }
     ensures same { IsSamePass pass.old pass.new }
-    ensures released { pass.new.view ≡ released (numbers_of cells.items) pass.old.view }
+    ensures comes { ComesTo pass.old.view (released (numbers_of cells.items) pass.old.view) pass.new.view }
 {
     while let Some(cell) = cells.pop() {
         give_next(sys, pass, cell);

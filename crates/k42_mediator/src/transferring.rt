@@ -5,9 +5,9 @@ ghost use Rattle.phase_core.specs.declared.caller.SwapAt.TheVariants.{Moved};
 ghost use Rattle.k42_joined.specs.Numbers.{row_cells};
 ghost use Rattle.k42_board.specs.Drawing.{numbers_of};
 ghost use Rattle.k42_board.specs.Generations.{MOST};
-ghost use Rattle.k42_board.specs.Plan.{layouts_on};
 ghost use Rattle.k42_board.specs.Seen.{IsPassOf};
 ghost use Rattle.k42_board.specs.Steps.{Always};
+ghost use Rattle.k42_board.specs.Stepping.{layouts_in};
 ghost use Rattle.k42_board.specs.Swapping.{object_swapped};
 ghost use Rattle.k42_board.specs.Taking.{AreRowsNoted};
 ghost use Rattle.k42_board.specs.Values.{incarnation_in};
@@ -47,15 +47,11 @@ fn move_and_draw<L: Layout>(
     requires numbers { numbers_of cells.old.items ≡ row_cells sys.now.procs row.object row.incarnation ++ row_cells sys.now.procs row.object (row.incarnation + 1) }
     requires held { pass.old.view.taker.held ≡ numbers_of cells.old.items }
     requires taken { AreTaken pass.old.view.notes cells.old.items }
-    requires rows { AreRowsNoted
-        (layouts_on L.object L.tag_of L.ways L.whole L.serves L.admitted L.act_of sys.now.procs sys.now.callers)
-        sys.now.layouts pass.old.view }
+    requires rows { AreRowsNoted (layouts_in L.Layout sys.now) sys.now.layouts pass.old.view }
     ensures numbers { numbers_of cells.new.items ≡ numbers_of cells.old.items }
     ensures seat { (pass.new.table ≡ pass.old.table) × (pass.new.seat ≡ pass.old.seat) }
     ensures back { pass.new.view.out ≡ pass.old.view.out }
-    ensures ready { MayPutAllBack
-        (layouts_on L.object L.tag_of L.ways L.whole L.serves L.admitted L.act_of sys.now.procs sys.now.callers)
-        sys.now.layouts pass.new.seat pass.new.view cells.new.items }
+    ensures ready { MayPutAllBack (layouts_in L.Layout sys.now) sys.now.layouts pass.new.seat pass.new.view cells.new.items }
     ensures handed { OnOk result (HasHanded (L.act_of to.now) (L.tag_of to.now) (numbers_of cells.old.items) pass.old pass.new) }
     ensures memory { OnErr result (pass.new ≡ pass.old) }
 {
@@ -80,9 +76,7 @@ pub fn transfer<L: Layout>(
     requires known { L.tag_of to.now ≤ 2 }
     requires room { 0 < pass.old.room }
     requires few { length pass.old.view.taker.mine < MOST }
-    ensures left { (v : PassView L.Part) → v.visitor ≡ pass.old.view.visitor → Always
-        (layouts_on L.object L.tag_of L.ways L.whole L.serves L.admitted L.act_of sys.now.procs sys.now.callers)
-        sys.now.layouts pass.old.seat v (IsVacant (object_swapped pass.old.view)) }
+    ensures left { (v : PassView L.Part) → v.visitor ≡ pass.old.view.visitor → Always (layouts_in L.Layout sys.now) sys.now.layouts pass.old.seat v (IsVacant (object_swapped pass.old.view)) }
     ensures done { OnOk result (HasDone (L.act_of to.now) (L.tag_of to.now) pass.old pass.new) }
     ensures memory { OnErr result (HasKept pass.old pass.new) }
 {

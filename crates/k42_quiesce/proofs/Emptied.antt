@@ -1,6 +1,7 @@
 -- A cell whose row was freed may be put back without a part.
-use Rattle.std.proofs.Common.{◌≡◌, ℕ, ◌<◌, Bool, true, false, not, eqb, ◌||◌, List, [], ◌∷◌, ◌++◌, None, refl, sym, ap, ◌∙◌, subst}
+use Rattle.std.proofs.Common.{◌≡◌, ℕ, suc, ◌+◌, ◌<◌, Bool, true, false, not, eqb, ◌||◌, List, [], ◌∷◌, ◌++◌, None, length, refl, sym, ap, ◌∙◌, subst, arith}
 use Rattle.std.specs.List.{filter, slice_get}
+use Rattle.std.specs.Prelude.{is_some}
 use Rattle.std.proofs.lemmas.Bool.{eq-eqb, or_left}
 use Rattle.turn_core.specs.Events.{caller_locked, caller_unlocked}
 use Rattle.turn_core.specs.Names.{names}
@@ -11,14 +12,18 @@ use Rattle.k42_joined.specs.Numbers.{cell_of}
 use Rattle.k42_joined.specs.Swapping.{holds_none}
 use Rattle.k42_joined.specs.Touching.{is_freeing}
 use Rattle.k42_board.specs.Cells.{IsCell, cells_noted}
+use Rattle.k42_board.specs.Log.{took, logs, put_at}
 use Rattle.k42_board.specs.Parts.{IsPart}
+use Rattle.k42_board.specs.Seen.{SysSeen, PassSeen, IsPassOf, IsSamePass}
 use Rattle.k42_board.specs.Steps.{Always}
-use Rattle.k42_board.specs.Taking.{CELLS, HoldsHome, MayPut, noted, without, locked_view, taken_view, put_view, unlocked_view}
+use Rattle.k42_board.specs.Taking.{CELLS, HoldsHome, MayPut, noted, without, locked_view, lifted_view, gave_back, reaching_view, put_view, unlocked_view}
+use Rattle.k42_board.specs.Words.{lock_word}
 use Rattle.k42_board.specs.declared.cell.Content.{Content}
 use Rattle.k42_board.specs.declared.view.Note.{Note}
 use Rattle.k42_board.specs.declared.view.PassView.{PassView}
+use Rattle.k42_board.specs.declared.view.StepName.TheVariants as steps
 use Rattle.k42_board.proofs.PartLaws.{freed_always}
-use Rattle.k42_quiesce.specs.Reclaiming.{emptied_view}
+use Rattle.k42_quiesce.specs.Reclaiming.{steps_emptying, emptied_view, steps_emptying_row, row_emptied_view}
 
 held_back : (n : ℕ) (held : List ℕ) → holds_none held ≡ true → filter (λ m. not (eqb m n)) (held ++ n ∷ []) ≡ held
 held_back n [] none = let same = eq-eqb n n refl in rw same refl
@@ -41,42 +46,92 @@ held_now : (n : ℕ) (held : List ℕ) → holds_none held ≡ true → names (h
 held_now n [] none = or_left (eqb n n) false (eq-eqb n n refl)
 held_now n (m ∷ held) none = absurd (cc)
 
--- once the cell is put back, it holds the cell at home
-pub holds_back : {P : Type 0} (n found : ℕ) (v w x y : PassView P) (content : Content P) → n < CELLS → holds_none v.taker.held ≡ true → found ≡ 0
-    → names (cells_noted v.notes) n ≡ false → content.number ≡ n → w ≡ locked_view n found v → x ≡ taken_view content w → y ≡ put_view n x
-    → HoldsHome n y
-holds_back n found v w x y content few none free unnoted number locked taken put =
-    let dropped = eq-eqb content.number n number in
-    let notes : without n (noted content ∷ v.notes) ≡ v.notes = rw dropped (notes_back n v.notes unnoted) in
-    let is : y ≡ put_view n (taken_view content (locked_view n 0 v)) =
-    put ∙ ap (put_view n) (taken ∙ ap (taken_view content) (locked ∙ ap (λ k. locked_view n k v) free)) in
-    subst (HoldsHome n) (sym is) (record {
-      cell = few;
-      held = held_now n v.taker.held none;
-      home = ap (λ notes. names (cells_noted notes) n) notes ∙ unnoted;
-    })
+module _ {P : Type 0} where
+  -- what the pass knows after each of the steps
+  abbrev pub locking : (n found : ℕ) → PassView P → PassView P
+  locking n found v = took steps.Lock (lock_word n) found (locked_view n found v)
 
--- the pass that has locked, taken, put back and unlocked a cell knows what it knew
-pub cell_back : {P : Type 0} (n found : ℕ) (v w x y z : PassView P) (content : Content P) → holds_none v.taker.held ≡ true → found ≡ 0
-    → names (cells_noted v.notes) n ≡ false → content.number ≡ n → w ≡ locked_view n found v → x ≡ taken_view content w → y ≡ put_view n x
-    → z ≡ unlocked_view n y → z ≡ emptied_view 0 v
-cell_back n found v w x y z content none free unnoted number locked taken put unlocked =
-    let dropped = eq-eqb content.number n number in
-    let notes : without n (noted content ∷ v.notes) ≡ v.notes = rw dropped (notes_back n v.notes unnoted) in
-    unlocked ∙ ap (unlocked_view n) (put ∙ ap (put_view n) (taken ∙ ap (taken_view content) (locked ∙ ap (λ k. locked_view n k v) free)))
-    ∙ ap (λ (t : Caller). record v { taker = t; notes = without n (noted content ∷ v.notes); out = None; heard = 0 }) (taker_back n v.taker none)
-    ∙ ap (λ notes. record v { notes = notes; out = None; heard = 0 }) notes
+  abbrev pub taking : ℕ → Content P → PassView P → PassView P
+  taking n content v = gave_back (lock_word n) (took steps.Lift (lock_word n) 0 (lifted_view content v))
+
+  abbrev pub putting : ℕ → Content P → PassView P → PassView P
+  putting n content v = logs (put_at (lock_word n) (is_some content.part)) (put_view n (took steps.Reach (lock_word n) 0 (reaching_view n v)))
+
+  abbrev pub unlocking : ℕ → PassView P → PassView P
+  unlocking n v = took steps.Unlock (lock_word n) 0 (unlocked_view n v)
+
+  module _ (n found : ℕ) (v w x y : PassView P) (content emptied : Content P) (none : holds_none v.taker.held ≡ true) (free : found ≡ 0)
+      (unnoted : names (cells_noted v.notes) n ≡ false) (number : content.number ≡ n) (locked : w ≡ locking n found v) (taken : x ≡ taking n content w)
+      (put : y ≡ putting n emptied x) where
+    notes : without n (noted content ∷ v.notes) ≡ v.notes
+    notes = let dropped = eq-eqb content.number n number in rw dropped (notes_back n v.notes unnoted)
+
+    is_put : y ≡ putting n emptied (taking n content (locking n 0 v))
+    is_put = put ∙ ap (putting n emptied) (taken ∙ ap (taking n content) (locked ∙ ap (λ k. locking n k v) free))
+
+    -- once the cell is put back, it holds the cell at home
+    pub holds_back : n < CELLS → HoldsHome n y
+    holds_back few =
+        subst (HoldsHome n) (sym is_put) (record {
+          cell = few;
+          held = held_now n v.taker.held none;
+          home = ap (λ notes. names (cells_noted notes) n) notes ∙ unnoted;
+        })
+
+    -- the pass that has locked, taken, put back and unlocked a cell knows what it knew, and has taken these steps
+    pub cell_back : (z : PassView P) → emptied ≡ record content { part = None } → z ≡ unlocking n y → z ≡ emptied_view n v
+    cell_back z same unlocked =
+        unlocked
+        ∙ ap (unlocking n) (is_put ∙ ap (λ (c : Content P). putting n c (taking n content (locking n 0 v))) same)
+        ∙ ap
+        (λ (t : Caller). record v { taker = t; notes = without n (noted content ∷ v.notes); out = None; log = steps_emptying n ++ v.log })
+        (taker_back n v.taker none)
+        ∙ ap (λ notes. record v { notes = notes; out = None; log = steps_emptying n ++ v.log }) notes
+
+  -- the first so many cells of a row are emptied
+  pub record IsEmptiedTo (p o row : ℕ) (v w : PassView P) : Type 0 where
+    pub knows : w ≡ record v { out = w.out; log = steps_emptying_row o row p ++ v.log }
+    pub out : 0 < p → w.out ≡ None
+
+  pub emptied_none : (o row : ℕ) (v : PassView P) → IsEmptiedTo 0 o row v v
+  emptied_none o row v = record { knows = refl; out = λ lt. absurd (omega (arith, lt)) }
+
+  pub emptied_next : (p o row : ℕ) (v w x : PassView P) → IsEmptiedTo p o row v w → x ≡ emptied_view (cell_of o row p) w → IsEmptiedTo (p + 1) o row v x
+  emptied_next p o row v w x is emptied =
+      let next : suc p ≡ p + 1 = omega arith in
+      let given : x.out ≡ None = ap (λ (u : PassView P). u.out) emptied in
+      subst (λ m. IsEmptiedTo m o row v x) next
+      (record {
+        knows =
+            emptied ∙ ap (emptied_view (cell_of o row p)) is.knows
+            ∙ (λ k. record v { out = sym given k; log = steps_emptying_row o row (suc p) ++ v.log });
+        out = λ lt. given;
+      })
+
+  pub emptied_all : (procs o row : ℕ) (v w : PassView P) → 0 < procs → IsEmptiedTo procs o row v w → w ≡ row_emptied_view procs o row v
+  emptied_all procs o row v w some is =
+      is.knows ∙ ap (λ out. record v { out = out; log = steps_emptying_row o row procs ++ v.log }) (is.out some)
+
+  pub emptied_still : {L : Type 0} (sys : SysSeen L) (n : ℕ) (old new : PassSeen P) → IsPassOf sys old → IsSamePass old new → new.view ≡ emptied_view n old.view
+      → IsPassOf sys new
+  emptied_still sys n old new is same knows = record {
+    table = same.table ∙ is.table;
+    proc = subst (λ n. n < sys.procs) (sym (ap (λ (v : PassView P). v.turn.proc) knows)) is.proc;
+    waits = ap (λ (v : PassView P). length v.turn.waits) knows ∙ is.waits;
+    objects = ap (λ (v : PassView P). length v.visitor.noted) knows ∙ is.objects;
+    spans = ap (λ (v : PassView P). length v.visitor.freeing) knows ∙ is.spans;
+    queue = same.queue ∙ is.queue;
+  }
 
 module _ {S L P : Type 0} (F : Layouts S L P) (laws : AreLaws F) (declared : List L) (id : ℕ) where
-  pub may_put_empty : (o i p found : ℕ) (v w x : PassView P) (content emptied : Content P) → content.number ≡ cell_of o i p → cell_of o i p < CELLS
-      → p < F.procs → is_freeing v.visitor.freeing o i ≡ true → w ≡ locked_view (cell_of o i p) found v → x ≡ taken_view content w
-      → emptied ≡ record content { part = None } → MayPut F declared id (cell_of o i p) emptied x
-  may_put_empty o i p found v w x content emptied number few there freed locked taken same =
-      let n : ℕ = cell_of o i p in
-      let spans : x.visitor.freeing ≡ v.visitor.freeing = ap (λ (u : PassView P). u.visitor.freeing) (taken ∙ ap (taken_view content) locked) in
+  pub may_put_empty : (n o i p found : ℕ) (v w x : PassView P) (content emptied : Content P) → n ≡ cell_of o i p → content.number ≡ n → n < CELLS
+      → p < F.procs → is_freeing v.visitor.freeing o i ≡ true → w ≡ locking n found v → x ≡ taking n content w
+      → emptied ≡ record content { part = None } → MayPut F declared id n emptied x
+  may_put_empty n o i p found v w x content emptied at number few there freed locked taken same =
+      let spans : x.visitor.freeing ≡ v.visitor.freeing = ap (λ (u : PassView P). u.visitor.freeing) (taken ∙ ap (taking n content) locked) in
       let none : Always F declared id x (λ s. IsPart F declared s n None) =
       freed_always F laws declared id x n
-      (record { object = o; row = i; place = p; cell = refl; there = there; freed = ap (λ spans. is_freeing spans o i) spans ∙ freed }) in
+      (record { object = o; row = i; place = p; cell = at; there = there; freed = ap (λ spans. is_freeing spans o i) spans ∙ freed }) in
       record {
         cell = few;
         place = 0;

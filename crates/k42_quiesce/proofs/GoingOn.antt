@@ -1,27 +1,30 @@
 -- The steps of a grace, one after the other.
-use Rattle.std.proofs.Common.{◌≡◌, ℕ, ◌+◌, ◌<◌, true, false, List, None, length, refl, sym, ap, ◌∙◌, subst}
-use Rattle.std.specs.Prelude.{is_some, unwrap_or, ◌%◌, ◌==◌, if◌then◌else◌}
-use Rattle.gen_core.specs.Events.{is_quiet}
+use Rattle.std.proofs.Common.{◌≡◌, ℕ, ◌+◌, ◌-◌, ◌<◌, ◌≤◌, Bool, true, false, cond, ltb, List, Option, Some, None, length, length-set, refl, sym, ap, ◌∙◌, subst, arith}
+use Rattle.std.specs.Prelude.{is_some, unwrap_or, slice_index, if◌then◌else◌, ◌%◌, ◌==◌}
+use Rattle.std.proofs.lemmas.Bool.{eq-eqb, ne_eqb}
+use Rattle.gen_core.specs.Events.{is_quiet, is_looking, place_of, after_flip, after_look}
 use Rattle.gen_core.specs.Plain.{Caller}
-use Rattle.gen_core.specs.declared.event.GenEvent.TheVariants.{Look}
 use Rattle.gen_core.specs.declared.state.GraceAt.{GraceAt}
 use Rattle.gen_core.specs.declared.state.GraceAt.TheVariants.{Idle, Flipping, Looking, Quiet}
 use Rattle.gen_core.proofs.Stages.{from_is_some}
 use Rattle.phase_core.specs.Effects.{drained_at}
 use Rattle.phase_core.specs.Plain.{Visitor}
 use Rattle.phase_core.specs.declared.caller.SwapAt.{SwapAt}
-use Rattle.phase_core.specs.Event.{Turn, TakeRoleWith}
 use Rattle.k42_stamp.specs.Layouts.{Layouts}
-use Rattle.k42_joined.specs.Event.{AtPhases}
-use Rattle.k42_board.specs.Gracing.{MayFlip, looked_view, looked_at, asked_view, role_view, look_event}
-use Rattle.k42_board.specs.Noting.{due_note, notes_due, pairs_from}
+use Rattle.k42_board.specs.Gracing.{MayFlip, ExitsFound, looked_view, looked_at, passed_view, asked_view, flipped_view, entries_in, role_view}
+use Rattle.k42_board.specs.Log.{Extends, step_at, took}
+use Rattle.k42_board.specs.Noting.{due_note}
+use Rattle.k42_board.specs.Protocol.{take_role}
 use Rattle.k42_board.specs.Seen.{SysSeen, PassSeen, IsPassOf, IsSamePass}
-use Rattle.k42_board.specs.Steps.{StepIs}
-use Rattle.k42_board.specs.Views.{hears}
-use Rattle.k42_board.specs.Words.{exits_word, role_word}
+use Rattle.k42_board.specs.Stepping.{Takes}
+use Rattle.k42_board.specs.Words.{exits_word, generation_word, role_word}
 use Rattle.k42_board.specs.declared.view.PassView.{PassView}
+use Rattle.k42_board.specs.declared.view.StepName.TheVariants as steps
+use Rattle.k42_board.proofs.Gained.{extends_same, extends_one, extends_on, ends_on, ends_one, grows_same, grows_one, grows_on}
 use Rattle.k42_board.proofs.Notings.{made_length}
-use Rattle.k42_quiesce.specs.Gracing.{GoesOn, HasLooked, TriesRole}
+use Rattle.k42_quiesce.specs.Gracing.{GoesOn, IsLeft, IsLeftOf, TakesRole, with_role}
+use Rattle.k42_quiesce.specs.declared.steps.Held.{Held}
+use Rattle.k42_quiesce.specs.declared.steps.Held.TheVariants.{Left, RoleHeld}
 
 -- what a grace that is not quiet leaves of its pass's swap
 undrained : (grace : GraceAt) (swap : SwapAt) → is_quiet grace ≡ false → drained_at grace swap ≡ swap
@@ -29,6 +32,13 @@ undrained Idle swap e = refl
 undrained (Flipping p) swap e = refl
 undrained (Looking p) swap e = refl
 undrained Quiet swap e = absurd (cc)
+
+-- nor is one that has flipped a processor
+flips_on : (p procs : ℕ) → is_quiet (after_flip p procs) ≡ false
+flips_on p procs = by_test (ltb (p + 1) procs) where
+  by_test : (b : Bool) → is_quiet (cond b (Flipping (p + 1)) (Looking 0)) ≡ false
+  by_test true = refl
+  by_test false = refl
 
 module _ {P : Type 0} where
   pub goes_through : (v w x : PassView P) → GoesOn v w → is_quiet w.turn.grace ≡ false → GoesOn w x → GoesOn v x
@@ -40,7 +50,9 @@ module _ {P : Type 0} where
         ∙ ap (λ (y : Visitor). record y { swap = drained_at x.turn.grace y.swap }) a.visitor
         ∙ ap (λ (swap : SwapAt). record v.visitor { swap = drained_at x.turn.grace swap }) (undrained w.turn.grace v.visitor.swap busy);
     base = λ asked. let same = a.base asked in b.base (ap is_some same ∙ asked) ∙ same;
-    rest = b.rest ∙ ap (λ (y : PassView P). record y { turn = x.turn; visitor = x.visitor; base = x.base; heard = x.heard; stalls = x.stalls }) a.rest;
+    rest = b.rest ∙ ap (λ (y : PassView P). record y { turn = x.turn; visitor = x.visitor; base = x.base; log = x.log }) a.rest;
+    log = extends_on a.log b.log;
+    frees_none = grows_on a.frees_none b.frees_none;
   }
 
   pub goes_nowhere : (v : PassView P) → is_quiet v.turn.grace ≡ false → GoesOn v v
@@ -50,9 +62,12 @@ module _ {P : Type 0} where
     visitor = ap (λ (swap : SwapAt). record v.visitor { swap = swap }) (sym (undrained v.turn.grace v.visitor.swap busy));
     base = λ asked. refl;
     rest = refl;
+    log = extends_same v.log;
+    frees_none = grows_same v.log;
   }
 
-  pub goes_asked : (v w : PassView P) (found : ℕ) → v.base ≡ None → is_quiet v.turn.grace ≡ false → w ≡ asked_view found v → GoesOn v w
+  pub goes_asked : (v w : PassView P) (found : ℕ) → v.base ≡ None → is_quiet v.turn.grace ≡ false
+      → w ≡ took steps.AskGeneration (generation_word 0) found (asked_view found v) → GoesOn v w
   goes_asked v w found none busy e =
       subst (GoesOn v) (sym e)
       (record {
@@ -61,7 +76,111 @@ module _ {P : Type 0} where
         visitor = ap (λ (swap : SwapAt). record v.visitor { swap = swap }) (sym (undrained v.turn.grace v.visitor.swap busy));
         base = λ asked. absurd (let no : is_some v.base ≡ false = ap is_some none in cc);
         rest = refl;
+        log = extends_one (step_at steps.AskGeneration (generation_word 0) found) v.log refl;
+        frees_none = grows_one (step_at steps.AskGeneration (generation_word 0) found) v.log refl;
       })
+
+  -- a look ahead, a flip, and a look back
+  ahead : (p word found : ℕ) (v w : PassView P) → v.turn.grace ≡ Flipping p → w ≡ took steps.Look word found (looked_view found v)
+      → w ≡ took steps.Look word found (record v { turn = record v.turn { coming = Some found } })
+  ahead p word found v w grace e = e ∙ ap (λ (g : GraceAt). took steps.Look word found (looked_at g found v)) grace
+
+  pub goes_ahead : (p word found : ℕ) (v w : PassView P) → v.turn.grace ≡ Flipping p → w ≡ took steps.Look word found (looked_view found v) → GoesOn v w
+  goes_ahead p word found v w grace e =
+      subst (GoesOn v) (sym (ahead p word found v w grace e))
+      (record {
+        turn = refl;
+        procs = refl;
+        visitor = ap (λ (g : GraceAt). record v.visitor { swap = drained_at g v.visitor.swap }) (sym grace);
+        base = λ asked. refl;
+        rest = refl;
+        log = extends_one (step_at steps.Look word found) v.log refl;
+        frees_none = grows_one (step_at steps.Look word found) v.log refl;
+      })
+
+  goes_flipped : (word found : ℕ) (v w : PassView P) → w ≡ took steps.Flip word found (flipped_view found v) → GoesOn v w
+  goes_flipped word found v w e =
+      subst (GoesOn v) (sym e)
+      (record {
+        turn = refl;
+        procs = length-set v.turn.waits (place_of v.turn.grace) (entries_in found);
+        visitor =
+            ap (λ (swap : SwapAt). record v.visitor { swap = swap })
+            (sym (undrained (after_flip (place_of v.turn.grace) (length v.turn.waits)) v.visitor.swap (flips_on (place_of v.turn.grace) (length v.turn.waits))));
+        base = λ asked. refl;
+        rest = refl;
+        log = extends_one (step_at steps.Flip word found) v.log refl;
+        frees_none = grows_one (step_at steps.Flip word found) v.log refl;
+      })
+
+  pub goes_flip : (p found : ℕ) (v w x : PassView P) → GoesOn v w → w.turn.grace ≡ Flipping p → x ≡ took steps.Flip (generation_word p) found (flipped_view found w)
+      → GoesOn v x × (x.turn.grace ≡ after_flip p (length v.turn.waits))
+  goes_flip p found v w x before grace e = (
+    goes_through v w x before (ap is_quiet grace) (goes_flipped (generation_word p) found w x e),
+    ap (λ (y : PassView P). y.turn.grace) e ∙ ap (λ (g : GraceAt). after_flip (place_of g) (length w.turn.waits)) grace ∙ ap (after_flip p) before.procs,
+  )
+
+  back : (p word found : ℕ) (v w : PassView P) → v.turn.grace ≡ Looking p → w ≡ took steps.Look word found (looked_view found v)
+      → w ≡ took steps.Look word found (if found == slice_index v.turn.waits p then passed_view v else v)
+  back p word found v w grace e = e ∙ ap (λ (g : GraceAt). took steps.Look word found (looked_at g found v)) grace
+
+  pub goes_back : (p word found : ℕ) (v w : PassView P) → v.turn.grace ≡ Looking p → w ≡ took steps.Look word found (looked_view found v) → GoesOn v w
+  goes_back p word found v w grace e = subst (GoesOn v) (sym (back p word found v w grace e)) (by_test (found == slice_index v.turn.waits p)) where
+    by_test : (b : Bool) → GoesOn v (took steps.Look word found (cond b (passed_view v) v))
+    by_test true = record {
+      turn = refl;
+      procs = refl;
+      visitor = refl;
+      base = λ asked. refl;
+      rest = refl;
+      log = extends_one (step_at steps.Look word found) v.log refl;
+      frees_none = grows_one (step_at steps.Look word found) v.log refl;
+    }
+    by_test false = record {
+      turn = refl;
+      procs = refl;
+      visitor = ap (λ (g : GraceAt). record v.visitor { swap = drained_at g v.visitor.swap }) (sym grace);
+      base = λ asked. refl;
+      rest = refl;
+      log = extends_one (step_at steps.Look word found) v.log refl;
+      frees_none = grows_one (step_at steps.Look word found) v.log refl;
+    }
+
+  few_found : (p found : ℕ) (v : PassView P) → v.turn.grace ≡ Looking p → ExitsFound v found → found ≤ slice_index v.turn.waits p
+  few_found p found v grace is = subst (λ (g : GraceAt). found ≤ slice_index v.turn.waits (place_of g)) grace (is.few (ap is_looking grace))
+
+  -- after which all have left the processor, or so many have not
+  module _ (p waits word found : ℕ) (v w : PassView P) (grace : v.turn.grace ≡ Looking p) (entered : waits ≡ slice_index v.turn.waits p)
+      (finds : ExitsFound v found) (e : w ≡ took steps.Look word found (looked_view found v)) where
+    pub passes_back : waits - found ≡ 0 → w.turn.grace ≡ after_look p (length v.turn.waits)
+    passes_back none =
+        let few = few_found p found v grace finds in
+        let all : found ≡ slice_index v.turn.waits p = omega (arith, few, none, entered) in
+        ap (λ (x : PassView P). x.turn.grace) (back p word found v w grace e)
+        ∙ ap (λ b. (cond b (passed_view v) v).turn.grace) (eq-eqb found (slice_index v.turn.waits p) all)
+        ∙ ap (λ (g : GraceAt). after_look (place_of g) (length v.turn.waits)) grace
+
+    pub left_back : p < length v.turn.waits → word ≡ exits_word p (unwrap_or v.base 0 % 2) → 0 < waits - found → IsLeft p (waits - found) v w
+    left_back there at some =
+        let few = few_found p found v grace finds in
+        let test : (found == slice_index v.turn.waits p) ≡ false = ne_eqb found (slice_index v.turn.waits p) (λ all. omega (arith, all, entered, some)) in
+        let is : w ≡ took steps.Look (exits_word p (unwrap_or v.base 0 % 2)) found v =
+        back p word found v w grace e ∙ ap (λ b. took steps.Look word found (cond b (passed_view v) v)) test ∙ ap (λ i. took steps.Look i found v) at in
+        subst (IsLeft p (waits - found) v) (sym is)
+        (record {
+          at = grace;
+          there = there;
+          some = some;
+          exits = found;
+          looked = ends_one (step_at steps.Look (exits_word p (unwrap_or v.base 0 % 2)) found) v.log;
+          short = omega (arith, few, entered);
+        })
+
+  -- the last look of more steps
+  pub left_later : (held : Held) (v w x : PassView P) → Extends v.log w.log → IsLeftOf held w x → IsLeftOf held v x
+  left_later (Left p left) v w x goes is =
+      record { at = is.at; there = is.there; some = is.some; exits = is.exits; looked = ends_on goes is.looked; short = is.short }
+  left_later (RoleHeld holder) v w x goes is = is
 
   -- the pass is still one of the system
   pub still_of : {L : Type 0} (sys : SysSeen L) (old new : PassSeen P) → IsPassOf sys old → IsSamePass old new → GoesOn old.view new.view → IsPassOf sys new
@@ -81,14 +200,38 @@ module _ {P : Type 0} where
       let base = from_is_some v.base asked in let exits = from_is_some v.turn.coming coming in
       record { base = base.0; asked = base.1; exits = exits.0; coming = exits.1; grace = grace }
 
-  pub may_flip_looked : (p found : ℕ) (v w : PassView P) → is_some v.base ≡ true → v.turn.grace ≡ Flipping p → w ≡ looked_view found v → MayFlip p w
-  may_flip_looked p found v w asked grace e =
-      let told : w ≡ hears found (looked_at (Flipping p) found v) = e ∙ ap (λ (g : GraceAt). hears found (looked_at g found v)) grace in
+  pub may_flip_looked : (p word found : ℕ) (v w : PassView P) → is_some v.base ≡ true → v.turn.grace ≡ Flipping p
+      → w ≡ took steps.Look word found (looked_view found v) → MayFlip p w
+  may_flip_looked p word found v w asked grace e =
+      let told = ahead p word found v w grace e in
       may_flip p w (ap (λ (y : PassView P). is_some y.base) told ∙ asked) (ap (λ (y : PassView P). y.turn.grace) told ∙ grace)
       (ap (λ (y : PassView P). is_some y.turn.coming) told)
 
+  -- the role of another caller is not taken
+  pub not_taken : (v w : PassView P) (found : ℕ) → w ≡ took steps.TakeRole role_word found (role_view found v) → 0 < found
+      → w ≡ took steps.TakeRole role_word found v
+  not_taken v w found e some =
+      e ∙ ap (λ b. took steps.TakeRole role_word found (cond b (role_view 0 v) v)) (ne_eqb found 0 (λ none. omega (arith, some, none)))
+
+  pub untaken_of : {L : Type 0} (sys : SysSeen L) (old new : PassSeen P) (found : ℕ) → IsPassOf sys old → IsSamePass old new
+      → new.view ≡ took steps.TakeRole role_word found (role_view found old.view) → 0 < found → IsPassOf sys new
+  untaken_of sys old new found is same e some =
+      let knows = not_taken old.view new.view found e some in
+      record {
+        table = same.table ∙ is.table;
+        proc = subst (λ n. n < sys.procs) (sym (ap (λ (v : PassView P). v.turn.proc) knows)) is.proc;
+        waits = ap (λ (v : PassView P). length v.turn.waits) knows ∙ is.waits;
+        objects = ap (λ (v : PassView P). length v.visitor.noted) knows ∙ is.objects;
+        spans = ap (λ (v : PassView P). length v.visitor.freeing) knows ∙ is.spans;
+        queue = same.queue ∙ is.queue;
+      }
+
+  pub role_extends : (holder : Option ℕ) (v : PassView P) → Extends v.log (with_role holder v).log
+  role_extends None v = extends_one (step_at steps.TakeRole role_word 0) v.log refl
+  role_extends (Some holder) v = extends_same v.log
+
   -- so is one that has taken the role
-  pub taken_of : {L : Type 0} (sys : SysSeen L) (old new : PassSeen P) → IsPassOf sys old → IsSamePass old new → new.view ≡ role_view 0 old.view → IsPassOf sys new
+  pub taken_of : {L : Type 0} (sys : SysSeen L) (old new : PassSeen P) → IsPassOf sys old → IsSamePass old new → new.view ≡ with_role None old.view → IsPassOf sys new
   taken_of sys old new is same e = record {
     table = same.table ∙ is.table;
     proc = subst (λ n. n < sys.procs) (sym (ap (λ (v : PassView P). v.turn.proc) e)) is.proc;
@@ -98,29 +241,10 @@ module _ {P : Type 0} where
     queue = same.queue ∙ is.queue;
   }
 
-module _ {S L P : Type 0} (F : Layouts S L P) (declared : List L) (id : ℕ) (v w : PassView P) (found : ℕ) where
+module _ {S L P : Type 0} (F : Layouts S L P) (declared : List L) (id : ℕ) (v w : PassView P) (found : ℕ) (takes : Takes F declared take_role id v found w) where
   -- what it tells of the role's word
-  pub tries_role : (n : ℕ) → found ≡ n → w ≡ role_view found v
-      → StepIs F declared (AtPhases (TakeRoleWith v.number (pairs_from 0 (notes_due v)))) role_word (λ word. if word == 0 then v.number + 1 else word) id v found w
-      → TriesRole F declared id v n
-  tries_role n same e step =
-      subst (TriesRole F declared id v) same
-      (subst
-      (λ (x : PassView P). StepIs F declared (AtPhases (TakeRoleWith v.number (pairs_from 0 (notes_due v)))) role_word
-      (λ word. if word == 0 then v.number + 1 else word) id v found x) e step)
+  pub takes_found : (n : ℕ) → found ≡ n → Takes F declared take_role id v n w
+  takes_found n same = subst (λ n. Takes F declared take_role id v n w) same takes
 
-  -- and of the exits of a processor
-  pub has_looked : (here proc parity : ℕ) → id ≡ here → v.turn.grace ≡ Looking proc → parity ≡ unwrap_or v.base 0 % 2 → w ≡ looked_view found v
-      → StepIs F declared (AtPhases (Turn (look_event v.number v.turn.grace))) (exits_word proc parity) (λ word. word) id v found w
-      → HasLooked F declared here proc w
-  has_looked here proc parity seat at same e step = record {
-    before = v;
-    at = at;
-    step =
-        subst (λ i. StepIs F declared (AtPhases (Turn (Look v.number))) (exits_word proc (unwrap_or v.base 0 % 2)) (λ word. word) i v w.heard w) seat
-        (subst (λ n. StepIs F declared (AtPhases (Turn (Look v.number))) (exits_word proc (unwrap_or v.base 0 % 2)) (λ word. word) id v n w)
-        (sym (ap (λ (x : PassView P). x.heard) e))
-        (subst (λ b. StepIs F declared (AtPhases (Turn (Look v.number))) (exits_word proc b) (λ word. word) id v found w) same
-        (subst (λ (grace : GraceAt). StepIs F declared (AtPhases (Turn (look_event v.number grace))) (exits_word proc parity) (λ word. word) id v found w) at step)));
-    view = e ∙ ap (λ n. looked_view n v) (sym (ap (λ (x : PassView P). x.heard) e));
-  }
+  pub takes_role : found ≡ 0 → (w ≡ with_role None v) × TakesRole F declared id v
+  takes_role free = let is = takes_found 0 free in (is.knows, subst (λ (x : PassView P). Takes F declared take_role id v 0 x) is.knows is)

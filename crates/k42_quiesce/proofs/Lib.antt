@@ -3,10 +3,11 @@ pub mod GoingOn
 pub mod PastFlips
 pub mod Ended
 pub mod HandedRows
+pub mod OneStep
 pub mod Tries
 pub mod Emptied
 pub mod Sweeping
-pub mod SweptObjects
 pub mod Reclaimed
+pub mod SweptObjects
 pub mod TurnsOfEvents
 pub mod OpenedBefore

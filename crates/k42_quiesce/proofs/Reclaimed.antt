@@ -12,8 +12,8 @@ use Rattle.phase_core.specs.Stages.{named_by}
 use Rattle.phase_core.specs.State.{note_at, visitor_at}
 use Rattle.phase_core.specs.declared.caller.SwapAt.TheVariants.{Drained}
 use Rattle.phase_core.proofs.InSound.{object_known, visitor_known}
-use Rattle.turn_core.specs.Names.{names}
 use Rattle.k42_stamp.specs.Layouts.{Layouts}
+use Rattle.k42_board.specs.Log.{has_swept}
 use Rattle.k42_board.specs.Phases.{IsGranted}
 use Rattle.k42_board.specs.Steps.{Always}
 use Rattle.k42_board.specs.declared.view.PassView.{PassView}
@@ -31,7 +31,7 @@ noted_there noted o n e = by_test (ltb o (length noted)) refl where
 
 module _ {S L P : Type 0} (F : Layouts S L P) (declared : List L) (id : ℕ) (w : PassView P) where
   module _ (noted : List (Option ℕ)) (same : w.visitor.noted ≡ noted)
-      (swept : (o : ℕ) → o < length noted → is_some (note_at noted o) ≡ true → names w.swept o ≡ true) where
+      (swept : (o : ℕ) → o < length noted → is_some (note_at noted o) ≡ true → has_swept w.log o ≡ true) where
     pub marks_always : Always F declared id w (AreFreed noted)
     marks_always table r at o number noted_so =
         (known F declared table r id w at).phases.rows.swept o number (swept o (noted_there noted o number noted_so) (ap is_some noted_so))

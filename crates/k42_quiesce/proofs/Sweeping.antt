@@ -1,19 +1,20 @@
 -- What the step that frees leaves, for one object.
-use Rattle.std.proofs.Common.{◌≡◌, ℕ, suc, ◌+◌, ◌<◌, ◌≤◌, true, false, cond, ltb, List, ◌∷◌, Option, Some, None, length, refl, sym, ap, ◌∙◌, subst, arith}
-use Rattle.std.specs.Prelude.{unwrap_or}
-use Rattle.std.proofs.lemmas.Bool.{lt-ltb, le-ltb}
+use Rattle.std.proofs.Common.{◌≡◌, ℕ, zero, suc, ◌+◌, ◌<◌, ◌≤◌, Bool, true, false, cond, eqb, ltb, List, [], ◌∷◌, ◌++◌, Some, None, length, length-set, refl, sym, ap, ◌∙◌, subst, arith, append_assoc}
+use Rattle.std.specs.Prelude.{is_some, slice_set}
+use Rattle.std.proofs.lemmas.Bool.{eq-eqb, lt-ltb, le-ltb, or_left, or_right}
 use Rattle.phase_core.specs.State.{note_at}
-use Rattle.k42_stamp.specs.Layouts.{Layouts}
-use Rattle.k42_joined.specs.Numbers.{cell_of}
-use Rattle.k42_board.specs.Freeing.{number_noted, rows_freed, freed_view}
+use Rattle.k42_board.specs.Freeing.{number_noted, freed_view}
+use Rattle.k42_board.specs.Log.{has_swept, step_at, took}
 use Rattle.k42_board.specs.Seen.{SysSeen, PassSeen, IsPassOf, IsSamePass}
+use Rattle.k42_board.specs.Words.{freed_word, freed_object}
 use Rattle.k42_board.specs.declared.view.PassView.{PassView}
-use Rattle.k42_board.specs.declared.view.Row.{Row}
-use Rattle.k42_quiesce.specs.Reclaiming.{Sweeps, WasEmptied, HasFreed, IsSwept}
+use Rattle.k42_board.specs.declared.view.StepName.TheVariants as steps
+use Rattle.k42_board.specs.declared.view.Taken.{Taken}
+use Rattle.k42_quiesce.specs.Reclaiming.{Frees, Sweeps, steps_emptying_row, row_emptied_view}
 
-pub swept_still : {L P : Type 0} (sys : SysSeen L) (o : ℕ) (old new : PassSeen P) → IsPassOf sys old → IsSamePass old new → Sweeps o old.view new.view
-    → IsPassOf sys new
-swept_still {L} {P} sys o old new is same sweeps =
+pub swept_still : {L P : Type 0} (sys : SysSeen L) (procs o count : ℕ) (old new : PassSeen P) → IsPassOf sys old → IsSamePass old new
+    → Sweeps procs o count old.view new.view → IsPassOf sys new
+swept_still {L} {P} sys procs o count old new is same sweeps =
     let rest = sweeps.rest in
     record {
       table = same.table ∙ is.table;
@@ -24,55 +25,101 @@ swept_still {L} {P} sys o old new is same sweeps =
       queue = same.queue ∙ is.queue;
     }
 
--- the list of freed rows, where the mark is not below the number, and where it is
-module _ {P : Type 0} (o found number : ℕ) (v w : PassView P) (view : w ≡ freed_view o found v) (noted : number_noted v o ≡ number) where
-  pub lists : w.freed ≡ rows_freed v.freed o found number
-  lists = ap (λ (u : PassView P). u.freed) view ∙ ap (rows_freed v.freed o found) noted
+freed_object_is : (o : ℕ) → freed_object (freed_word o) ≡ o
+freed_object_is o = omega arith
 
-  pub lists_none : number ≤ found → length w.freed ≡ 0 + length v.freed
-  lists_none past =
+-- no step that empties a cell sweeps
+swept_emptying : (o row p q : ℕ) (log : List Taken) → has_swept (steps_emptying_row o row p ++ log) q ≡ has_swept log q
+swept_emptying o row zero q log = refl
+swept_emptying o row (suc p) q log = swept_emptying o row p q log
+
+-- nothing was noted
+pub sweeps_none : {P : Type 0} (procs o : ℕ) (v : PassView P) → note_at v.visitor.noted o ≡ None → Sweeps procs o 0 v v
+sweeps_none procs o v none = record {
+  frees = subst (λ note. Frees procs o note 0 v.log v.log) (sym none) (refl, refl);
+  spans = refl;
+  marked = λ some. absurd (let no : is_some (note_at v.visitor.noted o) ≡ false = ap is_some none in cc);
+  kept = λ q is. is;
+  rest = refl;
+}
+
+module _ {P : Type 0} (procs o found number : ℕ) (v w : PassView P) (noted : note_at v.visitor.noted o ≡ Some number)
+    (view : w ≡ took steps.Free (freed_word o) found (freed_view o found v)) where
+  abbrev free_step : Taken
+  free_step = step_at steps.Free (freed_word o) found
+
+  abbrev KeepsRest : PassView P → Type 0
+  KeepsRest u =
+      (u ≡ record v { visitor = record v.visitor { freeing = u.visitor.freeing }; log = u.log; out = u.out })
+      × (length u.visitor.freeing ≡ length v.visitor.freeing)
+
+  abbrev freed_by : Bool → PassView P
+  freed_by b = took steps.Free (freed_word o) found (record v {
+    visitor = cond b (record v.visitor { freeing = slice_set v.visitor.freeing o (found, number_noted v o) }) v.visitor;
+  })
+
+  rest_kept : KeepsRest w
+  rest_kept = subst KeepsRest (sym view) (by_test (ltb found (number_noted v o))) where
+    by_test : (b : Bool) → KeepsRest (freed_by b)
+    by_test true = (refl, length-set v.visitor.freeing o (found, number_noted v o))
+    by_test false = (refl, refl)
+
+  swept_here : has_swept w.log o ≡ true
+  swept_here =
+      ap (λ (u : PassView P). has_swept u.log o) view
+      ∙ or_left (eqb (freed_object (freed_word o)) o) (has_swept v.log o) (eq-eqb (freed_object (freed_word o)) o (freed_object_is o))
+
+  swept_there : (q : ℕ) → has_swept v.log q ≡ true → has_swept w.log q ≡ true
+  swept_there q is = ap (λ (u : PassView P). has_swept u.log q) view ∙ or_right (eqb (freed_object (freed_word o)) q) (has_swept v.log q) is
+
+  -- the mark was not below the number
+  pub sweeps_past : number ≤ found → Sweeps procs o 0 v w
+  sweeps_past past =
       let test : ltb found number ≡ false = le-ltb found number past in
-      let same : length w.freed ≡ length v.freed =
-      ap (λ (rows : List Row). length rows) lists ∙ ap (λ b. length (cond b (record { object = o; incarnation = found } ∷ v.freed) v.freed)) test in
-      omega (arith, same)
+      record {
+        frees =
+            subst (λ note. Frees procs o note 0 v.log w.log) (sym noted)
+            (record {
+              found = found;
+              one = λ lt. absurd (omega (arith, lt, past));
+              counted = sym (ap (λ b. cond b 1 0) test);
+              log =
+                  ap (λ (u : PassView P). u.log) view
+                  ∙ sym (ap (λ b. (cond b (steps_emptying_row o found procs) [] ++ free_step ∷ []) ++ v.log) test);
+            });
+        spans = rest_kept.1;
+        marked = λ some. swept_here;
+        kept = swept_there;
+        rest = rest_kept.0;
+      }
 
-  pub lists_one : found < number → length w.freed ≡ 1 + length v.freed
-  lists_one short =
+  -- it was, and the row is emptied
+  pub sweeps_row : (x : PassView P) → found + 1 ≡ number → x ≡ row_emptied_view procs o found w → Sweeps procs o 1 v x
+  sweeps_row x one emptied =
+      let short : found < number = omega (arith, one) in
       let test : ltb found number ≡ true = lt-ltb found number short in
-      let more : length w.freed ≡ suc (length v.freed) =
-      ap (λ (rows : List Row). length rows) lists ∙ ap (λ b. length (cond b (record { object = o; incarnation = found } ∷ v.freed) v.freed)) test in
-      omega (arith, more)
-
-module _ {S L P : Type 0} (F : Layouts S L P) (declared : List L) (id o : ℕ) (noted : List (Option ℕ)) where
-  pub swept_none : note_at noted o ≡ None → IsSwept F declared id noted o (0, 0)
-  swept_none none = record {
-    known = λ number known. absurd (cc);
-    unknown = λ e. refl;
-    one = λ lt. absurd (omega (arith, lt));
-    emptied = λ lt p there. absurd (omega (arith, lt));
-  }
-
-  module _ (found number : ℕ) (known : note_at noted o ≡ Some number) (freed : HasFreed F declared id o found number) where
-    all_known : (n : ℕ) → note_at noted o ≡ Some n → HasFreed F declared id o found n × (number ≡ n)
-    all_known n is =
-        let same : number ≡ n = ap (λ note. unwrap_or note 0) (sym known ∙ is) in (
-          subst (HasFreed F declared id o found) same freed,
-          same,
-        )
-
-    pub swept_past : number ≤ found → IsSwept F declared id noted o (found, number)
-    swept_past past = record {
-      known = all_known;
-      unknown = λ none. absurd (cc);
-      one = λ lt. absurd (omega (arith, lt, past));
-      emptied = λ lt p there. absurd (omega (arith, lt, past));
-    }
-
-    pub swept_row : found + 1 ≡ number → ((p : ℕ) → p < F.procs → WasEmptied F declared id (cell_of o found p))
-        → IsSwept F declared id noted o (found, number)
-    swept_row one emptied = record {
-      known = all_known;
-      unknown = λ none. absurd (cc);
-      one = λ lt. one;
-      emptied = λ lt. emptied;
-    }
+      let row : List Taken = steps_emptying_row o found procs in
+      let same : (q : ℕ) → has_swept x.log q ≡ has_swept w.log q =
+      λ q. ap (λ (u : PassView P). has_swept u.log q) emptied ∙ swept_emptying o found procs q w.log in
+      record {
+        frees =
+            subst (λ note. Frees procs o note 1 v.log x.log) (sym noted)
+            (record {
+              found = found;
+              one = λ lt. one;
+              counted = sym (ap (λ b. cond b 1 0) test);
+              log =
+                  ap (λ (u : PassView P). u.log) emptied
+                  ∙ ap (λ (log : List Taken). row ++ log) (ap (λ (u : PassView P). u.log) view)
+                  ∙ sym (append_assoc row (free_step ∷ []) v.log)
+                  ∙ sym (ap (λ b. (cond b (steps_emptying_row o found procs) [] ++ free_step ∷ []) ++ v.log) test);
+            });
+        spans = ap (λ (u : PassView P). length u.visitor.freeing) emptied ∙ rest_kept.1;
+        marked = λ some. same o ∙ swept_here;
+        kept = λ q is. same q ∙ swept_there q is;
+        rest =
+            subst
+            (λ (u : PassView P). u ≡ record v { visitor = record v.visitor { freeing = u.visitor.freeing }; log = u.log; out = u.out })
+            (sym emptied)
+            (ap (row_emptied_view procs o found) rest_kept.0);
+      }

@@ -1,94 +1,80 @@
 -- What becomes of the rows that a quiet grace noted.
-use Rattle.std.specs.Prelude.{◌≡◌, ℕ, ◌+◌, ◌<◌, ◌≤◌, true, List, [], ◌∷◌, Option, Some, None, length, max, is_some}
-use Rattle.atomic_table.specs.Table.{gives}
+use Rattle.std.specs.Prelude.{◌≡◌, ℕ, zero, suc, ◌+◌, ◌<◌, ◌≤◌, ◌++◌, if◌then◌else◌, nat_lt, true, false, List, [], ◌∷◌, Option, Some, None, length, is_some}
 use Rattle.k42_places.specs.Places.{EachPlace}
 use Rattle.gen_core.specs.declared.state.GraceAt.TheVariants.{Quiet}
-use Rattle.phase_core.specs.Event.{Free}
 use Rattle.phase_core.specs.State.{note_at}
 use Rattle.phase_core.specs.declared.caller.SwapAt.TheVariants.{Drained}
-use Rattle.turn_core.specs.Names.{names}
-use Rattle.turn_core.specs.declared.event.TurnEvent.TheVariants.{Put}
-use Rattle.k42_stamp.specs.Layouts.{Layouts}
-use Rattle.k42_joined.specs.Effects.{effect}
-use Rattle.k42_joined.specs.Event.{AtCells, AtPhases}
 use Rattle.k42_joined.specs.Numbers.{cell_of}
 use Rattle.k42_joined.specs.Plain.{Joined}
 use Rattle.k42_joined.specs.State.{object, incarnation}
 use Rattle.k42_joined.specs.Swapping.{holds_none}
-use Rattle.k42_board.specs.Freeing.{number_noted, rows_freed}
 use Rattle.k42_board.specs.Gracing.{given_view}
-use Rattle.k42_board.specs.Steps.{StepIs}
-use Rattle.k42_board.specs.Taking.{ActIs, reaching_view}
-use Rattle.k42_board.specs.Words.{freed_word, lock_word, slot_of}
-use Rattle.k42_board.specs.declared.cell.Content.{Content}
+use Rattle.k42_board.specs.Log.{has_swept, step_at, steps_through}
+use Rattle.k42_board.specs.Words.{freed_word, lock_word, role_word}
 use Rattle.k42_board.specs.declared.view.PassView.{PassView}
 use Rattle.k42_board.specs.declared.view.Row.{Row}
+use Rattle.k42_board.specs.declared.view.StepName.TheVariants as steps
+use Rattle.k42_board.specs.declared.view.Taken.{Taken}
 
 -- it is quiet, and holds no cell
 pub record MayReclaim {P : Type 0} (v : PassView P) : Type 0 where
   pub quiet : v.turn.grace ≡ Quiet
   pub free : holds_none v.taker.held ≡ true
 
--- the pass after it has emptied cells
+-- by which a cell is emptied
+abbrev pub steps_emptying : ℕ → List Taken
+steps_emptying n = steps_through n false ++ step_at steps.Lock (lock_word n) 0 ∷ []
+
 abbrev pub emptied_view : {P : Type 0} → ℕ → PassView P → PassView P
-emptied_view found v = record v { heard = found; out = None }
+emptied_view n v = record v { out = None; log = steps_emptying n ++ v.log }
 
--- the rows of an object are freed, and else little is changed
-pub record Sweeps {P : Type 0} (o : ℕ) (v w : PassView P) : Type 0 where
+-- by which the first so many cells of a row are
+abbrev pub steps_emptying_row : (o row : ℕ) → ℕ → List Taken
+steps_emptying_row o row zero = []
+steps_emptying_row o row (suc p) = steps_emptying (cell_of o row p) ++ steps_emptying_row o row p
+
+abbrev pub row_emptied_view : {P : Type 0} → (procs o row : ℕ) → PassView P → PassView P
+row_emptied_view procs o row v = record v { out = None; log = steps_emptying_row o row procs ++ v.log }
+
+-- By which the rows of an object are freed up to the number that was noted, where its mark is found here: a mark that is
+-- short frees its row, and each cell of that row is emptied.
+abbrev pub steps_freeing : (procs o number found : ℕ) → List Taken
+steps_freeing procs o number found =
+    (if nat_lt found number then steps_emptying_row o found procs else []) ++ step_at steps.Free (freed_word o) found ∷ []
+
+-- it has freed the rows of an object for which the grace noted a number; no more than one is short of that
+pub record HasFreed (procs o number count : ℕ) (old new : List Taken) : Type 0 where
+  pub found : ℕ
+  pub one : found < number → found + 1 ≡ number
+  pub counted : count ≡ (if nat_lt found number then 1 else 0)
+  pub log : new ≡ steps_freeing procs o number found ++ old
+
+abbrev pub Frees : (procs o : ℕ) → Option ℕ → ℕ → (old new : List Taken) → Type 0
+Frees procs o None count old new = (count ≡ 0) × (new ≡ old)
+Frees procs o (Some number) count old new = HasFreed procs o number count old new
+
+-- and of the first so many objects, one after the other
+abbrev pub FreesAll : (procs : ℕ) → List (Option ℕ) → (many count : ℕ) → (old new : List Taken) → Type 0
+FreesAll procs noted zero count old new = (count ≡ 0) × (new ≡ old)
+FreesAll procs noted (suc o) count old new =
+    (log : List Taken) × (before here : ℕ) × FreesAll procs noted o before old log
+    × Frees procs o (note_at noted o) here log new × (count ≡ before + here)
+
+-- what a pass knows after the rows of one object are freed
+pub record Sweeps {P : Type 0} (procs o count : ℕ) (v w : PassView P) : Type 0 where
+  pub frees : Frees procs o (note_at v.visitor.noted o) count v.log w.log
   pub spans : length w.visitor.freeing ≡ length v.visitor.freeing
-  pub swept : is_some (note_at v.visitor.noted o) ≡ true → names w.swept o ≡ true
-  pub kept : (q : ℕ) → names v.swept q ≡ true → names w.swept q ≡ true
+  pub marked : is_some (note_at v.visitor.noted o) ≡ true → has_swept w.log o ≡ true
+  pub kept : (q : ℕ) → has_swept v.log q ≡ true → has_swept w.log q ≡ true
   pub rest :
-      w
-      ≡ record v {
-        visitor = record v.visitor { freeing = w.visitor.freeing };
-        swept = w.swept;
-        freed = w.freed;
-        heard = w.heard;
-        out = w.out;
-      }
+      w ≡ record v { visitor = record v.visitor { freeing = w.visitor.freeing }; log = w.log; out = w.out }
 
--- These are the rows of objects from this one on, each with the mark found and the noted number. Those that were freed
--- stand in front of the former ones.
-abbrev pub rows_swept : List Row → ℕ → List (ℕ × ℕ) → List Row
-rows_swept former o [] = former
-rows_swept former o (span ∷ spans) = rows_swept (rows_freed former o span.0 span.1) (o + 1) spans
-
-module _ {S L P : Type 0} (F : Layouts S L P) (declared : List L) where
-  -- a step of the pass put the cell back without a part
-  pub record WasEmptied (id n : ℕ) : Type 0 where
-    pub before : PassView P
-    pub after : PassView P
-    pub content : Content P
-    pub number : content.number ≡ n
-    pub none : content.part ≡ None
-    pub put : ActIs F declared (λ s. effect s (AtCells (Put before.number n))) (lock_word n)
-        id ((slot_of n, Some content) ∷ []) (reaching_view n before) gives after
-
-  -- a step of the pass found this mark of the object, and carried it to the noted number
-  pub record HasFreed (id o found number : ℕ) : Type 0 where
-    pub before : PassView P
-    pub after : PassView P
-    pub noted : note_at before.visitor.noted o ≡ Some number
-    pub step : StepIs F declared (AtPhases (Free before.number o)) (freed_word o)
-        (λ word. max word (number_noted before o))
-        id before found after
-
-  -- Of an object that the grace noted, the mark found and the noted number: the row between them, if there is one, its
-  -- step freed, and has emptied the cells of that row. Of another object there is none.
-  pub record IsSwept (id : ℕ) (noted : List (Option ℕ)) (o : ℕ) (span : ℕ × ℕ) : Type 0 where
-    pub known : (number : ℕ) → note_at noted o ≡ Some number → HasFreed id o span.0 number × (span.1 ≡ number)
-    pub unknown : note_at noted o ≡ None → span ≡ (0, 0)
-    pub one : span.0 < span.1 → span.0 + 1 ≡ span.1
-    pub emptied : span.0 < span.1 → (p : ℕ) → p < F.procs → WasEmptied id (cell_of o span.0 p)
-
-  -- So many rows were freed. The pass lists them in front of those that it listed before.
-  pub record Reclaims (id : ℕ) (noted : List (Option ℕ)) (former listed : List Row) (count : ℕ) : Type 0 where
-    pub spans : List (ℕ × ℕ)
-    pub all : length spans ≡ length noted
-    pub swept : EachPlace (IsSwept id noted) spans
-    pub freed : listed ≡ rows_swept former 0 spans
-    pub counted : length listed ≡ count + length former
+-- Of so many objects the rows are freed that the grace noted, and their parts dropped; so many rows are. Then the role is
+-- given back.
+pub record Reclaims (procs many : ℕ) (noted : List (Option ℕ)) (old new : List Taken) (count : ℕ) : Type 0 where
+  pub log : List Taken
+  pub frees : FreesAll procs noted many count old log
+  pub given : new ≡ step_at steps.GiveRole role_word 0 ∷ log
 
 -- the marks are at least the noted numbers
 abbrev pub AreFreed : {L : Type 0} → List (Option ℕ) → Joined L → Type 0
@@ -104,4 +90,4 @@ IsSwapFreed v s = (o : ℕ) → v.visitor.swap ≡ Drained o → incarnation s o
 
 -- the role is given back, and with it the rows that the pass held as it took the role
 abbrev pub reclaimed_view : {P : Type 0} → PassView P → PassView P → PassView P
-reclaimed_view v w = record (given_view v) { swept = w.swept; freed = w.freed; heard = w.heard; out = w.out }
+reclaimed_view v w = record (given_view v) { log = w.log; out = w.out }

@@ -16,7 +16,6 @@ fn flip_next<L: Layout>(sys: &Sys<L>, pass: &mut Pass<L>, proc: u32)
     ensures same { IsSamePass pass.old pass.new }
     ensures goes { GoesOn pass.old.view pass.new.view }
     ensures grace { pass.new.view.turn.grace ≡ after_flip proc (length pass.old.view.turn.waits) }
-    ensures free { pass.new.view.stalls ≡ pass.old.view.stalls }
 {
     if pass.coming().is_none() {
         let base = pass.base().unwrap_or(0);
@@ -34,7 +33,6 @@ pub(crate) fn flip_all<L: Layout>(sys: &Sys<L>, pass: &mut Pass<L>)
     ensures goes { GoesOn pass.old.view pass.new.view }
     ensures asked { is_some pass.new.view.base ≡ true }
     ensures grace { pass.new.view.turn.grace ≡ Looking 0 }
-    ensures free { pass.new.view.stalls ≡ pass.old.view.stalls }
 {
     generation_step(sys, pass);
     for proc in 0..sys.procs() {

@@ -8,7 +8,7 @@ ghost use Rattle.k42_joined.specs.Event.{Event};
 ghost use Rattle.k42_joined.specs.Runs.{Leaves};
 ghost use Rattle.k42_joined.specs.State.{many_callers};
 ghost use Rattle.k42_board.specs.Cells.{Slot};
-ghost use Rattle.k42_board.specs.Plan.{layouts_on};
+ghost use Rattle.k42_board.specs.Stepping.{layouts_in};
 ghost use Rattle.k42_board.specs.Rule.{Rule};
 ghost use Rattle.k42_board.specs.Steps.{Always};
 ghost use Rattle.k42_board.specs.declared.view.PassView.{PassView};
@@ -23,10 +23,10 @@ use k42_rule::{Sys, layouts_are_lawful};
 /// quiet: whatever events of whatever callers lie between the two states, its Leave is one of them.
 pub fn activities_open_at_the_taking_end<L: Layout>(sys: &Sys<L>)
     ensures { (before after : State (Slot L.Part) (View L.Part))
-        (taking : Rule (layouts_on L.object L.tag_of L.ways L.whole L.serves L.admitted L.act_of sys.now.procs sys.now.callers) sys.now.layouts before)
-        (quiet : Rule (layouts_on L.object L.tag_of L.ways L.whole L.serves L.admitted L.act_of sys.now.procs sys.now.callers) sys.now.layouts after)
+        (taking : Rule (layouts_in L.Layout sys.now) sys.now.layouts before)
+        (quiet : Rule (layouts_in L.Layout sys.now) sys.now.layouts after)
         (holder : ℕ) (notes : List (ℕ × ℕ)) (events : List (Event L))
-        → IsGrace (layouts_on L.object L.tag_of L.ways L.whole L.serves L.admitted L.act_of sys.now.procs sys.now.callers) sys.now.layouts
+        → IsGrace (layouts_in L.Layout sys.now) sys.now.layouts
         taking.state quiet.state holder notes events
         → (caller generation : ℕ) → IsActiveIn taking.state caller generation → Leaves caller events }
 {
@@ -36,7 +36,7 @@ pub fn activities_open_at_the_taking_end<L: Layout>(sys: &Sys<L>)
 /// While the grace of a pass is quiet, no activity is under way but those that began after it flipped their processor.
 pub fn quiet_activities_are_younger<L: Layout>(sys: &Sys<L>)
     ensures { (id : ℕ) (v : PassView L.Part) (base : ℕ) → v.turn.grace ≡ Quiet → v.base ≡ Some base → Always
-        (layouts_on L.object L.tag_of L.ways L.whole L.serves L.admitted L.act_of sys.now.procs sys.now.callers)
+        (layouts_in L.Layout sys.now)
         sys.now.layouts id v (HaveEnded base) }
 {
     let _ = sys.procs();

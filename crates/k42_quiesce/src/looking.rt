@@ -1,10 +1,9 @@
 //! A grace waits until all activities of the former generation have left.
-ghost use Rattle.std.specs.Prelude.{◌≡◌, ◌<◌, ◌∷◌, Some, None, true, is_some, length};
+ghost use Rattle.std.specs.Prelude.{◌≡◌, ◌<◌, Some, None, true, is_some, length};
 ghost use Rattle.gen_core.specs.Events.{is_looking, after_look};
 ghost use Rattle.gen_core.specs.declared.state.GraceAt.TheVariants.{Looking, Quiet};
-ghost use Rattle.k42_board.specs.Plan.{layouts_on};
 ghost use Rattle.k42_board.specs.Seen.{IsPassOf, IsSamePass};
-ghost use Rattle.k42_quiesce.specs.Gracing.{GoesOn, IsLeft, IsLeftOf, HasLooked, HasLookedOf};
+ghost use Rattle.k42_quiesce.specs.Gracing.{GoesOn, IsLeft, IsLeftOf};
 ghost use Rattle.k42_quiesce.specs.declared.steps.Held.{Held};
 
 use crate::steps::Held;
@@ -20,13 +19,8 @@ fn look_back<L: Layout>(sys: &Sys<L>, pass: &mut Pass<L>, proc: u32) -> u32
     requires there { proc < length pass.old.view.turn.waits }
     ensures same { IsSamePass pass.old pass.new }
     ensures goes { GoesOn pass.old.view pass.new.view }
-    ensures left { 0 < result → IsLeft proc result pass.new.view }
-    ensures looked { HasLooked
-        (layouts_on L.object L.tag_of L.ways L.whole L.serves L.admitted L.act_of sys.now.procs sys.now.callers)
-        sys.now.layouts pass.new.seat proc pass.new.view }
+    ensures left { 0 < result → IsLeft proc result pass.old.view pass.new.view }
     ensures passed { result ≡ 0 → pass.new.view.turn.grace ≡ after_look proc (length pass.old.view.turn.waits) }
-    ensures free { result ≡ 0 → pass.new.view.stalls ≡ pass.old.view.stalls }
-    ensures stalled { 0 < result → pass.new.view.stalls ≡ pass.new.view.heard ∷ pass.old.view.stalls }
 {
     let base = pass.base().unwrap_or(0);
     let waits = pass.waits(proc);
@@ -43,12 +37,7 @@ pub(crate) fn look_on<L: Layout>(sys: &Sys<L>, pass: &mut Pass<L>) -> Option<Hel
     ensures same { IsSamePass pass.old pass.new }
     ensures goes { GoesOn pass.old.view pass.new.view }
     ensures quiet { result ≡ None → (pass.new.view.turn.grace ≡ Quiet) × (is_some pass.new.view.base ≡ true) }
-    ensures left { (held : Held) → result ≡ Some held → IsLeftOf held pass.new.view }
-    ensures looked { (held : Held) → result ≡ Some held → HasLookedOf
-        (layouts_on L.object L.tag_of L.ways L.whole L.serves L.admitted L.act_of sys.now.procs sys.now.callers)
-        sys.now.layouts pass.new.seat held pass.new.view }
-    ensures free { result ≡ None → pass.new.view.stalls ≡ pass.old.view.stalls }
-    ensures stalled { (held : Held) → result ≡ Some held → pass.new.view.stalls ≡ pass.new.view.heard ∷ pass.old.view.stalls }
+    ensures left { (held : Held) → result ≡ Some held → IsLeftOf held pass.old.view pass.new.view }
 {
     while let GraceAt::Looking(proc) = pass.grace() {
         let left = look_back(sys, pass, proc);

@@ -1,10 +1,11 @@
 //! Grace periods.
-ghost use Rattle.std.specs.Prelude.{◌≡◌, ℕ, ◌+◌, ◌∷◌, true, Some, None};
+ghost use Rattle.std.specs.Prelude.{◌≡◌, ◌+◌, ℕ, true, Some, None};
 ghost use Rattle.gen_core.specs.Events.{is_looking};
-ghost use Rattle.k42_board.specs.Gracing.{MayTakeRole, role_view};
-ghost use Rattle.k42_board.specs.Plan.{layouts_on};
+ghost use Rattle.k42_board.specs.Gracing.{MayTakeRole};
+ghost use Rattle.k42_board.specs.Protocol as protocol;
 ghost use Rattle.k42_board.specs.Seen.{IsPassOf, IsSamePass};
-ghost use Rattle.k42_quiesce.specs.Gracing.{MayStep, with_role, has_role, GoesOn, IsLeft, IsRoleHeld, HasLooked, TriesRole, TakesRole};
+ghost use Rattle.k42_board.specs.Stepping.{TakesIn, layouts_in};
+ghost use Rattle.k42_quiesce.specs.Gracing.{MayStep, with_role, has_role, GoesOn, IsLeft, TakesRole};
 ghost use Rattle.k42_quiesce.specs.Quiet.{IsQuiet};
 ghost use Rattle.k42_quiesce.specs.declared.steps.GraceStep.TheVariants as GraceStep;
 ghost use Rattle.k42_quiesce.specs.declared.steps.Held.TheVariants as Held;
@@ -52,15 +53,9 @@ fn begin<L: Layout>(sys: &Sys<L>, pass: &mut Pass<L>) -> Option<u32>
     requires may { MayTakeRole pass.old.view }
     ensures ours { IsPassOf sys.now pass.new }
     ensures same { IsSamePass pass.old pass.new }
-    ensures held { (holder : ℕ) → result ≡ Some holder → IsRoleHeld holder pass.old.view pass.new.view }
-    ensures tries { (holder : ℕ) → result ≡ Some holder → TriesRole
-        (layouts_on L.object L.tag_of L.ways L.whole L.serves L.admitted L.act_of sys.now.procs sys.now.callers)
-        sys.now.layouts pass.old.seat pass.old.view (holder + 1) }
-    ensures goes { result ≡ None → GoesOn (role_view 0 pass.old.view) pass.new.view × (is_looking pass.new.view.turn.grace ≡ true) }
-    ensures free { result ≡ None → pass.new.view.stalls ≡ pass.old.view.stalls }
-    ensures takes { result ≡ None → TakesRole
-        (layouts_on L.object L.tag_of L.ways L.whole L.serves L.admitted L.act_of sys.now.procs sys.now.callers)
-        sys.now.layouts pass.old.seat pass.old.view }
+    ensures held { (holder : ℕ) → result ≡ Some holder → TakesIn L.Layout sys.now protocol.take_role pass.old (holder + 1) pass.new }
+    ensures goes { result ≡ None → GoesOn (with_role None pass.old.view) pass.new.view × (is_looking pass.new.view.turn.grace ≡ true) }
+    ensures takes { result ≡ None → TakesRole (layouts_in L.Layout sys.now) sys.now.layouts pass.old.seat pass.old.view }
 {
     let found = take_role(sys, pass);
     if found > 0 {
@@ -85,25 +80,14 @@ impl Grace {
         requires may { MayStep self.old pass.old.view }
         ensures ours { IsPassOf sys.now pass.new }
         ensures same { IsSamePass pass.old pass.new }
-        ensures quiet { result ≡ GraceStep.Quiet → IsQuiet
-            (layouts_on L.object L.tag_of L.ways L.whole L.serves L.admitted L.act_of sys.now.procs sys.now.callers)
-            sys.now.layouts pass.new.seat pass.new.view }
-        ensures left { (proc left : ℕ) → result ≡ GraceStep.Again (Held.Left proc left) → IsLeft proc left pass.new.view }
-        ensures looked { (proc left : ℕ) → result ≡ GraceStep.Again (Held.Left proc left) → HasLooked
-            (layouts_on L.object L.tag_of L.ways L.whole L.serves L.admitted L.act_of sys.now.procs sys.now.callers)
-            sys.now.layouts pass.new.seat proc pass.new.view }
-        ensures stalled { (proc left : ℕ) → result ≡ GraceStep.Again (Held.Left proc left) → pass.new.view.stalls ≡ pass.new.view.heard ∷ pass.old.view.stalls }
-        ensures free { result ≡ GraceStep.Quiet → pass.new.view.stalls ≡ pass.old.view.stalls }
+        ensures quiet { result ≡ GraceStep.Quiet → IsQuiet (layouts_in L.Layout sys.now) sys.now.layouts pass.new.seat pass.new.view }
+        ensures left { (proc left : ℕ) → result ≡ GraceStep.Again (Held.Left proc left) → IsLeft proc left pass.old.view pass.new.view }
         ensures role_held { (holder : ℕ) → result ≡ GraceStep.Again (Held.RoleHeld holder)
-            → IsRoleHeld holder pass.old.view pass.new.view × (self.old ≡ None) × (self.new ≡ None) }
-        ensures tries { (holder : ℕ) → result ≡ GraceStep.Again (Held.RoleHeld holder) → TriesRole
-            (layouts_on L.object L.tag_of L.ways L.whole L.serves L.admitted L.act_of sys.now.procs sys.now.callers)
-            sys.now.layouts pass.old.seat pass.old.view (holder + 1) }
+            → TakesIn L.Layout sys.now protocol.take_role pass.old (holder + 1) pass.new × (self.old ≡ None) × (self.new ≡ None) }
         ensures goes { has_role result ≡ true
             → GoesOn (with_role self.old pass.old.view) pass.new.view × (self.new ≡ Some pass.new.view.number) }
-        ensures takes { self.old ≡ None → has_role result ≡ true → TakesRole
-            (layouts_on L.object L.tag_of L.ways L.whole L.serves L.admitted L.act_of sys.now.procs sys.now.callers)
-            sys.now.layouts pass.old.seat pass.old.view }
+        ensures takes { self.old ≡ None → has_role result ≡ true
+            → TakesRole (layouts_in L.Layout sys.now) sys.now.layouts pass.old.seat pass.old.view }
     {
         if self.holder.is_none() {
             if let Some(holder) = begin(sys, pass) {

@@ -1,9 +1,8 @@
 //! Waiting for a grace.
-ghost use Rattle.std.specs.Prelude.{◌≡◌, ℕ, List};
-ghost use Rattle.k42_board.specs.Gracing.{MayTakeRole, role_view};
-ghost use Rattle.k42_board.specs.Plan.{layouts_on};
+ghost use Rattle.k42_board.specs.Gracing.{MayTakeRole};
 ghost use Rattle.k42_board.specs.Seen.{IsPassOf, IsSamePass};
-ghost use Rattle.k42_quiesce.specs.Gracing.{GoesOn, TakesRole, has_tried};
+ghost use Rattle.k42_board.specs.Stepping.{layouts_in};
+ghost use Rattle.k42_quiesce.specs.Gracing.{HasGraced};
 ghost use Rattle.k42_quiesce.specs.Quiet.{IsQuiet};
 
 use crate::steps::{Grace, GraceStep};
@@ -18,13 +17,8 @@ pub fn grace<L: Layout, R: Wait>(rt: &R, sys: &Sys<L>, pass: &mut Pass<L>)
     requires may { MayTakeRole pass.old.view }
     ensures ours { IsPassOf sys.now pass.new }
     ensures same { IsSamePass pass.old pass.new }
-    ensures quiet { IsQuiet
-        (layouts_on L.object L.tag_of L.ways L.whole L.serves L.admitted L.act_of sys.now.procs sys.now.callers)
-        sys.now.layouts pass.new.seat pass.new.view }
-    ensures takes { (heard : ℕ) × (stalls : List ℕ) × TakesRole
-        (layouts_on L.object L.tag_of L.ways L.whole L.serves L.admitted L.act_of sys.now.procs sys.now.callers)
-        sys.now.layouts pass.old.seat (has_tried heard stalls pass.old.view) }
-    ensures goes { GoesOn (role_view 0 pass.old.view) pass.new.view }
+    ensures quiet { IsQuiet (layouts_in L.Layout sys.now) sys.now.layouts pass.new.seat pass.new.view }
+    ensures graced { HasGraced (layouts_in L.Layout sys.now) sys.now.layouts pass.old.seat pass.old.view pass.new.view }
 {
     let mut grace = Grace::new();
     let backoff = Backoff::new();

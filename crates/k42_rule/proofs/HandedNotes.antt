@@ -7,8 +7,9 @@ use Rattle.k42_places.specs.Places.{EachPlace}
 use Rattle.turn_core.specs.Names.{names}
 use Rattle.turn_core.specs.Stamps.{last_stamp}
 use Rattle.k42_board.specs.Cells.{cells_noted}
-use Rattle.k42_board.specs.Drawing.{history_noted, closed_noted, numbers_of, part_in, AreHeld, IsTold, handed_note, untold_view, HasSmallStamp}
+use Rattle.k42_board.specs.Drawing.{history_noted, closed_noted, numbers_of, part_in, AreHeld, IsTold, handed_note, HasSmallStamp}
 use Rattle.k42_board.specs.Handing.{hands_at}
+use Rattle.k42_board.specs.Log.{took}
 use Rattle.k42_board.specs.Receipts.{IsDue, AreDue, closed_due, last_due}
 use Rattle.k42_board.specs.Seats.{LAST_STAMP, told_by}
 use Rattle.k42_board.specs.Seen.{IsSeatOf}
@@ -17,6 +18,7 @@ use Rattle.k42_board.specs.Views.{pass_in}
 use Rattle.k42_board.specs.declared.cell.Content.{Content}
 use Rattle.k42_board.specs.declared.view.Note.{Note}
 use Rattle.k42_board.specs.declared.view.PassView.{PassView}
+use Rattle.k42_board.specs.declared.view.StepName.TheVariants as steps
 use Rattle.k42_board.proofs.CellsHanded.{each_handed, handed_cells}
 use Rattle.k42_board.proofs.Noted.{first_note, last_push, each_named}
 
@@ -134,18 +136,12 @@ module _ {P : Type 0} (v : PassView P) (from onto : List (Content P)) (entry : E
   small_entry : HasSmallStamp (hands_at from onto entry tag v) → entry.stamp ≤ LAST_STAMP
   small_entry small = subst (λ z. z ≤ LAST_STAMP) (last_push v.taker.mine entry) small
 
-  pub seat_due : (me : Seated P) → IsSeatOf me (hands_at from onto entry tag v) → HasSmallStamp (hands_at from onto entry tag v) → AreHeld v.notes from → AreHeld v.notes onto
+  pub seat_due : (me : Seated P) (word : ℕ) → IsSeatOf me (took steps.Draw word 0 (hands_at from onto entry tag v)) → HasSmallStamp (hands_at from onto entry tag v) → AreHeld v.notes from → AreHeld v.notes onto
       → EachPlace (λ place (content : Content P). names (numbers_of from) content.number ≡ false) onto
       → AreDue (pass_in me.0).notes (length from) true entry.stamp (from ++ onto)
-  seat_due me is small held held' apart =
+  seat_due me word is small held held' apart =
       subst (λ (m : Seated P). AreDue (pass_in m.0).notes (length from) true entry.stamp (from ++ onto)) (sym is)
       (hand_due (numbers_of from) (numbers_of onto) entry (part_in (from ++ onto)) v.notes from onto held (each_named from) held' apart (each_named onto) (small_entry small))
-
-  pub hand_back : (me seated : Seated P) → IsSeatOf me (hands_at from onto entry tag v) → (cells : List ℕ) → IsSeatOf seated (untold_view cells (pass_in me.0))
-      → untold_view (numbers_of from ++ numbers_of onto) (pass_in seated.0) ≡ pass_in me.0
-  hand_back me seated is cells told =
-      ap (λ (m : Seated P). untold_view (numbers_of from ++ numbers_of onto) (pass_in m.0)) told
-      ∙ ap (λ (m : Seated P). untold_view (numbers_of from ++ numbers_of onto) (pass_in m.0)) is ∙ sym (ap (λ (m : Seated P). pass_in m.0) is)
 
 -- the cells once they were told, for those who put them back
 module _ {P : Type 0} (from onto : List ℕ) (entry : Entry) (fresh : ℕ → Option P) (notes : List (Note P)) (old new : Content P)

@@ -9,6 +9,7 @@ use Rattle.k42_stamp.specs.Layouts.{Layouts}
 use Rattle.k42_stamp.specs.Lists.{IsListOf}
 use Rattle.k42_board.specs.Drawing.{MayHandOn, entry_hand, numbers_of, stamp_next, last_noted, untold_view, HasSmallStamp}
 use Rattle.k42_board.specs.Handing.{hands_at, handed_at}
+use Rattle.k42_board.specs.Log.{took}
 use Rattle.k42_board.specs.Receipts.{AreDue}
 use Rattle.k42_board.specs.Seats.{LAST_STAMP}
 use Rattle.k42_board.specs.Seen.{IsSeatOf, Own, own_in, Mirrors}
@@ -16,9 +17,11 @@ use Rattle.k42_board.specs.Steps.{Seated}
 use Rattle.k42_board.specs.Views.{pass_in}
 use Rattle.k42_board.specs.declared.cell.Content.{Content}
 use Rattle.k42_board.specs.declared.view.PassView.{PassView}
+use Rattle.k42_board.specs.declared.view.StepName.TheVariants as steps
 use Rattle.k42_board.specs.declared.view.View.TheVariants.{Crew}
+use Rattle.k42_rule.proofs.Drawn.{knows_drawn}
 use Rattle.k42_rule.proofs.HandedCells.{many_from, all_cells, all_numbers, parted}
-use Rattle.k42_rule.proofs.HandedNotes.{seat_due, hand_back}
+use Rattle.k42_rule.proofs.HandedNotes.{seat_due}
 use Rattle.k42_rule.proofs.Pushed.{list_drawn}
 
 module _ {S L P : Type 0} (F : Layouts S L P) (declared : List L) (cells : List (Content P)) (to : L) (answer : Answer) (v : PassView P)
@@ -29,7 +32,7 @@ module _ {S L P : Type 0} (F : Layouts S L P) (declared : List L) (cells : List 
   abbrev onto : List (Content P)
   onto = drop F.procs cells
 
-  module _ (me : Seated P) (is : IsSeatOf me (hands_at from onto entry tag v)) where
+  module _ (me : Seated P) (word : ℕ) (is : IsSeatOf me (took steps.Draw word 0 (hands_at from onto entry tag v))) where
     pub untold_is : (pass_in me.0).untold ≡ numbers_of cells
     untold_is = ap (λ (m : Seated P). (pass_in m.0).untold) is ∙ all_numbers F declared cells to answer v may
 
@@ -37,15 +40,12 @@ module _ {S L P : Type 0} (F : Layouts S L P) (declared : List L) (cells : List 
     due_is few small =
         subst (λ (z : ℕ × List (Content P)). AreDue (pass_in me.0).notes z.0 true entry.stamp z.1)
         (λ j. (many_from F declared cells to answer v may j, all_cells F declared cells to answer v may j))
-        (seat_due v from onto entry tag me is small may.held_from may.held_onto (parted F declared cells to answer v may few))
+        (seat_due v from onto entry tag me word is small may.held_from may.held_onto (parted F declared cells to answer v may few))
 
     -- once all cells were told
     module _ (seated : Seated P) (told : IsSeatOf seated (untold_view [] (pass_in me.0))) where
-      pub knows_is : pass_in seated.0 ≡ handed_at from onto entry tag v
-      knows_is = ap (λ (m : Seated P). pass_in m.0) told ∙ ap (λ (m : Seated P). untold_view [] (pass_in m.0)) is
-
-      pub back_is : untold_view (numbers_of cells) (pass_in seated.0) ≡ pass_in me.0
-      back_is = ap (λ ns. untold_view ns (pass_in seated.0)) (sym (all_numbers F declared cells to answer v may)) ∙ hand_back v from onto entry tag me seated is [] told
+      knows_is : pass_in seated.0 ≡ took steps.Draw word 0 (handed_at from onto entry tag v)
+      knows_is = knows_drawn _ me seated is told
 
       pub mirrors_is : (before : Seated P) (own now : Own) → Mirrors before own → pass_in before.0 ≡ v
           → now ≡ record own { mine = own.mine ++ entry ∷ []; handed = Some tag } → Mirrors seated now

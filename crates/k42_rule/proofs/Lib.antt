@@ -5,6 +5,8 @@ pub mod HandedNotes
 pub mod HandedCells
 pub mod HandedSeat
 pub mod Pushed
+pub mod Entries
+pub mod Drawn
 pub mod Fitting
 pub mod Opening
 pub mod Joining

@@ -3,7 +3,7 @@ ghost use Rattle.std.specs.Prelude.{◌≡◌};
 ghost use Rattle.k42_board.specs.Values.{incarnation_in};
 ghost use Rattle.k42_board.specs.Views.{object_begun, word_begun};
 
-use k42_board::LastBegin;
+use k42_board::{LastBegin, incarnation_in};
 
 /// The object of the last Begin.
 pub(crate) fn object_begun_in(last: &Option<LastBegin>) -> u32
@@ -20,7 +20,7 @@ pub(crate) fn incarnation_at(last: &Option<LastBegin>) -> u32
     ensures { result ≡ incarnation_in (word_begun last.now) }
 {
     match last {
-        Some(begin) => (begin.word >> 32) as u32,
+        Some(begin) => incarnation_in(begin.word),
         None => 0,
     }
 }

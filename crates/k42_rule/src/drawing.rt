@@ -1,13 +1,9 @@
 //! The steps that draw entries.
 ghost use Rattle.std.specs.Prelude.{◌≡◌, ℕ, ◌<◌, [], ◌∷◌};
-ghost use Rattle.turn_core.specs.declared.event.TurnEvent.TheVariants as TurnEvent;
-ghost use Rattle.k42_joined.specs.Drawing.{first_cell};
-ghost use Rattle.k42_joined.specs.Event.{AtCells};
-ghost use Rattle.k42_board.specs.Drawing.{AgreeOn, MayDrawAlone, MayDrawMark, MayDrawAs, IsDrawer, IsTold, AreTold, entry_alone, entry_mark, entry_call, numbers_of, alone_view, drawn_at, untold_view, number_told, stamp_next};
-ghost use Rattle.k42_board.specs.Plan.{layouts_on};
+ghost use Rattle.k42_board.specs.Drawing.{AgreeOn, MayDrawAlone, MayDrawMark, MayDrawAs, IsDrawer, IsTold, AreTold, entry_alone, entry_mark, entry_call, numbers_of, number_told, stamp_next};
+ghost use Rattle.k42_board.specs.Protocol as protocol;
 ghost use Rattle.k42_board.specs.Seen.{IsOf};
-ghost use Rattle.k42_board.specs.Steps.{StepIs};
-ghost use Rattle.k42_board.specs.Words.{role_word, lock_word};
+ghost use Rattle.k42_board.specs.Stepping.{HasDrawn, TakesIn, layouts_in};
 
 use crate::begun::{incarnation_at, object_begun_in};
 use crate::pass::Pass;
@@ -36,14 +32,8 @@ pub fn draw_alone<L: Layout>(sys: &Sys<L>, pass: &mut Pass<L>, act: Act, answer:
     requires room { 0 < pass.old.room }
     requires may { MayDrawAlone act answer pass.old.view }
     ensures stamp { result ≡ stamp_next pass.old.view [] }
-    ensures same { IsDrawer pass.old pass.new }
-    ensures knows { pass.new.view ≡ alone_view (entry_alone pass.old.view act answer) pass.old.view }
-    ensures event { (found : ℕ) → StepIs
-        (layouts_on L.object L.tag_of L.ways L.whole L.serves L.admitted L.act_of sys.now.procs sys.now.callers)
-        sys.now.layouts
-        (AtCells (TurnEvent.Alone pass.old.view.number (entry_alone pass.old.view act answer)))
-        role_word (λ word. word)
-        pass.old.seat pass.old.view found pass.new.view }
+    ensures drawer { IsDrawer pass.old pass.new }
+    ensures takes { (found : ℕ) → TakesIn L.Layout sys.now (protocol.draw_alone (entry_alone pass.old.view act answer)) pass.old found pass.new }
 {
     let stamp = stamp_after(pass.entries.as_slice(), 0);
     let entry = Entry {
@@ -75,15 +65,8 @@ pub fn draw_mark<L: Layout>(
     requires room { 0 < pass.old.room }
     requires may { MayDrawMark cell.old act answer pass.old.view }
     ensures stamp { result ≡ stamp_next pass.old.view (cell.old.number ∷ []) }
-    ensures same { IsDrawer pass.old pass.new }
-    ensures knows { pass.new.view ≡ drawn_at (cell.old ∷ []) (entry_mark pass.old.view cell.old.number act answer) pass.old.view }
+    ensures drawn { HasDrawn L.Layout sys.now (protocol.draw_mark cell.old (entry_mark pass.old.view cell.old.number act answer)) (cell.old.number ∷ []) pass.old pass.new }
     ensures told { IsTold pass.new.view.notes cell.old cell.new }
-    ensures event { (found : ℕ) → StepIs
-        (layouts_on L.object L.tag_of L.ways L.whole L.serves L.admitted L.act_of sys.now.procs sys.now.callers)
-        sys.now.layouts
-        (AtCells (TurnEvent.Draw pass.old.view.number (cell.old.number ∷ []) (entry_mark pass.old.view cell.old.number act answer)))
-        (lock_word cell.old.number) (λ word. word)
-        pass.old.seat pass.old.view found (untold_view (cell.old.number ∷ []) pass.new.view) }
 {
     let stamp = stamp_after(pass.entries.as_slice(), cell.last_stamp());
     let entry = Entry {
@@ -114,21 +97,12 @@ fn draw_at<L: Layout>(
     answer: Answer,
 ) -> u64
     requires ours { IsOf sys.now pass.old }
-    requires agree { AgreeOn (layouts_on L.object L.tag_of L.ways L.whole L.serves L.admitted L.act_of sys.now.procs sys.now.callers) }
+    requires agree { AgreeOn (layouts_in L.Layout sys.now) }
     requires room { 0 < pass.old.room }
-    requires may { MayDrawAs
-        (layouts_on L.object L.tag_of L.ways L.whole L.serves L.admitted L.act_of sys.now.procs sys.now.callers)
-        sys.now.layouts cells.old act answer pass.old.view }
+    requires may { MayDrawAs (layouts_in L.Layout sys.now) sys.now.layouts cells.old act answer pass.old.view }
     ensures stamp { result ≡ stamp_next pass.old.view (numbers_of cells.old) }
-    ensures same { IsDrawer pass.old pass.new }
-    ensures knows { pass.new.view ≡ drawn_at cells.old (entry_call pass.old.view (numbers_of cells.old) act answer) pass.old.view }
+    ensures drawn { HasDrawn L.Layout sys.now (protocol.draw_call cells.old (entry_call pass.old.view (numbers_of cells.old) act answer)) (numbers_of cells.old) pass.old pass.new }
     ensures told { AreTold pass.new.view.notes cells.old cells.new }
-    ensures event { (found : ℕ) → StepIs
-        (layouts_on L.object L.tag_of L.ways L.whole L.serves L.admitted L.act_of sys.now.procs sys.now.callers)
-        sys.now.layouts
-        (AtCells (TurnEvent.Draw pass.old.view.number (numbers_of cells.old) (entry_call pass.old.view (numbers_of cells.old) act answer)))
-        (lock_word (first_cell (numbers_of cells.old))) (λ word. word)
-        pass.old.seat pass.old.view found (untold_view (numbers_of cells.old) pass.new.view) }
 {
     let stamp = stamp_after(pass.entries.as_slice(), last_at(cells));
     let entry = Entry {
@@ -159,19 +133,10 @@ pub fn draw_call<L: Layout>(
 ) -> u64
     requires ours { IsOf sys.now pass.old }
     requires room { 0 < pass.old.room }
-    requires may { MayDrawAs
-        (layouts_on L.object L.tag_of L.ways L.whole L.serves L.admitted L.act_of sys.now.procs sys.now.callers)
-        sys.now.layouts cells.old.items act answer pass.old.view }
+    requires may { MayDrawAs (layouts_in L.Layout sys.now) sys.now.layouts cells.old.items act answer pass.old.view }
     ensures stamp { result ≡ stamp_next pass.old.view (numbers_of cells.old.items) }
-    ensures same { IsDrawer pass.old pass.new }
-    ensures knows { pass.new.view ≡ drawn_at cells.old.items (entry_call pass.old.view (numbers_of cells.old.items) act answer) pass.old.view }
+    ensures drawn { HasDrawn L.Layout sys.now (protocol.draw_call cells.old.items (entry_call pass.old.view (numbers_of cells.old.items) act answer)) (numbers_of cells.old.items) pass.old pass.new }
     ensures told { AreTold pass.new.view.notes cells.old.items cells.new.items }
-    ensures event { (found : ℕ) → StepIs
-        (layouts_on L.object L.tag_of L.ways L.whole L.serves L.admitted L.act_of sys.now.procs sys.now.callers)
-        sys.now.layouts
-        (AtCells (TurnEvent.Draw pass.old.view.number (numbers_of cells.old.items) (entry_call pass.old.view (numbers_of cells.old.items) act answer)))
-        (lock_word (first_cell (numbers_of cells.old.items))) (λ word. word)
-        pass.old.seat pass.old.view found (untold_view (numbers_of cells.old.items) pass.new.view) }
 {
     draw_at(sys, pass, cells.as_mut_slice(), act, answer)
 }

@@ -5,7 +5,7 @@ ghost use Rattle.k42_places.specs.Places.{EachPlace};
 ghost use Rattle.k42_board.specs.Cells.{Slot};
 ghost use Rattle.k42_board.specs.Dealing.{crew_in, IsCrew};
 ghost use Rattle.k42_rule.specs.Finishing.{views_of, lists_in};
-ghost use Rattle.k42_board.specs.Plan.{layouts_on};
+ghost use Rattle.k42_board.specs.Stepping.{layouts_by};
 ghost use Rattle.k42_board.specs.Rule.{Ruled};
 ghost use Rattle.k42_board.specs.Words.{many_words};
 ghost use Rattle.k42_board.specs.declared.view.View.{View};
@@ -45,7 +45,7 @@ pub(crate) fn gather<L: Layout>(
 pub(crate) fn close<L: Layout>(board: Board<L>, seat: BoardSeat<L>)
     requires { seat.table_id ≡ board.shared.table_id }
     ensures { (table : State (Slot L.Part) (View L.Part)) × Seen (Ruled
-        (layouts_on L.object L.tag_of L.ways L.whole L.serves L.admitted L.act_of board.shared.key.procs board.shared.key.callers.items)
+        (layouts_by L.Layout board.shared.key)
         board.shared.key.layouts.items (length board.shared.key.callers.items)) seat.id seat.me.0 table }
 {
     let mut closed = board.close_with(seat);

@@ -1,13 +1,10 @@
 //! The step that hands a row on.
-ghost use Rattle.std.specs.Prelude.{◌≡◌, ℕ, ◌<◌, take, drop};
-ghost use Rattle.k42_joined.specs.Drawing.{first_cell};
-ghost use Rattle.k42_joined.specs.Event.{HandWith};
-ghost use Rattle.k42_board.specs.Drawing.{MayHandOn, IsDrawer, AreTold, entry_hand, numbers_of, stamp_next, untold_view};
-ghost use Rattle.k42_board.specs.Handing.{handed_at};
-ghost use Rattle.k42_board.specs.Plan.{layouts_on};
+ghost use Rattle.std.specs.Prelude.{◌≡◌, ◌<◌};
+ghost use Rattle.k42_board.specs.Drawing.{AreTold, numbers_of, stamp_next};
+ghost use Rattle.k42_board.specs.Handing.{MayHandAt, entry_done};
+ghost use Rattle.k42_board.specs.Protocol as protocol;
 ghost use Rattle.k42_board.specs.Seen.{IsOf};
-ghost use Rattle.k42_board.specs.Steps.{StepIs};
-ghost use Rattle.k42_board.specs.Words.{lock_word};
+ghost use Rattle.k42_board.specs.Stepping.{HasDrawn, layouts_in};
 
 use crate::begun::incarnation_at;
 use crate::pass::Pass;
@@ -25,10 +22,8 @@ fn done_entry<L: Layout>(
     to: &L,
     answer: Answer,
 ) -> Entry
-    requires may { MayHandOn
-        (layouts_on L.object L.tag_of L.ways L.whole L.serves L.admitted L.act_of sys.now.procs sys.now.callers)
-        sys.now.layouts (take sys.now.procs cells.now) (drop sys.now.procs cells.now) to.now answer pass.now.view }
-    ensures { result ≡ entry_hand pass.now.view (numbers_of (take sys.now.procs cells.now)) (numbers_of (drop sys.now.procs cells.now)) (L.act_of to.now) answer }
+    requires may { MayHandAt (layouts_in L.Layout sys.now) sys.now.layouts cells.now to.now answer pass.now.view }
+    ensures { result ≡ entry_done sys.now.procs cells.now (L.act_of to.now) answer pass.now.view }
 {
     let stamp = stamp_after(pass.entries.as_slice(), last_at(cells));
     Entry {
@@ -55,24 +50,12 @@ fn hand_at<L: Layout>(
 ) -> u64
     requires ours { IsOf sys.now pass.old }
     requires room { 0 < pass.old.room }
-    requires may { MayHandOn
-        (layouts_on L.object L.tag_of L.ways L.whole L.serves L.admitted L.act_of sys.now.procs sys.now.callers)
-        sys.now.layouts (take sys.now.procs cells.old) (drop sys.now.procs cells.old) to.now answer pass.old.view }
+    requires may { MayHandAt (layouts_in L.Layout sys.now) sys.now.layouts cells.old to.now answer pass.old.view }
     ensures stamp { result ≡ stamp_next pass.old.view (numbers_of cells.old) }
-    ensures same { IsDrawer pass.old pass.new }
-    ensures knows { pass.new.view ≡ handed_at
-        (take sys.now.procs cells.old) (drop sys.now.procs cells.old)
-        (entry_hand pass.old.view (numbers_of (take sys.now.procs cells.old)) (numbers_of (drop sys.now.procs cells.old)) (L.act_of to.now) answer)
-        (L.tag_of to.now) pass.old.view }
+    ensures drawn { HasDrawn L.Layout sys.now
+        (protocol.hand_on sys.now.procs cells.old to.now (L.tag_of to.now) (entry_done sys.now.procs cells.old (L.act_of to.now) answer pass.old.view))
+        (numbers_of cells.old) pass.old pass.new }
     ensures told { AreTold pass.new.view.notes cells.old cells.new }
-    ensures event { (found : ℕ) → StepIs
-        (layouts_on L.object L.tag_of L.ways L.whole L.serves L.admitted L.act_of sys.now.procs sys.now.callers)
-        sys.now.layouts
-        (HandWith pass.old.view.number
-        (numbers_of (take sys.now.procs cells.old)) (numbers_of (drop sys.now.procs cells.old)) to.now
-        (entry_hand pass.old.view (numbers_of (take sys.now.procs cells.old)) (numbers_of (drop sys.now.procs cells.old)) (L.act_of to.now) answer))
-        (lock_word (first_cell (numbers_of cells.old))) (λ word. word)
-        pass.old.seat pass.old.view found (untold_view (numbers_of cells.old) pass.new.view) }
 {
     let entry = done_entry(sys, pass, cells, to, answer);
     let stamp = entry.stamp;
@@ -94,25 +77,12 @@ pub fn draw_done<L: Layout>(
 ) -> u64
     requires ours { IsOf sys.now pass.old }
     requires room { 0 < pass.old.room }
-    requires may { MayHandOn
-        (layouts_on L.object L.tag_of L.ways L.whole L.serves L.admitted L.act_of sys.now.procs sys.now.callers)
-        sys.now.layouts
-        (take sys.now.procs cells.old.items) (drop sys.now.procs cells.old.items) to.now answer pass.old.view }
+    requires may { MayHandAt (layouts_in L.Layout sys.now) sys.now.layouts cells.old.items to.now answer pass.old.view }
     ensures stamp { result ≡ stamp_next pass.old.view (numbers_of cells.old.items) }
-    ensures same { IsDrawer pass.old pass.new }
-    ensures knows { pass.new.view ≡ handed_at
-        (take sys.now.procs cells.old.items) (drop sys.now.procs cells.old.items)
-        (entry_hand pass.old.view (numbers_of (take sys.now.procs cells.old.items)) (numbers_of (drop sys.now.procs cells.old.items)) (L.act_of to.now) answer)
-        (L.tag_of to.now) pass.old.view }
+    ensures drawn { HasDrawn L.Layout sys.now
+        (protocol.hand_on sys.now.procs cells.old.items to.now (L.tag_of to.now) (entry_done sys.now.procs cells.old.items (L.act_of to.now) answer pass.old.view))
+        (numbers_of cells.old.items) pass.old pass.new }
     ensures told { AreTold pass.new.view.notes cells.old.items cells.new.items }
-    ensures event { (found : ℕ) → StepIs
-        (layouts_on L.object L.tag_of L.ways L.whole L.serves L.admitted L.act_of sys.now.procs sys.now.callers)
-        sys.now.layouts
-        (HandWith pass.old.view.number
-        (numbers_of (take sys.now.procs cells.old.items)) (numbers_of (drop sys.now.procs cells.old.items)) to.now
-        (entry_hand pass.old.view (numbers_of (take sys.now.procs cells.old.items)) (numbers_of (drop sys.now.procs cells.old.items)) (L.act_of to.now) answer))
-        (lock_word (first_cell (numbers_of cells.old.items))) (λ word. word)
-        pass.old.seat pass.old.view found (untold_view (numbers_of cells.old.items) pass.new.view) }
 {
     hand_at(sys, pass, cells.as_mut_slice(), to, answer)
 }

@@ -9,7 +9,7 @@ ghost use Rattle.k42_joined.specs.Safe.{IsSafe};
 ghost use Rattle.k42_board.specs.Cells.{Slot};
 ghost use Rattle.k42_rule.specs.Laws.{IsPresent, Names, StepKeepsFreed};
 ghost use Rattle.k42_board.specs.Phases.{is_served};
-ghost use Rattle.k42_board.specs.Plan.{layouts_on};
+ghost use Rattle.k42_board.specs.Stepping.{layouts_in};
 ghost use Rattle.k42_board.specs.Rule.{Rule};
 ghost use Rattle.k42_board.specs.Steps.{StepIs};
 ghost use Rattle.k42_board.specs.declared.view.PassView.{PassView};
@@ -22,7 +22,7 @@ use k42_kinds::Layout;
 
 /// The layouts keep the laws on which all that is proved of rows and histories rests.
 pub fn layouts_are_lawful<L: Layout>(sys: &Sys<L>)
-    ensures { AreLaws (layouts_on L.object L.tag_of L.ways L.whole L.serves L.admitted L.act_of sys.now.procs sys.now.callers) }
+    ensures { AreLaws (layouts_in L.Layout sys.now) }
 {
     let _ = &sys.board;
 }
@@ -31,7 +31,7 @@ pub fn layouts_are_lawful<L: Layout>(sys: &Sys<L>)
 /// its cells open, and no row that was read is freed.
 pub fn shown_states_are_safe<L: Layout>(sys: &Sys<L>)
     ensures { (table : State (Slot L.Part) (View L.Part))
-        (rule : Rule (layouts_on L.object L.tag_of L.ways L.whole L.serves L.admitted L.act_of sys.now.procs sys.now.callers) sys.now.layouts table)
+        (rule : Rule (layouts_in L.Layout sys.now) sys.now.layouts table)
         → IsSafe rule.state }
 {
     let _ = &sys.board;
@@ -41,7 +41,7 @@ pub fn shown_states_are_safe<L: Layout>(sys: &Sys<L>)
 /// has learned.
 pub fn rows_inside_are_present<L: Layout>(sys: &Sys<L>)
     ensures { (table : State (Slot L.Part) (View L.Part))
-        (rule : Rule (layouts_on L.object L.tag_of L.ways L.whole L.serves L.admitted L.act_of sys.now.procs sys.now.callers) sys.now.layouts table)
+        (rule : Rule (layouts_in L.Layout sys.now) sys.now.layouts table)
         (id : ℕ) (v : PassView L.Part) → get_elem? table.views id ≡ some (Crew (v ∷ []))
         → is_served v.visitor.place ≡ true → IsPresent v rule.state }
 {
@@ -52,10 +52,10 @@ pub fn rows_inside_are_present<L: Layout>(sys: &Sys<L>)
 pub fn freed_rows_stay_freed<L: Layout>(sys: &Sys<L>)
     ensures { (event : Event L) (word : ℕ) (changed : ℕ → ℕ) (id : ℕ) (v : PassView L.Part) (found : ℕ) (w : PassView L.Part)
         → StepIs
-        (layouts_on L.object L.tag_of L.ways L.whole L.serves L.admitted L.act_of sys.now.procs sys.now.callers)
+        (layouts_in L.Layout sys.now)
         sys.now.layouts event word changed id v found w
         → StepKeepsFreed
-        (layouts_on L.object L.tag_of L.ways L.whole L.serves L.admitted L.act_of sys.now.procs sys.now.callers)
+        (layouts_in L.Layout sys.now)
         sys.now.layouts word changed id v found w }
 {
     let _ = &sys.board;
@@ -64,7 +64,7 @@ pub fn freed_rows_stay_freed<L: Layout>(sys: &Sys<L>)
 /// A row is named by one seat at most.
 pub fn rows_have_one_name<L: Layout>(sys: &Sys<L>)
     ensures { (table : State (Slot L.Part) (View L.Part))
-        (rule : Rule (layouts_on L.object L.tag_of L.ways L.whole L.serves L.admitted L.act_of sys.now.procs sys.now.callers) sys.now.layouts table)
+        (rule : Rule (layouts_in L.Layout sys.now) sys.now.layouts table)
         (row : Row) (i j : ℕ) (v w : View L.Part) → get_elem? table.views i ≡ some v → get_elem? table.views j ≡ some w
         → Names v row → Names w row → i ≡ j }
 {

@@ -15,7 +15,7 @@ ghost use Rattle.k42_board.specs.Views.{object_begun, word_begun};
 use atomic_table::Seat;
 use crossbeam_queue::SegPass;
 use gen_core::GraceAt;
-use k42_board::{Carried, Content, Inside, LastBegin, Row, Slip, View};
+use k42_board::{Carried, Content, Inside, LastBegin, Row, Slip, View, layout_in};
 use k42_kinds::{Entry, Layout};
 use k42_memory::Memory;
 use phase_core::{Place, SwapAt};
@@ -285,8 +285,7 @@ impl<P: Drop> Walker<P> {
         ensures is { result ≡ layout_in (word_begun self.now.view.last) }
         ensures bound { result ≤ 2 }
     {
-        let word = self.last.map_or(0, |begin| begin.word);
-        (word / 268_435_456 % 4) as u32
+        layout_in(self.last.map_or(0, |begin| begin.word))
     }
 
     /// Makes room for one more entry and one more row. Where there is no memory it knows the same.

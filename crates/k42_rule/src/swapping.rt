@@ -1,24 +1,22 @@
 //! The steps of a swap.
-ghost use Rattle.std.specs.Prelude.{◌≡◌, ◌<◌, ◌≤◌, ◌+◌, ◌-◌, ◌*◌, ◌%◌, ◌^◌, true, [], ◌∷◌, ◌++◌, length, vec_len, vec_capacity, bit_or, if◌then◌else◌};
+ghost use Rattle.std.specs.Prelude.{◌≡◌, ◌<◌, ◌≤◌, ◌+◌, ◌^◌, true, [], ◌∷◌, ◌++◌, vec_len, vec_capacity, if◌then◌else◌};
 ghost use Rattle.std.specs.Option.{unwrap_or};
-ghost use Rattle.k42_limits.specs.declared.TheConstants.{LAST_INCARNATION};
 ghost use Rattle.phase_core.specs.Effects.{after_interpose};
-ghost use Rattle.phase_core.specs.Event as phases;
 ghost use Rattle.phase_core.specs.Stages.{object_named, is_interposing, is_moved};
 ghost use Rattle.phase_core.specs.State.{empty_entry, mediator_entry};
-ghost use Rattle.k42_joined.specs.Event.{AtPhases};
-ghost use Rattle.k42_board.specs.Plan.{layouts_on};
-ghost use Rattle.k42_board.specs.Seen.{IsOf, IsSamePass, HasSameRoom};
-ghost use Rattle.k42_board.specs.Steps.{StepIs};
-ghost use Rattle.k42_board.specs.Swapping.{object_swapped, next_entry, after_entry, MayChangeEntry, entry_after, entry_event, changed_view, MayBlock, blocked_view, MayMove, moves, moved_view, CountFound, MayTurnOver, turn_amount, turned_view, MayClear, clear_event, kept_bits, clears, cleared_view};
-ghost use Rattle.k42_board.specs.Values.{local_value, incarnation_in};
-ghost use Rattle.k42_board.specs.Views.{word_begun};
-ghost use Rattle.k42_board.specs.Words.{local_word, object_word};
+ghost use Rattle.k42_board.specs.Protocol as protocol;
+ghost use Rattle.k42_board.specs.Seen.{HasSameRoom};
+ghost use Rattle.k42_board.specs.Stepping.{MayStep, HasStepped, TakesIn};
+ghost use Rattle.k42_board.specs.Swapping.{next_entry, after_entry};
+ghost use Rattle.k42_board.specs.Values.{local_value};
 
-use crate::begun::begun_word;
+use crate::begun::{begun_word, incarnation_at};
 use crate::pass::Pass;
 use crate::sys::Sys;
-use k42_board::{LastBegin, Row, block_word, change_entry_word, clear_word, move_word, turn_word};
+use k42_board::{
+    BLOCK, COMPLETE, MOVE, Row, SWAP, block_word, blocked_word, change_entry_word, clear_word,
+    empty_word, mediator_word, move_word, turn_amount, turn_word,
+};
 use k42_kinds::Layout;
 use phase_core::SwapAt;
 
@@ -70,31 +68,22 @@ fn stage_after(swap: &SwapAt, procs: u32) -> SwapAt
 }
 
 /// The word of an entry that is changed at this stage.
-fn entry_word(swap: &SwapAt, incarnation: u64) -> u64
-    requires { incarnation ≤ 2 ^ 20 }
+fn entry_word(swap: &SwapAt, incarnation: u32) -> u64
     ensures { result ≡ local_value (if is_interposing swap.now then mediator_entry incarnation else empty_entry incarnation) }
 {
-    let tag = match *swap {
-        SwapAt::Begun(_) | SwapAt::Interposing(_, _) => 2,
-        _ => 0,
-    };
-    incarnation * 4_294_967_296 + tag
+    match *swap {
+        SwapAt::Begun(_) | SwapAt::Interposing(_, _) => mediator_word(incarnation),
+        _ => empty_word(incarnation),
+    }
 }
 
 /// Changes the next entry of the object: to a mediator while it interposes, to an empty one while it opens.
 pub fn entry_step<L: Layout>(sys: &Sys<L>, pass: &mut Pass<L>, proc: u32) -> u64
-    requires ours { IsOf sys.now pass.old }
-    requires may { MayChangeEntry proc pass.old.view }
-    ensures same { IsSamePass pass.old pass.new }
-    ensures knows { pass.new.view ≡ changed_view result pass.old.view }
-    ensures event { StepIs
-        (layouts_on L.object L.tag_of L.ways L.whole L.serves L.admitted L.act_of sys.now.procs sys.now.callers)
-        sys.now.layouts (AtPhases (entry_event pass.old.view.number pass.old.view.visitor.swap))
-        (local_word proc (object_swapped pass.old.view)) (λ word. entry_after pass.old.view)
-        pass.old.seat pass.old.view result pass.new.view }
+    requires { MayStep L.Layout sys.now (protocol.change_entry proc) pass.old }
+    ensures { HasStepped L.Layout sys.now (protocol.change_entry proc) pass.old result pass.new }
 {
     let object = object_at(&pass.swap) as usize;
-    let begun = begun_word(&pass.last) >> 32;
+    let begun = incarnation_at(&pass.last);
     let incarnation = if pass.turned { begun + 1 } else { begun };
     let word = entry_word(&pass.swap, incarnation);
     let found = change_entry_word(&sys.board, &mut pass.seat, proc as usize, object, word);
@@ -104,15 +93,8 @@ pub fn entry_step<L: Layout>(sys: &Sys<L>, pass: &mut Pass<L>, proc: u32) -> u64
 
 /// Blocks the object, so that whoever knocks from now on is kept out.
 pub fn block_step<L: Layout>(sys: &Sys<L>, pass: &mut Pass<L>) -> u64
-    requires ours { IsOf sys.now pass.old }
-    requires may { MayBlock pass.old.view }
-    ensures same { IsSamePass pass.old pass.new }
-    ensures knows { pass.new.view ≡ blocked_view result pass.old.view }
-    ensures event { StepIs
-        (layouts_on L.object L.tag_of L.ways L.whole L.serves L.admitted L.act_of sys.now.procs sys.now.callers)
-        sys.now.layouts (AtPhases (phases.Block pass.old.view.number))
-        (object_word (object_swapped pass.old.view)) (λ word. bit_or word 33554432)
-        pass.old.seat pass.old.view result pass.new.view }
+    requires { MayStep L.Layout sys.now protocol.block pass.old }
+    ensures { HasStepped L.Layout sys.now protocol.block pass.old result pass.new }
 {
     let object = object_at(&pass.swap);
     let found = block_word(&sys.board, &mut pass.seat, object as usize);
@@ -122,23 +104,13 @@ pub fn block_step<L: Layout>(sys: &Sys<L>, pass: &mut Pass<L>) -> u64
 
 /// Begins to move the state of the object, where nobody is counted.
 pub fn move_step<L: Layout>(sys: &Sys<L>, pass: &mut Pass<L>) -> u64
-    requires ours { IsOf sys.now pass.old }
-    requires may { MayMove pass.old.view }
-    ensures same { IsSamePass pass.old pass.new }
-    ensures knows { pass.new.view ≡ moved_view result pass.old.view }
-    ensures found { CountFound pass.old.view result }
-    ensures event { StepIs
-        (layouts_on L.object L.tag_of L.ways L.whole L.serves L.admitted L.act_of sys.now.procs sys.now.callers)
-        sys.now.layouts (AtPhases (phases.Move pass.old.view.number))
-        (object_word (object_swapped pass.old.view)) (moves pass.old.view)
-        pass.old.seat pass.old.view result pass.new.view }
+    requires { MayStep L.Layout sys.now protocol.move pass.old }
+    ensures { HasStepped L.Layout sys.now protocol.move pass.old result pass.new }
 {
     let object = object_at(&pass.swap);
     let begun = begun_word(&pass.last);
-    let old = 50_331_648
-        + begun / 268_435_456 % 4 * 268_435_456
-        + begun / 4_294_967_296 * 4_294_967_296;
-    let new = old + 67_108_864;
+    let old = blocked_word(begun);
+    let new = old + MOVE;
     let found = move_word(&sys.board, &mut pass.seat, object as usize, old, new);
     if found == old {
         pass.swap = SwapAt::Moved(object);
@@ -148,20 +120,11 @@ pub fn move_step<L: Layout>(sys: &Sys<L>, pass: &mut Pass<L>) -> u64
 
 /// Turns the object over, to the next incarnation and to the layout with which its row was handed on.
 pub fn turn_over<L: Layout>(sys: &Sys<L>, pass: &mut Pass<L>, layout: u32) -> u64
-    requires ours { IsOf sys.now pass.old }
-    requires may { MayTurnOver layout pass.old.view }
-    ensures same { IsSamePass pass.old pass.new }
-    ensures knows { pass.new.view ≡ turned_view result pass.old.view }
-    ensures event { StepIs
-        (layouts_on L.object L.tag_of L.ways L.whole L.serves L.admitted L.act_of sys.now.procs sys.now.callers)
-        sys.now.layouts (AtPhases (phases.TurnOver pass.old.view.number layout))
-        (object_word (object_swapped pass.old.view)) (λ word. (word + turn_amount layout pass.old.view) % 2 ^ 64)
-        pass.old.seat pass.old.view result pass.new.view }
+    requires { MayStep L.Layout sys.now (protocol.turn_over layout) pass.old }
+    ensures { HasStepped L.Layout sys.now (protocol.turn_over layout) pass.old result pass.new }
 {
     let object = object_at(&pass.swap);
-    let before = begun_word(&pass.last) / 268_435_456 % 4;
-    let amount = 4_294_967_296 + 268_435_456 * u64::from(layout) + 33_554_432
-        - 268_435_456 * before;
+    let amount = turn_amount(layout, begun_word(&pass.last));
     let found = turn_word(&sys.board, &mut pass.seat, object as usize, layout, amount);
     pass.swap = SwapAt::Opening(object, 0);
     pass.turned = true;
@@ -190,27 +153,21 @@ fn keep_row(rows: &mut Vec<Row>, turned: bool, row: Row)
 /// Gives up what it moves and has not handed on, or ends the swap. The row that it has handed on and turned over is
 /// then one of the pass's rows.
 pub fn clear_step<L: Layout>(sys: &Sys<L>, pass: &mut Pass<L>) -> u64
-    requires ours { IsOf sys.now pass.old }
-    requires may { MayClear pass.old.view }
+    requires may { MayStep L.Layout sys.now protocol.clear pass.old }
     requires room { pass.old.view.turned ≡ true → 0 < pass.old.row_room }
     ensures same { HasSameRoom pass.old pass.new }
-    ensures knows { pass.new.view ≡ cleared_view result pass.old.view }
-    ensures event { StepIs
-        (layouts_on L.object L.tag_of L.ways L.whole L.serves L.admitted L.act_of sys.now.procs sys.now.callers)
-        sys.now.layouts (AtPhases (clear_event pass.old.view.number pass.old.view.visitor.swap))
-        (object_word (object_swapped pass.old.view)) (clears pass.old.view.visitor.swap)
-        pass.old.seat pass.old.view result pass.new.view }
+    ensures takes { TakesIn L.Layout sys.now protocol.clear pass.old result pass.new }
 {
     let object = object_at(&pass.swap);
     if moves(&pass.swap) {
-        let mask = u64::MAX - 33_554_432 - 67_108_864;
+        let mask = u64::MAX - BLOCK - MOVE;
         let found = clear_word(&sys.board, &mut pass.seat, object as usize, mask);
         pass.swap = SwapAt::Reopening(object, 0);
         return found;
     }
-    let mask = u64::MAX - 16_777_216 - 134_217_728;
+    let mask = u64::MAX - SWAP - COMPLETE;
     let found = clear_word(&sys.board, &mut pass.seat, object as usize, mask);
-    let incarnation = (begun_word(&pass.last) >> 32) as u32;
+    let incarnation = incarnation_at(&pass.last);
     let row = Row {
         object,
         incarnation,

@@ -4,7 +4,8 @@ ghost use Rattle.k42_limits.specs.declared.TheConstants.{OBJECTS, PROCESSORS};
 ghost use Rattle.k42_rule.specs.Finishing.{AreAtRest, AreLastLists, lists_in};
 ghost use Rattle.k42_rule.specs.Opened.{IsOpened};
 ghost use Rattle.k42_rule.specs.Tags.{HasTags, HaveTags};
-ghost use Rattle.k42_board.specs.Plan.{layouts_on};
+ghost use Rattle.k42_board.specs.Plan.{layouts_of};
+ghost use Rattle.k42_board.specs.Stepping.{layouts_in};
 ghost use Rattle.k42_board.specs.Starting.{IsStart, IsStarted};
 
 use crate::finish::{close, gather};
@@ -52,7 +53,9 @@ impl<L: Layout> Model for Sys<L> {
       callers = s.board.shared.key.callers.items;
     } };
 
-    ghost invariant = { λ s. (s.board.shared.table_id.words ≡ many_words) × (s.board.shared.table_id.slots ≡ many_slots) × (s.layouts.items ≡ s.board.shared.key.layouts.items) × (s.procs ≡ s.board.shared.key.procs) × (length s.layouts.items ≤ 16)
+    ghost invariant = { λ s. (s.board.shared.table_id.words ≡ many_words) × (s.board.shared.table_id.slots ≡ many_slots)
+        × (s.layouts.items ≡ s.board.shared.key.layouts.items) × (s.procs ≡ s.board.shared.key.procs)
+        × (length s.layouts.items ≤ 16)
         × AreLaws (layouts_on L.object L.tag_of L.ways L.whole L.serves L.admitted L.act_of s.board.shared.key.procs s.board.shared.key.callers.items)
         × (0 < length s.board.shared.key.callers.items)
         × (s.board.shared.key.procs ≤ PROCESSORS)
@@ -71,7 +74,7 @@ impl<L: Layout> Sys<L> {
         requires tags { HaveTags L.has_tag layouts.items }
         ensures started { IfOk result (λ made. IsStarted layouts.items procs callers.items made.0 made.1.items) }
         ensures opened { IfOk result (λ made. IsOpened
-            (layouts_on L.object L.tag_of L.ways L.whole L.serves L.admitted L.act_of procs callers.items)
+            (layouts_of L.Layout procs callers.items)
             layouts.items callers.items) }
     {
         let Ok((line, mut root)) = Line::<L::Part>::with_rule(alloc) else {
@@ -119,7 +122,7 @@ impl<L: Layout> Sys<L> {
         requires { AreAtRest self passes.items }
         ensures lists { IfOk result (λ lists. map vec_items lists.items ≡ lists_in passes.items) }
         ensures last { IfOk result (λ lists. AreLastLists
-            (layouts_on L.object L.tag_of L.ways L.whole L.serves L.admitted L.act_of self.procs self.callers)
+            (layouts_in L.Layout self)
             self.layouts (length self.callers) (map vec_items lists.items)) }
         ensures err { IfErr result (λ back. (back.sys ≡ self) × (back.passes.items ≡ passes.items)) }
     {

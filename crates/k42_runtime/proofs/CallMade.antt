@@ -28,9 +28,12 @@ use Rattle.k42_board.specs.Drawing.{IsHeld, AreHeld, AreTold, HaveParts, IsStepp
 use Rattle.k42_board.specs.Generations.{MOST}
 use Rattle.k42_board.specs.Phases.{is_served}
 use Rattle.k42_board.specs.Taking.{CELLS, IsRowNoted}
-use Rattle.k42_board.specs.Views.{hears}
+use Rattle.k42_board.specs.Log.{step_at, took, with_log}
 use Rattle.k42_board.specs.declared.cell.Content.{Content}
 use Rattle.k42_board.specs.declared.view.PassView.{PassView}
+use Rattle.k42_board.specs.declared.view.StepName.TheVariants as steps
+use Rattle.k42_board.specs.declared.view.Taken.{Taken}
+use Rattle.k42_board.proofs.Gained.{extends_one, extends_as}
 use Rattle.k42_board.proofs.Noted.{each_named}
 use Rattle.k42_board.proofs.RowCells.{row_once, place_in_row}
 use Rattle.k42_rule.proofs.PartsDue.{part_reached, parts_whole}
@@ -38,7 +41,7 @@ use Rattle.k42_mediator.specs.Parts.{parts_from}
 use Rattle.k42_mediator.specs.Taken.{released}
 use Rattle.k42_mediator.proofs.AfterMark.{later_stamp}
 use Rattle.k42_mediator.proofs.GivenBack.{held_due, released_drawn}
-use Rattle.k42_mediator.proofs.Heard.{heard_now}
+use Rattle.k42_mediator.proofs.Logs.{log_now}
 use Rattle.k42_mediator.proofs.NotesHanded.{part_at_once}
 use Rattle.k42_mediator.proofs.NotesTold.{told_part}
 use Rattle.k42_mediator.proofs.RowMoved.{length_made, at_of, filled_numbers, filled_parts, filled_held, parts_noted}
@@ -269,8 +272,8 @@ module _ {S L P : Type 0} (F : Layouts S L P) (laws : AreLaws F) (declared : Lis
         told_part (numbers_of news) entry (part_in news) v.notes content.number (held_stepped k content at).noted (each_named news k content at)
         ∙ part_at_once news k content (ap names_once numbers_stepped ∙ once) at
 
-    pub may_give_drawn : (id : ℕ) (told : List (Content P)) → AreTold w.notes news told → MayGiveBack F declared id w told
-    may_give_drawn id told are =
+    pub may_give_drawn : (id : ℕ) (log : List Taken) (told : List (Content P)) → AreTold w.notes news told → MayGiveBack F declared id (with_log log w) told
+    may_give_drawn id log told are =
         let same : numbers_of told ≡ numbers_of cells = told_numbers w.notes news told are ∙ numbers_stepped in
         record {
           once = ap names_once same ∙ once;
@@ -290,20 +293,23 @@ module _ {S L P : Type 0} (F : Layouts S L P) (laws : AreLaws F) (declared : Lis
               };
         }
 
-    pub has_made : (new : PassView P) → new ≡ w → HasMade (numbers_of cells) op reply v new
-    has_made new e = record {
-      entry = entry;
-      next = record { later = later_stamp v (numbers_of news); whole = refl };
-      knows =
-          heard_now (released (numbers_of cells) new) (record (released (numbers_of cells) v) {
-            taker = caller_drawn entry (released (numbers_of cells) v).taker;
-            found = None;
-            untold = [];
-          }) entry.stamp
-          ((λ j. released (sym numbers_stepped j) (e j)) ∙ released_drawn news entry v
-          ∙ (λ j. hears entry.stamp (record (released (numbers_stepped j) v) {
-            taker = caller_drawn entry (released (numbers_stepped j) v).taker;
-            found = None;
-            untold = [];
-          })));
-    }
+    pub has_made : (word : ℕ) (new : PassView P) → new ≡ took steps.Draw word 0 w → HasMade (numbers_of cells) op reply v new
+    has_made word new e =
+        let log = step_at steps.Draw word 0 ∷ v.log in
+        record {
+          entry = entry;
+          next = record { later = later_stamp v (numbers_of news); whole = refl };
+          knows =
+              log_now (record (released (numbers_of cells) v) {
+                taker = caller_drawn entry (released (numbers_of cells) v).taker;
+                found = None;
+                untold = [];
+              }) (released (numbers_of cells) new) log
+              ((λ j. released (sym numbers_stepped j) (e j)) ∙ ap (with_log log) (released_drawn news entry v)
+              ∙ (λ j. with_log log (record (released (numbers_stepped j) v) {
+                taker = caller_drawn entry (released (numbers_stepped j) v).taker;
+                found = None;
+                untold = [];
+              })));
+          log = extends_as (ap (λ (x : PassView P). x.log) e) (extends_one (step_at steps.Draw word 0) v.log refl);
+        }

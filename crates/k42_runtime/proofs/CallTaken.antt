@@ -1,77 +1,91 @@
 -- The cells that a call needs: taken one after the other, or left to another caller.
-use Rattle.std.proofs.Common.{◌≡◌, ℕ, ◌+◌, ◌-◌, ◌<◌, ◌≤◌, Bool, true, false, ◌||◌, cond, eqb, Option, Some, List, [], ◌∷◌, ◌++◌, None, refl, sym, ap, ◌∙◌, subst, arith}
+use Rattle.std.proofs.Common.{◌≡◌, ◌≢◌, ℕ, ◌+◌, ◌-◌, ◌<◌, ◌≤◌, Bool, true, false, not, ◌||◌, cond, eqb, Option, Some, List, [], ◌∷◌, ◌++◌, None, refl, sym, ap, ◌∙◌, subst, arith}
 use Rattle.std.proofs.lemmas.Bool.{eqb-true}
+use Rattle.std.proofs.lemmas.Bool.Decides.{nat_tests}
+use Rattle.k42_limits.specs.declared.TheConstants.{PROCESSORS}
+use Rattle.turn_core.specs.Events.{caller_locked}
 use Rattle.turn_core.specs.Names.{names, names_once}
-use Rattle.turn_core.specs.declared.event.TurnEvent.TheVariants.{Lock}
 use Rattle.k42_stamp.specs.Laws.{AreLaws}
 use Rattle.k42_stamp.specs.Layouts.{Layouts}
-use Rattle.k42_joined.specs.Event.{AtCells}
 use Rattle.k42_joined.specs.Numbers.{cell_of, row_cells}
 use Rattle.k42_joined.proofs.CellNumbers.{named_in_row}
 use Rattle.k42_board.specs.Cells.{cells_noted}
 use Rattle.k42_board.specs.Drawing.{numbers_of}
+use Rattle.k42_board.specs.Log.{ComesTo, Meets, step_at, took, with_log}
 use Rattle.k42_board.specs.Seen.{PassSeen, IsSamePass}
-use Rattle.k42_board.specs.Steps.{StepIs}
 use Rattle.k42_board.specs.Taking.{CELLS, AreRowsNoted, LockFound, locked_view, taken_view}
-use Rattle.k42_board.specs.Views.{hears}
 use Rattle.k42_board.specs.Words.{lock_word}
 use Rattle.k42_board.specs.declared.cell.Content.{Content}
 use Rattle.k42_board.specs.declared.view.PassView.{PassView}
+use Rattle.k42_board.specs.declared.view.StepName.TheVariants as steps
+use Rattle.k42_board.specs.declared.view.Taken.{Taken}
+use Rattle.k42_board.proofs.Gained.{meets_one, meets_as, meets_on}
 use Rattle.k42_board.proofs.Noted.{each_named}
 use Rattle.k42_board.proofs.RowCells.{row_once}
 use Rattle.k42_rule.proofs.HandedNotes.{numbers_more}
 use Rattle.k42_mediator.specs.Taken.{released, AreTaken}
-use Rattle.k42_mediator.proofs.AfterMark.{kept_waiting}
 use Rattle.k42_mediator.proofs.GivenBack.{held_due, released_taken}
 use Rattle.k42_mediator.proofs.NotesTold.{taken_more}
 use Rattle.k42_mediator.proofs.RowTaken.{IsTaking, takes_none, takes_next}
-use Rattle.k42_runtime.specs.Calls.{WasHeldAt}
-use Rattle.k42_runtime.specs.Reaching.{refused_view, TakesNext, HasTakenNext, WasRefused, HasTaken, WasStopped, MayGiveBack}
+use Rattle.k42_runtime.specs.Reaching.{TakesNext, Takes, HasTakenNext, WasRefused, HasTaken, WasStopped, MayGiveBack}
 
 -- the cells of a row are numbers of cells
 pub row_small : (place o i n : ℕ) → place ≤ 8 → o < 16 → names (row_cells place o i) n ≡ true → n < CELLS
 row_small place o i n few object named =
     let is = named_in_row place o i n named in let high = is.high in let same = is.same in omega (arith, high, same, few, object)
 
+-- such a cell too
+pub cell_small : (o i p n : ℕ) → n ≡ cell_of o i p → p < 8 → o < 16 → n < CELLS
+cell_small o i p n is there object = omega (arith, is, there, object)
+
+not_none : (n : ℕ) → eqb (n + 1) 0 ≡ false
+not_none n = grind (arith, nat_tests)
+
+-- a lock that another caller has is what a step met
+pub meets_lock : (word holder : ℕ) (log : List Taken) → Meets (step_at steps.Lock word (holder + 1)) log (step_at steps.Lock word (holder + 1) ∷ log)
+meets_lock word holder log =
+    let lock = step_at steps.Lock word (holder + 1) in
+    meets_one lock log (ap (λ b. cond (not b) (lock ∷ []) []) (not_none holder))
+
+kept_waiting : {P : Type 0} (n found : ℕ) (v : PassView P) → (found ≡ 0 → ⊥)
+    → took steps.Lock (lock_word n) found (locked_view n found v) ≡ took steps.Lock (lock_word n) (found - 1 + 1) v
+kept_waiting n found v other =
+    let taken : eqb found 0 ≡ false = grind (arith, nat_tests, other) in
+    ap (λ b. took steps.Lock (lock_word n) found (record v { taker = cond b (caller_locked n v.taker) v.taker })) taken
+    ∙ ap (λ h. took steps.Lock (lock_word n) h v) (omega (arith, other))
+
 module _ {S L P : Type 0} (F : Layouts S L P) (declared : List L) where
-  -- a lock that another caller has
-  pub was_refused : (id n found : ℕ) (v w : PassView P) (cells : List (Content P)) → (found ≡ 0 → ⊥) → w ≡ locked_view n found v → LockFound n v found
-      → StepIs F declared (AtCells (Lock v.number n)) (lock_word n) (λ word. cond (eqb word 0) (v.number + 1) word) id v found w
-      → WasRefused F declared id (found - 1) n v w cells cells
-  was_refused id n found v w cells other knows is event =
+  pub was_refused : (n found : ℕ) (v w : PassView P) (cells : List (Content P)) → (found ≡ 0 → ⊥) → w ≡ took steps.Lock (lock_word n) found (locked_view n found v)
+      → LockFound n v found → WasRefused F declared (found - 1) n v w cells cells
+  was_refused n found v w cells other knows is =
       let back : found ≡ found - 1 + 1 = omega (arith, other) in
+      let small : found ≤ 16 = is.small in
       record {
         same = refl;
+        another = λ e. is.another (back ∙ ap (λ h. h + 1) e);
+        caller = omega (arith, other, small);
         knows = knows ∙ kept_waiting n found v other;
-        was = record {
-          before = v;
-          lock =
-              subst (λ (h : ℕ). StepIs F declared (AtCells (Lock v.number n)) (lock_word n) (λ word. cond (eqb word 0) (v.number + 1) word) id v h (locked_view n h v)) back
-              (subst (λ x. StepIs F declared (AtCells (Lock v.number n)) (lock_word n) (λ word. cond (eqb word 0) (v.number + 1) word) id v found x) knows event);
-          another = subst (LockFound n v) back is;
-        };
       }
 
   -- one cell more
-  pub has_taken_next : (n found : ℕ) (v w : PassView P) (cell : Content P) (cells news : List (Content P)) → found ≡ 0 → w ≡ taken_view cell (locked_view n found v)
+  pub has_taken_next : (n : ℕ) (v w : PassView P) (cell : Content P) (cells news : List (Content P)) → ComesTo v (taken_view cell (locked_view n 0 v)) w
       → cell.number ≡ n → v.taker.held ≡ numbers_of cells → names (numbers_of cells) n ≡ false → AreTaken v.notes cells
       → names (cells_noted v.notes) n ≡ false → AreRowsNoted F declared w → news ≡ cells ++ cell ∷ [] → HasTakenNext F declared n v w cells news
-  has_taken_next n found v w cell cells news free knows number held another taken unnoted rows are =
-      let now : w ≡ taken_view cell (locked_view n 0 v) = knows ∙ ap (λ h. taken_view cell (locked_view n h v)) free in
+  has_taken_next n v w cell cells news comes number held another taken unnoted rows are =
       let numbers : numbers_of news ≡ numbers_of cells ++ n ∷ [] =
       ap numbers_of are ∙ numbers_more cells (cell ∷ []) ∙ ap (λ m. numbers_of cells ++ m ∷ []) number in
       record {
         numbers = numbers;
-        held = ap (λ (x : PassView P). x.taker.held) now ∙ ap (λ ns. ns ++ n ∷ []) held ∙ sym numbers;
+        held = ap (λ (x : PassView P). x.taker.held) comes.knows ∙ ap (λ ns. ns ++ n ∷ []) held ∙ sym numbers;
         taken =
             subst (AreTaken w.notes) (sym are)
-            (subst (λ ns. AreTaken ns (cells ++ cell ∷ [])) (sym (ap (λ (x : PassView P). x.notes) now))
+            (subst (λ ns. AreTaken ns (cells ++ cell ∷ [])) (sym (ap (λ (x : PassView P). x.notes) comes.knows))
             (taken_more cell v.notes cells (ap (names (numbers_of cells)) number ∙ another) taken));
-        back = ap (λ (x : PassView P). x.out) now;
+        back = ap (λ (x : PassView P). x.out) comes.knows;
         released_is =
-            (λ i. released (numbers i) (now i))
-            ∙ released_taken (numbers_of cells) n cell v number (ap (λ ns. names ns n) held ∙ another) unnoted
-            ∙ ap (λ h. hears h (released (numbers_of cells) v)) (sym (ap (λ (x : PassView P). x.heard) now));
+            (λ i. released (numbers i) (comes.knows i))
+            ∙ ap (with_log w.log) (released_taken (numbers_of cells) n cell v number (ap (λ ns. names ns n) held ∙ another) unnoted);
+        log = comes.log;
         rows = rows;
       }
 
@@ -91,11 +105,12 @@ module _ {S L P : Type 0} (F : Layouts S L P) (declared : List L) where
   }
 
   -- so may those of a pass that was refused another
-  pub may_give_stopped : AreLaws F → (id holder : ℕ) (v w : PassView P) (contents : List (Content P)) → w ≡ refused_view holder v
+  pub may_give_stopped : AreLaws F → (id holder n : ℕ) (v w : PassView P) (contents : List (Content P)) → w ≡ took steps.Lock (lock_word n) (holder + 1) v
       → names_once (numbers_of contents) ≡ true → v.out ≡ None → v.taker.held ≡ numbers_of contents → AreTaken v.notes contents
       → ((n : ℕ) → names (numbers_of contents) n ≡ true → n < CELLS) → MayGiveBack F declared id w contents
-  may_give_stopped laws id holder v w contents e once back held taken few =
-      subst (λ x. MayGiveBack F declared id x contents) (sym e) (may_give laws id (refused_view holder v) contents once back held taken few)
+  may_give_stopped laws id holder n v w contents e once back held taken few =
+      subst (λ x. MayGiveBack F declared id x contents) (sym e)
+      (may_give laws id (took steps.Lock (lock_word n) (holder + 1) v) contents once back held taken few)
 
 -- so many cells of the row are taken
 pub record IsTakingRow
@@ -113,24 +128,33 @@ module _ {S L P : Type 0} (F : Layouts S L P) (declared : List L) (o i : ℕ) (f
       (record { taking = takes_none F declared o i first [] 0 room_before held (λ k content at. absurd (cc)); back = back })
 
   module _ (place : ℕ) (now : PassSeen P) (cells : List (Content P)) (len room : ℕ) (is : IsTakingRow F declared o i place first now cells len room_before room) where
-    pub row_stopped : (holder n : ℕ) (new : PassSeen P) (contents : List (Content P)) → n ≡ cell_of o i place → contents ≡ cells → new.view ≡ refused_view holder now.view
-        → WasHeldAt F declared now.seat n holder → WasStopped F declared first.seat holder o first.view new.view contents
-    row_stopped holder n new contents named same e was = record {
-      released_is =
-          (λ j. released (numbers_of (same j)) (e j)) ∙ ap (refused_view holder) is.taking.released_is;
-      was = record {
-        incarnation = i;
-        place = place;
-        held = subst (λ (z : ℕ × ℕ). WasHeldAt F declared z.0 z.1 holder) (λ j. (is.taking.same.seat j, named j)) was;
-      };
-    }
+    pub row_stopped : (holder n : ℕ) (new : PassSeen P) (contents : List (Content P)) → n ≡ cell_of o i place → place < PROCESSORS
+        → WasRefused F declared holder n now.view new.view cells contents → WasStopped F declared holder o first.view new.view contents
+    row_stopped holder n new contents named there was =
+        let word = lock_word (cell_of o i place) in let lock = step_at steps.Lock word (holder + 1) in
+        let knows : new.view ≡ took steps.Lock word (holder + 1) now.view = was.knows ∙ ap (λ m. took steps.Lock (lock_word m) (holder + 1) now.view) named in
+        let log = ap (λ (v : PassView P). v.log) knows in
+        let number : now.view.number ≡ first.view.number = ap (λ (v : PassView P). v.number) is.taking.released_is in
+        record {
+          released_is =
+              (λ j. released (numbers_of (was.same j)) (knows j)) ∙ ap (with_log (lock ∷ now.view.log)) is.taking.released_is
+              ∙ ap (λ l. with_log l (released [] first.view)) (sym log);
+          was = record {
+            incarnation = i;
+            place = place;
+            there = there;
+            another = subst (λ c. holder ≢ c) number was.another;
+            caller = was.caller;
+            met = meets_on is.taking.log (meets_as log (meets_lock word holder now.view.log));
+          };
+        }
 
-    pub row_may_give : AreLaws F → place ≤ 8 → o < 16 → (holder : ℕ) (id : ℕ) (w : PassView P) (contents : List (Content P)) → contents ≡ cells
-        → w ≡ refused_view holder now.view → MayGiveBack F declared id w contents
-    row_may_give laws few object holder id w contents same e =
+    pub row_may_give : AreLaws F → place ≤ 8 → o < 16 → (holder n : ℕ) (id : ℕ) (w : PassView P) (contents : List (Content P)) → contents ≡ cells
+        → w ≡ took steps.Lock (lock_word n) (holder + 1) now.view → MayGiveBack F declared id w contents
+    row_may_give laws few object holder n id w contents same e =
         subst (MayGiveBack F declared id w) (sym same)
-        (may_give_stopped F declared laws id holder now.view w cells e (ap names_once is.taking.numbers ∙ row_once place o i few) is.back is.taking.held is.taking.taken
-        (λ n named. row_small place o i n few object (ap (λ ns. names ns n) (sym is.taking.numbers) ∙ named)))
+        (may_give_stopped F declared laws id holder n now.view w cells e (ap names_once is.taking.numbers ∙ row_once place o i few) is.back is.taking.held is.taking.taken
+        (λ m named. row_small place o i m few object (ap (λ ns. names ns m) (sym is.taking.numbers) ∙ named)))
 
     pub row_next : (new : PassSeen P) (more : List (Content P)) (len' room' n : ℕ) → n ≡ cell_of o i place
         → IsSamePass now new → room' ≡ room → len' ≡ len + 1 → HasTakenNext F declared n now.view new.view cells more
@@ -138,7 +162,7 @@ module _ {S L P : Type 0} (F : Layouts S L P) (declared : List L) (o i : ℕ) (f
     row_next new more len' room' n named same room_is long next = record {
       taking =
           takes_next F declared o i first [] 0 room_before place now new cells more len len' room room' n is.taking named same room_is long next.numbers next.back next.held next.taken
-          next.released_is next.rows;
+          next.released_is next.log next.rows;
       back = next.back;
     }
 
@@ -149,6 +173,7 @@ module _ {S L P : Type 0} (F : Layouts S L P) (declared : List L) (o i : ℕ) (f
       held = is.taking.held ∙ is.taking.numbers;
       taken = is.taking.taken;
       released_is = ap (λ ns. released ns now.view) (sym is.taking.numbers) ∙ is.taking.released_is;
+      log = is.taking.log;
       rows = (is.taking.last some).0;
     }
 
@@ -166,12 +191,44 @@ or_left false e = absurd (cc)
 pub named_only : (n m : ℕ) → names (n ∷ []) m ≡ true → n ≡ m
 named_only n m e = eqb-true n m (or_left (eqb n m) e)
 
-pub one_may_give : {S L P : Type 0} (F : Layouts S L P) (declared : List L) → AreLaws F → (id id' n : ℕ) (result : Option ℕ) (old new : PassView P) (olds news : List (Content P))
-    → olds ≡ [] → old.taker.held ≡ [] → old.out ≡ None → n < CELLS → TakesNext F declared id result n old new olds news → MayGiveBack F declared id' new news
-one_may_give F declared laws id id' n None old new olds news none held back few next =
-    let numbers : numbers_of news ≡ n ∷ [] = next.numbers ∙ ap (λ (xs : List (Content _)). numbers_of xs ++ n ∷ []) none in
-    may_give F declared laws id' new news (ap names_once numbers) next.back next.held next.taken
-    (λ m named. subst (λ k. k < CELLS) (named_only n m (ap (λ ns. names ns m) (sym numbers) ∙ named)) few)
-one_may_give F declared laws id id' n (Some holder) old new olds news none held back few next =
-    subst (MayGiveBack F declared id' new) (sym (next.same ∙ none))
-    (may_give_stopped F declared laws id' holder old new [] next.knows refl back held (λ k content at. absurd (cc)) (λ m named. absurd (cc)))
+module _ {S L P : Type 0} (F : Layouts S L P) (declared : List L) where
+  pub one_may_give : AreLaws F → (id n : ℕ) (result : Option ℕ) (old new : PassView P) (olds news : List (Content P))
+      → olds ≡ [] → old.taker.held ≡ [] → old.out ≡ None → n < CELLS → TakesNext F declared result n old new olds news → MayGiveBack F declared id new news
+  one_may_give laws id n None old new olds news none held back few next =
+      let numbers : numbers_of news ≡ n ∷ [] = next.numbers ∙ ap (λ (xs : List (Content P)). numbers_of xs ++ n ∷ []) none in
+      may_give F declared laws id new news (ap names_once numbers) next.back next.held next.taken
+      (λ m named. subst (λ k. k < CELLS) (named_only n m (ap (λ ns. names ns m) (sym numbers) ∙ named)) few)
+  one_may_give laws id n (Some holder) old new olds news none held back few next =
+      subst (MayGiveBack F declared id new) (sym (next.same ∙ none))
+      (may_give_stopped F declared laws id holder n old new [] next.knows refl back held (λ k content at. absurd (cc)) (λ m named. absurd (cc)))
+
+  pub one_taken : (o i p n : ℕ) (result : Option ℕ) (old new : PassView P) (olds news : List (Content P)) → olds ≡ [] → n ≡ cell_of o i p → p < PROCESSORS
+      → TakesNext F declared result n old new olds news → Takes F declared result o (cell_of o i p ∷ []) old new news
+  one_taken o i p n None old new olds news none named there next =
+      let numbers : numbers_of news ≡ cell_of o i p ∷ [] =
+      next.numbers ∙ ap (λ (xs : List (Content P)). numbers_of xs ++ n ∷ []) none ∙ ap (λ m. m ∷ []) named in
+      record {
+        numbers = numbers;
+        held = next.held ∙ numbers;
+        taken = next.taken;
+        released_is =
+            ap (λ ns. released ns new) (sym numbers) ∙ next.released_is
+            ∙ ap (λ (xs : List (Content P)). with_log new.log (released (numbers_of xs) old)) none;
+        log = next.log;
+        rows = next.rows;
+      }
+  one_taken o i p n (Some holder) old new olds news none named there next =
+      let word = lock_word (cell_of o i p) in let same = next.same ∙ none in
+      let knows : new ≡ took steps.Lock word (holder + 1) old = next.knows ∙ ap (λ m. took steps.Lock (lock_word m) (holder + 1) old) named in
+      let log = ap (λ (v : PassView P). v.log) knows in
+      record {
+        released_is = (λ j. released (numbers_of (same j)) (knows j)) ∙ ap (λ l. with_log l (released [] old)) (sym log);
+        was = record {
+          incarnation = i;
+          place = p;
+          there = there;
+          another = next.another;
+          caller = next.caller;
+          met = meets_as log (meets_lock word holder old.log);
+        };
+      }

@@ -8,7 +8,7 @@ use Rattle.k42_kinds.specs.declared.entry.Answer.TheVariants.{Replied}
 use Rattle.k42_kinds.specs.declared.operation.Op.{Op}
 use Rattle.k42_kinds.specs.declared.operation.Reply.{Reply}
 use Rattle.turn_core.specs.Stamps.{last_stamp}
-use Rattle.k42_board.specs.Seen.{PassSeen, Own}
+use Rattle.k42_board.specs.Seen.{Own}
 use Rattle.k42_board.specs.declared.view.PassView.{PassView}
 use Rattle.k42_runtime.specs.Calls.{CallSeen, IsAsked, HasCalled, HasNotCalled}
 use Rattle.k42_runtime.specs.Serving.{IsAskedOf}

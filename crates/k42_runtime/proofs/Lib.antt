@@ -11,10 +11,12 @@ pub mod Closed
 pub mod Started
 pub mod SwapWaits
 pub mod SwapRows
+pub mod RowsReclaimed
 pub mod CallStepped
 pub mod CallTaken
 pub mod CallInside
 pub mod Agreed
 pub mod CallMade
+pub mod CallServed
 pub mod CallWaited
 pub mod AloneLists

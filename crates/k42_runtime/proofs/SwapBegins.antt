@@ -1,13 +1,18 @@
 -- A swap that has tried to begin.
-use Rattle.std.proofs.Common.{◌≡◌, ℕ, ◌+◌, ◌≤◌, None, refl, sym, ap, ◌∙◌, subst, arith}
+use Rattle.std.proofs.Common.{◌≡◌, ℕ, ◌+◌, ◌≤◌, List, ◌∷◌, None, refl, sym, ap, ◌∙◌, subst, arith}
 use Rattle.k42_kinds.specs.declared.entry.Act.TheVariants.{Swap}
 use Rattle.k42_kinds.specs.declared.entry.Answer.TheVariants as answers
+use Rattle.k42_stamp.specs.Layouts.{Layouts}
+use Rattle.k42_board.proofs.Gained.{extends_as, extends_on, extends_one}
 use Rattle.k42_board.specs.Drawing.{IsDrawer, entry_alone, alone_view}
+use Rattle.k42_board.specs.Log.{ComesTo, Extends, step_at, took, with_log}
 use Rattle.k42_board.specs.Seen.{PassSeen, IsRoomier, IsSamePass}
-use Rattle.k42_board.specs.Views.{hears, object_begun, word_begun}
+use Rattle.k42_board.specs.Views.{object_begun, word_begun}
+use Rattle.k42_board.specs.Words.{object_word, role_word}
 use Rattle.k42_board.specs.declared.view.PassView.{PassView}
+use Rattle.k42_board.specs.declared.view.StepName.TheVariants as names
 use Rattle.k42_mediator.specs.Answers.{begun_in}
-use Rattle.k42_mediator.specs.Swaps.{begun_now, interposed_view}
+use Rattle.k42_mediator.specs.Swaps.{HasTried, begun_now, interposed_view}
 use Rattle.k42_mediator.specs.declared.answers.Begun.{Begun}
 use Rattle.k42_mediator.specs.declared.answers.Begun.TheVariants as begins
 use Rattle.k42_mediator.specs.declared.answers.Phase.{Phase}
@@ -17,20 +22,22 @@ use Rattle.k42_runtime.specs.declared.swaps.Stage.TheVariants.{New, Waiting, Mar
 use Rattle.k42_runtime.specs.declared.swaps.Swapped.TheVariants as ends
 use Rattle.k42_kinds.specs.declared.entry.To.{To}
 use Rattle.k42_runtime.proofs.SwapEnds.{refused}
-use Rattle.k42_runtime.proofs.SwapSteps.{IsUnstalled, swapped_before}
+use Rattle.k42_runtime.proofs.SwapSteps.{swapped_before}
 
 -- a pass whose swap was refused
 pub record IsRefused {P : Type 0} (o number : ℕ) (to : To) (old new : PassSeen P) : Type 0 where
   pub swapped : HasSwapped o to (ends.Busy number) old.view new.view
   pub caller : IsSameCaller old.view new.view
   pub graces : new.view.graces ≡ old.view.graces
+  pub log : Extends old.view.log new.view.log
   pub seat : new.seat ≡ old.seat
   pub told : IsEndBy (word_begun new.view.last) (ends.Busy number)
 
-module _ {P : Type 0} (o : ℕ) (old roomy new : PassSeen P) (room : IsRoomier old roomy) (same : IsSamePass roomy new)
-    (knows : new.view ≡ hears new.view.heard (begun_now o (word_begun new.view.last) roomy.view)) where
-  since : new.view ≡ hears new.view.heard (begun_now o (word_begun new.view.last) old.view)
-  since = knows ∙ ap (λ (u : PassView P). hears new.view.heard (begun_now o (word_begun new.view.last) u)) room.view
+module _ {S L P : Type 0} (F : Layouts S L P) (declared : List L) (o : ℕ) (old roomy new : PassSeen P) (room : IsRoomier old roomy) (same : IsSamePass roomy new)
+    (knows : new.view ≡ with_log new.view.log (begun_now o (word_begun new.view.last) roomy.view))
+    (tries : HasTried F declared roomy.seat o roomy.view new.view) where
+  since : new.view ≡ with_log new.view.log (begun_now o (word_begun new.view.last) old.view)
+  since = knows ∙ ap (λ (u : PassView P). with_log new.view.log (begun_now o (word_begun new.view.last) u)) room.view
 
   begun_caller : IsSameCaller old.view new.view
   begun_caller = record {
@@ -51,15 +58,10 @@ module _ {P : Type 0} (o : ℕ) (old roomy new : PassSeen P) (room : IsRoomier o
   begun_object : object_begun new.view.last ≡ o
   begun_object = ap (λ (u : PassView P). object_begun u.last) since
 
-  -- nothing has held it up yet
-  pub marks_free : IsUnstalled old.view new.view
-  marks_free = record { refused = ap (λ (u : PassView P). u.refused) since; stalls = ap (λ (u : PassView P). u.stalls) since }
-
-  pub waits_free : (led : PassSeen P) → led.view ≡ hears led.view.heard (interposed_view new.view) → IsUnstalled old.view led.view
-  waits_free led leads = record {
-    refused = ap (λ (u : PassView P). u.refused) leads ∙ marks_free.refused;
-    stalls = ap (λ (u : PassView P). u.stalls) leads ∙ marks_free.stalls;
-  }
+  begun_log : Extends old.view.log new.view.log
+  begun_log =
+      extends_on (extends_as (ap (λ (u : PassView P). step_at names.Begin (object_word o) (word_begun new.view.last) ∷ u.log) room.view)
+      (extends_one (step_at names.Begin (object_word o) (word_begun new.view.last)) old.view.log refl)) tries.log
 
   -- the object is over
   pub marks_on : (s m : SwapSeen) → s.stage ≡ New → m.stage ≡ Marking → m.object ≡ s.object → m.to ≡ s.to → HasGoneOn s m old new
@@ -69,6 +71,7 @@ module _ {P : Type 0} (o : ℕ) (old roomy new : PassSeen P) (room : IsRoomier o
     seat = begun_seat;
     caller = begun_caller;
     drawn = begun_drawn;
+    log = begun_log;
     graces =
         let n = begun_graces in
         subst (λ (x : ℕ × ℕ). new.view.graces + x.0 ≤ old.view.graces + x.1)
@@ -78,19 +81,20 @@ module _ {P : Type 0} (o : ℕ) (old roomy new : PassSeen P) (room : IsRoomier o
 
   -- it has begun, and leads all entries to the mediator
   pub waits_on : (s m : SwapSeen) (led : PassSeen P) → s.stage ≡ New → m.stage ≡ Waiting → m.holder ≡ None → m.object ≡ s.object → m.to ≡ s.to
-      → IsSamePass new led → led.view ≡ hears led.view.heard (interposed_view new.view) → HasGoneOn s m old led
+      → IsSamePass new led → ComesTo new.view (interposed_view new.view) led.view → HasGoneOn s m old led
   waits_on s m led first next none object to next_same leads = record {
     object = object;
     to = to;
     seat = next_same.seat ∙ begun_seat;
     caller = record {
-      number = ap (λ (u : PassView P). u.number) leads ∙ begun_caller.number;
-      proc = ap (λ (u : PassView P). u.turn.proc) leads ∙ begun_caller.proc;
-      activities = ap (λ (u : PassView P). u.activities) leads ∙ begun_caller.activities;
+      number = ap (λ (u : PassView P). u.number) leads.knows ∙ begun_caller.number;
+      proc = ap (λ (u : PassView P). u.turn.proc) leads.knows ∙ begun_caller.proc;
+      activities = ap (λ (u : PassView P). u.activities) leads.knows ∙ begun_caller.activities;
     };
-    drawn = ap (λ (u : PassView P). u.taker.mine) leads ∙ begun_drawn;
+    drawn = ap (λ (u : PassView P). u.taker.mine) leads.knows ∙ begun_drawn;
+    log = extends_on begun_log leads.log;
     graces =
-        let n = ap (λ (u : PassView P). u.graces) leads ∙ begun_graces in
+        let n = ap (λ (u : PassView P). u.graces) leads.knows ∙ begun_graces in
         subst (λ (x : ℕ × ℕ). led.view.graces + x.0 ≤ old.view.graces + x.1)
         (λ j. (graces_due (sym next j) (sym none j), graces_due (sym first j) s.holder)) (omega (arith, n));
     waits = λ e. absurd (let never = sym next ∙ e in cc);
@@ -98,7 +102,7 @@ module _ {P : Type 0} (o : ℕ) (old roomy new : PassSeen P) (room : IsRoomier o
 
   -- another swap is under way
   module _ (drawn : PassSeen P) (to : To) (number : ℕ) (draws : IsDrawer new drawn)
-      (is : drawn.view ≡ alone_view (entry_alone new.view (Swap to) (answers.Busy number)) new.view) where
+      (is : drawn.view ≡ took names.Draw role_word 0 (alone_view (entry_alone new.view (Swap to) (answers.Busy number)) new.view)) where
     pub refused_by : (answer : Begun) (phase : Phase) → answer ≡ begun_in (word_begun new.view.last) → answer ≡ begins.Busy number phase
         → IsRefused o number to old drawn
     refused_by answer phase found busy = record {
@@ -109,6 +113,9 @@ module _ {P : Type 0} (o : ℕ) (old roomy new : PassSeen P) (room : IsRoomier o
         activities = ap (λ (u : PassView P). u.activities) is ∙ begun_caller.activities;
       };
       graces = ap (λ (u : PassView P). u.graces) is ∙ begun_graces;
+      log =
+          extends_on begun_log (extends_as (ap (λ (u : PassView P). u.log) is)
+          (extends_one (step_at names.Draw role_word 0) new.view.log refl));
       seat = draws.seat ∙ begun_seat;
       told =
           subst (λ (word : ℕ). IsEndBy word (ends.Busy number)) (sym (ap (λ (u : PassView P). word_begun u.last) is))

@@ -1,6 +1,7 @@
 -- What a pass has drawn that ends its swap.
-use Rattle.std.proofs.Common.{◌≡◌, ℕ, ◌+◌, ◌-◌, ◌≤◌, Bool, true, false, ◌||◌, cond, eqb, List, [], Some, None, Result, Ok, Err, length, refl, sym, ap, ◌∙◌, subst, arith}
-use Rattle.std.specs.Result.{OnErr, is_err}
+use Rattle.std.proofs.Common.{◌≡◌, ℕ, ◌+◌, ◌-◌, ◌≤◌, Bool, true, false, ◌||◌, cond, eqb, List, [], ◌∷◌, Some, None, Result, Ok, Err, length, refl, sym, ap, ◌∙◌, subst, arith}
+use Rattle.std.specs.Result.{OnErr, OnOk, is_err}
+use Rattle.std.proofs.lemmas.Bool.{ne_eqb}
 use Rattle.std.proofs.lemmas.Option.{same_Some}
 use Rattle.k42_limits.specs.declared.TheConstants.{LAST_INCARNATION}
 use Rattle.k42_kinds.specs.declared.entry.Act.TheVariants.{Swap}
@@ -8,29 +9,33 @@ use Rattle.k42_kinds.specs.Histories.{is_call}
 use Rattle.k42_kinds.specs.declared.entry.Act.{Act}
 use Rattle.k42_kinds.specs.declared.entry.Answer.{Answer}
 use Rattle.k42_kinds.specs.declared.entry.Answer.TheVariants.{Abandoned, Busy, Spent, Gone}
+use Rattle.turn_core.specs.Events.{caller_locked}
 use Rattle.k42_stamp.specs.Layouts.{Layouts}
-use Rattle.phase_core.specs.Effects.{at_stage}
-use Rattle.phase_core.specs.Event.{Clear}
-use Rattle.phase_core.specs.declared.caller.SwapAt.TheVariants.{Opened}
-use Rattle.k42_joined.specs.Event.{AtPhases}
+use Rattle.phase_core.specs.declared.caller.SwapAt.TheVariants.{Idle, Opened, Reopening}
 use Rattle.k42_joined.specs.Numbers.{cell_of}
+use Rattle.k42_board.proofs.Gained.{extends_as, extends_one, extends_on, extends_follows}
 use Rattle.k42_board.specs.Drawing.{entry_alone, alone_view, number_told}
-use Rattle.k42_board.specs.Seen.{PassSeen}
-use Rattle.k42_board.specs.Steps.{StepIs}
-use Rattle.k42_board.specs.Swapping.{object_swapped, clears}
+use Rattle.k42_board.specs.Log.{ComesTo, Extends, last_found, step_at, took, with_log}
+use Rattle.phase_core.specs.Stages.{is_moved}
+use Rattle.k42_board.specs.Plan.{LayoutWords}
+use Rattle.k42_board.specs.Seen.{PassSeen, SysSeen}
+use Rattle.k42_board.specs.Swapping.{at_swap, cleared_view, object_swapped, clears, rows_ended, IsRestored}
 use Rattle.k42_board.specs.Tabling.{is_over_in}
+use Rattle.k42_board.specs.Taking.{LockFound, locked_view}
 use Rattle.k42_board.specs.Values.{answer_in, layout_in, incarnation_in}
-use Rattle.k42_board.specs.Views.{hears, object_begun, word_begun}
-use Rattle.k42_board.specs.Words.{object_word}
+use Rattle.k42_board.specs.Views.{object_begun, word_begun}
+use Rattle.k42_board.specs.Words.{lock_word, object_word, role_word}
 use Rattle.k42_board.specs.declared.view.PassView.{PassView}
+use Rattle.k42_board.specs.declared.view.StepName.TheVariants as names
 use Rattle.k42_mediator.specs.Answers.{begun_in}
 use Rattle.k42_mediator.specs.Entries.{IsNext}
-use Rattle.k42_mediator.specs.Marks.{HasMarked}
-use Rattle.k42_mediator.specs.Swaps.{staged, given_up_view, abandoned_view}
+use Rattle.k42_mediator.specs.Marks.{HasMarked, IsHeldBy, IsMarkAnswer, cell_marked}
+use Rattle.k42_mediator.specs.declared.answers.Marked.{Marked}
+use Rattle.k42_mediator.specs.declared.answers.Marked.TheVariants as marks
+use Rattle.k42_mediator.specs.Swaps.{abandoned_view, HasGivenUp}
 use Rattle.k42_mediator.proofs.AfterMark.{later_stamp}
-use Rattle.k42_mediator.proofs.LeftOpen.{leaves_open}
 use Rattle.k42_runtime.specs.Phases.{end_in}
-use Rattle.k42_runtime.specs.Swaps.{HasFoundFree, IsSameCaller, HasSwapped, HasAbandoned, IsEndBy, answer_told, incarnation_told, cell_told, with_last}
+use Rattle.k42_runtime.specs.Swaps.{HasFoundFree, IsSameCaller, HasSwapped, HasAbandoned, IsCellHeld, IsEndBy, answer_told, incarnation_told, cell_told}
 use Rattle.k42_runtime.specs.declared.swaps.Swapped.TheVariants as ends
 use Rattle.k42_kinds.specs.declared.entry.To.{To}
 
@@ -59,21 +64,19 @@ alone_next v act answer object incarnation act_is o i = record {
 }
 
 -- the swap was given up
-pub gave_up : {S L P : Type 0} (F : Layouts S L P) (declared : List L) (id object : ℕ) (to : To) (v w x : PassView P) → w ≡ hears w.heard v
-    → x ≡ hears x.heard (abandoned_view (Swap to) w) → object_begun v.last ≡ object → HasFoundFree v → v.turned ≡ false
-    → object_swapped w ≡ object
-    → StepIs F declared (AtPhases (Clear w.number)) (object_word (object_swapped w)) (clears (Opened (object_swapped w))) id (given_up_view (Swap to) w) x.heard x
-    → HasAbandoned F declared id object to v x
-gave_up F declared id object to v w x kept knows begun free unturned swapped step =
-    let is : x ≡ hears x.heard (abandoned_view (Swap to) v) = knows ∙ ap (λ (u : PassView _). hears x.heard (abandoned_view (Swap to) u)) kept in
+pub gave_up : {S L P : Type 0} (F : Layouts S L P) (declared : List L) (id object : ℕ) (to : To) (v w x : PassView P) → ComesTo v v w
+    → x ≡ with_log x.log (abandoned_view (Swap to) w) → object_begun v.last ≡ object → HasFoundFree v → v.turned ≡ false
+    → object_swapped w ≡ object → (act : Act) → act ≡ Swap to → HasGivenUp F declared id act w x → HasAbandoned object to v x
+gave_up F declared id object to v w x kept knows begun free unturned swapped act same given =
+    let up = subst (λ (a : Act). HasGivenUp F declared id a w x) same given in
+    let is : x ≡ with_log x.log (abandoned_view (Swap to) v) =
+    knows ∙ ap (λ (u : PassView _). with_log x.log (abandoned_view (Swap to) u)) kept.knows in
     let last : x.last ≡ v.last = ap (λ (u : PassView _). u.last) is in
     let k : ℕ = incarnation_in (word_begun v.last) in
+    let found : ℕ = last_found x.log in
     let entry = entry_alone v (Swap to) (Abandoned (k + 1)) in
-    let number : w.number ≡ x.number = sym (ap (λ (u : PassView _). u.number) knows) in
-    let before : given_up_view (Swap to) w ≡ staged (Opened object) (with_last entry.stamp x.rows x.granted x) =
-    (λ j. record (given_up_view (Swap to) w) { visitor = at_stage w.visitor (Opened (swapped j)) })
-    ∙ ap (λ (u : PassView _). hears (entry_alone w (Swap to) (Abandoned (incarnation_in (word_begun w.last) + 1))).stamp (staged (Opened object) u)) (sym knows)
-    ∙ ap (λ (u : PassView _). hears (entry_alone u (Swap to) (Abandoned (incarnation_in (word_begun u.last) + 1))).stamp (staged (Opened object) x)) kept in
+    let restored : IsRestored (word_begun w.last) (clears (Opened (object_swapped w)) found) =
+    up.cleared.finds refl (ap (λ (u : PassView _). u.turned) kept.knows ∙ unturned) in
     record {
       begun = ap object_begun last ∙ begun;
       free = ap (λ l. begun_in (word_begun l)) last ∙ free;
@@ -82,13 +85,15 @@ gave_up F declared id object to v w x kept knows begun free unturned swapped ste
           subst (λ l. IsNext v object (incarnation_in (word_begun l)) 0 (Swap to) (Abandoned (incarnation_in (word_begun l) + 1)) entry) (sym last)
           (alone_next v (Swap to) (Abandoned (k + 1)) object k refl begun (less k));
       drawn = ap (λ (u : PassView _). u.taker.mine) is;
-      word = x.heard;
-      rows = x.rows;
-      granted = x.granted;
+      log = up.log;
+      since = extends_follows (extends_on kept.log up.since);
+      found = found;
       cleared =
-          subst (λ (z : ℕ × ℕ × PassView _). StepIs F declared (AtPhases (Clear z.0)) (object_word z.1) (clears (Opened z.1)) id z.2 x.heard x)
-          (λ j. (number j, swapped j, before j)) step;
-      opened = leaves_open F declared id object (with_last entry.stamp x.rows x.granted x) (ap (λ (u : PassView _). u.turned) is ∙ unturned);
+          ap (λ (u : PassView _). u.log) up.cleared.knows
+          ∙ ap (λ (o : ℕ). step_at names.Clear (object_word o) found ∷ up.log) swapped;
+      restored =
+          subst (λ (z : ℕ × ℕ). IsRestored z.0 (clears (Opened z.1) found))
+          (λ j. (word_begun ((ap (λ (u : PassView _). u.last) kept.knows ∙ sym last) j), swapped j)) restored;
     }
   where
     less : (n : ℕ) → n + 1 - 1 ≡ n
@@ -96,7 +101,7 @@ gave_up F declared id object to v w x kept knows begun free unturned swapped ste
 
 -- another swap was under way
 pub refused : {P : Type 0} (object number : ℕ) (to : To) (w x : PassView P) → object_begun w.last ≡ object
-    → x ≡ alone_view (entry_alone w (Swap to) (Busy number)) w → HasSwapped object to (ends.Busy number) w x
+    → x ≡ took names.Draw role_word 0 (alone_view (entry_alone w (Swap to) (Busy number)) w) → HasSwapped object to (ends.Busy number) w x
 refused object number to w x begun knows = record {
   begun = ap (λ (u : PassView _). object_begun u.last) knows ∙ begun;
   entry = entry_alone w (Swap to) (Busy number);
@@ -135,7 +140,7 @@ pub marked : {P : Type 0} (object : ℕ) (to : To) (old new : PassSeen P) → ob
 marked object to old new begun over has =
     let word : ℕ = word_begun old.view.last in
     let is = over_ends word has.answer over has.told in
-    let last : new.view.last ≡ old.view.last = ap (λ (u : PassView _). u.last) has.knows in
+    let last : new.view.last ≡ old.view.last = ap (λ (u : PassView _). u.last) has.comes.knows in
     record {
       begun = ap object_begun last ∙ begun;
       entry = has.entry;
@@ -145,26 +150,73 @@ marked object to old new begun over has =
           (subst (λ (x : ℕ × ℕ × ℕ × Answer). IsNext old.view x.0 x.1 x.2 (Swap to) x.3 has.entry)
           (λ j. (begun j, sym (is.incarnation word) j, ((λ k. cell_of (begun k) (incarnation_in word) 0) ∙ sym (is.cell object word)) j, is.told j))
           has.next);
-      drawn = ap (λ (u : PassView _). u.taker.mine) has.knows;
+      drawn = ap (λ (u : PassView _). u.taker.mine) has.comes.knows;
     }
+
+-- the cell was held
+pub found_held : {P : Type 0} (holder : ℕ) (v w : PassView P) → w ≡ took names.Lock (lock_word (cell_marked v)) (holder + 1) (locked_view (cell_marked v) (holder + 1) v)
+    → LockFound (cell_marked v) v (holder + 1) → is_over_in (word_begun v.last) ≡ true
+    → (w ≡ took names.Lock (lock_word (cell_marked v)) (holder + 1) v) × IsCellHeld holder v w
+found_held holder v w is finds over =
+    let n : ℕ = cell_marked v in
+    let knows : w ≡ took names.Lock (lock_word n) (holder + 1) v =
+    is ∙ ap (λ (b : Bool). took names.Lock (lock_word n) (holder + 1) (record v { taker = cond b (caller_locked n v.taker) v.taker })) (ne_eqb (holder + 1) 0 (some holder)) in
+    let few = finds.small in (
+      knows,
+      record {
+        over = ap (λ (u : PassView _). is_over_in (word_begun u.last)) knows ∙ over;
+        locked = record {
+          gained = [];
+          log =
+              ap (λ (u : PassView _). u.log) knows
+              ∙ ap (λ (m : ℕ). step_at names.Lock (lock_word m) (holder + 1) ∷ v.log) (sym (ap (λ (u : PassView _). cell_marked u) knows));
+          meets_none = refl;
+        };
+        another = λ same. finds.another (ap (λ (k : ℕ). k + 1) (same ∙ ap (λ (u : PassView _). u.number) knows));
+        caller = omega (arith, few);
+      },
+    )
+  where
+    some : (n : ℕ) → n + 1 ≡ 0 → ⊥
+    some n none = omega (arith, none)
+
+-- the mark tells so
+pub held_answer : {S L P : Type 0} (words : LayoutWords S L P) (sys : SysSeen L) (answer : Marked) (holder : ℕ) (act : Act) (old new : PassSeen P) → answer ≡ marks.Held holder
+    → IsMarkAnswer words sys answer act old new → IsHeldBy words sys holder old new
+held_answer words sys answer holder act old new is has = subst (λ (a : Marked). IsMarkAnswer words sys a act old new) is has
+
+pub on_done : {A E X : Type 0} (result : Result A E) → is_err result ≡ false → OnOk result X → X
+on_done (Ok value) failed is = is
+on_done (Err error) failed is = absurd (cc)
+
+-- the swap has ended, and its steps have met nothing
+pub cleared_log : {P : Type 0} (found : ℕ) (v w : PassView P) → w ≡ took names.Clear (object_word (object_swapped v)) found (cleared_view v) → Extends v.log w.log
+cleared_log {P} found v w is =
+    extends_as (ap (λ (u : PassView P). u.log) is ∙ ap (λ log. step_at names.Clear (object_word (object_swapped v)) found ∷ log) (go (is_moved v.visitor.swap)))
+    (extends_one (step_at names.Clear (object_word (object_swapped v)) found) v.log refl)
+  where
+    go : (b : Bool)
+        → (cond b (record (at_swap v (Reopening (object_swapped v) 0)) { abandoned = false }) (record (at_swap v Idle) { turned = false; rows = rows_ended v })).log ≡ v.log
+    go true = refl
+    go false = refl
 
 -- what stays of the pass
 
 module _ {P : Type 0} (act : Act) (old new : PassSeen P) (has : HasMarked act old new) where
   pub marked_last : new.view.last ≡ old.view.last
-  marked_last = ap (λ (u : PassView _). u.last) has.knows
+  marked_last = ap (λ (u : PassView _). u.last) has.comes.knows
 
   pub marked_caller : IsSameCaller old.view new.view
   marked_caller = record {
-    number = ap (λ (u : PassView _). u.number) has.knows;
-    proc = ap (λ (u : PassView _). u.turn.proc) has.knows;
-    activities = ap (λ (u : PassView _). u.activities) has.knows;
+    number = ap (λ (u : PassView _). u.number) has.comes.knows;
+    proc = ap (λ (u : PassView _). u.turn.proc) has.comes.knows;
+    activities = ap (λ (u : PassView _). u.activities) has.comes.knows;
   }
 
   pub marked_graces : new.view.graces ≡ old.view.graces
-  marked_graces = ap (λ (u : PassView _). u.graces) has.knows
+  marked_graces = ap (λ (u : PassView _). u.graces) has.comes.knows
 
-module _ {P : Type 0} (act : Act) (v w x : PassView P) (kept : w ≡ hears w.heard v) (knows : x ≡ hears x.heard (abandoned_view act w)) where
+module _ {P : Type 0} (act : Act) (v w x : PassView P) (kept : w ≡ with_log w.log v) (knows : x ≡ with_log x.log (abandoned_view act w)) where
   pub abandoned_caller : IsSameCaller v x
   abandoned_caller = record {
     number = ap (λ (u : PassView _). u.number) knows ∙ ap (λ (u : PassView _). u.number) kept;

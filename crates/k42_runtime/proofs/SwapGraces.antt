@@ -1,5 +1,5 @@
 -- A step of the grace that a swap waits for.
-use Rattle.std.proofs.Common.{◌≡◌, ℕ, ◌+◌, ◌<◌, ◌≤◌, Bool, true, false, ◌&&◌, List, ◌∷◌, Option, Some, None, refl, sym, ap, ◌∙◌, subst, arith}
+use Rattle.std.proofs.Common.{◌≡◌, ℕ, ◌+◌, ◌<◌, ◌≤◌, Bool, true, false, ◌&&◌, [], Option, Some, None, refl, sym, ap, ◌∙◌, subst, arith}
 use Rattle.std.specs.Prelude.{is_none, length}
 use Rattle.gen_core.specs.Events.{is_idle, is_looking}
 use Rattle.gen_core.specs.Plain.{Caller}
@@ -8,19 +8,23 @@ use Rattle.phase_core.specs.Plain.{Visitor}
 use Rattle.phase_core.specs.declared.caller.SwapAt.{SwapAt}
 use Rattle.phase_core.specs.declared.caller.SwapAt.TheVariants.{Draining}
 use Rattle.turn_core.specs.Plain as turns
-use Rattle.k42_stamp.specs.Layouts.{Layouts}
 use Rattle.k42_board.specs.Generations.{MOST}
+use Rattle.k42_board.specs.Gracing.{RoleFound, role_view}
+use Rattle.k42_board.specs.Log.{took}
 use Rattle.k42_board.specs.Seen.{PassSeen, IsSamePass}
-use Rattle.k42_board.specs.Views.{hears, stalled, word_begun}
+use Rattle.k42_board.specs.Views.{word_begun}
+use Rattle.k42_board.specs.Words.{role_word}
 use Rattle.k42_board.specs.declared.view.PassView.{PassView}
-use Rattle.k42_quiesce.specs.Gracing.{IsLeft, IsRoleHeld, GoesOn, HasLooked, TriesRole, has_role, with_role}
+use Rattle.k42_board.specs.declared.view.StepName.TheVariants as names
+use Rattle.k42_quiesce.proofs.GoingOn.{not_taken}
+use Rattle.k42_quiesce.specs.Gracing.{IsLeft, GoesOn, has_role, with_role}
 use Rattle.k42_quiesce.specs.declared.steps.GraceStep.{GraceStep}
 use Rattle.k42_quiesce.specs.declared.steps.GraceStep.TheVariants.{Again}
 use Rattle.k42_quiesce.specs.declared.steps.Held.{Held}
 use Rattle.k42_quiesce.specs.declared.steps.Held.TheVariants.{Left, RoleHeld}
 use Rattle.k42_mediator.specs.Answers.{begun_in}
 use Rattle.k42_runtime.specs.Phases.{cause_in}
-use Rattle.k42_runtime.specs.Swaps.{SwapSeen, IsUnderWay, IsWaiting, HasFoundFree, IsAtStage, IsSameCaller, IsHeldUpBy, IsNewlyFound, MayHoldUp, IsStepBy, graces_due}
+use Rattle.k42_runtime.specs.Swaps.{SwapSeen, IsUnderWay, IsWaiting, HasFoundFree, IsAtStage, IsSameCaller, IsHeldUpBy, MayHoldUp, IsStepBy, graces_due}
 use Rattle.k42_runtime.specs.declared.swaps.Cause.{Cause}
 use Rattle.k42_runtime.specs.declared.swaps.Cause.TheVariants as causes
 use Rattle.k42_runtime.specs.declared.swaps.Stage.TheVariants.{Waiting}
@@ -43,7 +47,6 @@ module _ {P : Type 0} (object : ℕ) where
     pub last : w.last ≡ v.last
     pub place : w.visitor.place ≡ v.visitor.place
     pub notes : w.notes ≡ v.notes
-    pub refused : w.refused ≡ v.refused
 
   pub has_role_now : (holder : Option ℕ) (v w : PassView P) → IsWaiting object holder v → GoesOn (with_role holder v) w → HasRole holder v w
   has_role_now None v w is goes = record {
@@ -61,7 +64,6 @@ module _ {P : Type 0} (object : ℕ) where
     last = ap (λ (x : PassView P). x.last) goes.rest;
     place = ap (λ (x : Visitor). x.place) goes.visitor;
     notes = ap (λ (x : PassView P). x.notes) goes.rest;
-    refused = ap (λ (x : PassView P). x.refused) goes.rest;
   }
   has_role_now (Some holder) v w is goes = record {
     swap = ap (λ (x : Visitor). x.swap) goes.visitor ∙ ap (drained_at w.turn.grace) is.0;
@@ -76,15 +78,12 @@ module _ {P : Type 0} (object : ℕ) where
     last = ap (λ (x : PassView P). x.last) goes.rest;
     place = ap (λ (x : Visitor). x.place) goes.visitor;
     notes = ap (λ (x : PassView P). x.notes) goes.rest;
-    refused = ap (λ (x : PassView P). x.refused) goes.rest;
   } where
     more : (n : ℕ) → n ≡ n + 0
     more n = omega arith
 
 -- the grace is held up, and with it the swap
-pub record IsHeldUp
-    {S L P : Type 0} (F : Layouts S L P) (declared : List L) (objects : ℕ) (s t : SwapSeen) (held : Held) (old new : PassSeen P)
-    : Type 0 where
+pub record IsHeldUp {P : Type 0} (objects : ℕ) (s t : SwapSeen) (held : Held) (old new : PassSeen P) : Type 0 where
   pub stage : IsAtStage t.stage objects t new
   pub caller : IsSameCaller old.view new.view
   pub graces : new.view.graces + graces_due t.stage t.holder ≤ old.view.graces + graces_due s.stage s.holder
@@ -92,8 +91,12 @@ pub record IsHeldUp
   pub place : new.view.visitor.place ≡ old.view.visitor.place
   pub notes : new.view.notes ≡ old.view.notes
   pub told : IsStepBy (word_begun new.view.last) (steps.Again (cause_in held))
-  pub newly : IsNewlyFound (cause_in held) old.view new.view
-  pub found : IsHeldUpBy F declared old.seat (cause_in held) new.view
+  pub found : IsHeldUpBy (cause_in held) old.view new.view
+
+-- a try has found the role with this caller
+pub record HasTriedRole {P : Type 0} (holder : ℕ) (v w : PassView P) : Type 0 where
+  pub knows : w ≡ took names.TakeRole role_word (holder + 1) (role_view (holder + 1) v)
+  pub finds : RoleFound v (holder + 1)
 
 module _ {P : Type 0} (objects : ℕ) (s t : SwapSeen) (old new : PassSeen P) (same : IsSamePass old new)
     (first : s.stage ≡ Waiting) (stays : t.stage ≡ s.stage) (object : t.object ≡ s.object)
@@ -121,15 +124,12 @@ module _ {P : Type 0} (objects : ℕ) (s t : SwapSeen) (old new : PassSeen P) (s
   told_free : (word : ℕ) (cause : Cause) → begun_in word ≡ Begun → MayHoldUp Begun cause → IsStepBy word (steps.Again cause)
   told_free word cause e may = subst (λ b. MayHoldUp b cause) (sym e) may
 
-  pub held_up : {S L : Type 0} (F : Layouts S L P) (declared : List L) (answer : GraceStep) (held : Held) → answer ≡ Again held
-      → ((proc left : ℕ) → answer ≡ Again (Left proc left) → IsLeft proc left new.view)
-      → ((proc left : ℕ) → answer ≡ Again (Left proc left) → HasLooked F declared new.seat proc new.view)
-      → ((proc left : ℕ) → answer ≡ Again (Left proc left) → new.view.stalls ≡ new.view.heard ∷ old.view.stalls)
-      → ((holder : ℕ) → answer ≡ Again (RoleHeld holder) → IsRoleHeld holder old.view new.view × (s.holder ≡ None) × (t.holder ≡ None))
-      → ((holder : ℕ) → answer ≡ Again (RoleHeld holder) → TriesRole F declared old.seat old.view (holder + 1))
+  pub held_up : (answer : GraceStep) (held : Held) → answer ≡ Again held
+      → ((proc left : ℕ) → answer ≡ Again (Left proc left) → IsLeft proc left old.view new.view)
+      → ((holder : ℕ) → answer ≡ Again (RoleHeld holder) → HasTriedRole holder old.view new.view × (s.holder ≡ None) × (t.holder ≡ None))
       → (has_role answer ≡ true → GoesOn (with_role s.holder old.view) new.view × (t.holder ≡ Some new.view.number))
-      → IsHeldUp F declared objects s t held old new
-  held_up F declared answer (Left proc left) e looks looked stalls holds tries goes =
+      → IsHeldUp objects s t held old new
+  held_up answer (Left proc left) e looks holds goes =
       let is = looks proc left e in
       let went = goes (ap has_role e) in
       let has = has_role_now s.object s.holder old.view new.view waits went.0 in
@@ -145,16 +145,16 @@ module _ {P : Type 0} (objects : ℕ) (s t : SwapSeen) (old new : PassSeen P) (s
         place = has.place;
         notes = has.notes;
         told = told_free (word_begun new.view.last) (causes.Left proc left) (ap (λ last. begun_in (word_begun last)) has.last ∙ free) tt;
-        newly = stalls proc left e;
-        found = (is, subst (λ (id : ℕ). HasLooked F declared id proc new.view) same.seat (looked proc left e));
+        found = is;
       }
-  held_up F declared answer (RoleHeld holder) e looks looked stalls holds tries goes =
+  held_up answer (RoleHeld holder) e looks holds goes =
       let is = holds holder e in
-      let knows : new.view ≡ hears (holder + 1) (stalled (holder + 1) old.view) = is.0.knows in
+      let knows : new.view ≡ took names.TakeRole role_word (holder + 1) old.view = not_taken old.view new.view (holder + 1) is.0.knows (omega arith) in
       let was : IsWaiting s.object None old.view = subst (λ h. IsWaiting s.object h old.view) is.1 waits in
       let now : IsWaiting t.object None new.view =
       subst (λ (x : ℕ × PassView P). IsWaiting x.0 None x.1) (λ j. (sym object j, sym knows j))
       (was.0, record { free = was.1.free; swap = was.1.swap; few = was.1.few }) in
+      let few = is.0.finds.small in
       record {
         stage =
             waiting (ap (λ (v : PassView P). v.last) knows) (ap (λ (v : PassView P). v.taker) knows)
@@ -171,11 +171,9 @@ module _ {P : Type 0} (objects : ℕ) (s t : SwapSeen) (old new : PassSeen P) (s
         told =
             told_free (word_begun new.view.last) (causes.RoleHeld holder)
             (ap (λ (v : PassView P). begun_in (word_begun v.last)) knows ∙ free) tt;
-        newly = ap (λ (v : PassView P). v.stalls) knows;
         found = record {
-          before = old.view;
-          may = record { free = was.1.free; swap = was.1.swap; few = was.1.few };
-          held = is.0;
-          step = tries holder e;
+          tried = record { gained = []; log = ap (λ (v : PassView P). v.log) knows; meets_none = refl };
+          another = λ same. is.0.finds.another (ap (λ (n : ℕ). n + 1) (same ∙ ap (λ (v : PassView P). v.number) knows));
+          caller = omega (arith, few);
         };
       }

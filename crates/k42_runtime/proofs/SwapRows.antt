@@ -1,26 +1,19 @@
 -- A swap that has ended, between the collecting of rows and their handing over.
-use Rattle.std.proofs.Common.{◌≡◌, ⊎_elim, inl, inr, ℕ, ◌+◌, ◌≤◌, ◌<◌, List, [], ◌++◌, Result, Ok, Err, length, take, sym, ap, ◌∙◌, subst, arith}
-use Rattle.std.proofs.Math.Seq.{take-length}
-use Rattle.phase_core.specs.Plain.{Visitor}
+use Rattle.std.proofs.Common.{◌≡◌, ⊎_elim, inl, inr, ℕ, ◌+◌, ◌≤◌, ◌<◌, List, ◌++◌, Result, Ok, Err, length, sym, ap, ◌∙◌, subst}
 use Rattle.phase_core.specs.Stages.{is_out}
-use Rattle.k42_stamp.specs.Layouts.{Layouts}
-use Rattle.k42_board.specs.Gracing.{role_view}
-use Rattle.k42_board.specs.Noting.{notes_due}
+use Rattle.k42_board.proofs.Gained.{follows_as, follows_same}
+use Rattle.k42_board.specs.Log.{Follows}
 use Rattle.k42_board.specs.Seen.{PassSeen}
 use Rattle.k42_board.specs.Views.{word_begun}
 use Rattle.k42_board.specs.declared.view.PassView.{PassView}
 use Rattle.k42_board.specs.declared.view.Row.{Row}
 use Rattle.k42_quiesce.specs.Collecting.{HasCollected, HasHandedOver}
-use Rattle.k42_quiesce.specs.Gracing.{GoesOn}
-use Rattle.k42_runtime.specs.Phases.{last_step}
-use Rattle.k42_runtime.specs.Reclaims.{with_rows}
-use Rattle.k42_runtime.specs.Swaps.{SwapSeen, IsSameCaller, IsEndBy, HasSwapped, HasNotBegun, HasAbandoned, HasStepped, HasEnded, StepsWithoutMemory, EndsWithoutMemory, graces_due}
-use Rattle.k42_runtime.specs.Systems.{SystemSeen, IsPassHere, IsAtRest, layouts_in, SystemPart, SystemPass}
-use Rattle.k42_runtime.specs.declared.swaps.Stage.TheVariants.{New}
+use Rattle.k42_runtime.specs.Swaps.{IsSameCaller, IsEndBy, HasSwapped, HasNotBegun, HasAbandoned, HasEnded, EndsWithoutMemory}
+use Rattle.k42_runtime.specs.Systems.{SystemSeen, IsPassHere, IsAtRest, SystemPart, SystemPass}
 use Rattle.k42_runtime.specs.declared.swaps.Swapped.{Swapped}
 use Rattle.k42_kinds.specs.declared.entry.To.{To}
 use Rattle.k42_runtime.proofs.SwapSteps.{same_caller, swapped_before, abandoned_before}
-use Rattle.k42_runtime.proofs.SwapWaits.{new_swap, rests_over}
+use Rattle.k42_runtime.proofs.SwapWaits.{not_begun}
 
 -- it has other rows, and nothing else is changed
 pub record HasRows {P : Type 0} (old new : PassSeen P) : Type 0 where
@@ -49,42 +42,6 @@ handed_here system mid new handed here = record {
   held = ap (λ (v : PassView SystemPart). v.taker.held) handed.knows ∙ here.held;
   notes = ap (λ (v : PassView SystemPart). v.notes) handed.knows ∙ here.notes;
 }
-
-not_begun : {P : Type 0} (v w : PassView P) (rows : List Row) (granted : ℕ) → w ≡ record v { rows = rows; granted = granted } → HasNotBegun v w
-not_begun v w rows granted e =
-    e ∙ (λ j. record v { rows = sym (ap (λ (u : PassView _). u.rows) e) j; granted = sym (ap (λ (u : PassView _). u.granted) e) j })
-
--- the last step of a swap
-module _ (system : SystemSeen) (object : ℕ) (to : To) (t : SwapSeen) (old new : SystemPass) where
-  one_grace : (new due old : ℕ) → new + due ≤ old + 1 → new ≤ old + 1
-  one_grace new due old le = omega (arith, le)
-
-  out_of_memory : {S L P : Type 0} (F : Layouts S L P) (declared : List L) (id : ℕ) (v w : PassView P) → StepsWithoutMemory F declared id New object to v w
-      → EndsWithoutMemory F declared id object to v w
-  out_of_memory F declared id v w = ⊎_elim (λ (is : (New ≡ New) × (w ≡ v)). inl (not_begun v w v.rows v.granted is.1)) (λ (is : HasAbandoned F declared id object to v w). inr is)
-
-  pub ended_now : {E : Type 0} (result : Result Swapped E) → HasStepped system (last_step result) (new_swap object to) t old new
-      → HasEnded system object to result old new
-  ended_now (Ok end) is = record {
-    here = is.here;
-    rests = rests_over t.stage (length system.plan.objects) t new is.over is.stage;
-    seat = is.seat;
-    caller = is.caller;
-    graces = let le = is.graces in one_grace new.view.graces (graces_due t.stage t.holder) old.view.graces le;
-    told = is.told;
-    ended = is.brought;
-    memory = tt;
-  }
-  ended_now (Err error) is = record {
-    here = is.here;
-    rests = rests_over t.stage (length system.plan.objects) t new is.over is.stage;
-    seat = is.seat;
-    caller = is.caller;
-    graces = let le = is.graces in one_grace new.view.graces (graces_due t.stage t.holder) old.view.graces le;
-    told = tt;
-    ended = tt;
-    memory = out_of_memory (layouts_in system) system.sys.layouts old.seat old.view new.view is.brought;
-  }
 
 -- the pass before it collects, after it, before it hands over, and after that
 module _ {P : Type 0} (p0 p1 p2 p3 : PassSeen P) (first : HasRows p0 p1) (last : HasRows p2 p3) where
@@ -119,18 +76,19 @@ module _ {P : Type 0} (p0 p1 p2 p3 : PassSeen P) (first : HasRows p0 p1) (last :
       let is = swapped_before p0.view p1.view p2.view collected_caller collected_drawn object to end swapped in
       subst (HasSwapped object to end p0.view) (sym last.knows) (record { begun = is.begun; entry = is.entry; next = is.next; drawn = is.drawn })
 
-  pub still_without : {S L : Type 0} (F : Layouts S L P) (declared : List L) (object : ℕ) (to : To) → EndsWithoutMemory F declared p1.seat object to p1.view p2.view
-      → EndsWithoutMemory F declared p0.seat object to p0.view p3.view
-  still_without F declared object to =
+  collected_log : Follows p0.view.log p1.view.log
+  collected_log = follows_as (ap (λ (v : PassView P). v.log) first.knows) (follows_same p0.view.log)
+
+  pub still_without : (object : ℕ) (to : To) → EndsWithoutMemory object to p1.view p2.view → EndsWithoutMemory object to p0.view p3.view
+  still_without object to =
       ⊎_elim
       (λ (is : HasNotBegun p1.view p2.view). inl (not_begun p0.view p3.view last.rows last.granted
       (last.knows ∙ ap (λ (v : PassView P). record v { rows = last.rows; granted = last.granted }) is
       ∙ ap (λ (v : PassView P). record v { rows = last.rows; granted = last.granted }) first.knows)))
-      (λ (gave : HasAbandoned F declared p1.seat object to p1.view p2.view). inr
-      (let is = abandoned_before p0.view p1.view p2.view collected_caller collected_drawn F declared p1.seat object to gave in
-      subst (λ (id : ℕ). HasAbandoned F declared id object to p0.view p3.view) first.seat
-      (subst (HasAbandoned F declared p1.seat object to p0.view) (sym last.knows)
-      (record { begun = is.begun; free = is.free; entry = is.entry; next = is.next; drawn = is.drawn; word = is.word; rows = is.rows; granted = is.granted; cleared = is.cleared; opened = is.opened }))))
+      (λ (gave : HasAbandoned object to p1.view p2.view). inr
+      (let is = abandoned_before p0.view p1.view p2.view collected_caller collected_drawn object to collected_log gave in
+      subst (HasAbandoned object to p0.view) (sym last.knows)
+      (record { begun = is.begun; free = is.free; entry = is.entry; next = is.next; drawn = is.drawn; log = is.log; since = is.since; found = is.found; cleared = is.cleared; restored = is.restored })))
 
 pub ended_still : {E : Type 0} (system : SystemSeen) (object : ℕ) (to : To) (result : Result Swapped E) (p0 p1 p2 p3 : SystemPass) → HasRows p0 p1
     → HasRows p2 p3 → IsPassHere system p3 → HasEnded system object to result p1 p2 → HasEnded system object to result p0 p3
@@ -152,19 +110,5 @@ ended_still system object to (Err error) p0 p1 p2 p3 first last here is = record
   graces = still_few p0 p1 p2 p3 first last is.graces;
   told = tt;
   ended = tt;
-  memory = still_without p0 p1 p2 p3 first last (layouts_in system) system.sys.layouts object to is.memory;
+  memory = still_without p0 p1 p2 p3 first last object to is.memory;
 }
-
--- a grace that begins once rows were collected
-module _ {P : Type 0} (old mid : PassSeen P) (more : List Row) (w : PassView P) (is : HasCollected more old mid) (goes : GoesOn (role_view 0 mid.view) w) where
-  -- it serves all rows that the pass has
-  pub serves_all : take w.granted w.rows ≡ old.view.rows ++ more
-  serves_all =
-      (λ j. take (ap (λ (v : PassView P). v.granted) goes.rest j) (ap (λ (v : PassView P). v.rows) goes.rest j)) ∙ take-length mid.view.rows
-      ∙ ap (λ (v : PassView P). v.rows) is.knows
-
-  pub notes_all : w.visitor.noted ≡ notes_due (with_rows more old.view)
-  notes_all = ap (λ (x : Visitor). x.noted) goes.visitor ∙ ap notes_due is.knows
-
-  pub none_listed : w.freed ≡ []
-  none_listed = ap (λ (v : PassView P). v.freed) goes.rest

@@ -1,16 +1,17 @@
 -- A swap that is stepped on: what its steps bring, seen from a step before.
-use Rattle.std.proofs.Common.{◌≡◌, ⊎_elim, inl, inr, ℕ, ◌+◌, ◌<◌, ◌≤◌, true, List, [], ◌∷◌, ◌++◌, None, length, refl, ap, ◌∙◌, subst, arith}
+use Rattle.std.proofs.Common.{◌≡◌, ⊎_elim, inl, inr, ℕ, ◌+◌, ◌<◌, ◌≤◌, [], ◌∷◌, ◌++◌, None, length, ap, ◌∙◌, subst, arith}
 use Rattle.k42_kinds.specs.declared.entry.Act.{Act}
 use Rattle.k42_kinds.specs.declared.entry.Answer.{Answer}
 use Rattle.k42_kinds.specs.declared.entry.Entry.{Entry}
 use Rattle.turn_core.specs.Stamps.{last_stamp}
-use Rattle.k42_stamp.specs.Layouts.{Layouts}
+use Rattle.k42_board.proofs.Gained.{extends_on, ends_on, extends_follows, ends_follows, follows_on}
+use Rattle.k42_board.specs.Log.{Follows, Extends}
 use Rattle.k42_board.specs.Seen.{PassSeen}
 use Rattle.k42_board.specs.declared.view.PassView.{PassView}
 use Rattle.k42_mediator.specs.Entries.{IsNext}
 use Rattle.k42_runtime.specs.Phases.{HasGoneOn}
-use Rattle.k42_runtime.specs.Swaps.{SwapSeen, IsSameCaller, IsHeldUpBy, IsNewlyFound, HasSwapped, HasAbandoned, HasBrought, HasStepped, is_last, graces_due}
-use Rattle.k42_runtime.specs.Systems.{SystemSeen, layouts_in, SystemPass}
+use Rattle.k42_runtime.specs.Swaps.{SwapSeen, IsSameCaller, IsHeldUpBy, HasSwapped, HasAbandoned, HasBrought, HasStepped, graces_due}
+use Rattle.k42_runtime.specs.Systems.{SystemSeen, SystemPass}
 use Rattle.k42_runtime.specs.declared.swaps.Cause.{Cause}
 use Rattle.k42_runtime.specs.declared.swaps.Cause.TheVariants as causes
 use Rattle.k42_runtime.specs.declared.swaps.Stage.TheVariants.{New}
@@ -54,75 +55,99 @@ module _ {P : Type 0} (u v w : PassView P) (same : IsSameCaller u v) (drawn : v.
     drawn = is.drawn ∙ ap (λ mine. mine ++ is.entry ∷ []) drawn;
   }
 
-  pub abandoned_before : {S L : Type 0} (F : Layouts S L P) (declared : List L) (id object : ℕ) (to : To) → HasAbandoned F declared id object to v w
-      → HasAbandoned F declared id object to u w
-  abandoned_before F declared id object to is = record {
+  pub abandoned_before : (object : ℕ) (to : To) → Follows u.log v.log → HasAbandoned object to v w → HasAbandoned object to u w
+  abandoned_before object to follows is = record {
     begun = is.begun;
     free = is.free;
     entry = is.entry;
     next = next_before object _ 0 _ _ is.entry is.next;
     drawn = is.drawn ∙ ap (λ mine. mine ++ is.entry ∷ []) drawn;
-    word = is.word;
-    rows = is.rows;
-    granted = is.granted;
+    log = is.log;
+    since = follows_on follows is.since;
+    found = is.found;
     cleared = is.cleared;
-    opened = is.opened;
+    restored = is.restored;
   }
 
--- nothing has held the pass up
-pub record IsUnstalled {P : Type 0} (old new : PassView P) : Type 0 where
-  pub refused : new.refused ≡ old.refused
-  pub stalls : new.stalls ≡ old.stalls
+-- what has held it up, seen from before steps that met nothing
+held_before : {P : Type 0} (cause : Cause) (old mid new : PassView P) → Extends old.log mid.log → IsHeldUpBy cause mid new → IsHeldUpBy cause old new
+held_before (causes.Left proc left) old mid new free is =
+    record { at = is.at; there = is.there; some = is.some; exits = is.exits; looked = ends_on free is.looked; short = is.short }
+held_before (causes.RoleHeld holder) old mid new free is = record { tried = ends_on free is.tried; another = is.another; caller = is.caller }
+held_before (causes.InFlight count) old mid new free is = record { found = is.found; moved = ends_on free is.moved; count_is = is.count_is; some = is.some }
+held_before (causes.CellHeld holder) old mid new free is =
+    record { over = is.over; locked = ends_on free is.locked; another = is.another; caller = is.caller }
 
-newly_before : {P : Type 0} (cause : Cause) (old mid new : PassView P) → IsUnstalled old mid → IsNewlyFound cause mid new → IsNewlyFound cause old new
-newly_before (causes.Left proc left) old mid new free is = is ∙ ap (λ words. new.heard ∷ words) free.stalls
-newly_before (causes.RoleHeld holder) old mid new free is = is ∙ ap (λ words. (holder + 1) ∷ words) free.stalls
-newly_before (causes.InFlight count) old mid new free is = is ∙ ap (λ words. new.heard ∷ words) free.stalls
-newly_before (causes.CellHeld holder) old mid new free is = is ∙ ap (λ words. (holder + 1) ∷ words) free.refused
+-- what a pass logs that is held up follows what it had logged
+pub held_follows : {P : Type 0} (cause : Cause) (old new : PassView P) → IsHeldUpBy cause old new → Follows old.log new.log
+held_follows (causes.Left proc left) old new is = ends_follows is.looked
+held_follows (causes.RoleHeld holder) old new is = ends_follows is.tried
+held_follows (causes.InFlight count) old new is = ends_follows is.moved
+held_follows (causes.CellHeld holder) old new is = ends_follows is.locked
 
 pub fewer : (a b c : ℕ) → b ≤ a → c ≤ b → c ≤ a
 fewer a b c first second = omega (arith, first, second)
 
--- a step that ends its swap has not been held up
-pub not_held : (result : Step) (cause : Cause) → is_last result ≡ true → result ≡ Again cause → ⊥
-not_held (Again held) cause last is = cc
-not_held (Ended end) cause last is = cc
-not_held Memory cause last is = cc
+-- by steps that draw nothing, whatever they met
+pub record HasComeOn {P : Type 0} (s t : SwapSeen) (old new : PassSeen P) : Type 0 where
+  pub object : t.object ≡ s.object
+  pub to : t.to ≡ s.to
+  pub seat : new.seat ≡ old.seat
+  pub caller : IsSameCaller old.view new.view
+  pub drawn : new.view.taker.mine ≡ old.view.taker.mine
+  pub log : Follows old.view.log new.view.log
+  pub graces : new.view.graces + graces_due t.stage t.holder ≤ old.view.graces + graces_due s.stage s.holder
+  pub waits : t.stage ≡ New → (s.stage ≡ New) × (new.view ≡ old.view)
 
-module _ (system : SystemSeen) (s m t : SwapSeen) (old mid new : SystemPass) (goes : HasGoneOn s m old mid) where
-  brought_before : (result : Step) → ((cause : Cause) → result ≡ Again cause → IsUnstalled old.view mid.view) → HasBrought system result m mid new
-      → HasBrought system result s old new
-  brought_before (Ended end) free is =
-      subst (λ (x : ℕ × To). HasSwapped x.0 x.1 end old.view new.view) (λ j. (goes.object j, goes.to j))
-      (swapped_before old.view mid.view new.view goes.caller goes.drawn m.object m.to end is)
-  brought_before (Again cause) free is = (
-    is.0 ∙ goes.drawn,
-    newly_before cause old.view mid.view new.view (free cause refl) is.1,
-    subst (λ (id : ℕ). IsHeldUpBy (layouts_in system) system.sys.layouts id cause new.view) goes.seat is.2,
-  )
-  brought_before Memory free is =
-      ⊎_elim (λ (is : (m.stage ≡ New) × (new.view ≡ mid.view)). let was = goes.waits is.0 in inl (was.0, is.1 ∙ was.1))
-      (λ (is : HasAbandoned (layouts_in system) system.sys.layouts mid.seat m.object m.to mid.view new.view). inr (
-      subst (λ (x : ℕ × ℕ × To). HasAbandoned (layouts_in system) system.sys.layouts x.0 x.1 x.2 old.view new.view)
-      (λ j. (goes.seat j, goes.object j, goes.to j))
-      (abandoned_before old.view mid.view new.view goes.caller goes.drawn (layouts_in system) system.sys.layouts mid.seat m.object m.to is)))
-      is
+come_on : {P : Type 0} (s t : SwapSeen) (old new : PassSeen P) → HasGoneOn s t old new → HasComeOn s t old new
+come_on s t old new goes = record {
+  object = goes.object;
+  to = goes.to;
+  seat = goes.seat;
+  caller = goes.caller;
+  drawn = goes.drawn;
+  log = extends_follows goes.log;
+  graces = goes.graces;
+  waits = goes.waits;
+}
 
-  pub stepped_before : (result : Step) → ((cause : Cause) → result ≡ Again cause → IsUnstalled old.view mid.view) → HasStepped system result m t mid new
-      → HasStepped system result s t old new
-  stepped_before result free is = record {
+module _ (system : SystemSeen) (s m t : SwapSeen) (old mid new : SystemPass) (comes : HasComeOn s m old mid) where
+  pub swapped_since : (end : Swapped) → HasSwapped m.object m.to end mid.view new.view → HasSwapped s.object s.to end old.view new.view
+  swapped_since end is =
+      subst (λ (x : ℕ × To). HasSwapped x.0 x.1 end old.view new.view) (λ j. (comes.object j, comes.to j))
+      (swapped_before old.view mid.view new.view comes.caller comes.drawn m.object m.to end is)
+
+  pub memory_since : HasBrought system Memory m mid new → HasBrought system Memory s old new
+  memory_since =
+      ⊎_elim (λ (is : (m.stage ≡ New) × (new.view ≡ mid.view)). let was = comes.waits is.0 in inl (was.0, is.1 ∙ was.1))
+      (λ (is : HasAbandoned m.object m.to mid.view new.view). inr (
+      subst (λ (x : ℕ × To). HasAbandoned x.0 x.1 old.view new.view) (λ j. (comes.object j, comes.to j))
+      (abandoned_before old.view mid.view new.view comes.caller comes.drawn m.object m.to comes.log is)))
+
+  stepped_since : (result : Step) → HasBrought system result s old new → HasStepped system result m t mid new → HasStepped system result s t old new
+  stepped_since result brought is = record {
     here = is.here;
     stage = is.stage;
     begun = is.begun;
-    object = is.object ∙ goes.object;
-    to = is.to ∙ goes.to;
+    object = is.object ∙ comes.object;
+    to = is.to ∙ comes.to;
     over = is.over;
-    seat = is.seat ∙ goes.seat;
-    caller = same_caller old.view mid.view new.view goes.caller is.caller;
+    seat = is.seat ∙ comes.seat;
+    caller = same_caller old.view mid.view new.view comes.caller is.caller;
     graces =
-        let first = goes.graces in let second = is.graces in
+        let first = comes.graces in let second = is.graces in
         fewer (old.view.graces + graces_due s.stage s.holder) (mid.view.graces + graces_due m.stage m.holder)
         (new.view.graces + graces_due t.stage t.holder) first second;
     told = is.told;
-    brought = brought_before result free is.brought;
+    brought = brought;
   }
+
+module _ (system : SystemSeen) (s m t : SwapSeen) (old mid new : SystemPass) (goes : HasGoneOn s m old mid) where
+  brought_before : (result : Step) → HasBrought system result m mid new → HasBrought system result s old new
+  brought_before (Ended end) is = (swapped_since system s m t old mid new (come_on s m old mid goes) end is.0, extends_on goes.log is.1)
+  brought_before (Again cause) is = (is.0 ∙ goes.drawn, held_before cause old.view mid.view new.view goes.log is.1)
+  brought_before Memory is = memory_since system s m t old mid new (come_on s m old mid goes) is
+
+  pub stepped_before : (result : Step) → HasStepped system result m t mid new → HasStepped system result s t old new
+  stepped_before result is =
+      stepped_since system s m t old mid new (come_on s m old mid goes) result (brought_before result is.brought) is

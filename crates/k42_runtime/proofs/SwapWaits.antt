@@ -1,22 +1,27 @@
 -- A swap that is stepped until it is over.
-use Rattle.std.proofs.Common.{◌≡◌, ℕ, ◌+◌, true, false, None, length, refl, ◌∙◌, arith}
+use Rattle.std.proofs.Common.{◌≡◌, ⊎_elim, inl, inr, ℕ, ◌+◌, ◌≤◌, true, false, List, Result, Ok, Err, length, refl, sym, ap, ◌∙◌, subst, arith}
+use Rattle.k42_board.proofs.Gained.{follows_on, follows_same}
 use Rattle.k42_board.specs.Seen.{PassSeen}
-use Rattle.k42_runtime.specs.Phases.{HasGoneOn}
-use Rattle.k42_runtime.specs.Swaps.{SwapSeen, IsAtStage, HasStepped, is_over, graces_due}
+use Rattle.k42_board.specs.declared.view.PassView.{PassView}
+use Rattle.k42_board.specs.declared.view.Row.{Row}
+use Rattle.k42_runtime.specs.Phases.{last_step}
+use Rattle.k42_runtime.specs.Swaps.{SwapSeen, IsAtStage, HasNotBegun, HasAbandoned, HasStepped, HasEnded, StepsWithoutMemory, EndsWithoutMemory, is_over, graces_due}
 use Rattle.k42_runtime.specs.Systems.{SystemSeen, IsPassHere, IsAtRest, SystemPass}
 use Rattle.k42_runtime.specs.declared.swaps.Cause.{Cause}
 use Rattle.k42_runtime.specs.declared.swaps.Stage.{Stage}
 use Rattle.k42_runtime.specs.declared.swaps.Stage.TheVariants as stages
-use Rattle.k42_runtime.specs.declared.swaps.Step.TheVariants.{Again}
+use Rattle.k42_runtime.specs.declared.swaps.Step.{Step}
+use Rattle.k42_runtime.specs.declared.swaps.Step.TheVariants.{Again, Ended, Memory}
+use Rattle.k42_runtime.specs.declared.swaps.Swapped.{Swapped}
 use Rattle.k42_kinds.specs.declared.entry.To.{To}
-use Rattle.k42_runtime.proofs.SwapSteps.{same_caller, fewer}
+use Rattle.k42_runtime.proofs.SwapSteps.{HasComeOn, held_follows, same_caller, fewer, swapped_since, memory_since}
 
 -- it has been stepped some times, and is not over
 pub record IsStepped (system : SystemSeen) (s t : SwapSeen) (old new : SystemPass) : Type 0 where
   pub here : IsPassHere system new
   pub stage : IsAtStage t.stage (length system.plan.objects) t new
   pub going : is_over t.stage ≡ false
-  pub goes : HasGoneOn s t old new
+  pub comes : HasComeOn s t old new
 
 pub not_stepped : (system : SystemSeen) (s : SwapSeen) (new : SystemPass) → IsPassHere system new
     → IsAtStage s.stage (length system.plan.objects) s new → is_over s.stage ≡ false → IsStepped system s s new new
@@ -24,12 +29,13 @@ not_stepped system s new here stage going = record {
   here = here;
   stage = stage;
   going = going;
-  goes = record {
+  comes = record {
     object = refl;
     to = refl;
     seat = refl;
     caller = record { number = refl; proc = refl; activities = refl };
     drawn = refl;
+    log = follows_same new.view.log;
     graces = omega arith;
     waits = λ e. (e, refl);
   };
@@ -42,14 +48,15 @@ stepped_again system s m t old mid new cause is step =
       here = step.here;
       stage = step.stage;
       going = step.over;
-      goes = record {
-        object = step.object ∙ is.goes.object;
-        to = step.to ∙ is.goes.to;
-        seat = step.seat ∙ is.goes.seat;
-        caller = same_caller old.view mid.view new.view is.goes.caller step.caller;
-        drawn = step.brought.0 ∙ is.goes.drawn;
+      comes = record {
+        object = step.object ∙ is.comes.object;
+        to = step.to ∙ is.comes.to;
+        seat = step.seat ∙ is.comes.seat;
+        caller = same_caller old.view mid.view new.view is.comes.caller step.caller;
+        drawn = step.brought.0 ∙ is.comes.drawn;
+        log = follows_on is.comes.log (held_follows cause mid.view new.view step.brought.1);
         graces =
-            let first = is.goes.graces in let second = step.graces in
+            let first = is.comes.graces in let second = step.graces in
             fewer (old.view.graces + graces_due s.stage s.holder) (mid.view.graces + graces_due m.stage m.holder)
             (new.view.graces + graces_due t.stage t.holder) first second;
         waits = λ e. absurd (step.begun e);
@@ -64,5 +71,46 @@ rests_over stages.Waiting objects t new e is = absurd (cc)
 rests_over stages.Shut objects t new e is = absurd (cc)
 rests_over stages.Marking objects t new e is = absurd (cc)
 
-abbrev pub new_swap : ℕ → To → SwapSeen
-new_swap object to = record { object = object; to = to; stage = stages.New; holder = None }
+-- nothing was begun
+pub not_begun : {P : Type 0} (v w : PassView P) (rows : List Row) (granted : ℕ) → w ≡ record v { rows = rows; granted = granted } → HasNotBegun v w
+not_begun v w rows granted e =
+    e ∙ (λ j. record v { rows = sym (ap (λ (u : PassView _). u.rows) e) j; granted = sym (ap (λ (u : PassView _). u.granted) e) j })
+
+out_of_memory : {P : Type 0} (stage : Stage) (object : ℕ) (to : To) (v w : PassView P) → StepsWithoutMemory stage object to v w → EndsWithoutMemory object to v w
+out_of_memory stage object to v w =
+    ⊎_elim (λ (is : (stage ≡ stages.New) × (w ≡ v)). inl (not_begun v w v.rows v.granted is.1)) (λ (is : HasAbandoned object to v w). inr is)
+
+one_grace : (new due old : ℕ) → new + due ≤ old + 1 → new ≤ old + 1
+one_grace new due old le = omega (arith, le)
+
+-- the last step of a swap that was new
+module _ (system : SystemSeen) (s m t : SwapSeen) (old mid new : SystemPass) (first : s.stage ≡ stages.New) (is : IsStepped system s m old mid) where
+  few : (result : Step) → HasStepped system result m t mid new → new.view.graces ≤ old.view.graces + 1
+  few result step =
+      let before = is.comes.graces in let after = step.graces in
+      one_grace new.view.graces (graces_due t.stage t.holder) old.view.graces
+      (subst (λ (stage : Stage). new.view.graces + graces_due t.stage t.holder ≤ old.view.graces + graces_due stage s.holder) first
+      (fewer (old.view.graces + graces_due s.stage s.holder) (mid.view.graces + graces_due m.stage m.holder)
+      (new.view.graces + graces_due t.stage t.holder) before after))
+
+  pub ended_since : {E : Type 0} (result : Result Swapped E) → HasStepped system (last_step result) m t mid new → HasEnded system s.object s.to result old new
+  ended_since (Ok end) step = record {
+    here = step.here;
+    rests = rests_over t.stage (length system.plan.objects) t new step.over step.stage;
+    seat = step.seat ∙ is.comes.seat;
+    caller = same_caller old.view mid.view new.view is.comes.caller step.caller;
+    graces = few (Ended end) step;
+    told = step.told;
+    ended = swapped_since system s m t old mid new is.comes end step.brought.0;
+    memory = tt;
+  }
+  ended_since (Err error) step = record {
+    here = step.here;
+    rests = rests_over t.stage (length system.plan.objects) t new step.over step.stage;
+    seat = step.seat ∙ is.comes.seat;
+    caller = same_caller old.view mid.view new.view is.comes.caller step.caller;
+    graces = few Memory step;
+    told = tt;
+    ended = tt;
+    memory = out_of_memory s.stage s.object s.to old.view new.view (memory_since system s m t old mid new is.comes step.brought);
+  }

@@ -1,5 +1,6 @@
 -- Calls: what may be asked, what a call leaves, and what holds one up.
-use Rattle.std.specs.Prelude.{◌≡◌, ℕ, ◌+◌, ◌<◌, ◌≤◌, ◌==◌, if◌then◌else◌, Bool, true, false, IsTrue, List, [], ◌∷◌, ◌++◌, length, Some, slice_get}
+use Rattle.std.specs.Prelude.{◌≡◌, ◌≢◌, ℕ, ◌+◌, ◌<◌, ◌≤◌, Bool, true, false, IsTrue, List, [], ◌∷◌, ◌++◌, length, Some, slice_get}
+use Rattle.k42_limits.specs.declared.TheConstants.{CALLERS, PROCESSORS}
 use Rattle.k42_kinds.specs.Watched.{watched_object}
 use Rattle.k42_kinds.specs.declared.entry.Act.TheVariants.{Call}
 use Rattle.k42_kinds.specs.declared.entry.Answer.TheVariants.{Replied}
@@ -7,20 +8,15 @@ use Rattle.k42_kinds.specs.declared.entry.Entry.{Entry}
 use Rattle.k42_kinds.specs.declared.operation.Op.{Op}
 use Rattle.k42_kinds.specs.declared.operation.Reply.{Reply}
 use Rattle.turn_core.specs.Stamps.{last_stamp}
-use Rattle.turn_core.specs.declared.event.TurnEvent.TheVariants.{Lock}
-use Rattle.k42_stamp.specs.Layouts.{Layouts}
-use Rattle.k42_joined.specs.Event.{AtCells}
 use Rattle.k42_joined.specs.Numbers.{cell_of}
 use Rattle.k42_joined.specs.Plain.{Joined}
 use Rattle.k42_joined.specs.Seen.{HasSeen}
-use Rattle.k42_board.specs.Steps.{StepIs}
-use Rattle.k42_board.specs.Taking.{LockFound, locked_view}
-use Rattle.k42_board.specs.Words.{lock_word}
+use Rattle.k42_board.specs.Log.{Meets, EndsWith, step_at}
+use Rattle.k42_board.specs.Values.{has_bit}
+use Rattle.k42_board.specs.Words.{local_word, lock_word, object_word}
 use Rattle.k42_board.specs.declared.view.PassView.{PassView}
-use Rattle.k42_tables.specs.Missing.{HasFilled}
-use Rattle.k42_tables.specs.declared.answers.Filled.TheVariants.{Elsewhere}
-use Rattle.k42_mediator.specs.Knocks.{IsKnock}
-use Rattle.k42_mediator.specs.declared.answers.Knocked.TheVariants.{Blocked}
+use Rattle.k42_board.specs.declared.view.StepName.TheVariants as names
+use Rattle.k42_board.specs.declared.view.Taken.{Taken}
 use Rattle.k42_runtime.specs.Plans.{PlanSeen}
 use Rattle.k42_runtime.specs.Systems.{KeepsElse}
 use Rattle.k42_runtime.specs.declared.calls.CallCause.{CallCause}
@@ -72,31 +68,28 @@ pub record HasNotCalled {P : Type 0} (old new : PassView P) : Type 0 where
   pub same : new.taker.mine ≡ old.taker.mine
   pub keeps : KeepsElse old new
 
-module _ {S L P : Type 0} (F : Layouts S L P) (declared : List L) (id : ℕ) where
-  -- a lock step of the pass found the cell with another caller, whose number the word has
-  pub record WasHeldAt (cell holder : ℕ) : Type 0 where
-    pub before : PassView P
-    pub lock :
-        StepIs F declared (AtCells (Lock before.number cell)) (lock_word cell)
-        (λ word. if word == 0 then before.number + 1 else word) id before (holder + 1)
-        (locked_view cell (holder + 1) before)
-    pub another : LockFound cell before (holder + 1)
+-- What a step of a call found that held it up.
 
-  -- and so a cell of the object
-  pub record WasHeld (object holder : ℕ) : Type 0 where
-    pub incarnation : ℕ
-    pub place : ℕ
-    pub held : WasHeldAt (cell_of object incarnation place) holder
+-- its knock found that the swap blocks
+pub record WasBlocked (object : ℕ) (old new : List Taken) : Type 0 where
+  pub found : ℕ
+  pub blocked : has_bit found 25 ≡ true
+  pub met : Meets (step_at names.Knock (object_word object) found) old new
 
-  -- What this step of the call found that holds it up. The word of its knock, the word that its install found in the entry,
-  -- or the one lock word by which it was refused, stands in front of those that the pass listed before.
-  abbrev pub HoldsUp : CallCause → ℕ → PassView P → PassView P → Type 0
-  HoldsUp causes.Blocked object old new =
-      (before : PassView P) × (before.knocked ≡ old.knocked) × IsKnock F declared id object before new Blocked
-  HoldsUp (causes.Elsewhere word) object old new =
-      (new.stalls ≡ word ∷ old.stalls) × (before : PassView P) × HasFilled F declared id object before new (Elsewhere word)
-  HoldsUp (causes.CellHeld holder) object old new =
-      (new.refused ≡ (holder + 1) ∷ old.refused) × WasHeld object holder
+-- it found a cell of the object with this caller
+pub record WasHeld {P : Type 0} (object holder : ℕ) (old new : PassView P) : Type 0 where
+  pub incarnation : ℕ
+  pub place : ℕ
+  pub there : place < PROCESSORS
+  pub another : holder ≢ old.number
+  pub caller : holder < CALLERS
+  pub met : Meets (step_at names.Lock (lock_word (cell_of object incarnation place)) (holder + 1)) old.log new.log
+
+abbrev pub HoldsUp : {P : Type 0} → CallCause → ℕ → PassView P → PassView P → Type 0
+HoldsUp causes.Blocked object old new = WasBlocked object old.log new.log
+HoldsUp (causes.Elsewhere word) object old new =
+    EndsWith (step_at names.Install (local_word old.turn.proc object) word) old.log new.log
+HoldsUp (causes.CellHeld holder) object old new = WasHeld object holder old new
 
 -- whether a step ends its call
 abbrev pub is_last : CallStep → Bool

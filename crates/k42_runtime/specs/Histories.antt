@@ -5,7 +5,6 @@ use Rattle.k42_kinds.specs.Legal.{IsLegalHistory}
 use Rattle.k42_kinds.specs.declared.entry.Entry.{Entry}
 use Rattle.k42_places.specs.Places.{EachPlace}
 use Rattle.k42_stamp.specs.Lists.{IsMerged}
-use Rattle.k42_board.specs.Seen.{PassSeen}
 use Rattle.k42_rule.specs.Finishing.{IsPassAtRest}
 use Rattle.k42_runtime.specs.Plans.{PlanSeen, kinds_of}
 use Rattle.k42_runtime.specs.Systems.{SystemSeen, SystemPass}

@@ -5,6 +5,7 @@ use Rattle.k42_kinds.specs.declared.entry.To.{To}
 use Rattle.k42_kinds.specs.declared.entry.To.TheVariants as tos
 use Rattle.phase_core.specs.declared.caller.SwapAt.TheVariants.{Moved}
 use Rattle.co_any.specs.Layouts.{tag_named}
+use Rattle.k42_board.specs.Log.{Extends}
 use Rattle.k42_board.specs.Seen.{PassSeen}
 use Rattle.k42_board.specs.Values.{layout_in}
 use Rattle.k42_board.specs.declared.view.PassView.{PassView}
@@ -63,6 +64,7 @@ pub record HasGoneOn {P : Type 0} (s t : SwapSeen) (old new : PassSeen P) : Type
   pub seat : new.seat ≡ old.seat
   pub caller : IsSameCaller old.view new.view
   pub drawn : new.view.taker.mine ≡ old.view.taker.mine
+  pub log : Extends old.view.log new.view.log
   pub graces :
       new.view.graces + graces_due t.stage t.holder ≤ old.view.graces + graces_due s.stage s.holder
   pub waits : t.stage ≡ stages.New → (s.stage ≡ stages.New) × (new.view ≡ old.view)

@@ -13,15 +13,14 @@ use Rattle.turn_core.specs.Stamps.{last_stamp}
 use Rattle.k42_stamp.specs.Layouts.{Layouts}
 use Rattle.k42_joined.specs.Rows.{cells_reached}
 use Rattle.k42_board.specs.Drawing.{numbers_of}
+use Rattle.k42_board.specs.Log.{ComesTo, Extends, with_log}
 use Rattle.k42_board.specs.Phases.{is_served}
 use Rattle.k42_board.specs.Seen.{PassSeen}
 use Rattle.k42_board.specs.Taking.{AreRowsNoted}
-use Rattle.k42_board.specs.Views.{hears}
 use Rattle.k42_board.specs.declared.cell.Content.{Content}
 use Rattle.k42_board.specs.declared.view.PassView.{PassView}
 use Rattle.k42_mediator.specs.Taken.{released, AreTaken}
 use Rattle.k42_runtime.specs.Calls.{WasHeld, HasCalled, HoldsUp}
-use Rattle.k42_runtime.specs.Reaching.{refused_view}
 use Rattle.k42_runtime.specs.Systems.{KeepsElse, SystemLayout, object_in}
 use Rattle.k42_runtime.specs.declared.calls.CallCause.{CallCause}
 use Rattle.k42_runtime.specs.declared.calls.CallCause.TheVariants as causes
@@ -83,11 +82,12 @@ pub record HasMade {P : Type 0} (cells : List ℕ) (op : Op) (reply : Reply) (ol
   pub next : IsCallNext op reply old entry
   pub knows :
       released cells new
-      ≡ hears new.heard (record (released cells old) {
+      ≡ with_log new.log (record (released cells old) {
         taker = caller_drawn entry (released cells old).taker;
         found = None;
         untold = [];
       })
+  pub log : Extends old.log new.log
 
 abbrev pub Makes : {P : Type 0} → CallStep → List ℕ → Op → PassView P → PassView P → Type 0
 Makes (steps.Ended reply) cells op old new = HasMade cells op reply old new
@@ -98,15 +98,18 @@ Makes steps.Memory cells op old new = new ≡ old
 pub record HasDrawn {P : Type 0} (op : Op) (reply : Reply) (old new : PassView P) : Type 0 where
   pub entry : Entry
   pub next : IsCallNext op reply old entry
-  pub knows : new ≡ hears new.heard (record old { taker = caller_drawn entry old.taker; found = None })
+  pub comes : ComesTo old (record old { taker = caller_drawn entry old.taker; found = None }) new
+
+-- how it has come out that sought its row: it is there, and nothing held it up, or it knows what did
+abbrev pub GoesIn : {P : Type 0} → Option CallCause → ℕ → PassView P → PassView P → Type 0
+GoesIn None object old new = IsServing object new × Extends old.log new.log
+GoesIn (Some cause) object old new = (is_out new.visitor.place ≡ true) × HoldsUp cause object old new
+
+-- it is inside no call, and nothing held it up
+abbrev pub GoesOut : {P : Type 0} → PassView P → PassView P → Type 0
+GoesOut old new = (is_out new.visitor.place ≡ true) × Extends old.log new.log
 
 module _ {S L P : Type 0} (F : Layouts S L P) (declared : List L) where
-  -- how it has come out that sought its row: it is there, and nothing held it up, or it knows what did
-  abbrev pub GoesIn : ℕ → Option CallCause → ℕ → PassView P → PassView P → Type 0
-  GoesIn id None object old new = IsServing object new × (new.refused ≡ old.refused)
-  GoesIn id (Some cause) object old new =
-      (is_out new.visitor.place ≡ true) × HoldsUp F declared id cause object old new
-
   -- it has taken the cells that the operation needs, of a row with this layout
   pub record HasCells
       (v : PassView P) (layout : L) (reach : Reach) (op : Op) (contents : List (Content P))
@@ -128,25 +131,25 @@ module _ {S L P : Type 0} (F : Layouts S L P) (declared : List L) where
     pub rows : AreRowsNoted F declared v
     pub back : v.out ≡ None
 
-  -- how it has come out that was in its row, where it holds no cell again
-  abbrev pub IsServedBy : ℕ → CallStep → Op → PassView P → PassView P → Type 0
-  IsServedBy id (steps.Ended reply) op old new = HasDrawn op reply old new
-  IsServedBy id (steps.Again (causes.CellHeld holder)) op old new =
-      (new ≡ refused_view holder old) × WasHeld F declared id (object_inside old) holder
-  IsServedBy id (steps.Again cause) op old new = ⊥
-  IsServedBy id steps.Memory op old new = new ≡ hears new.heard old
+-- how it has come out that was in its row, where it holds no cell again
+abbrev pub IsServedBy : {P : Type 0} → CallStep → Op → PassView P → PassView P → Type 0
+IsServedBy (steps.Ended reply) op old new = HasDrawn op reply old new
+IsServedBy (steps.Again (causes.CellHeld holder)) op old new =
+    (new ≡ with_log new.log old) × WasHeld (object_inside old) holder old new
+IsServedBy (steps.Again cause) op old new = ⊥
+IsServedBy steps.Memory op old new = ComesTo old old new
 
-  -- what it has drawn, or what has held it up
-  abbrev pub TellsTry : ℕ → CallStep → ℕ → Op → PassView P → PassView P → Type 0
-  TellsTry id (steps.Ended reply) object op old new = HasCalled object op reply old new
-  TellsTry id (steps.Again cause) object op old new =
-      (new.taker.mine ≡ old.taker.mine) × HoldsUp F declared id cause object old new
-  TellsTry id steps.Memory object op old new = new.taker.mine ≡ old.taker.mine
+-- what it has drawn, or what has held it up
+abbrev pub TellsTry : {P : Type 0} → CallStep → ℕ → Op → PassView P → PassView P → Type 0
+TellsTry (steps.Ended reply) object op old new = HasCalled object op reply old new × Extends old.log new.log
+TellsTry (steps.Again cause) object op old new =
+    (new.taker.mine ≡ old.taker.mine) × HoldsUp cause object old new
+TellsTry steps.Memory object op old new = (new.taker.mine ≡ old.taker.mine) × Extends old.log new.log
 
-  -- how one try of a call has come out: the pass is inside no call, and holds what it held
-  pub record HasTried (id : ℕ) (step : CallStep) (object : ℕ) (op : Op) (old new : PassView P) : Type 0 where
-    pub out : is_out new.visitor.place ≡ true
-    pub keeps : KeepsElse old new
-    pub held : new.taker.held ≡ old.taker.held
-    pub notes : new.notes ≡ old.notes
-    pub told : TellsTry id step object op old new
+-- how one try of a call has come out: the pass is inside no call, and holds what it held
+pub record HasTried {P : Type 0} (step : CallStep) (object : ℕ) (op : Op) (old new : PassView P) : Type 0 where
+  pub out : is_out new.visitor.place ≡ true
+  pub keeps : KeepsElse old new
+  pub held : new.taker.held ≡ old.taker.held
+  pub notes : new.notes ≡ old.notes
+  pub told : TellsTry step object op old new

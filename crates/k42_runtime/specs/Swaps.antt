@@ -1,6 +1,6 @@
 -- Swaps, to a layout, to the dead one, or to the present one with a layer or without it: their stages, their answers, and what
 -- holds one up.
-use Rattle.std.specs.Prelude.{◌≡◌, ◌≢◌, ◌⊎◌, ℕ, ◌+◌, ◌-◌, ◌<◌, ◌≤◌, ◌==◌, if◌then◌else◌, Bool, true, false, ⊤, List, [], ◌∷◌, ◌++◌, length, Option, Some, None, Result, IfOk, OnErr}
+use Rattle.std.specs.Prelude.{◌≡◌, ◌≢◌, ◌⊎◌, ℕ, ◌+◌, ◌-◌, ◌<◌, ◌≤◌, Bool, true, false, ⊤, List, [], ◌∷◌, ◌++◌, length, Option, Some, None, Result, IfOk, OnErr}
 use Rattle.gen_core.specs.Events as graces
 use Rattle.k42_kinds.specs.declared.entry.Act.{Act}
 use Rattle.k42_kinds.specs.declared.entry.Act.TheVariants as acts
@@ -8,31 +8,27 @@ use Rattle.k42_kinds.specs.declared.entry.To.{To}
 use Rattle.k42_kinds.specs.declared.entry.Answer.{Answer}
 use Rattle.k42_kinds.specs.declared.entry.Answer.TheVariants as answers
 use Rattle.k42_kinds.specs.declared.entry.Entry.{Entry}
-use Rattle.phase_core.specs.Event.{Move, Clear}
 use Rattle.phase_core.specs.declared.caller.SwapAt.TheVariants.{Interposed, Draining, Blocking, Opened}
-use Rattle.turn_core.specs.declared.event.TurnEvent.TheVariants.{Lock}
-use Rattle.k42_stamp.specs.Layouts.{Layouts}
-use Rattle.k42_joined.specs.Event.{AtCells, AtPhases}
 use Rattle.k42_joined.specs.Numbers.{cell_of}
+use Rattle.k42_limits.specs.declared.TheConstants.{CALLERS}
 use Rattle.k42_board.specs.Generations.{MOST}
-use Rattle.k42_board.specs.Gracing.{MayTakeRole}
+use Rattle.k42_board.specs.Log.{Follows, Extends, EndsWith, step_at}
 use Rattle.k42_board.specs.Seen.{PassSeen}
-use Rattle.k42_board.specs.Steps.{StepIs}
-use Rattle.k42_board.specs.Swapping.{MayMove, moves, moved_view, object_swapped, clears}
+use Rattle.k42_board.specs.Swapping.{object_swapped, clears, IsRestored}
 use Rattle.k42_board.specs.Tabling.{is_over_in}
 use Rattle.k42_board.specs.Values.{count_in, incarnation_in}
-use Rattle.k42_board.specs.Views.{hears, object_begun, word_begun}
-use Rattle.k42_board.specs.Words.{lock_word, object_word}
+use Rattle.k42_board.specs.Views.{object_begun, word_begun}
+use Rattle.k42_board.specs.Words.{lock_word, object_word, role_word}
 use Rattle.k42_board.specs.declared.view.PassView.{PassView}
-use Rattle.k42_board.specs.declared.view.Row.{Row}
+use Rattle.k42_board.specs.declared.view.StepName.TheVariants as names
+use Rattle.k42_board.specs.declared.view.Taken.{Taken}
 use Rattle.k42_mediator.specs.Answers.{begun_in}
 use Rattle.k42_mediator.specs.Entries.{IsNext}
 use Rattle.k42_mediator.specs.Marks.{MayMark, cell_marked}
-use Rattle.k42_mediator.specs.Swaps.{staged, LeavesOpen}
 use Rattle.k42_mediator.specs.declared.answers.Begun.{Begun}
 use Rattle.k42_mediator.specs.declared.answers.Begun.TheVariants as begins
-use Rattle.k42_quiesce.specs.Gracing.{MayStep, IsLeft, IsRoleHeld, HasLooked, TriesRole}
-use Rattle.k42_runtime.specs.Systems.{SystemSeen, IsPassHere, IsAtRest, layouts_in, SystemPass}
+use Rattle.k42_quiesce.specs.Gracing.{MayStep, IsLeft}
+use Rattle.k42_runtime.specs.Systems.{SystemSeen, IsPassHere, IsAtRest, SystemPass}
 use Rattle.k42_runtime.specs.declared.swaps.Cause.{Cause}
 use Rattle.k42_runtime.specs.declared.swaps.Cause.TheVariants as causes
 use Rattle.k42_runtime.specs.declared.swaps.Stage.{Stage}
@@ -170,93 +166,71 @@ pub record HasSwapped {P : Type 0} (object : ℕ) (to : To) (end : Swapped) (old
       (acts.Swap to) (answer_told end) entry
   pub drawn : new.taker.mine ≡ old.taker.mine ++ entry ∷ []
 
--- the pass when it had found this word last, and held these rows
-abbrev pub with_last : {P : Type 0} → ℕ → List Row → ℕ → PassView P → PassView P
-with_last heard rows granted v = record v { heard = heard; rows = rows; granted = granted }
-
 -- nothing was begun: at most it has collected rows, and has handed rows over
 abbrev pub HasNotBegun : {P : Type 0} → PassView P → PassView P → Type 0
 HasNotBegun old new = new ≡ record old { rows = new.rows; granted = new.granted }
 
--- What this step has found is the one that stands in front of what had held the pass up before.
-abbrev pub IsNewlyFound : {P : Type 0} → Cause → PassView P → PassView P → Type 0
-IsNewlyFound (causes.Left proc left) old new = new.stalls ≡ new.heard ∷ old.stalls
-IsNewlyFound (causes.RoleHeld holder) old new = new.stalls ≡ (holder + 1) ∷ old.stalls
-IsNewlyFound (causes.InFlight count) old new = new.stalls ≡ new.heard ∷ old.stalls
-IsNewlyFound (causes.CellHeld holder) old new = new.refused ≡ (holder + 1) ∷ old.refused
+-- What held a swap up: what the last step found that the pass has taken since.
 
-module _ {S L P : Type 0} (F : Layouts S L P) (declared : List L) (id : ℕ) where
-  -- its last step has found the role with another caller
-  pub record HasFoundRole (holder : ℕ) (v : PassView P) : Type 0 where
-    pub before : PassView P
-    pub may : MayTakeRole before
-    pub held : IsRoleHeld holder before v
-    pub step : TriesRole F declared id before (holder + 1)
+-- so many callers that the mediator of its object counts
+pub record IsInFlight {P : Type 0} (count : ℕ) (old new : PassView P) : Type 0 where
+  pub found : ℕ
+  pub moved : EndsWith (step_at names.Move (object_word (object_swapped new)) found) old.log new.log
+  pub count_is : count ≡ count_in found
+  pub some : 0 < count
 
-  -- it has found so many callers counted by its mediator
-  pub record HasFoundCounted (count : ℕ) (v : PassView P) : Type 0 where
-    pub before : PassView P
-    pub may : MayMove before
-    pub knows : v ≡ moved_view v.heard before
-    pub count_is : count ≡ count_in v.heard
-    pub some : 0 < count
-    pub step :
-        StepIs F declared (AtPhases (Move before.number)) (object_word (object_swapped before)) (moves before) id before
-        v.heard v
+-- the first cell of the row that is over, with another caller
+pub record IsCellHeld {P : Type 0} (holder : ℕ) (old new : PassView P) : Type 0 where
+  pub over : is_over_in (word_begun new.last) ≡ true
+  pub locked : EndsWith (step_at names.Lock (lock_word (cell_marked new)) (holder + 1)) old.log new.log
+  pub another : holder ≢ new.number
+  pub caller : holder < CALLERS
 
-  -- it has found the first cell of the row that is over with another caller
-  pub record HasFoundCell (holder : ℕ) (v : PassView P) : Type 0 where
-    pub before : PassView P
-    pub over : is_over_in (word_begun before.last) ≡ true
-    pub knows : v ≡ hears (holder + 1) (record before { refused = (holder + 1) ∷ before.refused })
-    pub another : holder ≢ before.number
-    pub step :
-        StepIs F declared (AtCells (Lock before.number (cell_marked before))) (lock_word (cell_marked before))
-        (λ word. if word == 0 then before.number + 1 else word) id before (holder + 1) v
+-- the role, with another caller
+pub record IsRoleElsewhere {P : Type 0} (holder : ℕ) (old new : PassView P) : Type 0 where
+  pub tried : EndsWith (step_at names.TakeRole role_word (holder + 1)) old.log new.log
+  pub another : holder ≢ new.number
+  pub caller : holder < CALLERS
 
-  -- what the last step of the pass has found holds its swap up
-  abbrev pub IsHeldUpBy : Cause → PassView P → Type 0
-  IsHeldUpBy (causes.Left proc left) v = IsLeft proc left v × HasLooked F declared id proc v
-  IsHeldUpBy (causes.RoleHeld holder) v = HasFoundRole holder v
-  IsHeldUpBy (causes.InFlight count) v = HasFoundCounted count v
-  IsHeldUpBy (causes.CellHeld holder) v = HasFoundCell holder v
+abbrev pub IsHeldUpBy : {P : Type 0} → Cause → PassView P → PassView P → Type 0
+IsHeldUpBy (causes.Left proc left) old new = IsLeft proc left old new
+IsHeldUpBy (causes.RoleHeld holder) old new = IsRoleElsewhere holder old new
+IsHeldUpBy (causes.InFlight count) old new = IsInFlight count old new
+IsHeldUpBy (causes.CellHeld holder) old new = IsCellHeld holder old new
 
-  -- A swap that had begun was given up, which its entry tells.
-  pub record HasAbandoned (object : ℕ) (to : To) (old new : PassView P) : Type 0 where
-    pub begun : object_begun new.last ≡ object
-    pub free : HasFoundFree new
-    pub entry : Entry
-    pub next :
-        IsNext old object (incarnation_in (word_begun new.last)) 0 (acts.Swap to)
-        (answers.Abandoned (incarnation_in (word_begun new.last) + 1)) entry
-    pub drawn : new.taker.mine ≡ old.taker.mine ++ entry ∷ []
-    -- The last step of the swap found this word of the object. The pass held these rows then, had opened all entries, and
-    -- had drawn the entry; the step leaves the old implementation open.
-    pub word : ℕ
-    pub rows : List Row
-    pub granted : ℕ
-    pub cleared :
-        StepIs F declared (AtPhases (Clear new.number)) (object_word object) (clears (Opened object)) id
-        (staged (Opened object) (with_last entry.stamp rows granted new)) word (with_last word rows granted new)
-    pub opened : LeavesOpen F declared id (staged (Opened object) (with_last entry.stamp rows granted new))
+-- A swap that had begun was given up, which its entry tells. The last of its steps has ended it, and has left the object as
+-- it was when the swap began.
+pub record HasAbandoned {P : Type 0} (object : ℕ) (to : To) (old new : PassView P) : Type 0 where
+  pub begun : object_begun new.last ≡ object
+  pub free : HasFoundFree new
+  pub entry : Entry
+  pub next :
+      IsNext old object (incarnation_in (word_begun new.last)) 0 (acts.Swap to)
+      (answers.Abandoned (incarnation_in (word_begun new.last) + 1)) entry
+  pub drawn : new.taker.mine ≡ old.taker.mine ++ entry ∷ []
+  pub log : List Taken
+  pub since : Follows old.log log
+  pub found : ℕ
+  pub cleared : new.log ≡ step_at names.Clear (object_word object) found ∷ log
+  pub restored : IsRestored (word_begun new.last) (clears (Opened object) found)
 
-  -- A step that finds no memory is the first, and has done nothing, or it gives the swap up.
-  abbrev pub StepsWithoutMemory : Stage → ℕ → To → PassView P → PassView P → Type 0
-  StepsWithoutMemory stage object to old new =
-      ((stage ≡ stages.New) × (new ≡ old)) ⊎ HasAbandoned object to old new
+-- A step that finds no memory is the first, and has done nothing, or it gives the swap up.
+abbrev pub StepsWithoutMemory : {P : Type 0} → Stage → ℕ → To → PassView P → PassView P → Type 0
+StepsWithoutMemory stage object to old new =
+    ((stage ≡ stages.New) × (new ≡ old)) ⊎ HasAbandoned object to old new
 
-  -- and so ends a swap that was waited for
-  abbrev pub EndsWithoutMemory : ℕ → To → PassView P → PassView P → Type 0
-  EndsWithoutMemory object to old new = HasNotBegun old new ⊎ HasAbandoned object to old new
+-- and so ends a swap that was waited for
+abbrev pub EndsWithoutMemory : {P : Type 0} → ℕ → To → PassView P → PassView P → Type 0
+EndsWithoutMemory object to old new = HasNotBegun old new ⊎ HasAbandoned object to old new
 
 -- what a step of a swap brings, by its answer
 abbrev pub HasBrought : SystemSeen → Step → SwapSeen → SystemPass → SystemPass → Type 0
-HasBrought system (steps.Ended end) swap old new = HasSwapped swap.object swap.to end old.view new.view
+HasBrought system (steps.Ended end) swap old new =
+    HasSwapped swap.object swap.to end old.view new.view × Extends old.view.log new.view.log
 HasBrought system (steps.Again cause) swap old new =
-    (new.view.taker.mine ≡ old.view.taker.mine) × IsNewlyFound cause old.view new.view
-    × IsHeldUpBy (layouts_in system) system.sys.layouts old.seat cause new.view
+    (new.view.taker.mine ≡ old.view.taker.mine) × IsHeldUpBy cause old.view new.view
 HasBrought system steps.Memory swap old new =
-    StepsWithoutMemory (layouts_in system) system.sys.layouts old.seat swap.stage swap.object swap.to old.view new.view
+    StepsWithoutMemory swap.stage swap.object swap.to old.view new.view
 
 -- The swap and its pass, once a step has answered so, are where the next one goes on, unless it was the last.
 pub record HasStepped (system : SystemSeen) (result : Step) (s t : SwapSeen) (old new : SystemPass) : Type 0 where
@@ -283,5 +257,4 @@ pub record HasEnded {E : Type 0} (system : SystemSeen) (object : ℕ) (to : To) 
   pub graces : new.view.graces ≤ old.view.graces + 1
   pub told : IfOk result (IsEndBy (word_begun new.view.last))
   pub ended : IfOk result (λ end. HasSwapped object to end old.view new.view)
-  pub memory :
-      OnErr result (EndsWithoutMemory (layouts_in system) system.sys.layouts old.seat object to old.view new.view)
+  pub memory : OnErr result (EndsWithoutMemory object to old.view new.view)

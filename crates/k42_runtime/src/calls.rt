@@ -74,7 +74,7 @@ fn try_once(
     requires notes { pass.old.view.notes ≡ [] }
     requires few { length pass.old.view.taker.mine < MOST }
     ensures same { IsSameSeat pass.old pass.new }
-    ensures tried { HasTried (any_layouts sys.now.procs sys.now.callers) sys.now.layouts pass.old.seat result object op.now pass.old.view pass.new.view }
+    ensures tried { HasTried result object op.now pass.old.view pass.new.view }
 {
     let Ok(()) = pass.reserve() else {
         return CallStep::Memory;
@@ -122,7 +122,7 @@ impl Call {
         ensures ended { (reply : Reply) → result ≡ CallStep.Ended reply → HasCalled self.old.object self.old.op reply pass.old.view pass.new.view }
         ensures again { (cause : CallCause) → result ≡ CallStep.Again cause → HasNotCalled pass.old.view pass.new.view }
         ensures found { (cause : CallCause) → result ≡ CallStep.Again cause
-            → HoldsUp (layouts_in system.now) system.now.sys.layouts pass.old.seat cause self.old.object pass.old.view pass.new.view }
+            → HoldsUp cause self.old.object pass.old.view pass.new.view }
         ensures memory { result ≡ CallStep.Memory → HasNotCalled pass.old.view pass.new.view }
     {
         let step = try_once(alloc, &system.sys, pass, self.object, &self.op);

@@ -5,6 +5,7 @@ ghost use Rattle.turn_core.specs.Names.{names};
 ghost use Rattle.k42_joined.specs.Numbers.{cell_of, row_cells};
 ghost use Rattle.k42_joined.specs.Rows.{cells_reached};
 ghost use Rattle.k42_board.specs.Drawing.{numbers_of};
+ghost use Rattle.k42_board.specs.Log.{ComesTo};
 ghost use Rattle.k42_board.specs.Seen.{IsOf, IsSamePass};
 ghost use Rattle.k42_board.specs.Taking.{TouchesInside};
 ghost use Rattle.k42_mediator.specs.Taken.{released, AreTaken, MayPutBack};
@@ -13,16 +14,9 @@ ghost use Rattle.k42_runtime.specs.Stepping.{many_reached};
 ghost use Rattle.k42_runtime.specs.Systems.{any_layouts};
 
 use crate::system::{Pass, SystemLayout};
+use k42_board::cell_number;
 use k42_kinds::Reach;
 use k42_rule::{Cell, Inside, Sys, layouts_are_lawful, lock, put, take, unlock};
-
-fn cell_number(object: u32, row: u32, place: u32) -> u32
-    requires { (object < 16) × (place < 8) }
-    ensures is { result ≡ cell_of object row place }
-    ensures few { result < 256 }
-{
-    (object * 2 + row % 2) * 8 + place
-}
 
 /// Takes a cell, or answers which caller has it.
 fn take_next(
@@ -41,7 +35,7 @@ fn take_next(
     ensures same { IsSamePass pass.old pass.new }
     ensures capacity { vec_capacity cells.new ≡ vec_capacity cells.old }
     ensures len { is_some result ≡ false → vec_len cells.new ≡ vec_len cells.old + 1 }
-    ensures takes { TakesNext (any_layouts sys.now.procs sys.now.callers) sys.now.layouts pass.old.seat result number pass.old.view pass.new.view cells.old.items cells.new.items }
+    ensures takes { TakesNext (any_layouts sys.now.procs sys.now.callers) sys.now.layouts result number pass.old.view pass.new.view cells.old.items cells.new.items }
 {
     let found = lock(sys, pass, number);
     if found != 0 {
@@ -69,7 +63,7 @@ fn take_row(
     requires none { cells.old.items ≡ [] }
     requires held { pass.old.view.taker.held ≡ [] }
     ensures same { IsSamePass pass.old pass.new }
-    ensures takes { Takes (any_layouts sys.now.procs sys.now.callers) sys.now.layouts pass.old.seat result object (row_cells sys.now.procs object row) pass.old.view pass.new.view cells.new.items }
+    ensures takes { Takes (any_layouts sys.now.procs sys.now.callers) sys.now.layouts result object (row_cells sys.now.procs object row) pass.old.view pass.new.view cells.new.items }
     ensures may { MayGiveBack (any_layouts sys.now.procs sys.now.callers) sys.now.layouts pass.new.seat pass.new.view cells.new.items }
 {
     layouts_are_lawful(sys);
@@ -100,7 +94,7 @@ fn take_one(
     requires none { cells.old.items ≡ [] }
     requires held { pass.old.view.taker.held ≡ [] }
     ensures same { IsSamePass pass.old pass.new }
-    ensures takes { Takes (any_layouts sys.now.procs sys.now.callers) sys.now.layouts pass.old.seat result object (cell_of object row place ∷ []) pass.old.view pass.new.view cells.new.items }
+    ensures takes { Takes (any_layouts sys.now.procs sys.now.callers) sys.now.layouts result object (cell_of object row place ∷ []) pass.old.view pass.new.view cells.new.items }
     ensures may { MayGiveBack (any_layouts sys.now.procs sys.now.callers) sys.now.layouts pass.new.seat pass.new.view cells.new.items }
 {
     layouts_are_lawful(sys);
@@ -126,7 +120,7 @@ pub(crate) fn take_cells(
     requires none { cells.old.items ≡ [] }
     requires held { pass.old.view.taker.held ≡ [] }
     ensures same { IsSamePass pass.old pass.new }
-    ensures takes { Takes (any_layouts sys.now.procs sys.now.callers) sys.now.layouts pass.old.seat result inside.now.object (cells_reached sys.now.procs inside.now.object inside.now.incarnation reach.now) pass.old.view pass.new.view cells.new.items }
+    ensures takes { Takes (any_layouts sys.now.procs sys.now.callers) sys.now.layouts result inside.now.object (cells_reached sys.now.procs inside.now.object inside.now.incarnation reach.now) pass.old.view pass.new.view cells.new.items }
     ensures may { MayGiveBack (any_layouts sys.now.procs sys.now.callers) sys.now.layouts pass.new.seat pass.new.view cells.new.items }
 {
     let (object, row) = (inside.object, inside.incarnation);
@@ -141,7 +135,7 @@ fn give_next(sys: &Sys<SystemLayout>, pass: &mut Pass, cell: Cell<SystemLayout>)
     requires ours { IsOf sys.now pass.old }
     requires ready { MayPutBack (any_layouts sys.now.procs sys.now.callers) sys.now.layouts pass.old.seat pass.old.view cell }
     ensures same { IsSamePass pass.old pass.new }
-    ensures released { pass.new.view ≡ released (cell.number ∷ []) pass.old.view }
+    ensures comes { ComesTo pass.old.view (released (cell.number ∷ []) pass.old.view) pass.new.view }
 {
     let number = cell.number();
     put(sys, pass, number, cell);
@@ -157,7 +151,7 @@ pub(crate) fn give_back(
     requires ours { IsOf sys.now pass.old }
     requires may { MayGiveBack (any_layouts sys.now.procs sys.now.callers) sys.now.layouts pass.old.seat pass.old.view cells.items }
     ensures same { IsSamePass pass.old pass.new }
-    ensures released { pass.new.view ≡ released (numbers_of cells.items) pass.old.view }
+    ensures comes { ComesTo pass.old.view (released (numbers_of cells.items) pass.old.view) pass.new.view }
 {
     while let Some(cell) = cells.pop() {
         give_next(sys, pass, cell);

@@ -1,5 +1,5 @@
 //! What holds of a system while its passes are at work.
-ghost use Rattle.std.specs.Prelude.{◌≡◌, ℕ, true, List};
+ghost use Rattle.std.specs.Prelude.{◌≡◌, ℕ, true, false, List};
 ghost use Rattle.atomic_table.specs.Table.{State};
 ghost use Rattle.k42_board.specs.Cells.{Slot};
 ghost use Rattle.k42_board.specs.Rule.{Rule};
@@ -12,6 +12,8 @@ ghost use Rattle.k42_kinds.specs.Legal.{IsSoFarAmongObjects};
 ghost use Rattle.k42_kinds.specs.Watched.{watched_object};
 ghost use Rattle.k42_kinds.specs.declared.entry.Entry.{Entry};
 ghost use Rattle.k42_stamp.specs.Lists.{IsMerged, is_drawn};
+ghost use Rattle.k42_mediator.specs.Swaps.{LeavesOpen};
+ghost use Rattle.phase_core.specs.declared.caller.SwapAt.TheVariants.{Opened};
 ghost use Rattle.turn_core.specs.Stamps.{last_stamp};
 ghost use Rattle.k42_runtime.specs.Calls.{SeesUpTo};
 ghost use Rattle.k42_runtime.specs.Plans.{kinds_of};
@@ -37,6 +39,16 @@ pub fn traces_are_legal(system: &System)
 /// stood before them in the histories of their cells, and what stood in the rows that its swaps handed on.
 pub fn nothing_seen_is_later_than_the_last_entry(system: &System)
     ensures { (id : ℕ) (v : PassView SystemPart) → Always (layouts_in system.now) system.now.sys.layouts id v (SeesUpTo v.number (last_stamp v.taker.mine)) }
+{
+    layouts_are_lawful(&system.sys);
+}
+
+/// A pass that has opened the entries of its object, which it has not turned over, gives its swap up: whatever state the
+/// table shows, the step by which it ends the swap leaves the object as it was when that began, and all its entries lead
+/// there.
+pub fn the_end_of_a_swap_given_up_leaves_its_object_open(system: &System)
+    ensures { (id object : ℕ) (v : PassView SystemPart) → v.visitor.swap ≡ Opened object → v.turned ≡ false
+        → LeavesOpen (layouts_in system.now) system.now.sys.layouts id v }
 {
     layouts_are_lawful(&system.sys);
 }

@@ -14,6 +14,7 @@ ghost use Rattle.k42_runtime.specs.declared.swaps.Step.TheVariants as Step;
 
 use crate::swaps::{Cause, Stage, Step, Swap, Swapped};
 use crate::system::{Pass, System, SystemLayout};
+use k42_board::{incarnation_in, layout_in};
 use k42_kinds::{Act, Answer, Layout, LayoutName, To};
 use k42_mediator::{
     Begun, Marked, Moving, abandon, begin, block, end, interpose, mark, open_entries, transfer,
@@ -61,14 +62,14 @@ fn word_of(pass: &Pass) -> u64
 fn number_begun(pass: &Pass) -> u32
     ensures { result ≡ incarnation_in (word_begun pass.now.view.last) + 1 }
 {
-    (word_of(pass) >> 32) as u32 + 1
+    incarnation_in(word_of(pass)) + 1
 }
 
 /// How a swap ended that found its object over.
 fn end_over(pass: &Pass) -> Swapped
     ensures { result ≡ end_in (word_begun pass.now.view.last) }
 {
-    if word_of(pass) / 268_435_456 % 4 == 2 {
+    if layout_in(word_of(pass)) == 2 {
         Swapped::Gone
     } else {
         Swapped::Spent

@@ -1,13 +1,13 @@
 //! A call, once it has begun: it gets inside a row, and is served there.
 ghost use Rattle.std.specs.Prelude.{◌≡◌, ◌<◌, true, [], length, IfOk, OnErr};
-ghost use Rattle.phase_core.specs.Stages.{is_out, is_missed, is_at_mediator};
+ghost use Rattle.phase_core.specs.Stages.{is_missed, is_at_mediator};
 ghost use Rattle.k42_board.specs.Drawing.{numbers_of};
 ghost use Rattle.k42_board.specs.Generations.{MOST};
 ghost use Rattle.k42_board.specs.Phases.{is_served};
 ghost use Rattle.k42_board.specs.Seen.{IsOf, IsPassOf, IsSamePass};
 ghost use Rattle.k42_board.specs.Tabling.{MayLookUp};
 ghost use Rattle.k42_runtime.specs.Reaching.{MayGiveBack};
-ghost use Rattle.k42_runtime.specs.Serving.{object_inside, IsServing, GoesBy, IsAskedOf, IsSameSeat, Makes, GoesIn, HasCells, IsServedBy};
+ghost use Rattle.k42_runtime.specs.Serving.{object_inside, IsServing, GoesBy, IsAskedOf, IsSameSeat, Makes, GoesIn, GoesOut, HasCells, IsServedBy};
 ghost use Rattle.k42_runtime.specs.Stepping.{many_reached};
 ghost use Rattle.k42_runtime.specs.Systems.{any_layouts};
 
@@ -35,9 +35,10 @@ fn fill(
     requires held { pass.old.view.taker.held ≡ [] }
     ensures same { IsSamePass pass.old pass.new }
     ensures goes { GoesBy pass.old.view pass.new.view }
-    ensures went { IfOk result (λ held. GoesIn (any_layouts sys.now.procs sys.now.callers) sys.now.layouts pass.old.seat held object pass.old.view pass.new.view) }
-    ensures memory { OnErr result (is_out pass.new.view.visitor.place ≡ true) }
+    ensures went { IfOk result (λ held. GoesIn held object pass.old.view pass.new.view) }
+    ensures memory { OnErr result (GoesOut pass.old.view pass.new.view) }
 {
+    let _procs = sys.procs();
     match try_miss(alloc, sys, pass, object)? {
         Tried::Filled(Filled::Installed { .. }) => Ok(None),
         Tried::Filled(Filled::Elsewhere { word }) => Ok(Some(CallCause::Elsewhere { word })),
@@ -53,7 +54,7 @@ fn ask(sys: &Sys<SystemLayout>, pass: &mut Pass, object: u32) -> Option<CallCaus
     requires held { pass.old.view.taker.held ≡ [] }
     ensures same { IsSamePass pass.old pass.new }
     ensures goes { GoesBy pass.old.view pass.new.view }
-    ensures went { GoesIn (any_layouts sys.now.procs sys.now.callers) sys.now.layouts pass.old.seat result object pass.old.view pass.new.view }
+    ensures went { GoesIn result object pass.old.view pass.new.view }
 {
     match knock(sys, pass, object) {
         Knocked::Admitted { .. } => None,
@@ -73,8 +74,8 @@ pub(crate) fn go_inside(
     requires held { pass.old.view.taker.held ≡ [] }
     ensures same { IsSamePass pass.old pass.new }
     ensures goes { GoesBy pass.old.view pass.new.view }
-    ensures went { IfOk result (λ held. GoesIn (any_layouts sys.now.procs sys.now.callers) sys.now.layouts pass.old.seat held object pass.old.view pass.new.view) }
-    ensures memory { OnErr result (is_out pass.new.view.visitor.place ≡ true) }
+    ensures went { IfOk result (λ held. GoesIn held object pass.old.view pass.new.view) }
+    ensures memory { OnErr result (GoesOut pass.old.view pass.new.view) }
 {
     match look_up(sys, pass, object) {
         Entered::Direct { .. } => Ok(None),
@@ -132,7 +133,7 @@ pub(crate) fn serve(alloc: Global, sys: &Sys<SystemLayout>, pass: &mut Pass, op:
     requires room { 0 < pass.old.room }
     requires few { length pass.old.view.taker.mine < MOST }
     ensures same { IsSameSeat pass.old pass.new }
-    ensures served { IsServedBy (any_layouts sys.now.procs sys.now.callers) sys.now.layouts pass.old.seat result op.now pass.old.view pass.new.view }
+    ensures served { IsServedBy result op.now pass.old.view pass.new.view }
 {
     let inside = pass.inside();
     let procs = sys.procs();
@@ -141,11 +142,15 @@ pub(crate) fn serve(alloc: Global, sys: &Sys<SystemLayout>, pass: &mut Pass, op:
     let Ok(mut cells) = Vec::with_capacity(alloc, many_reached(&reach, procs)) else {
         return CallStep::Memory;
     };
-    if let Some(holder) = take_cells(sys, pass, &inside, &reach, &mut cells) {
-        give_back(sys, pass, cells);
-        return CallStep::Again(CallCause::CellHeld { holder });
+    match take_cells(sys, pass, &inside, &reach, &mut cells) {
+        Some(holder) => {
+            give_back(sys, pass, cells);
+            CallStep::Again(CallCause::CellHeld { holder })
+        }
+        None => {
+            let step = make(alloc, sys, pass, &layout, &reach, op, &mut cells);
+            give_back(sys, pass, cells);
+            step
+        }
     }
-    let step = make(alloc, sys, pass, &layout, &reach, op, &mut cells);
-    give_back(sys, pass, cells);
-    step
 }

@@ -1,8 +1,11 @@
 //! A system: its table and its plan.
-ghost use Rattle.std.specs.Prelude.{◌≡◌, ◌<◌, ◌↔◌, ℕ, true, Some, length, map, slice_get, IfOk};
-ghost use Rattle.k42_board.specs.Generating.{entered_view, left_view};
+ghost use Rattle.std.specs.Prelude.{◌≡◌, ◌%◌, ◌<◌, ◌↔◌, true, Some, length, map, slice_get, IfOk};
+ghost use Rattle.k42_board.specs.Generating.{active_in, entered_view, left_view};
 ghost use Rattle.k42_board.specs.Generations.{MOST};
+ghost use Rattle.k42_board.specs.Log.{last_found, took};
 ghost use Rattle.k42_board.specs.Seen.{IsSamePass};
+ghost use Rattle.k42_board.specs.Words.{exits_word, generation_word};
+ghost use Rattle.k42_board.specs.declared.view.StepName.TheVariants as steps;
 ghost use Rattle.k42_quiesce.specs.Activities.{HasEntered};
 ghost use Rattle.k42_runtime.specs.Calls.{IsAsked};
 ghost use Rattle.k42_runtime.specs.Plans.{kinds_of};
@@ -128,7 +131,8 @@ impl System {
         ensures same { IsSamePass pass.old pass.new }
         ensures works { IsAtWork pass.new.view }
         ensures entered { HasEntered pass.new.view }
-        ensures knows { (found : ℕ) × (pass.new.view ≡ entered_view found pass.old.view) }
+        ensures knows { pass.new.view ≡ took steps.Enter (generation_word pass.old.view.turn.proc) (last_found pass.new.view.log)
+            (entered_view (last_found pass.new.view.log) pass.old.view) }
     {
         k42_quiesce::enter(&self.sys, pass);
     }
@@ -140,7 +144,8 @@ impl System {
         ensures here { IsPassHere self.now pass.new }
         ensures same { IsSamePass pass.old pass.new }
         ensures rests { IsAtRest pass.new.view }
-        ensures knows { (found : ℕ) × (pass.new.view ≡ left_view found pass.old.view) }
+        ensures knows { pass.new.view ≡ took steps.Leave (exits_word pass.old.view.turn.proc (active_in pass.old.view % 2))
+            (last_found pass.new.view.log) (left_view pass.old.view) }
     {
         k42_quiesce::leave(&self.sys, pass);
     }

@@ -1,9 +1,9 @@
 //! Swaps, destroys, watches and unwatches that wait, and rows that are freed.
-ghost use Rattle.std.specs.Prelude.{◌≡◌, ◌+◌, ◌<◌, false, [], length};
+ghost use Rattle.std.specs.Prelude.{◌≡◌, ◌+◌, ◌<◌, [], length};
 ghost use Rattle.k42_board.specs.Generations.{MOST};
-ghost use Rattle.k42_runtime.specs.Phases.{last_step};
 ghost use Rattle.k42_runtime.specs.Reclaims.{HasReclaimed};
-ghost use Rattle.k42_runtime.specs.Swaps.{MayStart, IsAtStage, IsSameCaller, HasStepped, HasEnded, is_over};
+ghost use Rattle.k42_runtime.specs.Swaps.{MayStart, IsAtStage, IsSameCaller, HasEnded};
+ghost use Rattle.k42_runtime.specs.declared.swaps.Stage.TheVariants as Stage;
 ghost use Rattle.k42_runtime.specs.Systems.{IsPassHere, IsAtRest, layouts_in};
 ghost use Rattle.k42_kinds.specs.declared.entry.To.TheVariants as To;
 
@@ -16,7 +16,7 @@ use k42_quiesce::{collect, grace, hand_over, reclaim};
 use std::alloc::Global;
 use std::sync::Wait;
 
-/// Steps the swap until it is over.
+/// Steps a new swap until it is over.
 fn carry_out<R: Wait>(
     rt: &R,
     alloc: Global,
@@ -25,9 +25,9 @@ fn carry_out<R: Wait>(
     swap: &mut Swap,
 ) -> Result<Swapped, Memory>
     requires ours { IsPassHere system.now pass.old }
-    requires stage { IsAtStage swap.old.stage (length system.now.plan.objects) swap.old pass.old }
-    requires going { is_over swap.old.stage ≡ false }
-    ensures { HasStepped system.now (last_step result) swap.old swap.new pass.old pass.new }
+    requires new { swap.old.stage ≡ Stage.New }
+    requires stage { IsAtStage Stage.New (length system.now.plan.objects) swap.old pass.old }
+    ensures { HasEnded system.now swap.old.object swap.old.to result pass.old pass.new }
 {
     let backoff = Backoff::new();
     for _ in rt.forever() {

@@ -1,4 +1,3 @@
-pub mod Walking
 pub mod ServedCells
 pub mod Represented
 pub mod Missed

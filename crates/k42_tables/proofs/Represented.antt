@@ -1,27 +1,23 @@
 -- A cell that was taken is put back with its part.
-use Rattle.std.proofs.Common.{◌≡◌, ◌⊎◌, ℕ, ◌<◌, Bool, true, false, not, ◌||◌, cond, eqb, List, [], ◌∷◌, Option, Some, None, Result, Ok, Err, refl, sym, ap, ◌∙◌, subst, inl, inr}
-use Rattle.std.specs.Prelude.{unwrap_or, OnOk, OnErr}
+use Rattle.std.proofs.Common.{◌≡◌, ◌⊎◌, ℕ, ◌<◌, Bool, true, false, not, ◌||◌, cond, eqb, List, [], ◌∷◌, ◌++◌, Option, Some, None, Result, Ok, Err, refl, sym, ap, ◌∙◌, subst, inl, inr}
+use Rattle.std.specs.Prelude.{is_some, unwrap_or, OnOk, OnErr}
 use Rattle.std.proofs.lemmas.Bool.{eq-eqb}
-use Rattle.atomic_table.specs.Table.{takes, gives}
 use Rattle.turn_core.specs.Names.{names}
-use Rattle.turn_core.specs.declared.event.TurnEvent.TheVariants.{Take, Put, Unlock}
 use Rattle.k42_stamp.specs.Laws.{AreLaws}
 use Rattle.k42_stamp.specs.Layouts.{Layouts}
-use Rattle.k42_joined.specs.Effects.{effect}
-use Rattle.k42_joined.specs.Event.{AtCells}
 use Rattle.k42_board.specs.Cells.{cells_noted}
+use Rattle.k42_board.specs.Log.{took, logs, put_at, steps_through}
 use Rattle.k42_board.specs.Parts.{IsPart}
-use Rattle.k42_board.specs.Steps.{StepIs, Always}
-use Rattle.k42_board.specs.Taking.{CELLS, ActIs, HoldsHome, MayPut, noted, without, lifted_view, taken_view, reaching_view, put_view}
-use Rattle.k42_board.specs.Words.{lock_word, slot_of}
+use Rattle.k42_board.specs.Steps.{Always}
+use Rattle.k42_board.specs.Taking.{CELLS, HoldsHome, MayPut, noted, without, lifted_view, taken_view, unlocked_view, gave_back, reaching_view, put_view}
+use Rattle.k42_board.specs.Words.{lock_word}
 use Rattle.k42_board.specs.declared.cell.Content.{Content}
 use Rattle.k42_board.specs.declared.view.Note.{Note}
 use Rattle.k42_board.specs.declared.view.PassView.{PassView}
+use Rattle.k42_board.specs.declared.view.StepName.TheVariants as steps
 use Rattle.k42_board.proofs.PartLaws.{AreOneWay, noted_always, empty_inside_always}
 use Rattle.k42_rule.proofs.PutBack.{AgreesWithNotes, may_put, taken_agrees}
-use Rattle.k42_tables.specs.Filling.{IsOfItsRow, HasRepresented}
-use Rattle.k42_tables.specs.Walks.{WalksAside}
-use Rattle.k42_tables.proofs.Walking.{cells_aside, step_aside, act_aside, walk_one, walk_on}
+use Rattle.k42_tables.specs.Filling.{IsOfItsRow, handled_view}
 
 -- notes of other cells stay
 
@@ -47,20 +43,32 @@ none_without n (note ∷ notes) = go (eqb note.cell n) refl (none_without n note
   go true is rest = rest
   go false is rest = rw (is, rest) refl
 
-module _ {P : Type 0} (n : ℕ) (content : Content P) (v : PassView P) (number : content.number ≡ n) (is : HoldsHome n v) where
-  pub holds_back : HoldsHome n (put_view n (taken_view content v))
+-- the pass that has taken the cell, and the one that has put it back then, with a part or without
+
+abbrev pub out_view : {P : Type 0} → ℕ → Content P → PassView P → PassView P
+out_view n content v = gave_back (lock_word n) (took steps.Lift (lock_word n) 0 (lifted_view content v))
+
+abbrev pub back_view : {P : Type 0} → ℕ → Content P → PassView P → PassView P
+back_view n content u = logs (put_at (lock_word n) (is_some content.part)) (put_view n (took steps.Reach (lock_word n) 0 (reaching_view n u)))
+
+abbrev pub left_view : {P : Type 0} → ℕ → PassView P → PassView P
+left_view n u = took steps.Unlock (lock_word n) 0 (unlocked_view n u)
+
+module _ {P : Type 0} (n : ℕ) (content filled : Content P) (v : PassView P) (number : content.number ≡ n) (is : HoldsHome n v) where
+  pub holds_back : HoldsHome n (back_view n filled (out_view n content v))
   holds_back = record { cell = is.cell; held = is.held; home = none_without n (noted content ∷ v.notes) }
 
-  -- a settled pass is as it was
-  pub put_taken : v.out ≡ None → put_view n (taken_view content v) ≡ v
-  put_taken settled =
+  -- a settled pass is as it was, but for the lock
+  pub handled : v.out ≡ None → (full : Bool) → is_some filled.part ≡ full
+      → left_view n (back_view n filled (out_view n content v)) ≡ handled_view n full v
+  handled settled full has =
       let notes = without_first n (noted content) v.notes number ∙ without_none n v.notes is.home in
-      λ k. record v { notes = notes k; out = sym settled k }
+      λ k. record (unlocked_view n v) { notes = notes k; out = sym settled k; log = steps_through n (has k) ++ v.log }
 
 module _ {S L P : Type 0} (F : Layouts S L P) (laws : AreLaws F) (one_way : AreOneWay F) (declared : List L) (id n place : ℕ) (layout : L) (v : PassView P)
     (row : IsOfItsRow F declared n place layout v) (content : Content P) (number : content.number ≡ n) where
   abbrev taken : PassView P
-  taken = taken_view content v
+  taken = out_view n content v
 
   kept_part : (own : Option P) → own ≡ content.part → Always F declared id taken (λ s. IsPart F declared s n own)
   kept_part own same =
@@ -86,68 +94,21 @@ module _ {S L P : Type 0} (F : Layouts S L P) (laws : AreLaws F) (one_way : AreO
       → (filled.part ≡ content.part) ⊎ (filled.part ≡ Some (unwrap_or content.part ((F.ways_of layout).empty F.procs place)))
       → MayPut F declared id n filled taken
   may_put_filled filled same few due =
-      let agrees : AgreesWithNotes taken.notes content = taken_agrees content v in
+      let agrees : AgreesWithNotes (taken_view content v).notes content = taken_agrees content v in
       may_put F declared id n taken filled (ap (λ (c : Content P). c.number) same ∙ number) few
       (subst (AgreesWithNotes taken.notes) (sym same) (record { noted = agrees.noted; history = agrees.history; closed = agrees.closed }))
       (due_part filled.part due)
 
--- the way of the pass
+-- the part that is put back, where one was made, or none
 
-module _ {S L P : Type 0} (F : Layouts S L P) (declared : List L) (id n : ℕ) (v : PassView P) (content filled : Content P) (u : PassView P)
-    (take : ActIs F declared (λ s. effect s (AtCells (Take v.number n))) (lock_word n) id [] v (takes (slot_of n) (Some content)) (lifted_view content v))
-    (back : ActIs F declared (λ s. s) (lock_word n) id ((slot_of n, None) ∷ []) (lifted_view content v) gives u)
-    (id' id'' : ℕ) (same' : id' ≡ id) (same'' : id'' ≡ id) (x : PassView P) (is : x ≡ put_view n u)
-    (reach' : ActIs F declared (λ s. s) (lock_word n) id' [] u (takes (slot_of n) None) (reaching_view n u))
-    (put' : ActIs F declared (λ s. effect s (AtCells (Put u.number n))) (lock_word n) id' ((slot_of n, Some filled) ∷ []) (reaching_view n u) gives x)
-    (w : PassView P)
-    (unlock' : (found : ℕ) → StepIs F declared (AtCells (Unlock x.number n)) (lock_word n) (λ word. 0) id'' x found w) where
-  reach : ActIs F declared (λ s. s) (lock_word n) id [] u (takes (slot_of n) None) (reaching_view n u)
-  reach = subst (λ i. ActIs F declared (λ s. s) (lock_word n) i [] u (takes (slot_of n) None) (reaching_view n u)) same' reach'
-
-  put : ActIs F declared (λ s. effect s (AtCells (Put u.number n))) (lock_word n) id ((slot_of n, Some filled) ∷ []) (reaching_view n u) gives (put_view n u)
-  put =
-      subst
-      (λ (z : ℕ × PassView P). ActIs F declared (λ s. effect s (AtCells (Put u.number n))) (lock_word n) z.0 ((slot_of n, Some filled) ∷ []) (reaching_view n u) gives z.1)
-      (λ k. (same' k, is k)) put'
-
-  unlock : (found : ℕ) → StepIs F declared (AtCells (Unlock (put_view n u).number n)) (lock_word n) (λ word. 0) id (put_view n u) found w
-  unlock found =
-      subst (λ (z : ℕ × PassView P). StepIs F declared (AtCells (Unlock z.1.number n)) (lock_word n) (λ word. 0) z.0 z.1 found w)
-      (λ k. (same'' k, is k)) (unlock' found)
-
-  to_reach : WalksAside F declared id v (reaching_view n u)
-  to_reach =
-      walk_on F declared id v (lifted_view content v) (reaching_view n u)
-      (walk_one F declared id v (lifted_view content v)
-      (act_aside F declared id (λ s. effect s (AtCells (Take v.number n))) (lock_word n) [] v (takes (slot_of n) (Some content)) (lifted_view content v) (cells_aside (Take v.number n)) take))
-      (walk_on F declared id (lifted_view content v) u (reaching_view n u)
-      (walk_one F declared id (lifted_view content v) u
-      (act_aside F declared id (λ s. s) (lock_word n) ((slot_of n, None) ∷ []) (lifted_view content v) gives u (λ s. refl) back))
-      (walk_one F declared id u (reaching_view n u)
-      (act_aside F declared id (λ s. s) (lock_word n) [] u (takes (slot_of n) None) (reaching_view n u) (λ s. refl) reach)))
-
-  from_put : WalksAside F declared id (put_view n u) w
-  from_put =
-      walk_one F declared id (put_view n u) w
-      (step_aside F declared id (AtCells (Unlock (put_view n u).number n)) (lock_word n) (λ word. 0) (put_view n u) 0 w (cells_aside (Unlock (put_view n u).number n)) (unlock 0))
-
-  pub whole_walk : WalksAside F declared id v w
-  whole_walk =
-      walk_on F declared id v (reaching_view n u) w to_reach
-      (walk_on F declared id (reaching_view n u) (put_view n u) w
-      (walk_one F declared id (reaching_view n u) (put_view n u)
-      (act_aside F declared id (λ s. effect s (AtCells (Put u.number n))) (lock_word n) ((slot_of n, Some filled) ∷ []) (reaching_view n u) gives (put_view n u) (cells_aside (Put u.number n)) put))
-      from_put)
-
-  pub represented : (part : P) → filled.part ≡ Some part → HasRepresented F declared id n v w
-  represented part full = record { holding = u; content = filled; part = part; full = full; before = to_reach; put = put; after = from_put }
-
--- what is so where a part was made, or none
-
-pub either : {X E A B : Type 0} (r : Result X E) → OnOk r A → OnErr r B → B ⊎ A
-either (Ok x) ok err = inr ok
-either (Err e) ok err = inl err
+pub part_back : {X E P : Type 0} (r : Result X E) (old new due : Option P) → OnOk r (new ≡ due) → OnErr r ((old ≡ None) × (new ≡ None)) → (new ≡ old) ⊎ (new ≡ due)
+part_back (Ok x) old new due ok err = inr ok
+part_back (Err e) old new due ok err = inl (err.1 ∙ sym err.0)
 
 pub on_ok : {X E A B : Type 0} (r : Result X E) → OnOk r A → (A → B) → OnOk r B
 on_ok (Ok x) ok then = then ok
 on_ok (Err e) ok then = tt
+
+pub on_err : {X E A B : Type 0} (r : Result X E) → OnErr r A → (A → B) → OnErr r B
+on_err (Ok x) err then = tt
+on_err (Err e) err then = then err

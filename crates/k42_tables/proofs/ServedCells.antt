@@ -13,11 +13,13 @@ use Rattle.k42_stamp.specs.Layouts.{Layouts}
 use Rattle.k42_joined.specs.Safe.{IsSafe, IsOpenRow}
 use Rattle.k42_joined.specs.State.{object, incarnation}
 use Rattle.k42_board.specs.Cells.{Slot}
+use Rattle.k42_board.specs.Log.{took}
 use Rattle.k42_board.specs.Phases.{is_served}
 use Rattle.k42_board.specs.Rule.{KnowsPass, Rule}
 use Rattle.k42_board.specs.Steps.{Always}
 use Rattle.k42_board.specs.Tabling.{entry_in, EntryFound, looked_up_view}
 use Rattle.k42_board.specs.declared.view.PassView.{PassView}
+use Rattle.k42_board.specs.declared.view.StepName.TheVariants as steps
 use Rattle.k42_board.specs.declared.view.View.{View}
 use Rattle.k42_board.specs.declared.view.View.TheVariants.{Crew}
 use Rattle.k42_board.proofs.OnePass.{known}
@@ -67,9 +69,9 @@ module _ {S L P : Type 0} (F : Layouts S L P) (declared : List L) where
         is_open = subst (λ k. IsOpenRow r.state o k cell) row (opened id o i cell w inside there table r at);
       }
 
-  pub look_up_served : ArePresent → AreOpen → (id o found : ℕ) (v w : PassView P) → v.turn.proc < F.procs → w ≡ looked_up_view o found v → EntryFound v found
+  pub look_up_served : ArePresent → AreOpen → (id o found word : ℕ) (v w : PassView P) → v.turn.proc < F.procs → w ≡ took steps.LookUp word found (looked_up_view o found v) → EntryFound v found
       → IfDirect (entered_by (entry_in found)) (λ cell. Always F declared id w (IsServed o cell w))
-  look_up_served present opened id o found v w home is facts = go (eqb (entry_in found).tag 0) (eqb (entry_in found).tag 1) refl refl where
+  look_up_served present opened id o found word v w home is facts = go (eqb (entry_in found).tag 0) (eqb (entry_in found).tag 1) refl refl where
     go : (a b : Bool) → eqb (entry_in found).tag 0 ≡ a → eqb (entry_in found).tag 1 ≡ b
         → IfDirect (cond a entered.Missed (cond b (entered.Direct (entry_in found).cell) entered.Mediated)) (λ cell. Always F declared id w (IsServed o cell w))
     go true b e f = tt

@@ -1,22 +1,21 @@
 -- The handler of a miss, for one pass: where it may be called, and what the pass knows after it.
-use Rattle.std.specs.Prelude.{◌≡◌, ℕ, ◌+◌, ◌<◌, ◌≤◌, ◌==◌, true, if◌then◌else◌, List, ◌∷◌, Some}
+use Rattle.std.specs.Prelude.{◌≡◌, ◌≢◌, ℕ, ◌+◌, ◌<◌, ◌==◌, ◌++◌, if◌then◌else◌, Bool, true, false, List, [], ◌∷◌, Some}
+use Rattle.k42_limits.specs.declared.TheConstants.{CALLERS}
 use Rattle.phase_core.specs.Effects.{root_of}
-use Rattle.phase_core.specs.Event as phases
 use Rattle.phase_core.specs.Stages.{is_missed, row_of}
 use Rattle.phase_core.specs.State.{empty_entry}
-use Rattle.turn_core.specs.declared.event.TurnEvent.TheVariants.{Lock}
 use Rattle.k42_stamp.specs.Layouts.{Layouts}
-use Rattle.k42_joined.specs.Event.{AtPhases, AtCells}
 use Rattle.k42_joined.specs.Numbers.{cell_of}
 use Rattle.k42_joined.specs.Swapping.{holds_none}
-use Rattle.k42_board.specs.Steps.{StepIs}
-use Rattle.k42_board.specs.Tabling.{layout_learned, installs, installed_view, ended_view}
-use Rattle.k42_board.specs.Taking.{LockFound, locked_view}
-use Rattle.k42_board.specs.Values.{local_value}
-use Rattle.k42_board.specs.Words.{local_word, lock_word}
+use Rattle.k42_board.specs.Log.{step_at, steps_through, with_log}
+use Rattle.k42_board.specs.Protocol as protocol
+use Rattle.k42_board.specs.Stepping.{Takes}
+use Rattle.k42_board.specs.Tabling.{RootFound, ended_view, layout_learned, rooted_view}
+use Rattle.k42_board.specs.Values.{layout_in, local_value}
+use Rattle.k42_board.specs.Words.{local_word, lock_word, object_word}
 use Rattle.k42_board.specs.declared.view.PassView.{PassView}
-use Rattle.k42_tables.specs.Filling.{HasRepresented}
-use Rattle.k42_tables.specs.Walks.{WalksAside}
+use Rattle.k42_board.specs.declared.view.StepName.TheVariants as steps
+use Rattle.k42_board.specs.declared.view.Taken.{Taken}
 use Rattle.k42_tables.specs.declared.answers.Filled.{Filled}
 use Rattle.k42_tables.specs.declared.answers.Filled.TheVariants.{Installed, Elsewhere}
 
@@ -26,22 +25,7 @@ pub record MayMiss {P : Type 0} (objects o : ℕ) (v : PassView P) : Type 0 wher
   pub there : o < objects
   pub free : holds_none v.taker.held ≡ true
 
--- a pass that may have learned a layout since, and have found other words and locks held
-abbrev pub IsStillThere : {P : Type 0} → PassView P → PassView P → Type 0
-IsStillThere old v = v ≡ record old { layout = v.layout; heard = v.heard; refused = v.refused }
-
--- and one whose call is over
-abbrev pub HasEndedCall : {P : Type 0} → PassView P → PassView P → Type 0
-HasEndedCall old v = v ≡ record (ended_view v.heard old) { refused = v.refused }
-
--- and one that has learned the layout of the row which it missed
-pub record IsRooted {P : Type 0} (old v : PassView P) : Type 0 where
-  pub there : IsStillThere old v
-  pub layout : ℕ
-  pub learned : v.layout ≡ Some layout
-  pub known : layout ≤ 2
-
--- the cell that the root of the layout names for its processor, in the row that it missed
+-- the place that the root of a layout names for its processor, and the cell there, in the row that it missed
 abbrev pub place_named : {P : Type 0} → PassView P → ℕ
 place_named v = root_of (layout_learned v) v.turn.proc
 
@@ -52,56 +36,81 @@ cell_named o v = cell_of o (row_of v.visitor.place) (place_named v)
 abbrev pub filled_in : ℕ → ℕ → ℕ → Filled
 filled_in row place found = if found == local_value (empty_entry row) then Installed place else Elsewhere found
 
-abbrev pub filled_by : {P : Type 0} → PassView P → ℕ → Filled
-filled_by v found = filled_in (row_of v.visitor.place) (place_named v) found
+-- A try begins so: the pass has found this word of the object, and with it the layout of the row that it missed; and the
+-- word of the lock of the cell which that layout's root names.
+abbrev pub tried_cell : {P : Type 0} → ℕ → ℕ → PassView P → ℕ
+tried_cell o root v = cell_named o (rooted_view root v)
 
--- it has changed no object and no entry, has installed nothing, and is inside no call
-pub record HasGivenUp
-    {S L P : Type 0} (F : Layouts S L P) (declared : List L) (id : ℕ) (old new : PassView P)
-    : Type 0 where
-  pub walk : WalksAside F declared id old new
-  pub out : HasEndedCall old new
-  pub installed : new.installed ≡ old.installed
+abbrev pub steps_tried : {P : Type 0} → ℕ → (root found : ℕ) → PassView P → List Taken
+steps_tried o root found v =
+    step_at steps.Lock (lock_word (tried_cell o root v)) found ∷ step_at steps.LoadRoot (object_word o) root ∷ v.log
 
-module _ {S L P : Type 0} (F : Layouts S L P) (declared : List L) (id o : ℕ) where
-  -- Its cell has a part then, and the last step is an Install. What this found is the word that the pass knows, and
-  -- decides the answer: the pass is at its cell where it found the empty entry, and inside no call where it found another
-  -- word.
-  pub record HasFilled (old new : PassView P) (answer : Filled) : Type 0 where
-    pub before : PassView P
-    pub rooted : IsRooted old before
-    pub represented : HasRepresented F declared id (cell_named o before) old before
-    pub install :
-        StepIs F declared (AtPhases (phases.Install old.number o)) (local_word old.turn.proc o) (installs before) id
-        before new.heard new
-    pub view : new ≡ installed_view o new.heard before
-    pub answered : answer ≡ filled_by before new.heard
+-- it has learned the layout, has taken the lock, and has left the cell with a part or without
+abbrev pub tried_view : {P : Type 0} → ℕ → ℕ → Bool → PassView P → PassView P
+tried_view o root full v = record v {
+  layout = Some (layout_in root);
+  log = steps_through (tried_cell o root v) full ++ steps_tried o root 0 v;
+}
 
-  -- a step of it, before which it was as in `before`, has found this word in the lock of its cell: that of a caller of
-  -- another number
-  pub record FoundHeld (before : PassView P) (holder : ℕ) : Type 0 where
-    pub lock :
-        StepIs F declared (AtCells (Lock before.number (cell_named o before))) (lock_word (cell_named o before))
-        (λ word. if word == 0 then before.number + 1 else word) id before (holder + 1)
-        (locked_view (cell_named o before) (holder + 1) before)
-    pub another : LockFound (cell_named o before) before (holder + 1)
+-- or it has found the lock with another caller, in each of these tries: the word of the object and that caller; the last
+-- comes first
+abbrev pub after_tries : {P : Type 0} → ℕ → List (ℕ × ℕ) → PassView P → List Taken
+after_tries o [] v = v.log
+after_tries o ((root, holder) ∷ tries) v =
+    step_at steps.Lock (lock_word (tried_cell o root v)) (holder + 1) ∷ step_at steps.LoadRoot (object_word o) root
+    ∷ after_tries o tries v
 
-  -- it has found its cell held just now, and no other lock
-  pub record IsHeldUp (old new : PassView P) (holder : ℕ) : Type 0 where
-    pub before : PassView P
-    pub rooted : IsRooted old before
-    pub unrefused : before.refused ≡ old.refused
-    pub walk : WalksAside F declared id old before
-    pub held : FoundHeld before holder
-    pub view : new ≡ locked_view (cell_named o before) (holder + 1) before
+abbrev pub refused_at : {P : Type 0} → ℕ → List (ℕ × ℕ) → PassView P → PassView P
+refused_at o tries v = with_log (after_tries o tries v) v
 
-  -- it has found its cell held, which is the one lock that it was refused, has installed nothing, and has given up
-  pub record HasFoundHeld (old new : PassView P) (holder : ℕ) : Type 0 where
-    pub before : PassView P
-    pub rooted : IsRooted old before
-    pub walk : WalksAside F declared id old before
-    pub held : FoundHeld before holder
-    pub rest : WalksAside F declared id (locked_view (cell_named o before) (holder + 1) before) new
-    pub out : HasEndedCall old new
-    pub refused : new.refused ≡ (holder + 1) ∷ old.refused
-    pub installed : new.installed ≡ old.installed
+module _ {S L P : Type 0} (F : Layouts S L P) (declared : List L) (id : ℕ) where
+  -- The cell has a part then, and the last step installs it. What this found decides the answer: the pass is at its cell
+  -- where it found the empty entry, and inside no call where it found another word.
+  pub record HasFilled (o : ℕ) (old new : PassView P) (answer : Filled) : Type 0 where
+    pub root : ℕ
+    pub rooted : RootFound old root
+    pub found : ℕ
+    pub installed :
+        Takes F declared (protocol.install o (place_named (rooted_view root old))) id (tried_view o root true old) found new
+    pub answered :
+        answer ≡ filled_in (row_of old.visitor.place) (place_named (rooted_view root old)) found
+
+  -- the same after tries that found the lock with others
+  pub record HasFilledAtLast (o : ℕ) (old new : PassView P) (answer : Filled) : Type 0 where
+    pub tries : List (ℕ × ℕ)
+    pub filled : HasFilled o (refused_at o tries old) new answer
+
+-- it has found the lock with this caller
+pub record IsHeldUp {P : Type 0} (o : ℕ) (old new : PassView P) (holder : ℕ) : Type 0 where
+  pub root : ℕ
+  pub rooted : RootFound old root
+  pub another : holder ≢ old.number
+  pub caller : holder < CALLERS
+  pub knows : new ≡ record old { layout = Some (layout_in root); log = steps_tried o root (holder + 1) old }
+
+-- and has ended its call
+pub record HasFoundHeld {P : Type 0} (o : ℕ) (old new : PassView P) (holder : ℕ) : Type 0 where
+  pub root : ℕ
+  pub rooted : RootFound old root
+  pub another : holder ≢ old.number
+  pub caller : holder < CALLERS
+  pub ended : ℕ
+  pub knows :
+      new
+      ≡ with_log (step_at steps.EndCall (local_word old.turn.proc o) ended ∷ steps_tried o root (holder + 1) old)
+      (ended_view old)
+
+-- it has left the cell without a part, and has ended its call: it has installed nothing
+pub record HasGivenUp {P : Type 0} (o : ℕ) (old new : PassView P) : Type 0 where
+  pub root : ℕ
+  pub rooted : RootFound old root
+  pub ended : ℕ
+  pub knows :
+      new
+      ≡ with_log (step_at steps.EndCall (local_word old.turn.proc o) ended ∷ (tried_view o root false old).log)
+      (ended_view old)
+
+-- and this too after such tries
+pub record HasGivenUpAtLast {P : Type 0} (o : ℕ) (old new : PassView P) : Type 0 where
+  pub tries : List (ℕ × ℕ)
+  pub up : HasGivenUp o (refused_at o tries old) new

@@ -1,18 +1,16 @@
 //! The look-up, and the end of a call.
-ghost use Rattle.std.specs.Prelude.{◌≡◌, ◌+◌, ◌-◌, ◌%◌, ◌^◌, true, false, length};
-ghost use Rattle.phase_core.specs.Event as phases;
-ghost use Rattle.phase_core.specs.Stages.{object_of};
-ghost use Rattle.k42_joined.specs.Event.{AtPhases};
-ghost use Rattle.k42_board.specs.Plan.{layouts_on};
+ghost use Rattle.std.specs.Prelude.{◌≡◌, true, false};
+ghost use Rattle.k42_board.specs.Log.{last_found, with_log};
+ghost use Rattle.k42_board.specs.Protocol as protocol;
 ghost use Rattle.k42_board.specs.Seen.{IsOf, IsPassOf, IsSamePass, is_tracked};
-ghost use Rattle.k42_board.specs.Steps.{StepIs, Always};
-ghost use Rattle.k42_board.specs.Tabling.{EntryFound, entry_in, MayLookUp, looked_up_view, ended_view};
-ghost use Rattle.k42_board.specs.Words.{local_word, object_word};
+ghost use Rattle.k42_board.specs.Stepping.{MayStep, HasStepped, AlwaysIn};
+ghost use Rattle.k42_board.specs.Tabling.{entry_in, ended_view};
 ghost use Rattle.k42_tables.specs.Entries.{entered_by, LeadsTo, IfDirect};
 ghost use Rattle.k42_tables.specs.Serving.{IsServed, MayFinish};
 
 use crate::answers::Entered;
 use crate::laws::cells_inside_are_open;
+use k42_board::{entry_cell, tag_in};
 use k42_kinds::Layout;
 use k42_rule::{Pass, Sys, end_call, look_up_step, rows_inside_are_present, step_out};
 
@@ -20,10 +18,10 @@ use k42_rule::{Pass, Sys, end_call, look_up_step, rows_inside_are_present, step_
 fn entered_at(word: u64) -> Entered
     ensures { result ≡ entered_by (entry_in word) }
 {
-    match word % 4 {
+    match tag_in(word) {
         0 => Entered::Missed,
         1 => Entered::Direct {
-            cell: (word / 256 % 256) as u32,
+            cell: entry_cell(word),
         },
         _ => Entered::Mediated,
     }
@@ -32,20 +30,11 @@ fn entered_at(word: u64) -> Entered
 /// Reads where its processor's entry of the object leads, and goes there.
 pub fn look_up<L: Layout>(sys: &Sys<L>, pass: &mut Pass<L>, object: u32) -> Entered
     requires ours { IsPassOf sys.now pass.old }
-    requires may { MayLookUp (length sys.now.layouts) object pass.old.view }
-    ensures same { IsSamePass pass.old pass.new }
-    ensures answered { result ≡ entered_by (entry_in pass.new.view.heard) }
+    requires may { MayStep L.Layout sys.now (protocol.look_up object) pass.old }
+    ensures answered { result ≡ entered_by (entry_in (last_found pass.new.view.log)) }
     ensures there { LeadsTo result object pass.new.view.visitor.place }
-    ensures knows { pass.new.view ≡ looked_up_view object pass.new.view.heard pass.old.view }
-    ensures found { EntryFound pass.old.view pass.new.view.heard }
-    ensures served { IfDirect result (λ cell. Always
-        (layouts_on L.object L.tag_of L.ways L.whole L.serves L.admitted L.act_of sys.now.procs sys.now.callers)
-        sys.now.layouts pass.new.seat pass.new.view (IsServed object cell pass.new.view)) }
-    ensures event { StepIs
-        (layouts_on L.object L.tag_of L.ways L.whole L.serves L.admitted L.act_of sys.now.procs sys.now.callers)
-        sys.now.layouts (AtPhases (phases.LookUp pass.old.view.number object))
-        (local_word pass.old.view.turn.proc object) (λ word. word)
-        pass.old.seat pass.old.view pass.new.view.heard pass.new.view }
+    ensures served { IfDirect result (λ cell. AlwaysIn L.Layout sys.now pass.new (IsServed object cell pass.new.view)) }
+    ensures stepped { HasStepped L.Layout sys.now (protocol.look_up object) pass.old (last_found pass.new.view.log) pass.new }
 {
     rows_inside_are_present(sys);
     cells_inside_are_open(sys);
@@ -57,17 +46,11 @@ pub fn finish_call<L: Layout>(sys: &Sys<L>, pass: &mut Pass<L>)
     requires ours { IsOf sys.now pass.old }
     requires may { MayFinish pass.old.view }
     ensures same { IsSamePass pass.old pass.new }
-    ensures knows { pass.new.view ≡ ended_view pass.new.view.heard pass.old.view }
-    ensures direct { is_tracked pass.old.view.visitor.place ≡ false → StepIs
-        (layouts_on L.object L.tag_of L.ways L.whole L.serves L.admitted L.act_of sys.now.procs sys.now.callers)
-        sys.now.layouts (AtPhases (phases.EndCall pass.old.view.number))
-        (local_word pass.old.view.turn.proc (object_of pass.old.view.visitor.place)) (λ word. word)
-        pass.old.seat pass.old.view pass.new.view.heard pass.new.view }
-    ensures tracked { is_tracked pass.old.view.visitor.place ≡ true → StepIs
-        (layouts_on L.object L.tag_of L.ways L.whole L.serves L.admitted L.act_of sys.now.procs sys.now.callers)
-        sys.now.layouts (AtPhases (phases.StepOut pass.old.view.number))
-        (object_word (object_of pass.old.view.visitor.place)) (λ word. (word + (2 ^ 64 - 1)) % 2 ^ 64)
-        pass.old.seat pass.old.view pass.new.view.heard pass.new.view }
+    ensures knows { pass.new.view ≡ with_log pass.new.view.log (ended_view pass.old.view) }
+    ensures direct { is_tracked pass.old.view.visitor.place ≡ false
+        → HasStepped L.Layout sys.now protocol.end_call pass.old (last_found pass.new.view.log) pass.new }
+    ensures tracked { is_tracked pass.old.view.visitor.place ≡ true
+        → HasStepped L.Layout sys.now protocol.step_out pass.old (last_found pass.new.view.log) pass.new }
 {
     if pass.inside().tracked {
         step_out(sys, pass);

@@ -1,11 +1,10 @@
 //! Representatives, which are made on first use.
-ghost use Rattle.std.specs.Prelude.{◌≡◌, ◌<◌, ◌≤◌, Some, [], unwrap_or, OnOk, OnErr};
+ghost use Rattle.std.specs.Prelude.{◌≡◌, ◌<◌, ◌≤◌, true, false, Some, None, unwrap_or, OnOk, OnErr};
 ghost use Rattle.k42_limits.specs.declared.TheConstants.{PROCESSORS};
-ghost use Rattle.k42_board.specs.Plan.{layouts_on};
 ghost use Rattle.k42_board.specs.Seen.{IsPassOf, IsSamePass};
-ghost use Rattle.k42_board.specs.Taking.{HoldsHome, unlocked_view};
-ghost use Rattle.k42_tables.specs.Filling.{IsOfItsRow, HasRepresented};
-ghost use Rattle.k42_tables.specs.Walks.{WalksAside};
+ghost use Rattle.k42_board.specs.Stepping.{layouts_in};
+ghost use Rattle.k42_board.specs.Taking.{HoldsHome};
+ghost use Rattle.k42_tables.specs.Filling.{IsOfItsRow, handled_view};
 
 use k42_kinds::Layout;
 use k42_memory::Memory;
@@ -23,7 +22,7 @@ fn fill_part<L: Layout>(
     requires known { (L.tag_of layout.now ≤ 2) × (place < procs) × (procs ≤ PROCESSORS) }
     ensures same { content.new ≡ record content.old { part = content.new.part } }
     ensures ok { OnOk result (content.new.part ≡ Some (unwrap_or content.old.part ((L.ways layout.now).empty procs place))) }
-    ensures memory { OnErr result (content.new.part ≡ content.old.part) }
+    ensures memory { OnErr result ((content.old.part ≡ None) × (content.new.part ≡ None)) }
 {
     let part = match content.take_part() {
         Some(part) => part,
@@ -44,17 +43,10 @@ pub(crate) fn represent<L: Layout>(
 ) -> Result<(), Memory>
     requires ours { IsPassOf sys.now pass.old }
     requires holds { HoldsHome cell pass.old.view }
-    requires row { IsOfItsRow
-        (layouts_on L.object L.tag_of L.ways L.whole L.serves L.admitted L.act_of sys.now.procs sys.now.callers)
-        sys.now.layouts cell place layout.now pass.old.view }
+    requires row { IsOfItsRow (layouts_in L.Layout sys.now) sys.now.layouts cell place layout.now pass.old.view }
     ensures same { IsSamePass pass.old pass.new }
-    ensures knows { pass.new.view ≡ unlocked_view cell pass.old.view }
-    ensures walk { WalksAside
-        (layouts_on L.object L.tag_of L.ways L.whole L.serves L.admitted L.act_of sys.now.procs sys.now.callers)
-        sys.now.layouts pass.old.seat pass.old.view pass.new.view }
-    ensures made { OnOk result (HasRepresented
-        (layouts_on L.object L.tag_of L.ways L.whole L.serves L.admitted L.act_of sys.now.procs sys.now.callers)
-        sys.now.layouts pass.old.seat cell pass.old.view pass.new.view) }
+    ensures made { OnOk result (pass.new.view ≡ handled_view cell true pass.old.view) }
+    ensures memory { OnErr result (pass.new.view ≡ handled_view cell false pass.old.view) }
 {
     layouts_are_lawful(sys);
     let procs = sys.procs();

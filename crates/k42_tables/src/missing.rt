@@ -1,10 +1,9 @@
 //! The handler of a miss.
 ghost use Rattle.std.specs.Prelude.{◌≡◌, length, IfOk, OnErr};
-ghost use Rattle.k42_board.specs.Plan.{layouts_on};
 ghost use Rattle.k42_board.specs.Seen.{IsPassOf, IsSamePass};
-ghost use Rattle.k42_board.specs.Steps.{Always};
+ghost use Rattle.k42_board.specs.Stepping.{AlwaysIn, layouts_in};
 ghost use Rattle.k42_tables.specs.Entries.{EndsAt, IfInstalled, IfFilled, IfHeld};
-ghost use Rattle.k42_tables.specs.Missing.{MayMiss, filled_in, HasFilled, HasGivenUp, IsHeldUp, HasFoundHeld};
+ghost use Rattle.k42_tables.specs.Missing.{MayMiss, filled_in, HasFilled, HasGivenUp, IsHeldUp, HasFoundHeld, HasFilledAtLast, HasGivenUpAtLast};
 ghost use Rattle.k42_tables.specs.Serving.{IsServed};
 
 use crate::answers::{Filled, Tried};
@@ -12,6 +11,7 @@ use crate::filling::represent;
 use crate::laws::cells_inside_are_open;
 use crate::roots::cell_named;
 use crossbeam_utils::Backoff;
+use k42_board::{cell_number, empty_word, incarnation_in, layout_in};
 use k42_kinds::Layout;
 use k42_memory::Memory;
 use k42_rule::{Pass, Sys, end_call, install_step, lock, root_step, rows_inside_are_present};
@@ -22,7 +22,7 @@ use std::sync::Wait;
 fn filled_at(row: u32, cell: u32, word: u64) -> Filled
     ensures { result ≡ filled_in row cell word }
 {
-    if word == u64::from(row) * 4_294_967_296 {
+    if word == empty_word(row) {
         Filled::Installed { cell }
     } else {
         Filled::Elsewhere { word }
@@ -39,29 +39,20 @@ fn try_fill<L: Layout>(
     requires ours { IsPassOf sys.now pass.old }
     requires may { MayMiss (length sys.now.layouts) object pass.old.view }
     ensures same { IsSamePass pass.old pass.new }
-    ensures filled { IfOk result (λ tried. IfFilled tried (HasFilled
-        (layouts_on L.object L.tag_of L.ways L.whole L.serves L.admitted L.act_of sys.now.procs sys.now.callers)
-        sys.now.layouts pass.old.seat object pass.old.view pass.new.view)) }
+    ensures filled { IfOk result (λ tried. IfFilled tried (HasFilled (layouts_in L.Layout sys.now) sys.now.layouts pass.old.seat object pass.old.view pass.new.view)) }
     ensures there { IfOk result (λ tried. IfFilled tried (λ answer. EndsAt answer object pass.new.view.visitor.place)) }
-    ensures served { IfOk result (λ tried. IfFilled tried (λ answer. IfInstalled answer (λ cell. Always
-        (layouts_on L.object L.tag_of L.ways L.whole L.serves L.admitted L.act_of sys.now.procs sys.now.callers)
-        sys.now.layouts pass.old.seat pass.new.view (IsServed object cell pass.new.view)))) }
-    ensures unrefused { IfOk result (λ tried. IfFilled tried (λ answer. pass.new.view.refused ≡ pass.old.view.refused)) }
-    ensures held { IfOk result (λ tried. IfHeld tried (IsHeldUp
-        (layouts_on L.object L.tag_of L.ways L.whole L.serves L.admitted L.act_of sys.now.procs sys.now.callers)
-        sys.now.layouts pass.old.seat object pass.old.view pass.new.view)) }
-    ensures memory { OnErr result (HasGivenUp
-        (layouts_on L.object L.tag_of L.ways L.whole L.serves L.admitted L.act_of sys.now.procs sys.now.callers)
-        sys.now.layouts pass.old.seat pass.old.view pass.new.view) }
+    ensures served { IfOk result (λ tried. IfFilled tried (λ answer. IfInstalled answer (λ cell. AlwaysIn L.Layout sys.now pass.new (IsServed object cell pass.new.view)))) }
+    ensures held { IfOk result (λ tried. IfHeld tried (IsHeldUp object pass.old.view pass.new.view)) }
+    ensures memory { OnErr result (HasGivenUp object pass.old.view pass.new.view) }
 {
     rows_inside_are_present(sys);
     cells_inside_are_open(sys);
     let _objects = sys.objects();
     let _procs = sys.procs();
     let word = root_step(sys, pass, object);
-    let (row, tag) = ((word >> 32) as u32, (word / 268_435_456 % 4) as u32);
+    let (row, tag) = (incarnation_in(word), layout_in(word));
     let place = cell_named(tag, pass.processor());
-    let cell = (object * 2 + row % 2) * 8 + place;
+    let cell = cell_number(object, row, place);
     let holder = lock(sys, pass, cell);
     if holder > 0 {
         return Ok(Tried::Held {
@@ -89,16 +80,10 @@ pub fn miss<L: Layout, R: Wait>(
     requires ours { IsPassOf sys.now pass.old }
     requires may { MayMiss (length sys.now.layouts) object pass.old.view }
     ensures same { IsSamePass pass.old pass.new }
-    ensures filled { IfOk result (HasFilled
-        (layouts_on L.object L.tag_of L.ways L.whole L.serves L.admitted L.act_of sys.now.procs sys.now.callers)
-        sys.now.layouts pass.old.seat object pass.old.view pass.new.view) }
+    ensures filled { IfOk result (HasFilledAtLast (layouts_in L.Layout sys.now) sys.now.layouts pass.old.seat object pass.old.view pass.new.view) }
     ensures there { IfOk result (λ answer. EndsAt answer object pass.new.view.visitor.place) }
-    ensures served { IfOk result (λ answer. IfInstalled answer (λ cell. Always
-        (layouts_on L.object L.tag_of L.ways L.whole L.serves L.admitted L.act_of sys.now.procs sys.now.callers)
-        sys.now.layouts pass.old.seat pass.new.view (IsServed object cell pass.new.view))) }
-    ensures memory { OnErr result (HasGivenUp
-        (layouts_on L.object L.tag_of L.ways L.whole L.serves L.admitted L.act_of sys.now.procs sys.now.callers)
-        sys.now.layouts pass.old.seat pass.old.view pass.new.view) }
+    ensures served { IfOk result (λ answer. IfInstalled answer (λ cell. AlwaysIn L.Layout sys.now pass.new (IsServed object cell pass.new.view))) }
+    ensures memory { OnErr result (HasGivenUpAtLast object pass.old.view pass.new.view) }
 {
     let backoff = Backoff::new();
     for _ in rt.forever() {
@@ -120,20 +105,11 @@ pub fn try_miss<L: Layout>(
     requires ours { IsPassOf sys.now pass.old }
     requires may { MayMiss (length sys.now.layouts) object pass.old.view }
     ensures same { IsSamePass pass.old pass.new }
-    ensures filled { IfOk result (λ tried. IfFilled tried (HasFilled
-        (layouts_on L.object L.tag_of L.ways L.whole L.serves L.admitted L.act_of sys.now.procs sys.now.callers)
-        sys.now.layouts pass.old.seat object pass.old.view pass.new.view)) }
+    ensures filled { IfOk result (λ tried. IfFilled tried (HasFilled (layouts_in L.Layout sys.now) sys.now.layouts pass.old.seat object pass.old.view pass.new.view)) }
     ensures there { IfOk result (λ tried. IfFilled tried (λ answer. EndsAt answer object pass.new.view.visitor.place)) }
-    ensures served { IfOk result (λ tried. IfFilled tried (λ answer. IfInstalled answer (λ cell. Always
-        (layouts_on L.object L.tag_of L.ways L.whole L.serves L.admitted L.act_of sys.now.procs sys.now.callers)
-        sys.now.layouts pass.old.seat pass.new.view (IsServed object cell pass.new.view)))) }
-    ensures unrefused { IfOk result (λ tried. IfFilled tried (λ answer. pass.new.view.refused ≡ pass.old.view.refused)) }
-    ensures held { IfOk result (λ tried. IfHeld tried (HasFoundHeld
-        (layouts_on L.object L.tag_of L.ways L.whole L.serves L.admitted L.act_of sys.now.procs sys.now.callers)
-        sys.now.layouts pass.old.seat object pass.old.view pass.new.view)) }
-    ensures memory { OnErr result (HasGivenUp
-        (layouts_on L.object L.tag_of L.ways L.whole L.serves L.admitted L.act_of sys.now.procs sys.now.callers)
-        sys.now.layouts pass.old.seat pass.old.view pass.new.view) }
+    ensures served { IfOk result (λ tried. IfFilled tried (λ answer. IfInstalled answer (λ cell. AlwaysIn L.Layout sys.now pass.new (IsServed object cell pass.new.view)))) }
+    ensures held { IfOk result (λ tried. IfHeld tried (HasFoundHeld object pass.old.view pass.new.view)) }
+    ensures memory { OnErr result (HasGivenUp object pass.old.view pass.new.view) }
 {
     let tried = try_fill(alloc, sys, pass, object)?;
     if let Tried::Held { .. } = tried {

@@ -1,5 +1,5 @@
 -- The pass of a worker, between two items.
-use Rattle.std.specs.Prelude.{◌≡◌, ℕ, ◌+◌, ◌<◌, ◌≤◌, true, false, ⊤, List, [], All, length}
+use Rattle.std.specs.Prelude.{◌≡◌, ℕ, ◌+◌, ◌<◌, ◌≤◌, true, false, ⊤, List, [], ◌∷◌, All, length}
 use Rattle.gen_core.specs.Events as graces
 use Rattle.k42_limits.specs.declared.TheConstants.{CALLERS, CALL_LINES}
 use Rattle.k42_places.specs.Places.{EachPair}
@@ -13,7 +13,10 @@ use Rattle.script_text.specs.declared.script.Item.{Item}
 use Rattle.script_text.specs.declared.script.Item.TheVariants.{Begin, End, Line}
 use Rattle.script_text.specs.declared.script.WorkerLines.{WorkerLines}
 use Rattle.k42_board.specs.Generations.{MOST}
+use Rattle.k42_board.specs.Log.{last_found, step_at}
+use Rattle.k42_board.specs.Words.{generation_word}
 use Rattle.k42_board.specs.declared.view.PassView.{PassView}
+use Rattle.k42_board.specs.declared.view.StepName.TheVariants as steps
 use Rattle.k42_runtime.specs.Calls.{IsAsked}
 use Rattle.k42_runtime.specs.Plans.{PlanSeen}
 use Rattle.k42_runtime.specs.Systems.{SystemPass, SystemSeen, IsPassHere, IsAtRest}
@@ -62,11 +65,10 @@ pub record StaysAs {P : Type 0} (old new : PassView P) : Type 0 where
   pub activities : new.activities ≡ old.activities
   pub graces : new.graces ≡ old.graces
 
--- nothing has held it up
-pub record IsNotHeldUp {P : Type 0} (old new : PassView P) : Type 0 where
-  pub refused : new.refused ≡ old.refused
-  pub knocked : new.knocked ≡ old.knocked
-  pub stalls : new.stalls ≡ old.stalls
+-- it has taken the step into an activity, and no other
+abbrev pub HasOnlyEntered : {P : Type 0} → PassView P → PassView P → Type 0
+HasOnlyEntered old new =
+    new.log ≡ step_at steps.Enter (generation_word old.turn.proc) (last_found new.log) ∷ old.log
 
 -- a swap is made between two activities
 abbrev pub RestsFor : {P : Type 0} → Act → PassView P → Type 0

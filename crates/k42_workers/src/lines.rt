@@ -1,11 +1,11 @@
 //! The lines of a worker, each carried out on its pass.
-ghost use Rattle.std.specs.Prelude.{◌≡◌, ◌<◌, Bool, true, None, OnOk, IfOk, length, is_some, if◌then◌else◌};
+ghost use Rattle.std.specs.Prelude.{◌≡◌, ◌<◌, Bool, true, false, None, OnOk, IfOk, length, is_some, if◌then◌else◌};
 ghost use Rattle.k42_kinds.specs.declared.entry.Act.TheVariants as acts;
 ghost use Rattle.k42_board.specs.Generations.{MOST};
 ghost use Rattle.k42_runtime.specs.Calls.{IsAsked};
 ghost use Rattle.k42_runtime.specs.Systems.{IsPassHere, IsAtRest, IsAtWork};
 ghost use Rattle.k42_workers.specs.Lines.{AnswersLine, IsOpened, IsMade, Follows};
-ghost use Rattle.k42_workers.specs.Passes.{standing_of, IsBetween, HasFew, GoesOnAs, GoesOnBy, StaysAs, IsNotHeldUp, MayAnswer, MayFollow};
+ghost use Rattle.k42_workers.specs.Passes.{standing_of, IsBetween, HasFew, GoesOnAs, GoesOnBy, StaysAs, HasOnlyEntered, MayAnswer, MayFollow};
 
 use crate::gate::Gate;
 use k42_kinds::{Act, Op, To};
@@ -27,7 +27,7 @@ pub fn open(system: &System, pass: &mut Pass)
     ensures graces { pass.new.view.graces ≡ pass.old.view.graces }
     ensures stays { is_some pass.old.view.turn.active ≡ true → pass.new ≡ pass.old }
     ensures seat { pass.new.seat ≡ pass.old.seat }
-    ensures free { IsNotHeldUp pass.old.view pass.new.view }
+    ensures entered { is_some pass.old.view.turn.active ≡ false → HasOnlyEntered pass.old.view pass.new.view }
 {
     if !pass.is_active() {
         system.enter(pass);

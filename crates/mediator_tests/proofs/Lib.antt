@@ -1,4 +1,5 @@
 pub mod Crews
 pub mod FirstCell
+pub mod GivenBack
 pub mod Handed
 pub mod OneCell

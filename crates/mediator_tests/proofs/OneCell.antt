@@ -25,15 +25,19 @@ use Rattle.k42_joined.specs.Rows.{cells_reached}
 use Rattle.k42_board.specs.Cells.{cells_noted}
 use Rattle.k42_board.specs.Drawing.{AreTold, history_noted, closed_noted, part_noted, part_due, IsHeld, IsTold, MayDrawCall, IsStepped, drawn_at}
 use Rattle.k42_board.specs.Generations.{MOST}
+use Rattle.k42_board.specs.Log.{step_at, took, with_log}
 use Rattle.k42_board.specs.Parts.{IsPart}
 use Rattle.k42_board.specs.Phases.{is_served}
 use Rattle.k42_board.specs.Steps.{Always}
 use Rattle.k42_board.specs.Taking.{CELLS, MayPut, AreRowsNoted, taken_view, locked_view}
+use Rattle.k42_board.specs.Words.{lock_word}
 use Rattle.k42_board.specs.Seen.{inside_in}
 use Rattle.k42_board.specs.declared.view.Inside.{Inside}
 use Rattle.k42_board.specs.declared.cell.Content.{Content}
 use Rattle.k42_board.specs.declared.view.Note.{Note}
 use Rattle.k42_board.specs.declared.view.PassView.{PassView}
+use Rattle.k42_board.specs.declared.view.StepName.TheVariants as steps
+use Rattle.k42_board.specs.declared.view.Taken.{Taken}
 use Rattle.k42_board.proofs.PartLaws.{noted_always}
 use Rattle.k42_rule.proofs.PartsDue.{first_note, part_reached}
 use Rattle.k42_mediator.specs.Transfers.{IsOfKind}
@@ -57,6 +61,17 @@ mine_stays n found v = go (eqb found 0) where
   go : (b : Bool) → (cond b (caller_locked n v.taker) v.taker).mine ≡ v.taker.mine
   go true = refl
   go false = refl
+
+-- by which a cell is taken out, and before that its lock is taken
+abbrev pub log_taken : ℕ → List Taken → List Taken
+log_taken n log = step_at steps.GiveBack (lock_word n) 0 ∷ step_at steps.Lift (lock_word n) 0 ∷ log
+
+abbrev pub log_locked : (n found : ℕ) → List Taken → List Taken
+log_locked n found log = log_taken n (step_at steps.Lock (lock_word n) found ∷ log)
+
+pub taken_from : {P : Type 0} (n found : ℕ) (content : Content P) (v locked w : PassView P) → locked ≡ took steps.Lock (lock_word n) found (locked_view n found v)
+    → w ≡ with_log (log_taken n locked.log) (taken_view content locked) → w ≡ with_log (log_locked n found v.log) (taken_view content (locked_view n found v))
+taken_from n found content v locked w is taken = taken ∙ ap (λ (x : PassView _). with_log (log_taken n x.log) (taken_view content x)) is
 
 few_cells : (tag procs p : ℕ) → 0 < procs → p < cells_of tag procs → p < procs
 few_cells tag procs p some = go (eqb tag 1) where
@@ -87,11 +102,12 @@ module _ {S L P : Type 0} (F : Layouts S L P) (laws : AreLaws F) (declared : Lis
     pub takes : IsTrue ((F.object_of layout).takes op)
     pub reach : (F.ways_of layout).reach F.procs op proc ≡ One p
 
-  pub at_one : (v w : PassView P) (n found : ℕ) (content : Content P) (inside : Inside) (layout : L) (op : Op) (p : ℕ) → IsServing v → inside ≡ inside_in v
+  pub at_one : (v w : PassView P) (log : List Taken) (n found : ℕ) (content : Content P) (inside : Inside) (layout : L) (op : Op) (p : ℕ) → IsServing v → inside ≡ inside_in v
       → IsOfKind F.object_of declared inside.object layout → F.tag_of layout ≡ inside.layout → inside.layout ≤ 2 → v.turn.proc < F.procs
-      → IsTrue ((F.object_of layout).takes op) → (F.ways_of layout).reach F.procs op v.turn.proc ≡ One p → w ≡ taken_view content (locked_view n found v)
+      → IsTrue ((F.object_of layout).takes op) → (F.ways_of layout).reach F.procs op v.turn.proc ≡ One p
+      → w ≡ with_log log (taken_view content (locked_view n found v))
       → IsAtOne w.visitor.place w.layout w.turn.proc layout op inside.object inside.incarnation p
-  at_one v w n found content inside layout op p serving is of tag few on takes reach e =
+  at_one v w log n found content inside layout op p serving is of tag few on takes reach e =
       subst (λ (x : PassView P). IsAtOne x.visitor.place x.layout x.turn.proc layout op inside.object inside.incarnation p) (sym e)
       (record {
         inside = subst (λ (z : Inside). IsInside v.visitor.place z.object z.incarnation) (sym is) (served_inside v.visitor.place serving.served);
@@ -106,7 +122,7 @@ module _ {S L P : Type 0} (F : Layouts S L P) (laws : AreLaws F) (declared : Lis
       })
 
   -- the cell is taken, and nothing was stepped yet
-  module _ (content : Content P) (v w : PassView P) (e : w ≡ taken_view content v) (layout : L) (op : Op) (o i p : ℕ)
+  module _ (content : Content P) (log : List Taken) (v w : PassView P) (e : w ≡ with_log log (taken_view content v)) (layout : L) (op : Op) (o i p : ℕ)
       (is : IsAtOne w.visitor.place w.layout w.turn.proc layout op o i p) (number : content.number ≡ cell_of o i p) where
     noted : names (cells_noted w.notes) content.number ≡ true
     noted = ap (λ (x : PassView P). names (cells_noted x.notes) content.number) e ∙ (taken_agrees content v).noted
@@ -177,7 +193,7 @@ drawn_part content after entry v = let same = eq-eqb content.number content.numb
 
 -- a cell at which was drawn may be put back
 module _ {S L P : Type 0} (F : Layouts S L P) (laws : AreLaws F) (declared : List L) (id : ℕ) (content : Content P) (after : P) (entry : Entry)
-    (v w : PassView P) (e : w ≡ drawn_at (record content { part = Some after } ∷ []) entry (taken_view content v)) where
+    (log : List Taken) (v w : PassView P) (e : w ≡ with_log log (drawn_at (record content { part = Some after } ∷ []) entry (taken_view content v))) where
   pub may_put_drawn : (new : Content P) → content.number < CELLS → IsTold w.notes (record content { part = Some after }) new
       → MayPut F declared id content.number new w
   may_put_drawn new few told =

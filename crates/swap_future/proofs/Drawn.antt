@@ -1,5 +1,5 @@
 -- What a pass of a roll has drawn.
-use Rattle.std.proofs.Common.{◌≡◌, ⊎_elim, inl, inr, ◌⊎◌, ℕ, ◌+◌, ◌<◌, ◌≤◌, List, [], ◌∷◌, ◌++◌, Option, Some, None, IsSomeAnd, length, replicate, refl, sym, ap, subst, ◌∙◌, arith}
+use Rattle.std.proofs.Common.{◌≡◌, ⊎_elim, inl, inr, ◌⊎◌, ℕ, ◌+◌, ◌<◌, List, [], ◌∷◌, ◌++◌, Option, Some, None, IsSomeAnd, length, replicate, refl, sym, ap, subst, ◌∙◌, arith}
 use Rattle.std.specs.Prelude.{slice_get}
 use Rattle.std.proofs.lemmas.List.{append-nil, append_assoc, length-replicate}
 use Rattle.std.proofs.lemmas.Option.{slice_get_within}
@@ -9,7 +9,7 @@ use Rattle.k42_places.specs.Places.{EachPair}
 use Rattle.k42_places.proofs.EachPlaces.{EachPlace-replicate}
 use Rattle.k42_runtime.proofs.SwapSteps.{same_caller}
 use Rattle.k42_runtime.specs.Swaps.{HasAbandoned}
-use Rattle.k42_runtime.specs.Systems.{SystemSeen, layouts_in, SystemPass, SystemPart}
+use Rattle.k42_runtime.specs.Systems.{SystemSeen, SystemPass, SystemPart}
 use Rattle.k42_runtime.specs.declared.swaps.Stage.TheVariants.{New}
 use Rattle.k42_runtime.specs.declared.swaps.Swapped.{Swapped}
 use Rattle.k42_kinds.specs.declared.entry.To.{To}
@@ -17,7 +17,7 @@ use Rattle.swap_future.specs.Polling.{Ends, new_swap}
 use Rattle.swap_future.specs.Rolling.{Carries, HasRolled, first_flight, items_of, new_roll, result_in}
 use Rattle.swap_future.specs.declared.rolling.Flight.{Flight}
 use Rattle.swap_future.proofs.Places.{there}
-use Rattle.swap_future.specs.Told.{IsEntryOf, BeginWith, AreEntriesOf, HasBroughtBack, HasDrawnFor}
+use Rattle.swap_future.specs.Told.{BeginWith, AreEntriesOf, HasBroughtBack, HasDrawnFor}
 
 some_is : {A : Type 0} (o : Option A) (P : A → Type 0) → IsSomeAnd o P → (x : A) × (o ≡ Some x) × P x
 some_is (Some x) P is = (x, refl, is)
@@ -47,7 +47,7 @@ module _ (system : SystemSeen) (plan : List (ℕ × To)) (answers : List (Option
       ⊎_elim
       (λ (u : (New ≡ New) × (mid.view ≡ old.view)).
       (rest.0, rest.1 ∙ ap (λ (v : PassView SystemPart). v.taker.mine ++ rest.0) u.1, inl rest.2))
-      (λ (u : HasAbandoned (layouts_in system) system.sys.layouts old.seat asked.0 asked.1 old.view mid.view). (
+      (λ (u : HasAbandoned asked.0 asked.1 old.view mid.view). (
         u.entry ∷ rest.0,
         rest.1 ∙ ap (λ mine. mine ++ rest.0) u.drawn ∙ append_assoc old.view.taker.mine (u.entry ∷ []) rest.0,
         inr (

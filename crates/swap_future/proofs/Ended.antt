@@ -1,8 +1,8 @@
 -- A swap that a future has ended from its beginning has ended as one that was waited for.
 use Rattle.std.proofs.Common.{◌≡◌, ⊎_elim, inl, inr, ℕ, Result, Ok, Err, sym, ◌∙◌}
 use Rattle.k42_board.specs.declared.view.PassView.{PassView}
-use Rattle.k42_runtime.specs.Swaps.{HasAbandoned, HasEnded, EndsWithoutMemory}
-use Rattle.k42_runtime.specs.Systems.{SystemSeen, layouts_in, SystemPass, SystemPart}
+use Rattle.k42_runtime.specs.Swaps.{HasAbandoned, HasEnded}
+use Rattle.k42_runtime.specs.Systems.{SystemSeen, SystemPass, SystemPart}
 use Rattle.k42_runtime.specs.declared.swaps.Stage.TheVariants.{New}
 use Rattle.k42_runtime.specs.declared.swaps.Swapped.{Swapped}
 use Rattle.k42_kinds.specs.declared.entry.To.{To}
@@ -33,5 +33,5 @@ module _ (system : SystemSeen) (object : ℕ) (to : To) (old new : SystemPass) w
     ended = tt;
     memory =
         ⊎_elim (λ (u : (New ≡ New) × (new.view ≡ old.view)). inl (unchanged old.view new.view u.1))
-        (λ (u : HasAbandoned (layouts_in system) system.sys.layouts old.seat object to old.view new.view). inr u) is.memory;
+        (λ (u : HasAbandoned object to old.view new.view). inr u) is.memory;
   }

@@ -1,21 +1,20 @@
 -- What befalls one pass of a roll: it takes an item, its swap waits, or its swap ends.
-use Rattle.std.proofs.Common.{◌≡◌, ◌≢◌, ⊎_elim, inl, inr, ◌⊎◌, ℕ, zero, suc, ◌+◌, ◌-◌, ◌<◌, ◌≤◌, true, false, ◌==◌, List, [], ◌∷◌, ◌++◌, Option, Some, None, Ok, Err, length, length-set, length-append, set, IsSomeAnd, refl, sym, ap, subst, ◌∙◌, arith}
+use Rattle.std.proofs.Common.{◌≡◌, ◌≢◌, ⊎_elim, ◌⊎◌, ℕ, zero, suc, ◌+◌, ◌-◌, ◌<◌, ◌≤◌, List, [], ◌∷◌, Option, Some, None, length, length-set, length-append, set, IsSomeAnd, refl, sym, ap, subst, ◌∙◌, arith}
 use Rattle.std.specs.Prelude.{slice_get, is_some, count_by}
 use Rattle.std.proofs.lemmas.Option.{same_Some, slice_get_within}
-use Rattle.k42_board.specs.Generations.{MOST}
 use Rattle.k42_board.specs.declared.view.PassView.{PassView}
 use Rattle.k42_places.proofs.Counts.{count_by-set_more, count_by-set_less, count_by-set_same, count_by_some}
 use Rattle.k42_places.proofs.Written.{at_set, slice_get-set_here, slice_get-set_else}
 use Rattle.k42_runtime.specs.Phases.{last_step}
-use Rattle.k42_runtime.specs.Swaps.{SwapSeen, HasAbandoned, HasStepped, graces_due}
-use Rattle.k42_runtime.specs.Systems.{SystemSeen, layouts_in, SystemPass, SystemPart}
+use Rattle.k42_runtime.specs.Swaps.{SwapSeen, HasAbandoned, HasStepped}
+use Rattle.k42_runtime.specs.Systems.{SystemSeen, SystemPass, SystemPart}
 use Rattle.k42_runtime.specs.declared.swaps.Cause.{Cause}
 use Rattle.k42_runtime.specs.declared.swaps.Stage.TheVariants.{New}
 use Rattle.k42_runtime.specs.declared.swaps.Step.TheVariants.{Again}
 use Rattle.k42_runtime.specs.declared.swaps.Swapped.{Swapped}
 use Rattle.k42_kinds.specs.declared.entry.To.{To}
 use Rattle.swap_future.specs.Polling.{Ends}
-use Rattle.swap_future.specs.Rolling.{RollSeen, HasGotOn, IsRolling, IsLane, IsNotFlown, Agrees, Carries, GetsOn, EachLane, first_flight, items_of, result_in}
+use Rattle.swap_future.specs.Rolling.{RollSeen, HasGotOn, IsRolling, IsLane, IsNotFlown, Agrees, Carries, GetsOn, first_flight, items_of, result_in}
 use Rattle.swap_future.specs.declared.rolling.Flight.{Flight}
 use Rattle.swap_future.proofs.Places.{item_of_taker, no_item_of_others, set_here, there}
 use Rattle.swap_future.proofs.Polled.{ends_by}
@@ -277,7 +276,7 @@ module _ (system : SystemSeen) (a : RollSeen) (place : ℕ) (is : IsRolling syst
       one_drawn None is =
           ⊎_elim
           (λ (u : (f.swap.stage ≡ New) × (new.view ≡ old.view)). let same = ap (λ (v : PassView SystemPart). length v.taker.mine) u.1 in omega (arith, same))
-          (λ (u : HasAbandoned (layouts_in system) system.sys.layouts old.seat f.swap.object f.swap.to old.view new.view).
+          (λ (u : HasAbandoned f.swap.object f.swap.to old.view new.view).
           let more = ap length u.drawn in omega (arith, more, length-append old.view.taker.mine (u.entry ∷ [])))
           is.memory
 

@@ -1,51 +1,53 @@
 -- Swaps that wait, one poll after the other, and how they end.
-use Rattle.std.proofs.Common.{◌≡◌, ℕ, ◌+◌, ◌≤◌, true, false, List, [], ◌∷◌, ◌++◌, Option, Some, None, Result, Ok, Err, IsSomeAnd, refl, sym, subst, ◌∙◌, arith}
+use Rattle.std.proofs.Common.{◌≡◌, ℕ, ◌+◌, List, [], ◌∷◌, ◌++◌, Option, Some, None, IsSomeAnd, refl, sym, subst, ◌∙◌, arith}
 use Rattle.std.specs.Prelude.{slice_get}
-use Rattle.k42_runtime.specs.Phases.{HasGoneOn}
 use Rattle.k42_runtime.specs.Swaps.{SwapSeen, HasStepped, graces_due}
 use Rattle.k42_runtime.specs.Systems.{SystemSeen, SystemPass}
 use Rattle.k42_runtime.specs.declared.swaps.Cause.{Cause}
 use Rattle.k42_runtime.specs.declared.swaps.Step.TheVariants.{Again}
 use Rattle.k42_runtime.specs.declared.swaps.Swapped.{Swapped}
 use Rattle.k42_kinds.specs.declared.entry.To.{To}
-use Rattle.k42_runtime.proofs.SwapSteps.{same_caller, fewer}
+use Rattle.k42_board.proofs.Gained.{follows_on, follows_same}
+use Rattle.k42_runtime.proofs.SwapSteps.{HasComeOn, held_follows, same_caller, fewer}
 use Rattle.swap_future.specs.Polling.{Ends}
 use Rattle.swap_future.specs.Rolling.{HasWaited, last_cause, GetsOn, Carries, first_flight, result_in}
 use Rattle.swap_future.specs.declared.rolling.Flight.{Flight}
 use Rattle.swap_future.proofs.Polled.{ends_before}
 
-not_gone : (s : SwapSeen) (old : SystemPass) → HasGoneOn s s old old
-not_gone s old = record {
+not_come : (s : SwapSeen) (old : SystemPass) → HasComeOn s s old old
+not_come s old = record {
   object = refl;
   to = refl;
   seat = refl;
   caller = record { number = refl; proc = refl; activities = refl };
   drawn = refl;
+  log = follows_same old.view.log;
   graces = omega arith;
   waits = λ e. (e, refl);
 }
 
-goes_again : (system : SystemSeen) (s m t : SwapSeen) (old mid new : SystemPass) (cause : Cause) → HasGoneOn s m old mid
-    → HasStepped system (Again cause) m t mid new → HasGoneOn s t old new
-goes_again system s m t old mid new cause goes step = record {
-  object = step.object ∙ goes.object;
-  to = step.to ∙ goes.to;
-  seat = step.seat ∙ goes.seat;
-  caller = same_caller old.view mid.view new.view goes.caller step.caller;
-  drawn = step.brought.0 ∙ goes.drawn;
+comes_again : (system : SystemSeen) (s m t : SwapSeen) (old mid new : SystemPass) (cause : Cause) → HasComeOn s m old mid
+    → HasStepped system (Again cause) m t mid new → HasComeOn s t old new
+comes_again system s m t old mid new cause comes step = record {
+  object = step.object ∙ comes.object;
+  to = step.to ∙ comes.to;
+  seat = step.seat ∙ comes.seat;
+  caller = same_caller old.view mid.view new.view comes.caller step.caller;
+  drawn = step.brought.0 ∙ comes.drawn;
+  log = follows_on comes.log (held_follows cause mid.view new.view step.brought.1);
   graces =
-      let first = goes.graces in let second = step.graces in
+      let first = comes.graces in let second = step.graces in
       fewer (old.view.graces + graces_due s.stage s.holder) (mid.view.graces + graces_due m.stage m.holder)
       (new.view.graces + graces_due t.stage t.holder) first second;
   waits = λ e. absurd (step.begun e);
 }
 
 -- steps that are held up draw nothing
-goes_on : (system : SystemSeen) (causes : List Cause) (s t : SwapSeen) (old new : SystemPass) → HasWaited system causes s old t new → HasGoneOn s t old new
-goes_on system [] s t old new is =
-    subst (λ (x : SwapSeen × SystemPass). HasGoneOn s x.0 old x.1) (λ j. (sym is.0 j, sym is.1 j)) (not_gone s old)
-goes_on system (cause ∷ causes) s t old new is =
-    goes_again system s is.0 t old is.1 new cause (goes_on system causes s is.0 old is.1 is.2) is.3
+comes_on : (system : SystemSeen) (causes : List Cause) (s t : SwapSeen) (old new : SystemPass) → HasWaited system causes s old t new → HasComeOn s t old new
+comes_on system [] s t old new is =
+    subst (λ (x : SwapSeen × SystemPass). HasComeOn s x.0 old x.1) (λ j. (sym is.0 j, sym is.1 j)) (not_come s old)
+comes_on system (cause ∷ causes) s t old new is =
+    comes_again system s is.0 t old is.1 new cause (comes_on system causes s is.0 old is.1 is.2) is.3
 
 waited_then : (system : SystemSeen) (causes more : List Cause) (s m t : SwapSeen) (old mid new : SystemPass) → HasWaited system causes s old m mid
     → HasWaited system more m mid t new → HasWaited system (more ++ causes) s old t new
@@ -75,10 +77,10 @@ module _ (system : SystemSeen) (answers : List (Option Swapped)) where
   gets_on_then (Some f) None None old mid new first is = subst (λ (x : SystemPass). GetsOn system answers (Some f) old None x) (sym is) first
   gets_on_then (Some f) None (Some h) old mid new first is = absurd is
   gets_on_then (Some f) (Some g) None old mid new first is =
-      let goes = goes_on system first.1 f.swap g.swap old mid first.3 in
+      let comes = comes_on system first.1 f.swap g.swap old mid first.3 in
       some_then (slice_get answers f.item) (λ answer. Ends system g.swap mid (result_in answer) new) (λ answer. Ends system f.swap old (result_in answer) new)
       (subst (λ item. IsSomeAnd (slice_get answers item) (λ answer. Ends system g.swap mid (result_in answer) new)) first.0 is)
-      (λ answer ends. ends_before system f.swap g.swap old mid new goes (result_in answer) ends)
+      (λ answer ends. ends_before system f.swap g.swap old mid new comes (result_in answer) ends)
   gets_on_then (Some f) (Some g) (Some h) old mid new first is = (
     is.0 ∙ first.0,
     is.1 ++ first.1,

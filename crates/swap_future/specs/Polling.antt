@@ -1,8 +1,8 @@
 -- A swap that is polled: where it goes on, what holds it up, and how it ends.
-use Rattle.std.specs.Prelude.{◌≡◌, ℕ, ◌+◌, ◌≤◌, false, length, Option, Some, None, Result, IfOk, OnErr, IsSomeAnd}
+use Rattle.std.specs.Prelude.{◌≡◌, ℕ, ◌+◌, ◌≤◌, false, length, Option, None, Result, IfOk, OnErr, IsSomeAnd}
 use Rattle.k42_board.specs.Views.{word_begun}
 use Rattle.k42_runtime.specs.Swaps.{SwapSeen, IsAtStage, IsEndBy, IsSameCaller, HasSwapped, HasStepped, StepsWithoutMemory, graces_due, is_over}
-use Rattle.k42_runtime.specs.Systems.{SystemSeen, IsPassHere, IsAtRest, layouts_in, SystemPass}
+use Rattle.k42_runtime.specs.Systems.{SystemSeen, IsPassHere, IsAtRest, SystemPass}
 use Rattle.k42_runtime.specs.declared.swaps.Cause.{Cause}
 use Rattle.k42_runtime.specs.declared.swaps.Stage.TheVariants.{New}
 use Rattle.k42_runtime.specs.declared.swaps.Step.TheVariants.{Again}
@@ -29,9 +29,7 @@ pub record Ends {E : Type 0} (system : SystemSeen) (swap : SwapSeen) (old : Syst
   pub graces : new.view.graces ≤ old.view.graces + graces_due swap.stage swap.holder
   pub told : IfOk result (IsEndBy (word_begun new.view.last))
   pub ended : IfOk result (λ end. HasSwapped swap.object swap.to end old.view new.view)
-  pub memory :
-      OnErr result
-      (StepsWithoutMemory (layouts_in system) system.sys.layouts old.seat swap.stage swap.object swap.to old.view new.view)
+  pub memory : OnErr result (StepsWithoutMemory swap.stage swap.object swap.to old.view new.view)
 
 -- one step has brought swap and pass from there to here, and is held up by the cause that is kept
 abbrev pub WasHeldUp : SystemSeen → Option SystemPass → SwapSeen → Option SystemPass → SwapSeen → Option Cause → Type 0

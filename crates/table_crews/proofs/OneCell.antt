@@ -28,12 +28,15 @@ use Rattle.k42_board.specs.Generations.{MOST}
 use Rattle.k42_board.specs.Parts.{IsPart}
 use Rattle.k42_board.specs.Phases.{is_served}
 use Rattle.k42_board.specs.Steps.{Always}
-use Rattle.k42_board.specs.Taking.{CELLS, MayPut, AreRowsNoted, taken_view, locked_view}
+use Rattle.k42_board.specs.Log.{step_at, took, with_log}
+use Rattle.k42_board.specs.Taking.{CELLS, MayPut, AreRowsNoted, taken_view, locked_view, lifted_view, gave_back}
 use Rattle.k42_board.specs.Seen.{inside_in}
+use Rattle.k42_board.specs.Words.{lock_word}
 use Rattle.k42_board.specs.declared.view.Inside.{Inside}
 use Rattle.k42_board.specs.declared.cell.Content.{Content}
 use Rattle.k42_board.specs.declared.view.Note.{Note}
 use Rattle.k42_board.specs.declared.view.PassView.{PassView}
+use Rattle.k42_board.specs.declared.view.StepName.TheVariants as steps
 use Rattle.k42_board.proofs.PartLaws.{noted_always}
 use Rattle.k42_rule.proofs.PartsDue.{first_note, part_reached}
 use Rattle.table_crews.specs.Ready.{IsServing, IsLayoutOf}
@@ -57,10 +60,22 @@ mine_stays n found v = go (eqb found 0) where
   go true = refl
   go false = refl
 
--- a cell that was taken, once its lock was found free
-pub taken_from : {P : Type 0} (n found : ℕ) (content : Content P) (v roomy locked w : PassView P) → roomy ≡ v → locked ≡ locked_view n found roomy
-    → w ≡ taken_view content locked → w ≡ taken_view content (locked_view n found v)
-taken_from n found content v roomy locked w same is taken = taken ∙ ap (taken_view content) (is ∙ ap (locked_view n found) same)
+-- a cell that was taken: the pass has lifted it out of its slot, and has given that back
+abbrev pub took_cell : {P : Type 0} → ℕ → Content P → PassView P → PassView P
+took_cell n content v = gave_back (lock_word n) (took steps.Lift (lock_word n) 0 (lifted_view content v))
+
+-- and its lock was asked for before
+abbrev pub lock_asked : {P : Type 0} → (n found : ℕ) → PassView P → PassView P
+lock_asked n found v = took steps.Lock (lock_word n) found (locked_view n found v)
+
+-- what a pass knows that has lifted the cell
+abbrev pub lifted_at : {P : Type 0} → ℕ → PassView P → PassView P
+lifted_at n v = with_log (step_at steps.GiveBack (lock_word n) 0 ∷ step_at steps.Lift (lock_word n) 0 ∷ v.log) v
+
+-- a cell that was taken, once its lock was asked for
+pub taken_from : {P : Type 0} (n found : ℕ) (content : Content P) (v roomy locked w : PassView P) → roomy ≡ v → locked ≡ lock_asked n found roomy
+    → w ≡ took_cell n content locked → w ≡ took_cell n content (lock_asked n found v)
+taken_from n found content v roomy locked w same is taken = taken ∙ ap (took_cell n content) (is ∙ ap (lock_asked n found) same)
 
 few_cells : (tag procs p : ℕ) → 0 < procs → p < cells_of tag procs → p < procs
 few_cells tag procs p some = go (eqb tag 1) where
@@ -93,7 +108,7 @@ module _ {S L P : Type 0} (F : Layouts S L P) (laws : AreLaws F) (declared : Lis
 
   pub at_one : (v w : PassView P) (n found : ℕ) (content : Content P) (inside : Inside) (layout : L) (op : Op) (p : ℕ) → IsServing v → inside ≡ inside_in v
       → IsLayoutOf F.object_of declared inside.object layout → F.tag_of layout ≡ inside.layout → inside.layout ≤ 2 → v.turn.proc < F.procs
-      → IsTrue ((F.object_of layout).takes op) → (F.ways_of layout).reach F.procs op v.turn.proc ≡ One p → w ≡ taken_view content (locked_view n found v)
+      → IsTrue ((F.object_of layout).takes op) → (F.ways_of layout).reach F.procs op v.turn.proc ≡ One p → w ≡ took_cell n content (lock_asked n found v)
       → IsAtOne w.visitor.place w.layout w.turn.proc layout op inside.object inside.incarnation p
   at_one v w n found content inside layout op p serving is of tag few on takes reach e =
       subst (λ (x : PassView P). IsAtOne x.visitor.place x.layout x.turn.proc layout op inside.object inside.incarnation p) (sym e)
@@ -180,8 +195,8 @@ drawn_part : {P : Type 0} (content : Content P) (after : P) (entry : Entry) (v :
 drawn_part content after entry v = let same = eq-eqb content.number content.number refl in rw same (rw same refl)
 
 -- a cell at which was drawn may be put back
-module _ {S L P : Type 0} (F : Layouts S L P) (laws : AreLaws F) (declared : List L) (id : ℕ) (content : Content P) (after : P) (entry : Entry)
-    (v w : PassView P) (e : w ≡ drawn_at (record content { part = Some after } ∷ []) entry (taken_view content v)) where
+module _ {S L P : Type 0} (F : Layouts S L P) (laws : AreLaws F) (declared : List L) (id word : ℕ) (content : Content P) (after : P) (entry : Entry)
+    (v w : PassView P) (e : w ≡ took steps.Draw word 0 (drawn_at (record content { part = Some after } ∷ []) entry (taken_view content v))) where
   pub may_put_drawn : (new : Content P) → content.number < CELLS → IsTold w.notes (record content { part = Some after }) new
       → MayPut F declared id content.number new w
   may_put_drawn new few told =

@@ -1,9 +1,11 @@
 //! A call, step by step.
 ghost use Rattle.std.specs.Prelude.{◌≡◌, ◌<◌, ◌&&◌, nat_lt, true, false, length, is_some, OnOk, IfOk, IfSome};
 ghost use Rattle.phase_core.specs.declared.caller.Place.TheVariants.{Missed, AtMediator};
-ghost use Rattle.k42_board.specs.Generating.{MayEnter, entered_view};
+ghost use Rattle.k42_board.specs.Generating.{MayEnter};
 ghost use Rattle.k42_board.specs.Generations.{MOST};
+ghost use Rattle.k42_board.specs.Protocol as protocol;
 ghost use Rattle.k42_board.specs.Seen.{is_at_rest};
+ghost use Rattle.k42_board.specs.Stepping.{HasStepped};
 ghost use Rattle.k42_board.specs.Tabling.{EntryFound};
 ghost use Rattle.table_crews.specs.Drawn.{HasDrawn, HasDrawnNone};
 ghost use Rattle.table_crews.specs.Ready.{HoldsNoCell, IsIn, IsServing};
@@ -31,7 +33,7 @@ pub fn may_enter<L: Layout>(pass: &Pass<L>) -> bool
 pub fn enter<L: Layout>(sys: &Sys<L>, pass: &mut Pass<L>) -> u64
     requires free { HoldsNoCell sys.now pass.old }
     requires may { MayEnter pass.old.view }
-    ensures knows { pass.new.view ≡ entered_view result pass.old.view }
+    ensures stepped { HasStepped L.Layout sys.now protocol.enter pass.old result pass.new }
     ensures free { HoldsNoCell sys.now pass.new }
     ensures entered { IsIn pass.new.view }
 {

@@ -11,12 +11,14 @@ use Rattle.phase_core.specs.declared.caller.Place.TheVariants.{Out, Missed, Dire
 use Rattle.turn_core.specs.Names.{names}
 use Rattle.k42_joined.specs.Swapping.{holds_none}
 use Rattle.k42_board.specs.Generations.{MOST}
+use Rattle.k42_board.specs.Log.{took}
 use Rattle.k42_board.specs.Seen.{SysSeen, PassSeen}
 use Rattle.k42_board.specs.Starting.{IsStarted}
 use Rattle.k42_board.specs.Tabling.{RootFound, rooted_view}
 use Rattle.k42_board.specs.Taking.{MayLock}
 use Rattle.k42_board.specs.Values.{incarnation_in}
 use Rattle.k42_board.specs.declared.view.PassView.{PassView}
+use Rattle.k42_board.specs.declared.view.StepName.TheVariants as steps
 use Rattle.tables_tests.specs.Callers.{IsFresh, AreFresh}
 
 pub all_fresh : {L P : Type 0} (layouts : List L) (procs : ℕ) (callers : List ℕ) (sys : SysSeen L) (passes : List (PassSeen P)) → IsStarted layouts procs callers sys passes
@@ -57,9 +59,9 @@ many_rest [] rest n long is = absurd (omega (arith, long))
 many_rest (pass ∷ passes) rest n long is = let same = ap length is in omega (arith, long, same)
 
 -- a caller that has missed the first object in its first row may take the lock of the first cell there
-pub may_lock_first : {P : Type 0} (procs word : ℕ) (v w : PassView P) → v.turn.proc < procs → is_missed v.visitor.place 0 ≡ true → holds_none v.taker.held ≡ true
-    → w ≡ rooted_view word v → RootFound v word → word ≡ 268435456 → MayLock procs 0 w
-may_lock_first {P} procs word v w home missed free is found same =
+pub may_lock_first : {P : Type 0} (procs at word : ℕ) (v w : PassView P) → v.turn.proc < procs → is_missed v.visitor.place 0 ≡ true → holds_none v.taker.held ≡ true
+    → w ≡ took steps.LoadRoot at word (rooted_view word v) → RootFound v word → word ≡ 268435456 → MayLock procs 0 w
+may_lock_first {P} procs at word v w home missed free is found same =
     subst (MayLock procs 0) (sym is)
     (record {
       cell = omega arith;

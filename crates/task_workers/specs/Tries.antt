@@ -5,8 +5,8 @@ use Rattle.k42_kinds.specs.declared.entry.Act.TheVariants.{Call, Swap}
 use Rattle.k42_board.specs.declared.view.PassView.{PassView}
 use Rattle.script_text.specs.declared.script.CallLine.{CallLine}
 use Rattle.k42_runtime.specs.Calls.{IsAsked, HoldsUp}
-use Rattle.k42_runtime.specs.Swaps.{IsAtStage, IsHeldUpBy, IsNewlyFound, StepsWithoutMemory, graces_due, is_over}
-use Rattle.k42_runtime.specs.Systems.{SystemSeen, SystemPass, SystemPart, IsPassHere, IsAtRest, layouts_in}
+use Rattle.k42_runtime.specs.Swaps.{IsAtStage, IsHeldUpBy, StepsWithoutMemory, graces_due, is_over}
+use Rattle.k42_runtime.specs.Systems.{SystemSeen, SystemPass, SystemPart, IsPassHere, IsAtRest}
 use Rattle.k42_runtime.specs.declared.swaps.Stage.TheVariants.{New}
 use Rattle.k42_workers.specs.Lines.{AnswersLine, IsOpened}
 use Rattle.k42_workers.specs.Passes.{IsBetween, standing_of}
@@ -61,11 +61,8 @@ pub record IsSame (system : SystemSeen) (old new : SystemPass) : Type 0 where
 
 -- What this step of the call or the swap found, which holds it up.
 abbrev pub HoldsUpLine : SystemSeen → TaskCause → TaskAt → SystemPass → SystemPass → Type 0
-HoldsUpLine system (causes.Call cause) (tasks.Calling call) old new =
-    HoldsUp (layouts_in system) system.sys.layouts old.seat cause call.object old.view new.view
-HoldsUpLine system (causes.Swap cause) (tasks.Swapping swap) old new =
-    IsNewlyFound cause old.view new.view
-    × IsHeldUpBy (layouts_in system) system.sys.layouts old.seat cause new.view
+HoldsUpLine system (causes.Call cause) (tasks.Calling call) old new = HoldsUp cause call.object old.view new.view
+HoldsUpLine system (causes.Swap cause) (tasks.Swapping swap) old new = IsHeldUpBy cause old.view new.view
 HoldsUpLine system cause at old new = ⊥
 
 -- It has drawn nothing. A call has its activity.
@@ -77,8 +74,7 @@ StaysUnderWay at old new = ⊥
 -- Without memory nothing was begun, or the swap was given up, which its one entry tells.
 abbrev pub GivesUp : SystemSeen → TaskAt → SystemPass → SystemPass → Type 0
 GivesUp system (tasks.Calling call) old new = new.view.taker.mine ≡ old.view.taker.mine
-GivesUp system (tasks.Swapping swap) old new =
-    StepsWithoutMemory (layouts_in system) system.sys.layouts old.seat swap.stage swap.object swap.to old.view new.view
+GivesUp system (tasks.Swapping swap) old new = StepsWithoutMemory swap.stage swap.object swap.to old.view new.view
 GivesUp system at old new = ⊥
 
 -- the line was answered, and nothing of it is under way

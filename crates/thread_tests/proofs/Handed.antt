@@ -2,11 +2,12 @@
 use Rattle.std.proofs.Common.{◌≡◌, ℕ, Bool, true, false, Option, Some, None, refl, ap, ◌∙◌, ◌==◌, if◌then◌else◌}
 use Rattle.phase_core.specs.Stages.{is_moved}
 use Rattle.phase_core.specs.declared.caller.SwapAt.{SwapAt}
+use Rattle.k42_board.specs.Log.{took}
 use Rattle.k42_board.specs.Swapping.{FitsSwap, object_swapped, at_swap, moved_view, blocked_word}
 use Rattle.phase_core.specs.declared.caller.SwapAt.TheVariants.{Moved}
-use Rattle.k42_board.specs.Views.{hears, stalled}
 use Rattle.k42_board.specs.declared.view.LastBegin.{LastBegin}
 use Rattle.k42_board.specs.declared.view.PassView.{PassView}
+use Rattle.k42_board.specs.declared.view.StepName.TheVariants as steps
 
 pub unhanded : (swap : SwapAt) (turned : Bool) (handed : Option ℕ) (last : Option LastBegin) → FitsSwap swap turned handed last
     → is_moved swap ≡ false → handed ≡ None
@@ -18,7 +19,7 @@ either true v w handed first second = first
 either false v w handed first second = second
 
 -- a try to move hands nothing on
-pub still_unhanded : {P : Type 0} (found : ℕ) (v w : PassView P) → w ≡ moved_view found v → v.handed ≡ None → w.handed ≡ None
-still_unhanded {P} found v w is none =
+pub still_unhanded : {P : Type 0} (at found : ℕ) (v w : PassView P) → w ≡ took steps.Move at found (moved_view found v) → v.handed ≡ None → w.handed ≡ None
+still_unhanded {P} at found v w is none =
     ap (λ (x : PassView P). x.handed) is
-    ∙ either (found == blocked_word v) (at_swap found v (Moved (object_swapped v))) (hears found (stalled found v)) None none none
+    ∙ either (found == blocked_word v) (at_swap v (Moved (object_swapped v))) v None none none

@@ -1,3 +1,4 @@
 pub mod Crews
+pub mod GivenBack
 pub mod Handed
 pub mod OneCell

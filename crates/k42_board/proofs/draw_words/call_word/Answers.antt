@@ -1,34 +1,27 @@
 use Rattle.std.proofs.Common.{ℕ, ap, ◌∙◌, arith}
 use mathlib.Core.Option.{none}
 use Rattle.atomic_table.specs.Table.{step}
-use Rattle.k42_joined.specs.Drawing.{first_cell}
-use Rattle.k42_board.specs.Drawing.{draws_at, numbers_of}
+use Rattle.k42_board.specs.Protocol.{draw_call}
 use Rattle.k42_board.specs.Views.{pass_in}
 use Rattle.k42_board.specs.Words.{lock_word}
 use Rattle.k42_board.proofs.DrawnCall.{drawn_moves}
 use Rattle.k42_board.proofs.Drawers.{draw_allowed, draw_told, draw_is}
+use Rattle.k42_board.proofs.Stepped.{has_taken}
 use Rattle.k42_board.proofs.draw_words.call_word.Goals as goal
 
 pub load-requires : goal.load-requires
 load-requires g c =
-    let slots : ℕ = c.args.board.now.shared.table_id.slots in let v = pass_in c.args.seat.now.me.0 in let cells = c.args.cells.now in
-    let first = c.first_of-number.ensures.first in (
-      c.requires.ours.0,
-      (let wide = c.requires.ours.1 in let few = c.first_of-number.ensures.few in omega (arith, wide, few)),
-      rw first
-          (draw_allowed (drawn_moves _ c.requires.laws.0 c.requires.laws.1 _ _ v cells c.args.entry.now.act c.args.entry.now.answer c.requires.may) _ (c.requires.says ∙ ap (draws_at cells) c.requires.next)
-          c.args.seat.now.me c.requires.seated slots (step slots (lock_word (first_cell (numbers_of cells))) 0 0 none)),
+    let slots : ℕ = c.args.board.now.shared.table_id.slots in let v = pass_in c.args.seat.now.me.0 in let cells = c.args.cells.now in let t = c.requires.may in (
+      t.here.ours,
+      (let wide = t.here.many in let few = c.first_of-number.ensures.few in let is = c.lock_word.ensures in omega (arith, wide, few, is)),
+      draw_allowed (drawn_moves _ t.here.laws c.requires.agree _ _ v cells c.args.entry.now t.may) _ c.requires.says
+          c.lock_word.result (c.lock_word.ensures ∙ ap lock_word c.first_of-number.ensures.first) c.args.seat.now.me t.here.alone slots (step slots c.lock_word.result 0 0 none),
     )
 
-pub returns-clause-told : goal.returns-clause-told
-returns-clause-told g c =
-    let slots : ℕ = c.args.board.now.shared.table_id.slots in let v = pass_in c.args.seat.now.me.0 in let cells = c.args.cells.now in
-    rw c.requires.next
-    (draw_told (drawn_moves _ c.requires.laws.0 c.requires.laws.1 c.args.board.now.shared.key.layouts.items c.args.seat.now.id v cells c.args.entry.now.act c.args.entry.now.answer c.requires.may) _ (c.requires.says ∙ ap (draws_at cells) c.requires.next)
-    c.args.seat.now.me c.load.new.seat.me c.requires.seated (step slots (lock_word c.first_of-number.result) 0 0 none) c.load.result c.load.ensures.2)
-
-pub returns-clause-event : goal.returns-clause-event
-returns-clause-event g c =
-    let slots : ℕ = c.args.board.now.shared.table_id.slots in let v = pass_in c.args.seat.now.me.0 in let cells = c.args.cells.now in
-    draw_is (drawn_moves _ c.requires.laws.0 c.requires.laws.1 _ _ v cells c.args.entry.now.act c.args.entry.now.answer c.requires.may) _ (c.requires.says ∙ ap (draws_at cells) c.requires.next)
-    c.args.seat.now.me c.load.new.seat.me c.requires.seated (step slots (lock_word c.first_of-number.result) 0 0 none) c.load.result c.load.ensures.2
+pub returns : goal.returns
+returns g c = λ found.
+    let slots : ℕ = c.args.board.now.shared.table_id.slots in let me = c.args.seat.now.me in let cells = c.args.cells.now in let t = c.requires.may in
+    let at = step slots c.lock_word.result 0 0 none in let now = c.load.new.seat in
+    let told = draw_told _ c.requires.says c.lock_word.result (c.lock_word.ensures ∙ ap lock_word c.first_of-number.ensures.first) me now.me at found c.load.ensures.2 in
+    has_taken _ _ (draw_call cells c.args.entry.now) _ now t.here.alone c.load.ensures.0 c.load.ensures.1 at found told.0 told.1
+    (draw_is (drawn_moves _ t.here.laws c.requires.agree _ _ (pass_in me.0) cells c.args.entry.now t.may) me now.me t.here.alone at found told.0)

@@ -1,31 +1,26 @@
-use Rattle.std.proofs.Common.{ℕ, [], ◌∷◌, ap, ◌∙◌, arith}
+use Rattle.std.proofs.Common.{ℕ, arith}
 use mathlib.Core.Option.{none}
 use Rattle.atomic_table.specs.Table.{step}
-use Rattle.k42_board.specs.Drawing.{draws_at}
+use Rattle.k42_board.specs.Protocol.{draw_mark}
 use Rattle.k42_board.specs.Views.{pass_in}
-use Rattle.k42_board.specs.Words.{lock_word}
 use Rattle.k42_board.proofs.DrawnMark.{mark_moves}
 use Rattle.k42_board.proofs.Drawers.{draw_allowed, draw_told, draw_is}
+use Rattle.k42_board.proofs.Stepped.{has_taken}
 use Rattle.k42_board.proofs.draw_words.mark_word.Goals as goal
 
 pub load-requires : goal.load-requires
 load-requires g c =
-    let slots : ℕ = c.args.board.now.shared.table_id.slots in let v = pass_in c.args.seat.now.me.0 in let content = c.args.cell.now in (
-      c.requires.ours.0,
-      (let wide = c.requires.ours.1 in let few = content.few in omega (arith, wide, few)),
-      draw_allowed (mark_moves _ c.requires.laws _ _ v content c.args.entry.now.act c.args.entry.now.answer c.requires.may) _ (c.requires.says ∙ ap (draws_at (content ∷ [])) c.requires.next)
-          c.args.seat.now.me c.requires.seated slots (step slots (lock_word content.number) 0 0 none),
+    let slots : ℕ = c.args.board.now.shared.table_id.slots in let v = pass_in c.args.seat.now.me.0 in let content = c.args.cell.now in let t = c.requires.may in (
+      t.here.ours,
+      (let wide = t.here.many in let few = content.few in let is = c.lock_word.ensures in omega (arith, wide, few, is)),
+      draw_allowed (mark_moves _ t.here.laws _ _ v content c.args.entry.now t.may) _ c.requires.says c.lock_word.result c.lock_word.ensures
+          c.args.seat.now.me t.here.alone slots (step slots c.lock_word.result 0 0 none),
     )
 
-pub returns-clause-told : goal.returns-clause-told
-returns-clause-told g c =
-    let slots : ℕ = c.args.board.now.shared.table_id.slots in let v = pass_in c.args.seat.now.me.0 in let content = c.args.cell.now in
-    rw c.requires.next
-    (draw_told (mark_moves _ c.requires.laws c.args.board.now.shared.key.layouts.items c.args.seat.now.id v content c.args.entry.now.act c.args.entry.now.answer c.requires.may) _ (c.requires.says ∙ ap (draws_at (content ∷ [])) c.requires.next)
-    c.args.seat.now.me c.load.new.seat.me c.requires.seated (step slots (lock_word content.number) 0 0 none) c.load.result c.load.ensures.2)
-
-pub returns-clause-event : goal.returns-clause-event
-returns-clause-event g c =
-    let slots : ℕ = c.args.board.now.shared.table_id.slots in let v = pass_in c.args.seat.now.me.0 in let content = c.args.cell.now in
-    draw_is (mark_moves _ c.requires.laws _ _ v content c.args.entry.now.act c.args.entry.now.answer c.requires.may) _ (c.requires.says ∙ ap (draws_at (content ∷ [])) c.requires.next)
-    c.args.seat.now.me c.load.new.seat.me c.requires.seated (step slots (lock_word content.number) 0 0 none) c.load.result c.load.ensures.2
+pub returns : goal.returns
+returns g c = λ found.
+    let slots : ℕ = c.args.board.now.shared.table_id.slots in let me = c.args.seat.now.me in let content = c.args.cell.now in let t = c.requires.may in
+    let at = step slots c.lock_word.result 0 0 none in let now = c.load.new.seat in
+    let told = draw_told _ c.requires.says c.lock_word.result c.lock_word.ensures me now.me at found c.load.ensures.2 in
+    has_taken _ _ (draw_mark content c.args.entry.now) _ now t.here.alone c.load.ensures.0 c.load.ensures.1 at found told.0 told.1
+    (draw_is (mark_moves _ t.here.laws _ _ (pass_in me.0) content c.args.entry.now t.may) me now.me t.here.alone at found told.0)

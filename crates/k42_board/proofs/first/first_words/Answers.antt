@@ -1,4 +1,4 @@
-use Rattle.std.proofs.Common.{ℕ, List, ◌+◌, ◌*◌, sym, refl, subst, arith}
+use Rattle.std.proofs.Common.{ℕ, List, sym, subst, arith}
 use Rattle.k42_board.specs.Starting.{AreFirstWords}
 use Rattle.k42_board.proofs.Starting.{words_blank, words_more, slice_get_here}
 use Rattle.k42_board.proofs.first.first_words.Goals as goal
@@ -13,7 +13,7 @@ loop-object-preserved g c =
     let o : ℕ = c.loop-object.object in let lt = c.loop-object-test.true in let few = c.requires.few in
     let here = slice_get_here c.args.layouts.now o c.index-layouts-object.result (omega (arith, lt)) c.index-layouts-object.is in
     let live = c.requires.live o c.index-layouts-object.result here in
-    words_more g.L.Layout.tag_of c.args.layouts.now o c.index-layouts-object.result c.loop-object.words.items (528 + 16 * o) _ (omega (arith, lt, few)) here refl
+    words_more g.L.Layout.tag_of c.args.layouts.now o c.index-layouts-object.result c.loop-object.words.items c.object_word.result _ (omega (arith, lt, few)) here c.object_word.ensures
     (let is = c.from.ensures in let tag = c.tag.ensures in omega (arith, is, tag, live)) c.loop-object.invariant
 
 pub returns : goal.returns

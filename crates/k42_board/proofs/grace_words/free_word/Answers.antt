@@ -1,26 +1,26 @@
-use Rattle.std.proofs.Common.{ℕ, ◌+◌, ◌*◌, arith}
+use Rattle.std.proofs.Common.{ℕ, refl, arith}
 use mathlib.Core.Option.{none}
 use Rattle.atomic_table.specs.Table.{step}
-use Rattle.k42_board.proofs.Moves.{seat_is}
 use Rattle.k42_board.proofs.Frees.{free_moves, free_allowed, free_told}
+use Rattle.k42_board.proofs.Stepped.{has_moved}
+use Rattle.k42_board.specs.Freeing.{freed_view}
+use Rattle.k42_board.specs.Protocol.{free}
+use Rattle.k42_board.specs.declared.view.StepName.TheVariants as steps
 use Rattle.k42_board.proofs.grace_words.free_word.Goals as goal
 
 pub fetch_max-requires : goal.fetch_max-requires
 fetch_max-requires g c =
-    let t = c.requires.may in let o : ℕ = c.args.object in let slots : ℕ = c.args.board.now.shared.table_id.slots in (
-      c.requires.ours.0,
-      (let small = c.requires.small in let wide = c.requires.ours.1 in omega (arith, small, wide)),
-      free_allowed _ c.requires.laws _ _ _ _ o _ c.args.seat.now.me t.0 t.1 c.args.number t.2 slots (step slots (784 + 16 * o) c.args.number 0 none),
+    let t = c.requires.may in let slots : ℕ = c.args.board.now.shared.table_id.slots in let word : ℕ = c.freed_word.result in
+    let o : ℕ = c.args.object in let is = c.freed_word.ensures in (
+      t.here.ours,
+      (let small = c.requires.small in let wide = t.here.many in omega (arith, small, wide, is)),
+      free_allowed _ t.here.laws _ _ _ word _ o _ c.args.seat.now.me t.here.alone t.may is c.args.number c.requires.number slots (step slots word c.args.number 0 none),
     )
 
-pub returns-clause-event : goal.returns-clause-event
-returns-clause-event g c =
-    let slots : ℕ = c.args.board.now.shared.table_id.slots in let before = c.args.seat.now.me in let t = c.requires.may in let o : ℕ = c.args.object in
-    seat_is (free_moves _ c.requires.laws _ _ _ o _ t.1) before c.fetch_max.new.seat.me t.0
-    (step slots (784 + 16 * o) c.args.number 0 none) c.fetch_max.result
-    (free_told o before c.fetch_max.new.seat.me (step slots (784 + 16 * o) c.args.number 0 none) c.fetch_max.result c.fetch_max.ensures.2).0
-
-pub returns-clause-found : goal.returns-clause-found
-returns-clause-found g c =
-    let slots : ℕ = c.args.board.now.shared.table_id.slots in let before = c.args.seat.now.me in let o : ℕ = c.args.object in
-    (free_told o before c.fetch_max.new.seat.me (step slots (784 + 16 * o) c.args.number 0 none) c.fetch_max.result c.fetch_max.ensures.2).1
+pub returns : goal.returns
+returns g c =
+    let t = c.requires.may in let slots : ℕ = c.args.board.now.shared.table_id.slots in let word : ℕ = c.freed_word.result in
+    let o : ℕ = c.args.object in let is = c.freed_word.ensures in
+    let told = free_told word o c.args.seat.now.me c.fetch_max.new.seat.me is (step slots word c.args.number 0 none) c.fetch_max.result c.fetch_max.ensures.2 in
+    has_moved _ _ (free o) _ c.fetch_max.new.seat steps.Free (λ n. n) (freed_view o) t.here.alone c.fetch_max.ensures.0 c.fetch_max.ensures.1
+    (free_moves _ t.here.laws _ _ word _ o _ t.may is) is refl (step slots word c.args.number 0 none) c.fetch_max.result refl told.0 told.1

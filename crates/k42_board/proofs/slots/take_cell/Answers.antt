@@ -1,81 +1,84 @@
 use Rattle.std.proofs.Common.{ℕ, [], ◌∷◌, sym, ap, ◌∙◌, arith}
 use Rattle.std.specs.Prelude.{Some, None}
-use Rattle.atomic_table.specs.Table.{rest}
 use Rattle.k42_board.specs.Views.{pass_in}
-use Rattle.k42_board.specs.Steps.{Seated, on_pass}
-use Rattle.k42_board.specs.Taking.{lifted_view, taken_view, cell_given_view}
-use Rattle.k42_board.specs.Words.{slot_of}
+use Rattle.k42_board.specs.Steps.{Seated}
+use Rattle.k42_board.specs.Taking.{gave_back}
+use Rattle.k42_board.specs.Words.{lock_word, slot_of}
 use Rattle.k42_board.specs.declared.view.View.TheVariants.{Crew}
-use Rattle.k42_board.proofs.CellsAllowed.{lift_seat, lifted_seat, give_seat, slot_out, slot_result, exchanged, same_content, take_is, given_is, given_known, taken_whole, take_possible_always}
-use Rattle.k42_board.proofs.CellsApart.{cell_of_lock}
+use Rattle.k42_board.proofs.CellsAllowed.{lifted, lift_seat, lifted_seat, give_seat, given_seat, slot_out, slot_result, exchanged, same_content, given_known, takes_out, takes_back, taken_whole}
+use Rattle.k42_board.proofs.CellsApart.{cell_at_word}
 use Rattle.k42_board.proofs.slots.take_cell.Goals as goal
 
 pub load-requires : goal.load-requires
 load-requires g c =
-    let slots : ℕ = c.args.board.now.shared.table_id.slots in let few = c.requires.may.cell in (
-      c.requires.ours.0,
-      (let wide = c.requires.ours.1 in omega (arith, few, wide)),
-      lift_seat _ c.requires.laws _ _ c.args.cell (pass_in c.args.seat.now.me.0) c.args.seat.now.me c.requires.idle.0 c.requires.idle.1 c.requires.may slots,
+    let slots : ℕ = c.args.board.now.shared.table_id.slots in let t = c.requires.ours in let few = c.requires.may.cell in (
+      t.ours,
+      (let wide = t.many in let is = c.lock_word-word.ensures in omega (arith, few, wide, is)),
+      rw c.lock_word-word.ensures
+          (lift_seat _ t.laws _ _ c.args.cell (pass_in c.args.seat.now.me.0) c.args.seat.now.me t.alone c.requires.idle c.requires.may slots),
     )
 
 pub exchange-requires : goal.exchange-requires
 exchange-requires g c =
-    let e = c.load.ensures in let u = e.2 in let v = pass_in c.args.seat.now.me.0 in (
-      e.0 ∙ c.requires.ours.0,
-      slot_out c.load.new.seat.me (lifted_view u.0 v) (slot_of c.args.cell) (Some u.0)
-          (lifted_seat c.args.cell v c.args.seat.now.me c.requires.idle.0 c.requires.may.cell u.0 u.1 c.load.new.seat.me u.2),
+    let e = c.load.ensures in let u = e.2 in let v = pass_in c.args.seat.now.me.0 in let t = c.requires.ours in let n : ℕ = c.args.cell in (
+      e.0 ∙ t.ours,
+      slot_out c.load.new.seat.me (lifted n u.0 v) (slot_of n) (Some u.0)
+          (lifted_seat n v c.args.seat.now.me t.alone c.requires.may.cell c.lock_word-word.result c.lock_word-word.ensures u.0 c.load.new.seat.me u.2)
+          c.slot_of-slot.result c.slot_of-slot.ensures,
     )
 
 pub load-requires-2 : goal.load-requires-2
 load-requires-2 g c =
-    let e = c.load.ensures in let u = e.2 in let x = c.exchange.ensures in let v = pass_in c.args.seat.now.me.0 in
-    let slots : ℕ = c.args.board.now.shared.table_id.slots in let few = c.requires.may.cell in
-    let out = lifted_seat c.args.cell v c.args.seat.now.me c.requires.idle.0 few u.0 u.1 c.load.new.seat.me u.2 in (
-      x.0 ∙ e.0 ∙ c.requires.ours.0,
-      (let wide = c.requires.ours.1 in omega (arith, few, wide)),
-      give_seat _ c.requires.laws _ _ c.args.cell v c.args.seat.now.me c.requires.idle.0 c.requires.idle.1 _ c.requires.known few u.0 (u.1 ∙ cell_of_lock c.args.cell few)
-          c.exchange.new.seat.me
-          (exchanged c.load.new.seat.me (lifted_view u.0 v) (slot_of c.args.cell) (Some u.0) out c.exchange.new.seat.me None x.3) slots,
+    let e = c.load.ensures in let u = e.2 in let x = c.exchange.ensures in let v = pass_in c.args.seat.now.me.0 in let t = c.requires.ours in
+    let slots : ℕ = c.args.board.now.shared.table_id.slots in let few = c.requires.may.cell in let n : ℕ = c.args.cell in
+    let out = lifted_seat n v c.args.seat.now.me t.alone few c.lock_word-word.result c.lock_word-word.ensures u.0 c.load.new.seat.me u.2 in
+    let now = exchanged c.load.new.seat.me (lifted n u.0 v) (slot_of n) (Some u.0) out c.slot_of-slot.result c.slot_of-slot.ensures c.exchange.new.seat.me None x.3 in (
+      x.0 ∙ e.0 ∙ t.ours,
+      (let wide = t.many in let is = c.lock_word-word.ensures in omega (arith, few, wide, is)),
+      rw c.lock_word-word.ensures
+          (give_seat _ t.laws _ _ n v c.args.seat.now.me t.alone c.requires.idle _ c.requires.known few u.0
+          (u.1 ∙ cell_at_word n few c.lock_word-word.result c.lock_word-word.ensures) c.exchange.new.seat.me now slots),
     )
 
 -- the content that was found is the one that is handed out
-taken : goal.returns-clause-told
-taken g c =
-    let e = c.load.ensures in let u = e.2 in let x = c.exchange.ensures in let v = pass_in c.args.seat.now.me.0 in let few = c.requires.may.cell in
-    let out = lifted_seat c.args.cell v c.args.seat.now.me c.requires.idle.0 few u.0 u.1 c.load.new.seat.me u.2 in
+pub returns-clause-number : goal.returns-clause-number
+returns-clause-number g c =
+    let e = c.load.ensures in let u = e.2 in let x = c.exchange.ensures in let v = pass_in c.args.seat.now.me.0 in let t = c.requires.ours in
+    let few = c.requires.may.cell in let n : ℕ = c.args.cell in
+    let out = lifted_seat n v c.args.seat.now.me t.alone few c.lock_word-word.result c.lock_word-word.ensures u.0 c.load.new.seat.me u.2 in
     let same = same_content c.exchange.result
-    (slot_result c.load.new.seat.me (lifted_view u.0 v) (slot_of c.args.cell) (Some u.0) out c.exchange.result x.2) c.in-Some.is in
-    let now = exchanged c.load.new.seat.me (lifted_view u.0 v) (slot_of c.args.cell) (Some u.0) out c.exchange.new.seat.me None x.3 in (
-      (c.load-2.ensures.2).0 ∙ (λ k. (on_pass cell_given_view (now k).0, rest (now k).1)) ∙ (λ k. (Crew (taken_view (same k) v ∷ []), [])),
-      sym (ap (λ z. z.number) same) ∙ u.1 ∙ cell_of_lock c.args.cell few,
-    )
-
-pub returns-clause-told : goal.returns-clause-told
-returns-clause-told g c = taken g c
+    (slot_result c.load.new.seat.me (lifted n u.0 v) (slot_of n) (Some u.0) out c.slot_of-slot.result c.slot_of-slot.ensures c.exchange.result x.2) c.in-Some.is in
+    sym (ap (λ z. z.number) same) ∙ u.1 ∙ cell_at_word n few c.lock_word-word.result c.lock_word-word.ensures
 
 pub returns-clause-known : goal.returns-clause-known
 returns-clause-known g c =
-    let e = c.load.ensures in let u = e.2 in let x = c.exchange.ensures in let v = pass_in c.args.seat.now.me.0 in let few = c.requires.may.cell in
-    let out = lifted_seat c.args.cell v c.args.seat.now.me c.requires.idle.0 few u.0 u.1 c.load.new.seat.me u.2 in
-    let now = exchanged c.load.new.seat.me (lifted_view u.0 v) (slot_of c.args.cell) (Some u.0) out c.exchange.new.seat.me None x.3 in
-    given_known g.K.Known.known c.exchange.new.seat.me c.load-2.new.seat.me (lifted_view u.0 v) _ now (c.load-2.ensures.2).0 (c.load-2.ensures.2).1
+    let e = c.load.ensures in let u = e.2 in let x = c.exchange.ensures in let v = pass_in c.args.seat.now.me.0 in let t = c.requires.ours in
+    let few = c.requires.may.cell in let n : ℕ = c.args.cell in
+    let out = lifted_seat n v c.args.seat.now.me t.alone few c.lock_word-word.result c.lock_word-word.ensures u.0 c.load.new.seat.me u.2 in
+    let now = exchanged c.load.new.seat.me (lifted n u.0 v) (slot_of n) (Some u.0) out c.slot_of-slot.result c.slot_of-slot.ensures c.exchange.new.seat.me None x.3 in
+    given_known g.K.Known.known c.lock_word-word.result c.exchange.new.seat.me c.load-2.new.seat.me (lifted n u.0 v) _ now (c.load-2.ensures.2).0 (c.load-2.ensures.2).1
 
-pub returns-clause-possible : goal.returns-clause-possible
-returns-clause-possible g c =
-    take_possible_always _ c.requires.laws _ c.args.seat.now.id c.args.cell (pass_in c.args.seat.now.me.0) c.requires.may
-
-pub returns-clause-event : goal.returns-clause-event
-returns-clause-event g c =
-    take_is _ c.requires.laws _ c.args.seat.now.id c.args.cell (pass_in c.args.seat.now.me.0) c.requires.may c.requires.idle.1 c.in-Some.content
-
-pub returns-clause-back : goal.returns-clause-back
-returns-clause-back g c =
-    let v = pass_in c.args.seat.now.me.0 in let told = taken g c in
-    given_is _ c.requires.laws _ c.args.seat.now.id c.args.cell v c.requires.idle.1 c.requires.may c.in-Some.content told.1 (pass_in c.load-2.new.seat.me.0)
-    (sym (ap (λ (m : Seated _). pass_in m.0) told.0))
+pub returns-clause-taken : goal.returns-clause-taken
+returns-clause-taken g c =
+    let e = c.load.ensures in let u = e.2 in let x = c.exchange.ensures in let v = pass_in c.args.seat.now.me.0 in let t = c.requires.ours in
+    let few = c.requires.may.cell in let n : ℕ = c.args.cell in let after = c.load-2.new.seat in let content = c.in-Some.content in
+    let out = lifted_seat n v c.args.seat.now.me t.alone few c.lock_word-word.result c.lock_word-word.ensures u.0 c.load.new.seat.me u.2 in
+    let now = exchanged c.load.new.seat.me (lifted n u.0 v) (slot_of n) (Some u.0) out c.slot_of-slot.result c.slot_of-slot.ensures c.exchange.new.seat.me None x.3 in
+    let same = same_content c.exchange.result
+    (slot_result c.load.new.seat.me (lifted n u.0 v) (slot_of n) (Some u.0) out c.slot_of-slot.result c.slot_of-slot.ensures c.exchange.result x.2) c.in-Some.is in
+    let alone = given_seat n v c.args.seat.now.me t.alone few c.lock_word-word.result c.lock_word-word.ensures (lifted n u.0 v) (slot_of n)
+    c.exchange.new.seat.me after.me now (c.load-2.ensures.2).0 ∙ (λ k. (Crew (gave_back (lock_word n) (lifted n (same k) v) ∷ []), [])) in
+    record {
+      table = c.load-2.ensures.0 ∙ x.0 ∙ e.0;
+      seat = c.load-2.ensures.1 ∙ x.1 ∙ e.1;
+      alone = alone;
+      out = takes_out _ t.laws _ c.args.seat.now.id n v c.requires.idle c.requires.may content;
+      back = takes_back _ t.laws _ c.args.seat.now.id n v c.requires.idle content (returns-clause-number g c) (pass_in after.me.0)
+          (sym (ap (λ (m : Seated _). pass_in m.0) alone));
+    }
 
 pub returns-clause-whole : goal.returns-clause-whole
 returns-clause-whole g c =
-    let v = pass_in c.args.seat.now.me.0 in let told = taken g c in
-    taken_whole _ c.requires.laws _ c.args.seat.now.id c.args.cell v c.requires.idle.1 c.requires.may c.in-Some.content told.1 (pass_in c.load-2.new.seat.me.0)
-    (sym (ap (λ (m : Seated _). pass_in m.0) told.0))
+    let t = c.requires.ours in let n : ℕ = c.args.cell in let v = pass_in c.args.seat.now.me.0 in
+    taken_whole _ t.laws _ c.load-2.new.seat.id n v c.requires.idle c.in-Some.content (returns-clause-number g c) (pass_in c.load-2.new.seat.me.0)
+    (sym (ap (λ (m : Seated _). pass_in m.0) (returns-clause-taken g c).alone))

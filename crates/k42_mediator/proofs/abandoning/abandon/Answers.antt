@@ -1,37 +1,53 @@
-use Rattle.std.proofs.Common.{rules, ◌≡◌, ℕ, sym, ap, ◌∙◌, subst}
-use Rattle.phase_core.specs.Event as phases
-use Rattle.phase_core.specs.declared.caller.SwapAt.TheVariants.{Opened}
-use Rattle.k42_joined.specs.Event.{AtPhases}
-use Rattle.k42_board.specs.Plan.{layouts_on}
-use Rattle.k42_board.specs.Steps.{StepIs}
-use Rattle.k42_board.specs.Swapping.{object_swapped, clear_event, clears}
-use Rattle.k42_board.specs.Words.{object_word}
-use Rattle.k42_board.specs.declared.view.PassView.{PassView}
+use Rattle.std.proofs.Common.{◌+◌, refl, ap, ◌∙◌}
+use Rattle.k42_board.specs.Log.{ComesTo}
 use Rattle.k42_mediator.specs.Swaps.{given_up_view}
-use Rattle.k42_mediator.proofs.Heard.{cleared_heard}
-use Rattle.k42_mediator.proofs.LeftOpen.{leaves_open}
+use Rattle.k42_mediator.proofs.GivenUp.{comes_up, rows_before, clears_up, never_turned, given_up, abandoned, room_stays}
+use Rattle.k42_mediator.proofs.SamePass.{same_twice, same_of_room, draws_between}
 use Rattle.k42_mediator.proofs.abandoning.abandon.Goals as goal
 
-pub returns-clause-opened : goal.returns-clause-opened
-returns-clause-opened g c =
-    let F = layouts_on g.L.Kind.object g.L.Layout.tag_of g.L.Layout.ways g.L.Layout.whole g.L.Layout.serves g.L.Layout.admitted g.L.Layout.act_of c.args.sys.now.procs c.args.sys.now.callers in
-    let v = c.args.pass.now.view in
-    let act = g.L.Layout.act_of c.args.to.now in
-    leaves_open F c.args.sys.now.layouts c.args.pass.now.seat (object_swapped v) (given_up_view act v) (search rules)
+pub clear_step-requires-2-clause-may : goal.clear_step-requires-2-clause-may
+clear_step-requires-2-clause-may g c κs within =
+    let v = c.args.pass.now.view in let act = g.L.Layout.act_of c.args.to.now in
+    let comes : ComesTo v (given_up_view act v) c.draw_alone.new.pass.view =
+    comes_up act v c.requires.moved.moved _ _ _ _ _ _ _ c.act.ensures (ap (λ i. i + 1) c.moved_row-number.ensures.row) c.clear_step.ensures.takes.knows
+    c.change_entries.ensures.comes (c.draw_alone.ensures.takes 0).knows in
+    record {
+      ours = c.draw_alone.ensures.drawer.table ∙ c.change_entries.ensures.same.table ∙ c.clear_step.ensures.same.table ∙ c.requires.ours.table;
+      may = clears_up act v _ c.moved_row-number.ensures.unturned comes;
+    }
 
-pub returns-clause-event : goal.returns-clause-event
-returns-clause-event g c =
-    let F = layouts_on g.L.Kind.object g.L.Layout.tag_of g.L.Layout.ways g.L.Layout.whole g.L.Layout.serves g.L.Layout.admitted g.L.Layout.act_of c.args.sys.now.procs c.args.sys.now.callers in
-    let declared = c.args.sys.now.layouts in
-    let v = c.args.pass.now.view in
-    let act = g.L.Layout.act_of c.args.to.now in
-    let before : c.draw_alone.new.pass.view ≡ given_up_view act v = search rules in
-    let seat : c.draw_alone.new.pass.seat ≡ c.args.pass.now.seat = search rules in
-    let w = c.clear_step-2.new.pass.view in
-    let found : ℕ = c.clear_step-2.result in
-    let heard : found ≡ w.heard = sym (ap (λ (u : PassView _). u.heard) c.clear_step-2.ensures.knows ∙ cleared_heard found c.draw_alone.new.pass.view) in
-    let step =
-    subst (λ (u : PassView _). StepIs F declared (AtPhases (clear_event u.number u.visitor.swap)) (object_word (object_swapped u)) (clears u.visitor.swap) c.draw_alone.new.pass.seat u found w) before
-    c.clear_step-2.ensures.event in
-    subst (λ (z : ℕ × ℕ). StepIs F declared (AtPhases (phases.Clear v.number)) (object_word (object_swapped v)) (clears (Opened (object_swapped v))) z.0 (given_up_view act v) z.1 w)
-    (λ k. (seat k, heard k)) step
+pub clear_step-requires-2-clause-room : goal.clear_step-requires-2-clause-room
+clear_step-requires-2-clause-room g c κs within =
+    let v = c.args.pass.now.view in let act = g.L.Layout.act_of c.args.to.now in
+    let comes : ComesTo v (given_up_view act v) c.draw_alone.new.pass.view =
+    comes_up act v c.requires.moved.moved _ _ _ _ _ _ _ c.act.ensures (ap (λ i. i + 1) c.moved_row-number.ensures.row) c.clear_step.ensures.takes.knows
+    c.change_entries.ensures.comes (c.draw_alone.ensures.takes 0).knows in
+    never_turned act v _ c.moved_row-number.ensures.unturned comes
+
+pub returns-clause-same : goal.returns-clause-same
+returns-clause-same g c =
+    let v = c.args.pass.now.view in let act = g.L.Layout.act_of c.args.to.now in
+    let comes : ComesTo v (given_up_view act v) c.draw_alone.new.pass.view =
+    comes_up act v c.requires.moved.moved _ _ _ _ _ _ _ c.act.ensures (ap (λ i. i + 1) c.moved_row-number.ensures.row) c.clear_step.ensures.takes.knows
+    c.change_entries.ensures.comes (c.draw_alone.ensures.takes 0).knows in
+    let opened = same_of_room _ _ c.clear_step.ensures.same (rows_before _ _ v _ c.requires.moved.moved c.clear_step.ensures.takes.knows) in
+    let cleared = same_of_room _ _ c.clear_step-2.ensures.same
+    (room_stays _ _ act _ _ v _ _ _ c.moved_row-number.ensures.unturned comes refl c.clear_step-2.ensures.takes) in
+    draws_between _ _ _ _ (same_twice _ _ _ opened c.change_entries.ensures.same) c.draw_alone.ensures.drawer cleared
+
+pub returns-clause-knows : goal.returns-clause-knows
+returns-clause-knows g c =
+    let v = c.args.pass.now.view in let act = g.L.Layout.act_of c.args.to.now in
+    let comes : ComesTo v (given_up_view act v) c.draw_alone.new.pass.view =
+    comes_up act v c.requires.moved.moved _ _ _ _ _ _ _ c.act.ensures (ap (λ i. i + 1) c.moved_row-number.ensures.row) c.clear_step.ensures.takes.knows
+    c.change_entries.ensures.comes (c.draw_alone.ensures.takes 0).knows in
+    abandoned _ _ act _ _ v _ _ _ c.moved_row-number.ensures.unturned comes refl c.clear_step-2.ensures.takes
+
+pub returns-clause-up : goal.returns-clause-up
+returns-clause-up g c =
+    let v = c.args.pass.now.view in let act = g.L.Layout.act_of c.args.to.now in
+    let comes : ComesTo v (given_up_view act v) c.draw_alone.new.pass.view =
+    comes_up act v c.requires.moved.moved _ _ _ _ _ _ _ c.act.ensures (ap (λ i. i + 1) c.moved_row-number.ensures.row) c.clear_step.ensures.takes.knows
+    c.change_entries.ensures.comes (c.draw_alone.ensures.takes 0).knows in
+    let seat = c.draw_alone.ensures.drawer.seat ∙ c.change_entries.ensures.same.seat ∙ c.clear_step.ensures.same.seat in
+    given_up _ _ act _ _ v _ _ _ c.moved_row-number.ensures.unturned comes seat c.clear_step-2.ensures.takes

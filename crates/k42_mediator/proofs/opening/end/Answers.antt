@@ -1,19 +1,6 @@
-use Rattle.std.proofs.Common.{ℕ, sym, ap, ◌∙◌, subst}
-use Rattle.phase_core.specs.Event as phases
-use Rattle.k42_joined.specs.Event.{AtPhases}
-use Rattle.k42_board.specs.Plan.{layouts_on}
-use Rattle.k42_board.specs.Steps.{StepIs}
-use Rattle.k42_board.specs.Swapping.{object_swapped, clear_event, clears}
-use Rattle.k42_board.specs.Words.{object_word}
-use Rattle.k42_board.specs.declared.view.PassView.{PassView}
-use Rattle.k42_mediator.proofs.Heard.{cleared_heard}
+use Rattle.std.proofs.Common.{refl}
+use Rattle.k42_mediator.proofs.LastFound.{last_takes}
 use Rattle.k42_mediator.proofs.opening.end.Goals as goal
 
-pub returns-clause-event : goal.returns-clause-event
-returns-clause-event g c =
-    let F = layouts_on g.L.Kind.object g.L.Layout.tag_of g.L.Layout.ways g.L.Layout.whole g.L.Layout.serves g.L.Layout.admitted g.L.Layout.act_of c.args.sys.now.procs c.args.sys.now.callers in
-    let v = c.args.pass.now.view in
-    subst (λ (found : ℕ). StepIs F c.args.sys.now.layouts (AtPhases (phases.Clear v.number)) (object_word (object_swapped v)) (clears v.visitor.swap) c.args.pass.now.seat v found c.clear_step.new.pass.view)
-    (sym (ap (λ (w : PassView _). w.heard) c.clear_step.ensures.knows ∙ cleared_heard c.clear_step.result v))
-    (subst (λ event. StepIs F c.args.sys.now.layouts (AtPhases event) (object_word (object_swapped v)) (clears v.visitor.swap) c.args.pass.now.seat v c.clear_step.result c.clear_step.new.pass.view)
-    (ap (clear_event v.number) c.requires.opened.opened) c.clear_step.ensures.event)
+pub returns-clause-takes : goal.returns-clause-takes
+returns-clause-takes g c = last_takes _ _ _ _ _ _ _ c.clear_step.ensures.takes refl

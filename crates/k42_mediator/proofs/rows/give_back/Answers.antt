@@ -18,10 +18,15 @@ pub loop-cell-preserved : goal.loop-cell-preserved
 loop-cell-preserved g c =
     let F = layouts_on g.L.Kind.object g.L.Layout.tag_of g.L.Layout.ways g.L.Layout.whole g.L.Layout.serves g.L.Layout.admitted g.L.Layout.act_of c.args.sys.now.procs c.args.sys.now.callers in
     gives_next F c.args.sys.now.layouts c.args.pass.now c.loop-cell.pass c.args.cells.items c.loop-cell.cells.items c.pop.new.self.items c.in-Some.cell
-    c.loop-cell.invariant c.in-Some.ensures.items c.give_next.new.pass c.give_next.ensures.same c.give_next.ensures.released
+    c.loop-cell.invariant c.in-Some.ensures.items c.give_next.new.pass c.give_next.ensures.same c.give_next.ensures.comes
 
-pub returns-clause-released : goal.returns-clause-released
-returns-clause-released g c =
+pub returns-clause-comes : goal.returns-clause-comes
+returns-clause-comes g c =
     let view = c.loop-cell.pass.view in
     let none : c.loop-cell.cells.items ≡ [] = nothing_left c.loop-cell.cells.items (sym c.loop-cell.cells.ok.0 ∙ c.in_default.ensures.cases.0) in
-    sym (released_none view c.loop-cell.invariant.back) ∙ ap (λ (xs : List (Content _)). released (numbers_of xs) view) (sym none) ∙ c.loop-cell.invariant.released_is
+    record {
+      knows =
+          sym (released_none view c.loop-cell.invariant.back) ∙ ap (λ (xs : List (Content _)). released (numbers_of xs) view) (sym none)
+          ∙ c.loop-cell.invariant.released_is;
+      log = c.loop-cell.invariant.log;
+    }

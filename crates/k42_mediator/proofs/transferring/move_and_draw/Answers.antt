@@ -1,12 +1,17 @@
-use Rattle.std.proofs.Common.{◌≡◌, ◌<◌, ℕ, ◌+◌, ◌++◌, List, length, take, drop, refl, sym, ap, ◌∙◌, subst}
+use Rattle.std.proofs.Common.{◌≡◌, ◌<◌, ℕ, ◌+◌, ◌++◌, List, ◌∷◌, length, take, drop, refl, sym, ap, ◌∙◌, subst}
 use Rattle.std.proofs.lemmas.Option.{same_Some}
 use Rattle.k42_kinds.specs.Rows.{cells_of}
 use Rattle.k42_kinds.specs.declared.entry.Answer.TheVariants.{Swapped}
 use Rattle.k42_board.specs.Drawing.{AreTold, numbers_of, entry_hand}
 use Rattle.k42_board.specs.Handing.{handed_at}
+use Rattle.k42_board.specs.Log.{step_at, with_log}
 use Rattle.k42_board.specs.Plan.{layouts_on}
+use Rattle.k42_board.specs.Words.{lock_word}
+use Rattle.k42_joined.specs.Drawing.{first_cell}
 use Rattle.k42_board.specs.declared.cell.Content.{Content}
 use Rattle.k42_board.specs.declared.view.PassView.{PassView}
+use Rattle.k42_board.specs.declared.view.StepName.TheVariants as steps
+use Rattle.k42_board.proofs.Gained.{extends_as, extends_one}
 use Rattle.k42_mediator.specs.Parts.{parts_from, AreKept, filled}
 use Rattle.k42_mediator.specs.Taken.{MayPutAllBack}
 use Rattle.k42_mediator.proofs.RowHanded.{ready_handed, done_next, has_handed}
@@ -174,9 +179,11 @@ returns-clause-ready g c =
     let numbers : numbers_of cells ≡ numbers_of items = numbers_same F.procs items cells front (ap numbers_of full ∙ filled_numbers _ (drop F.procs items)) in
     let to = c.args.to.now in let act = g.L.Layout.act_of to in let tag : ℕ = g.L.Layout.tag_of to in
     let entry = entry_hand v (numbers_of (take F.procs cells)) (numbers_of (drop F.procs cells)) act (Swapped (i + 1)) in
-    let knows : c.draw_done.new.pass.view ≡ handed_at (take F.procs cells) (drop F.procs cells) entry tag v = c.draw_done.ensures.knows in
+    let log = step_at steps.Draw (lock_word (first_cell (numbers_of cells))) 0 ∷ v.log in
+    let knows : c.draw_done.new.pass.view ≡ with_log log (handed_at (take F.procs cells) (drop F.procs cells) entry tag v) =
+    c.draw_done.ensures.drawn.knows in
     subst (λ (w : PassView _). MayPutAllBack F declared c.draw_done.new.pass.seat w c.draw_done.new.cells.items) (sym knows)
-    (ready_handed F laws declared agrees v o i items layout has cells numbers entry tag c.draw_done.new.pass.seat c.draw_done.new.cells.items
+    (ready_handed F laws declared agrees v o i items layout has cells numbers entry tag log c.draw_done.new.pass.seat c.draw_done.new.cells.items
     (subst (λ (w : PassView _). AreTold w.notes cells c.draw_done.new.cells.items) knows c.draw_done.ensures.told))
 
 pub returns-clause-handed : goal.returns-clause-handed
@@ -206,5 +213,9 @@ returns-clause-handed g c =
     let to = c.args.to.now in let act = g.L.Layout.act_of to in let tag : ℕ = g.L.Layout.tag_of to in
     let entry = entry_hand v (numbers_of (take F.procs cells)) (numbers_of (drop F.procs cells)) act (Swapped (i + 1)) in
     let onto = ap numbers_of full ∙ filled_numbers _ (drop F.procs items) ∙ new_numbers F laws declared agrees v o i items layout has in
-    has_handed F laws declared agrees v o i items layout has cells numbers entry tag act c.args.pass.now c.draw_done.new.pass refl c.draw_done.ensures.knows c.draw_done.ensures.same
-    (done_next F laws declared agrees v o i items layout has cells numbers entry tag act (laws.asks to) laws.some onto)
+    let log = step_at steps.Draw (lock_word (first_cell (numbers_of cells))) 0 ∷ v.log in
+    let knows : c.draw_done.new.pass.view ≡ with_log log (handed_at (take F.procs cells) (drop F.procs cells) entry tag v) = c.draw_done.ensures.drawn.knows in
+    has_handed F laws declared agrees v o i items layout has cells numbers entry tag log act c.args.pass.now c.draw_done.new.pass refl knows
+    (extends_as (ap (λ (w : PassView _). w.log) knows) (extends_one (step_at steps.Draw (lock_word (first_cell (numbers_of cells))) 0) v.log refl))
+    c.draw_done.ensures.drawn.drawer
+    (done_next F laws declared agrees v o i items layout has cells numbers entry tag log act (laws.asks to) laws.some onto)

@@ -4,13 +4,15 @@ use Rattle.turn_core.specs.Names.{names, names_once}
 use Rattle.k42_joined.specs.Numbers.{cell_of, row_cells}
 use Rattle.k42_joined.proofs.LocksHand.{apart_row}
 use Rattle.k42_board.specs.Drawing.{numbers_of}
+use Rattle.k42_board.specs.Log.{ComesTo, with_log}
 use Rattle.k42_board.specs.Plan.{layouts_on}
 use Rattle.k42_board.specs.Swapping.{object_swapped}
-use Rattle.k42_board.specs.Views.{hears}
 use Rattle.k42_board.specs.declared.cell.Content.{Content}
+use Rattle.k42_board.proofs.Gained.{extends_on}
 use Rattle.k42_mediator.specs.Taken.{released}
 use Rattle.k42_mediator.proofs.RowHanded.{two_rows_once}
-use Rattle.k42_mediator.proofs.Transferred.{left_always, has_kept, has_done, on_ok, on_err, same_twice}
+use Rattle.k42_mediator.proofs.SamePass.{same_twice}
+use Rattle.k42_mediator.proofs.Transferred.{left_always, has_kept, has_done, on_ok, on_err}
 use Rattle.k42_mediator.proofs.transferring.transfer.Goals as goal
 
 pub returns-in_err-cells-clause-left : goal.returns-in_err-cells-clause-left
@@ -44,13 +46,15 @@ returns-clause-done g c =
     let p0 = c.args.pass.now in let p1 = c.take_row.new.pass in let p2 = c.take_row-2.new.pass in let p3 = c.move_and_draw-done.new.pass in let p4 = c.give_back.new.pass in
     let ns = numbers_of c.take_row-2.new.cells.items in
     let took = same_twice p0 p1 p2 c.take_row.ensures.same c.take_row-2.ensures.same in
-    let chain : released ns p2.view ≡ hears p2.view.heard (released [] p0.view) =
+    let chain : released ns p2.view ≡ with_log p2.view.log (released [] p0.view) =
     c.take_row-2.ensures.released
-    ∙ ap (hears p2.view.heard) (c.take_row.ensures.released ∙ ap (λ (xs : List (Content _)). hears p1.view.heard (released (numbers_of xs) p0.view)) c.in_ok-cells.ensures.items) in
-    let back : p4.view ≡ released ns p3.view = c.give_back.ensures.released ∙ ap (λ ms. released ms p3.view) c.move_and_draw-done.ensures.numbers in
+    ∙ ap (with_log p2.view.log) (c.take_row.ensures.released ∙ ap (λ (xs : List (Content _)). with_log p1.view.log (released (numbers_of xs) p0.view)) c.in_ok-cells.ensures.items) in
+    let since = extends_on c.take_row.ensures.log c.take_row-2.ensures.log in
+    let back : ComesTo p3.view (released ns p3.view) p4.view =
+    subst (λ ms. ComesTo p3.view (released ms p3.view) p4.view) c.move_and_draw-done.ensures.numbers c.give_back.ensures.comes in
     let settled = c.moved_row-row.ensures.settled in
     on_ok c.move_and_draw-done.result
-    (has_done p0 p2 p3 p4 ns took chain settled.back settled.told c.give_back.ensures.same back (g.L.Layout.act_of c.args.to.now) (g.L.Layout.tag_of c.args.to.now))
+    (has_done p0 p2 p3 p4 ns took chain since settled.back settled.told c.give_back.ensures.same back (g.L.Layout.act_of c.args.to.now) (g.L.Layout.tag_of c.args.to.now))
     c.move_and_draw-done.ensures.handed
 
 pub returns-clause-memory : goal.returns-clause-memory
@@ -58,9 +62,11 @@ returns-clause-memory g c =
     let p0 = c.args.pass.now in let p1 = c.take_row.new.pass in let p2 = c.take_row-2.new.pass in let p3 = c.move_and_draw-done.new.pass in let p4 = c.give_back.new.pass in
     let ns = numbers_of c.take_row-2.new.cells.items in
     let took = same_twice p0 p1 p2 c.take_row.ensures.same c.take_row-2.ensures.same in
-    let chain : released ns p2.view ≡ hears p2.view.heard (released [] p0.view) =
+    let chain : released ns p2.view ≡ with_log p2.view.log (released [] p0.view) =
     c.take_row-2.ensures.released
-    ∙ ap (hears p2.view.heard) (c.take_row.ensures.released ∙ ap (λ (xs : List (Content _)). hears p1.view.heard (released (numbers_of xs) p0.view)) c.in_ok-cells.ensures.items) in
-    let back : p4.view ≡ released ns p3.view = c.give_back.ensures.released ∙ ap (λ ms. released ms p3.view) c.move_and_draw-done.ensures.numbers in
+    ∙ ap (with_log p2.view.log) (c.take_row.ensures.released ∙ ap (λ (xs : List (Content _)). with_log p1.view.log (released (numbers_of xs) p0.view)) c.in_ok-cells.ensures.items) in
+    let since = extends_on c.take_row.ensures.log c.take_row-2.ensures.log in
+    let back : ComesTo p3.view (released ns p3.view) p4.view =
+    subst (λ ms. ComesTo p3.view (released ms p3.view) p4.view) c.move_and_draw-done.ensures.numbers c.give_back.ensures.comes in
     let settled = c.moved_row-row.ensures.settled in
-    on_err c.move_and_draw-done.result (has_kept p0 p2 p3 p4 ns took chain settled.back settled.told c.give_back.ensures.same back) c.move_and_draw-done.ensures.memory
+    on_err c.move_and_draw-done.result (has_kept p0 p2 p3 p4 ns took chain since settled.back settled.told c.give_back.ensures.same back) c.move_and_draw-done.ensures.memory

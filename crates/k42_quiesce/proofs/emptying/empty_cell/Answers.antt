@@ -1,43 +1,37 @@
-use Rattle.std.proofs.Common.{rules, ◌≡◌, ◌<◌, ◌∙◌, ap, subst}
-use Rattle.k42_joined.specs.Numbers.{cell_of}
+use Rattle.std.proofs.Common.{rules, ◌≡◌, ◌<◌, ℕ, subst}
 use Rattle.k42_board.specs.Taking.{CELLS}
-use Rattle.k42_board.specs.declared.cell.Content.{Content}
-use Rattle.k42_board.specs.Plan.{layouts_on}
-use Rattle.k42_quiesce.specs.Reclaiming.{WasEmptied}
+use Rattle.k42_quiesce.specs.Reclaiming.{emptied_view}
 use Rattle.k42_quiesce.proofs.Emptied.{may_put_empty, holds_back, cell_back}
 use Rattle.k42_quiesce.proofs.emptying.empty_cell.Goals as goal
 
 pub put-requires-clause-may : goal.put-requires-clause-may
 put-requires-clause-may g c κs within =
-    let few : cell_of c.args.object c.args.row c.args.place < CELLS = search rules in
-    may_put_empty _ c.requires.laws _ _ c.args.object c.args.row c.args.place _ c.args.pass.now.view _ _ c.take-content.result _
-    c.take-content.ensures.number few c.requires.there.1 c.requires.freed c.lock.ensures.knows c.take-content.ensures.knows c.take_part.ensures.same
+    let few : c.cell_number-cell.result < CELLS = search rules in
+    may_put_empty _ c.requires.laws _ _ c.cell_number-cell.result c.args.object c.args.row c.args.place _ c.args.pass.now.view _ _ c.take-content.result _
+    c.cell_number-cell.ensures c.take-content.ensures.number few c.requires.there.1 c.requires.freed c.lock.ensures.takes.knows
+    c.take-content.ensures.moved.back.knows c.take_part.ensures.same
 
-pub returns-clause-emptied : goal.returns-clause-emptied
-returns-clause-emptied g c =
-    subst
-    (λ id. WasEmptied
-    (layouts_on g.L.Kind.object g.L.Layout.tag_of g.L.Layout.ways g.L.Layout.whole g.L.Layout.serves g.L.Layout.admitted g.L.Layout.act_of c.args.sys.now.procs c.args.sys.now.callers)
-    c.args.sys.now.layouts id (cell_of c.args.object c.args.row c.args.place))
-    (c.take-content.ensures.same.seat ∙ c.lock.ensures.same.seat)
-    (record {
-      before = c.take-content.new.pass.view;
-      after = c.put.new.pass.view;
-      content = c.take_part.new.self;
-      number = ap (λ (x : Content _). x.number) c.take_part.ensures.same ∙ c.take-content.ensures.number;
-      none = ap (λ (x : Content _). x.part) c.take_part.ensures.same;
-      put = c.put.ensures.event;
-    })
+pub returns-clause-same : goal.returns-clause-same
+returns-clause-same g c =
+    let left = (c.unlock.ensures 0).same in let put = c.put.ensures.same in let taken = c.take-content.ensures.moved.same in let locked = c.lock.ensures.same in
+    search rules
 
 pub returns-clause-knows : goal.returns-clause-knows
 returns-clause-knows g c =
     let free : c.lock.result ≡ 0 = search rules in
-    cell_back _ _ c.args.pass.now.view _ _ _ _ c.take-content.result c.requires.free free c.lock.ensures.found.unnoted c.take-content.ensures.number
-    c.lock.ensures.knows c.take-content.ensures.knows c.put.ensures.knows c.unlock.ensures.knows
+    subst (λ (n : ℕ). c.unlock.new.pass.view ≡ emptied_view n c.args.pass.now.view) c.cell_number-cell.ensures
+    (cell_back c.cell_number-cell.result _ c.args.pass.now.view _ _ _ c.take-content.result c.take_part.new.self c.requires.free free c.lock.ensures.takes.finds.unnoted
+    c.take-content.ensures.number c.lock.ensures.takes.knows c.take-content.ensures.moved.back.knows c.put.ensures.back.knows c.unlock.new.pass.view
+    c.take_part.ensures.same (c.unlock.ensures 0).takes.knows)
 
-pub unlock-requires-clause-may : goal.unlock-requires-clause-may
-unlock-requires-clause-may g c κs within =
-    let few : cell_of c.args.object c.args.row c.args.place < CELLS = search rules in
+pub unlock-requires-after_bounds : goal.unlock-requires-after_bounds
+unlock-requires-after_bounds g c κs within =
+    let few : c.cell_number-cell.result < CELLS = search rules in
     let free : c.lock.result ≡ 0 = search rules in
-    holds_back _ _ c.args.pass.now.view _ _ _ c.take-content.result few c.requires.free free c.lock.ensures.found.unnoted c.take-content.ensures.number
-    c.lock.ensures.knows c.take-content.ensures.knows c.put.ensures.knows
+    record {
+      ours = search rules;
+      may =
+          holds_back c.cell_number-cell.result _ c.args.pass.now.view _ _ _ c.take-content.result c.take_part.new.self c.requires.free free
+          c.lock.ensures.takes.finds.unnoted c.take-content.ensures.number c.lock.ensures.takes.knows c.take-content.ensures.moved.back.knows
+          c.put.ensures.back.knows few;
+    }

@@ -1,21 +1,29 @@
-use Rattle.std.proofs.Common.{◌≤◌, refl, sym, subst}
+use Rattle.std.proofs.Common.{rules, ◌≤◌, refl, sym, ◌∙◌, subst}
 use Rattle.k42_board.specs.Queueing.{IsTied}
 use Rattle.k42_board.specs.Seats.{LAST_STAMP}
 use Rattle.k42_board.specs.Views.{pass_in}
 use Rattle.k42_board.proofs.Noted.{last_push}
+use Rattle.k42_rule.proofs.Entries.{alone_entry}
 use Rattle.k42_rule.proofs.Pushed.{list_drawn, small_drawn, mirrors_drawn}
 use Rattle.k42_rule.proofs.drawing.draw_alone.Goals as goal
 
-pub returns-clause-event : goal.returns-clause-event
-returns-clause-event g c = rw (← c.pass.view_is, ← c.sys.view_is) c.alone_word.ensures.event
+pub returns-clause-drawer : goal.returns-clause-drawer
+returns-clause-drawer g c = let taken = c.alone_word.ensures 0 in search (rules, taken)
+
+pub returns-clause-takes : goal.returns-clause-takes
+returns-clause-takes g c = λ found.
+    let entry =
+    alone_entry (pass_in c.pass.inside.seat.me.0) _ c.pass.invariant.0.own_is c.args.act c.args.answer c.requires.may.act_is c.stamp_after-stamp.result c.len.result c.object_begun_in.result c.saturating_sub.result
+    (c.len.ensures ∙ c.pass.inside.entries.ok.0) c.object_begun_in.ensures (search rules) (search rules) in
+    rw (← c.pass.view_is, ← c.sys.view_is, ← entry) (c.alone_word.ensures found).takes
 
 -- what the pass keeps by itself
 pub invariant_of-pass : goal.invariant_of-pass
 invariant_of-pass g c =
     let old = c.pass.invariant in let v = pass_in c.pass.inside.seat.me.0 in
-    let told = c.alone_word.ensures.told in let pushed = c.push_reserved.ensures.items in
-    let small = subst (λ z. z ≤ LAST_STAMP) (last_push v.taker.mine _) told.1 in (
-      mirrors_drawn _ c.pass.inside.seat.me c.alone_word.new.seat.me _ _ _ old.0 told.0 refl refl old.0.told pushed,
+    let taken = c.alone_word.ensures 0 in let pushed = c.push_reserved.ensures.items in
+    let small = subst (λ z. z ≤ LAST_STAMP) (last_push v.taker.mine _) taken.takes.finds in (
+      mirrors_drawn _ c.pass.inside.seat.me c.alone_word.new.seat.me _ _ _ old.0 taken.alone refl refl old.0.told pushed,
       old.1,
       old.2,
       old.3,
@@ -34,7 +42,7 @@ invariant_of-pass g c =
       old.16,
       old.17,
       old.18,
-      subst (λ z. IsTied z c.pass.inside.post.me.view.client) (sym c.alone_word.ensures.ours.0) old.19,
+      subst (λ z. IsTied z c.pass.inside.post.me.view.client) (sym taken.table) old.19,
       old.20,
       old.21,
     )

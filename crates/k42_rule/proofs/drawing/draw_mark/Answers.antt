@@ -1,43 +1,53 @@
-use Rattle.std.proofs.Common.{◌≤◌, [], ◌∷◌, refl, sym, subst, ◌∙◌}
-use Rattle.turn_core.specs.declared.event.TurnEvent.TheVariants.{Draw}
-use Rattle.k42_joined.specs.Event.{AtCells}
-use Rattle.k42_board.specs.Drawing.{IsHeld, entry_mark, untold_view}
-use Rattle.k42_board.specs.Plan.{layouts_on}
+use Rattle.std.proofs.Common.{rules, ◌≤◌, [], ◌∷◌, refl, sym, ap, subst, ◌∙◌}
+use Rattle.k42_board.specs.Drawing.{IsHeld, untold_view}
 use Rattle.k42_board.specs.Queueing.{IsTied}
 use Rattle.k42_board.specs.Receipts.{IsDue, after_first}
 use Rattle.k42_board.specs.Seats.{LAST_STAMP}
 use Rattle.k42_board.specs.Seen.{PassSeen}
-use Rattle.k42_board.specs.Steps.{StepIs}
+use Rattle.k42_board.specs.Steps.{Seated}
 use Rattle.k42_board.specs.Views.{pass_in}
-use Rattle.k42_board.specs.Words.{lock_word}
 use Rattle.k42_board.specs.declared.view.View.TheVariants.{Crew}
-use Rattle.k42_board.proofs.Noted.{mark_due, view_back, last_push}
+use Rattle.k42_board.proofs.Noted.{mark_due, last_push}
+use Rattle.k42_rule.proofs.Drawn.{knows_drawn, takes_drawn}
+use Rattle.k42_rule.proofs.Entries.{mark_entry}
 use Rattle.k42_rule.proofs.Pushed.{list_drawn, small_drawn, mirrors_drawn}
 use Rattle.k42_rule.proofs.drawing.draw_mark.Goals as goal
 
+pub tell_cell-requires-clause-ours : goal.tell_cell-requires-clause-ours
+tell_cell-requires-clause-ours g c κs within = let taken = c.mark_word.ensures 0 in search (rules, taken)
+
+pub tell_cell-requires-clause-seated : goal.tell_cell-requires-clause-seated
+tell_cell-requires-clause-seated g c κs within = let taken = c.mark_word.ensures 0 in search (rules, taken)
+
+pub tell_cell-requires-clause-first : goal.tell_cell-requires-clause-first
+tell_cell-requires-clause-first g c κs within = let taken = c.mark_word.ensures 0 in search (rules, taken)
+
 pub tell_cell-requires-clause-due : goal.tell_cell-requires-clause-due
 tell_cell-requires-clause-due g c κs within =
-    let told = c.mark_word.ensures.told in
+    let taken = c.mark_word.ensures 0 in
     subst (λ shut. IsDue (pass_in c.mark_word.new.seat.me.0).notes c.args.cell.now.number shut c.stamp_after-stamp.result) (sym c.is_closed-closed.ensures)
-    (mark_due (pass_in c.pass.inside.seat.me.0) c.args.cell.now _ c.mark_word.new.seat.me told.0 told.1
+    (mark_due _ (pass_in c.pass.inside.seat.me.0) c.args.cell.now _ c.mark_word.new.seat.me taken.alone taken.takes.finds
     (subst (λ (p : PassSeen _). IsHeld p.view.notes c.args.cell.now) (sym c.pass.view_is) c.requires.may.held))
 
-pub returns-clause-event : goal.returns-clause-event
-returns-clause-event g c = λ found.
-    let key = c.sys.inside.board.shared.key in let v = pass_in c.pass.inside.seat.me.0 in let n = c.args.cell.now.number in
-    let F = layouts_on g.L.Kind.object g.L.Layout.tag_of g.L.Layout.ways g.L.Layout.whole g.L.Layout.serves g.L.Layout.admitted g.L.Layout.act_of key.procs key.callers.items in
-    rw (← c.pass.view_is, ← c.sys.view_is)
-    (subst (λ w. StepIs F key.layouts.items (AtCells (Draw v.number (n ∷ []) (entry_mark v n c.args.act c.args.answer))) (lock_word n) (λ word. word) c.pass.inside.seat.id v found w)
-    (sym (view_back v (c.args.cell.now ∷ []) _ c.mark_word.new.seat.me c.tell_cell.new.seat.me c.mark_word.ensures.told.0 _ c.tell_cell.ensures.seated))
-    (c.mark_word.ensures.event found))
+pub returns-clause-drawn : goal.returns-clause-drawn
+returns-clause-drawn g c =
+    let taken = c.mark_word.ensures in let seat = c.pass.inside.seat in let v = pass_in seat.me.0 in
+    let entry =
+    mark_entry v _ c.pass.invariant.0.own_is c.args.act c.args.answer c.requires.may.act_is c.stamp_after-stamp.result c.len.result c.object_begun_in.result c.incarnation_at.result
+    (c.len.ensures ∙ c.pass.inside.entries.ok.0) c.object_begun_in.ensures c.number.result c.args.cell.now.number (search rules) (search rules) (search rules) in
+    let told = c.tell_cell.ensures.seated ∙ ap (λ (m : Seated _). (Crew (untold_view (after_first (pass_in m.0).untold) (pass_in c.mark_word.new.seat.me.0) ∷ []), [])) (taken 0).alone in record {
+      drawer = let one = taken 0 in search (rules, one);
+      knows = rw (← c.pass.view_is, ← entry) (knows_drawn _ c.mark_word.new.seat.me c.tell_cell.new.seat.me (taken 0).alone told);
+      takes = λ found. rw (← c.pass.view_is, ← c.sys.view_is, ← entry) (takes_drawn _ c.mark_word.new.seat.me c.tell_cell.new.seat.me (taken 0).alone told _ refl found (taken found).takes);
+    }
 
 -- what the pass keeps by itself
 pub invariant_of-pass : goal.invariant_of-pass
 invariant_of-pass g c =
     let old = c.pass.invariant in let v = pass_in c.pass.inside.seat.me.0 in
-    let told = c.mark_word.ensures.told in let pushed = c.push_reserved.ensures.items in
-    let small = subst (λ z. z ≤ LAST_STAMP) (last_push v.taker.mine _) told.1 in
-    let seated = c.tell_cell.ensures.seated ∙ (λ i. (Crew (untold_view (after_first (pass_in (told.0 i).0).untold) (pass_in (told.0 i).0) ∷ []), [])) in (
+    let taken = c.mark_word.ensures 0 in let told = taken.alone in let pushed = c.push_reserved.ensures.items in
+    let small = subst (λ z. z ≤ LAST_STAMP) (last_push v.taker.mine _) taken.takes.finds in
+    let seated = c.tell_cell.ensures.seated ∙ (λ i. (Crew (untold_view (after_first (pass_in (told i).0).untold) (pass_in (told i).0) ∷ []), [])) in (
       mirrors_drawn _ c.pass.inside.seat.me c.tell_cell.new.seat.me _ _ _ old.0 seated refl refl refl pushed,
       old.1,
       old.2,
@@ -57,7 +67,7 @@ invariant_of-pass g c =
       old.16,
       old.17,
       old.18,
-      subst (λ z. IsTied z c.pass.inside.post.me.view.client) (sym (c.tell_cell.ensures.ours.0 ∙ c.mark_word.ensures.ours.0)) old.19,
+      subst (λ z. IsTied z c.pass.inside.post.me.view.client) (sym (c.tell_cell.ensures.ours.0 ∙ taken.table)) old.19,
       old.20,
       old.21,
     )

@@ -1,4 +1,8 @@
+use Rattle.std.proofs.Common.{rules}
 use Rattle.k42_rule.proofs.gracing.flip.Goals as goal
 
-pub returns-clause-event : goal.returns-clause-event
-returns-clause-event g c = rw (← c.pass.view_is, ← c.sys.view_is) c.flip_swap-found.ensures.event
+pub returns : goal.returns
+returns g c = record {
+  same = search rules;
+  takes = rw (← c.pass.view_is, ← c.sys.view_is) c.flip_swap-found.ensures.takes;
+}

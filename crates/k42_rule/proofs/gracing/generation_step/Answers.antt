@@ -1,4 +1,8 @@
+use Rattle.std.proofs.Common.{rules}
 use Rattle.k42_rule.proofs.gracing.generation_step.Goals as goal
 
-pub returns-clause-stays : goal.returns-clause-stays
-returns-clause-stays g c = rw (← c.pass.view_is, ← c.sys.view_is) c.generation_load-found.ensures.stays
+pub returns : goal.returns
+returns g c = record {
+  same = search rules;
+  takes = rw (← c.pass.view_is, ← c.sys.view_is) c.generation_load-found.ensures.takes;
+}

@@ -1,4 +1,4 @@
-use Rattle.std.proofs.Common.{arith, sym, subst}
+use Rattle.std.proofs.Common.{rules, arith, sym, subst}
 use Rattle.std.proofs.lemmas.Grind.{common_steps}
 use Rattle.phase_core.specs.declared.caller.SwapAt.{SwapAt}
 use Rattle.k42_board.specs.Swapping.{FitsSwap}
@@ -13,11 +13,20 @@ invariant_of-pass-then-found-from g c =
     (fits_drained pass.swap pass.turned pass.handed pass.last c.pass.invariant.16 _) in
     grind (arith, common_steps, fits)
 
-pub returns-in-Flipping-clause-event : goal.returns-in-Flipping-clause-event
-returns-in-Flipping-clause-event g c = rw (← c.pass.view_is, ← c.sys.view_is) c.look_word-found.ensures.event
+pub returns-in-Flipping : goal.returns-in-Flipping
+returns-in-Flipping g c = record {
+  same = search rules;
+  takes = rw (← c.pass.view_is, ← c.sys.view_is) c.look_word-found.ensures.takes;
+}
 
-pub returns-then-found-from-clause-event : goal.returns-then-found-from-clause-event
-returns-then-found-from-clause-event g c = rw (← c.pass.view_is, ← c.sys.view_is) c.look_word-found.ensures.event
+pub returns-then-found-from : goal.returns-then-found-from
+returns-then-found-from g c = record {
+  same = search rules;
+  takes = rw (← c.pass.view_is, ← c.sys.view_is) c.look_word-found.ensures.takes;
+}
 
-pub returns-else-found-from-clause-event : goal.returns-else-found-from-clause-event
-returns-else-found-from-clause-event g c = rw (← c.pass.view_is, ← c.sys.view_is) c.look_word-found.ensures.event
+pub returns-else-found-from : goal.returns-else-found-from
+returns-else-found-from g c = record {
+  same = search rules;
+  takes = rw (← c.pass.view_is, ← c.sys.view_is) c.look_word-found.ensures.takes;
+}

@@ -15,7 +15,7 @@ invariant_of-pass g c =
     let pass = c.pass.inside in let was = c.pass.invariant in let v = pass_in pass.seat.me.0 in
     let swap_is = c.draining-pass-inside.ensures in let many = c.len-pass-inside.ensures ∙ pass.rows.ok.0 in
     let noted = noted_anew v _ was.0.own_is c.as_slice.result.now pass.noted.items c.as_mut_slice.result.now c.note_all.new.noted pass.noted.len c.as_slice.ensures.value refl c.as_mut_slice.ensures.value (search rules) c.note_all.ensures in (
-      role_mirrors v _ was.0.own_is c.take_role_word-found.new.seat.me c.take_role_word-found.result _ c.draining-pass-inside.result c.len-pass-inside.result c.take_role_word-found.ensures.told
+      role_mirrors v _ was.0.own_is c.take_role_word-found.new.seat.me c.take_role_word-found.result _ c.draining-pass-inside.result c.len-pass-inside.result c.take_role_word-found.ensures.alone
           c.if-found-eq0.true was.0.out was.0.told noted swap_is many,
       was.1,
       was.2,
@@ -27,7 +27,7 @@ invariant_of-pass g c =
       was.8,
       was.9,
       omega (arith, many),
-      (subst (λ (o : Own). 0 < length o.turn.waits) (sym was.0.own_is) c.take_role_word-found.ensures.found.procs, λ some. absurd (omega (arith, some))),
+      (subst (λ (o : Own). 0 < length o.turn.waits) (sym was.0.own_is) c.take_role_word-found.ensures.takes.finds.procs, λ some. absurd (omega (arith, some))),
       omega arith,
       was.13,
       was.14,
@@ -35,13 +35,19 @@ invariant_of-pass g c =
       fits_draining pass.swap pass.turned pass.handed pass.last was.16 c.draining-pass-inside.result swap_is,
       was.17,
       was.18,
-      subst (λ table. IsTied table pass.post.me.view.client) (sym c.take_role_word-found.ensures.ours.0) was.19,
+      subst (λ table. IsTied table pass.post.me.view.client) (sym c.take_role_word-found.ensures.table) was.19,
       was.20,
       was.21,
     )
 
-pub returns-then-found-eq0-clause-event : goal.returns-then-found-eq0-clause-event
-returns-then-found-eq0-clause-event g c = rw (← c.pass.view_is, ← c.sys.view_is) c.take_role_word-found.ensures.event
+pub returns-then-found-eq0 : goal.returns-then-found-eq0
+returns-then-found-eq0 g c = record {
+  same = search rules;
+  takes = rw (← c.pass.view_is, ← c.sys.view_is) c.take_role_word-found.ensures.takes;
+}
 
-pub returns-else-found-eq0-clause-event : goal.returns-else-found-eq0-clause-event
-returns-else-found-eq0-clause-event g c = rw (← c.pass.view_is, ← c.sys.view_is) c.take_role_word-found.ensures.event
+pub returns-else-found-eq0 : goal.returns-else-found-eq0
+returns-else-found-eq0 g c = record {
+  same = search rules;
+  takes = rw (← c.pass.view_is, ← c.sys.view_is) c.take_role_word-found.ensures.takes;
+}

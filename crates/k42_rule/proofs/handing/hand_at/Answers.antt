@@ -1,10 +1,10 @@
-use Rattle.std.proofs.Common.{◌≡◌, ℕ, ◌≤◌, true, List, Some, take, drop, sym, ap, ◌∙◌, subst}
+use Rattle.std.proofs.Common.{rules, ◌≡◌, ℕ, ◌≤◌, true, List, ◌++◌, Some, take, drop, sym, ap, ◌∙◌, subst}
 use Rattle.k42_kinds.specs.declared.entry.Entry.{Entry}
 use Rattle.k42_joined.specs.Drawing.{first_cell}
-use Rattle.k42_joined.specs.Event.{HandWith}
 use Rattle.phase_core.specs.Stages.{is_moved}
 use Rattle.k42_board.specs.Drawing.{AreTold, numbers_of, HasSmallStamp}
-use Rattle.k42_board.specs.Handing.{hands_at, handed_at}
+use Rattle.k42_board.specs.Handing.{hands_at}
+use Rattle.k42_board.specs.Log.{took}
 use Rattle.k42_board.specs.Plan.{layouts_on}
 use Rattle.k42_board.specs.Queueing.{IsTied}
 use Rattle.k42_board.specs.Receipts.{AreDue}
@@ -12,53 +12,65 @@ use Rattle.turn_core.specs.Stamps.{last_stamp}
 use Rattle.k42_stamp.specs.Lists.{IsListOf}
 use Rattle.k42_board.specs.Seats.{LAST_STAMP}
 use Rattle.k42_board.specs.Seen.{IsSeatOf, SysSeen, PassSeen, Own, own_in}
-use Rattle.k42_board.specs.Steps.{Seated, StepIs}
+use Rattle.k42_board.specs.Steps.{Seated}
 use Rattle.k42_board.specs.Views.{pass_in}
 use Rattle.k42_board.specs.Words.{lock_word}
 use Rattle.k42_board.specs.declared.cell.Content.{Content}
 use Rattle.k42_board.specs.declared.view.Note.{Note}
 use Rattle.k42_board.specs.declared.view.PassView.{PassView}
+use Rattle.k42_board.specs.declared.view.StepName.TheVariants as steps
+use Rattle.k42_rule.proofs.Drawn.{knows_drawn, takes_drawn}
 use Rattle.k42_rule.proofs.Fitting.{fits_handed}
-use Rattle.k42_rule.proofs.HandedSeat.{untold_is, due_is, knows_is, back_is, mirrors_is, stamp_told, list_is, small_is}
+use Rattle.k42_rule.proofs.HandedCells.{all_numbers}
+use Rattle.k42_rule.proofs.HandedSeat.{untold_is, due_is, mirrors_is, stamp_told, list_is, small_is}
 use Rattle.k42_rule.proofs.handing.hand_at.Goals as goal
 
 -- what the step has told, of the view that the caller sees
-told_of : {P : Type 0} (cells : List (Content P)) (entry : Entry) (tag procs procs' : ℕ) (v v' : PassView P) (me : Seated P) → procs ≡ procs' → v ≡ v'
-    → IsSeatOf me (hands_at (take procs cells) (drop procs cells) entry tag v) × HasSmallStamp (hands_at (take procs cells) (drop procs cells) entry tag v)
-    → IsSeatOf me (hands_at (take procs' cells) (drop procs' cells) entry tag v') × HasSmallStamp (hands_at (take procs' cells) (drop procs' cells) entry tag v')
-told_of {P} cells entry tag procs procs' v v' me same same' told =
-    subst (λ (z : ℕ × PassView P). IsSeatOf me (hands_at (take z.0 cells) (drop z.0 cells) entry tag z.1) × HasSmallStamp (hands_at (take z.0 cells) (drop z.0 cells) entry tag z.1))
+told_of : {P : Type 0} (cells : List (Content P)) (entry : Entry) (tag procs procs' word : ℕ) (v v' : PassView P) (me : Seated P) → procs ≡ procs' → v ≡ v'
+    → IsSeatOf me (took steps.Draw word 0 (hands_at (take procs cells) (drop procs cells) entry tag v)) × HasSmallStamp (hands_at (take procs cells) (drop procs cells) entry tag v)
+    → IsSeatOf me (took steps.Draw word 0 (hands_at (take procs' cells) (drop procs' cells) entry tag v')) × HasSmallStamp (hands_at (take procs' cells) (drop procs' cells) entry tag v')
+told_of {P} cells entry tag procs procs' word v v' me same same' told =
+    subst (λ (z : ℕ × PassView P). IsSeatOf me (took steps.Draw word 0 (hands_at (take z.0 cells) (drop z.0 cells) entry tag z.1)) × HasSmallStamp (hands_at (take z.0 cells) (drop z.0 cells) entry tag z.1))
     (λ j. (same j, same' j)) told
+
+pub tell_all-requires-clause-ours : goal.tell_all-requires-clause-ours
+tell_all-requires-clause-ours g c κs within = let taken = c.hand_word.ensures 0 in search (rules, taken)
+
+pub tell_all-requires-clause-seated : goal.tell_all-requires-clause-seated
+tell_all-requires-clause-seated g c κs within = let taken = c.hand_word.ensures 0 in search (rules, taken)
 
 pub tell_all-requires-clause-untold : goal.tell_all-requires-clause-untold
 tell_all-requires-clause-untold g c κs within =
     let sys = c.args.sys.now in let v = c.args.pass.now.view in let cells = c.args.cells.now in let entry = c.done_entry-entry.result in let tag = g.L.Layout.tag_of c.args.to.now in
     let F = layouts_on g.L.Kind.object g.L.Layout.tag_of g.L.Layout.ways g.L.Layout.whole g.L.Layout.serves g.L.Layout.admitted g.L.Layout.act_of sys.procs sys.callers in
-    let told = told_of cells entry tag c.sys.inside.board.shared.key.procs sys.procs (pass_in c.pass.inside.seat.me.0) v c.hand_word.new.seat.me
-    (ap (λ (s : SysSeen _). s.procs) c.sys.view_is) (ap (λ (p : PassSeen _). p.view) c.pass.view_is) c.hand_word.ensures.told in
-    untold_is F sys.layouts cells c.args.to.now c.args.answer v c.requires.may entry tag c.hand_word.new.seat.me told.0
+    let taken = c.hand_word.ensures 0 in
+    let told = told_of cells entry tag c.sys.inside.board.shared.key.procs sys.procs (lock_word (first_cell (numbers_of cells))) (pass_in c.pass.inside.seat.me.0) v c.hand_word.new.seat.me
+    (ap (λ (s : SysSeen _). s.procs) c.sys.view_is) (ap (λ (p : PassSeen _). p.view) c.pass.view_is) (taken.alone, taken.takes.finds) in
+    untold_is F sys.layouts cells c.args.to.now c.args.answer v c.requires.may entry tag c.hand_word.new.seat.me (lock_word (first_cell (numbers_of cells))) told.0
 
 pub tell_all-requires-clause-due : goal.tell_all-requires-clause-due
 tell_all-requires-clause-due g c κs within =
     let sys = c.args.sys.now in let v = c.args.pass.now.view in let cells = c.args.cells.now in let entry = c.done_entry-entry.result in let tag = g.L.Layout.tag_of c.args.to.now in
     let F = layouts_on g.L.Kind.object g.L.Layout.tag_of g.L.Layout.ways g.L.Layout.whole g.L.Layout.serves g.L.Layout.admitted g.L.Layout.act_of sys.procs sys.callers in
     let procs : c.sys.inside.board.shared.key.procs ≡ sys.procs = ap (λ (s : SysSeen _). s.procs) c.sys.view_is in
-    let told = told_of cells entry tag c.sys.inside.board.shared.key.procs sys.procs (pass_in c.pass.inside.seat.me.0) v c.hand_word.new.seat.me
-    procs (ap (λ (p : PassSeen _). p.view) c.pass.view_is) c.hand_word.ensures.told in
+    let taken = c.hand_word.ensures 0 in
+    let told = told_of cells entry tag c.sys.inside.board.shared.key.procs sys.procs (lock_word (first_cell (numbers_of cells))) (pass_in c.pass.inside.seat.me.0) v c.hand_word.new.seat.me
+    procs (ap (λ (p : PassSeen _). p.view) c.pass.view_is) (taken.alone, taken.takes.finds) in
     subst (λ n. AreDue (pass_in c.hand_word.new.seat.me.0).notes n true entry.stamp cells) (sym (c.sys.invariant.3 ∙ procs))
-    (due_is F sys.layouts cells c.args.to.now c.args.answer v c.requires.may entry tag c.hand_word.new.seat.me told.0 (subst (λ n. n ≤ 8) procs c.sys.invariant.7) told.1)
+    (due_is F sys.layouts cells c.args.to.now c.args.answer v c.requires.may entry tag c.hand_word.new.seat.me (lock_word (first_cell (numbers_of cells))) told.0 (subst (λ n. n ≤ 8) procs c.sys.invariant.7) told.1)
 
 pub invariant_of-pass : goal.invariant_of-pass
 invariant_of-pass g c =
     let sys = c.args.sys.now in let v = c.args.pass.now.view in let cells = c.args.cells.now in let entry = c.done_entry-entry.result in let tag = g.L.Layout.tag_of c.args.to.now in
     let F = layouts_on g.L.Kind.object g.L.Layout.tag_of g.L.Layout.ways g.L.Layout.whole g.L.Layout.serves g.L.Layout.admitted g.L.Layout.act_of sys.procs sys.callers in
     let same : pass_in c.pass.inside.seat.me.0 ≡ v = ap (λ (p : PassSeen _). p.view) c.pass.view_is in
-    let told = told_of cells entry tag c.sys.inside.board.shared.key.procs sys.procs (pass_in c.pass.inside.seat.me.0) v c.hand_word.new.seat.me
-    (ap (λ (s : SysSeen _). s.procs) c.sys.view_is) same c.hand_word.ensures.told in
+    let taken = c.hand_word.ensures 0 in
+    let told = told_of cells entry tag c.sys.inside.board.shared.key.procs sys.procs (lock_word (first_cell (numbers_of cells))) (pass_in c.pass.inside.seat.me.0) v c.hand_word.new.seat.me
+    (ap (λ (s : SysSeen _). s.procs) c.sys.view_is) same (taken.alone, taken.takes.finds) in
     let old = c.pass.invariant in
     let own = old.0.own_is ∙ ap own_in same in
     let pushed = c.push_reserved.ensures.items in (
-      mirrors_is F sys.layouts cells c.args.to.now c.args.answer v c.requires.may entry tag c.hand_word.new.seat.me told.0 c.tell_all.new.seat.me c.tell_all.ensures.seated
+      mirrors_is F sys.layouts cells c.args.to.now c.args.answer v c.requires.may entry tag c.hand_word.new.seat.me (lock_word (first_cell (numbers_of cells))) told.0 c.tell_all.new.seat.me c.tell_all.ensures.seated
           c.pass.inside.seat.me _ _ old.0 same (λ j. record (own_in (pass_in c.pass.inside.seat.me.0)) {
             number = c.pass.inside.number;
             turn = record { proc = c.pass.inside.home; active = c.pass.inside.active; grace = c.pass.inside.grace; coming = c.pass.inside.coming; waits = c.pass.inside.waits.items };
@@ -98,7 +110,7 @@ invariant_of-pass g c =
           (ap (λ (o : Own). is_moved o.swap) own ∙ ap is_moved c.requires.may.moved),
       old.17,
       old.18,
-      subst (λ table. IsTied table c.pass.inside.post.me.view.client) (sym (c.tell_all.ensures.ours.0 ∙ c.hand_word.ensures.ours.0)) old.19,
+      subst (λ table. IsTied table c.pass.inside.post.me.view.client) (sym (c.tell_all.ensures.ours.0 ∙ taken.table)) old.19,
       subst (λ n. n ≤ 2) (sym c.tag.ensures) c.requires.may.known,
       old.21,
     )
@@ -110,30 +122,19 @@ returns-clause-stamp g c =
     stamp_told F sys.layouts c.args.cells.now c.args.to.now c.args.answer c.args.pass.now.view c.requires.may c.done_entry-entry.result (g.L.Layout.tag_of c.args.to.now)
     (g.L.Layout.act_of c.args.to.now) c.done_entry-entry.ensures
 
-pub returns-clause-knows : goal.returns-clause-knows
-returns-clause-knows g c =
-    let sys = c.args.sys.now in let v = c.args.pass.now.view in let cells = c.args.cells.now in let entry = c.done_entry-entry.result in let tag = g.L.Layout.tag_of c.args.to.now in
-    let F = layouts_on g.L.Kind.object g.L.Layout.tag_of g.L.Layout.ways g.L.Layout.whole g.L.Layout.serves g.L.Layout.admitted g.L.Layout.act_of sys.procs sys.callers in
-    let told = told_of cells entry tag c.sys.inside.board.shared.key.procs sys.procs (pass_in c.pass.inside.seat.me.0) v c.hand_word.new.seat.me
-    (ap (λ (s : SysSeen _). s.procs) c.sys.view_is) (ap (λ (p : PassSeen _). p.view) c.pass.view_is) c.hand_word.ensures.told in
-    knows_is F sys.layouts cells c.args.to.now c.args.answer v c.requires.may entry tag c.hand_word.new.seat.me told.0 c.tell_all.new.seat.me c.tell_all.ensures.seated
-    ∙ ap (λ e. handed_at (take sys.procs cells) (drop sys.procs cells) e tag v) c.done_entry-entry.ensures
-
 pub returns-clause-told : goal.returns-clause-told
 returns-clause-told g c =
     subst (λ (notes : List (Note _)). AreTold notes c.args.cells.now c.tell_all.new.cells) (sym (ap (λ (m : Seated _). (pass_in m.0).notes) c.tell_all.ensures.seated)) c.tell_all.ensures.told
 
-pub returns-clause-event : goal.returns-clause-event
-returns-clause-event g c = λ found.
-    let sys = c.args.sys.now in let v = c.args.pass.now.view in let cells = c.args.cells.now in let entry = c.done_entry-entry.result in let tag = g.L.Layout.tag_of c.args.to.now in
+pub returns-clause-drawn : goal.returns-clause-drawn
+returns-clause-drawn g c =
+    let sys = c.args.sys.now in let v = c.args.pass.now.view in let cells = c.args.cells.now in let taken = c.hand_word.ensures in
     let F = layouts_on g.L.Kind.object g.L.Layout.tag_of g.L.Layout.ways g.L.Layout.whole g.L.Layout.serves g.L.Layout.admitted g.L.Layout.act_of sys.procs sys.callers in
-    let told = told_of cells entry tag c.sys.inside.board.shared.key.procs sys.procs (pass_in c.pass.inside.seat.me.0) v c.hand_word.new.seat.me
-    (ap (λ (s : SysSeen _). s.procs) c.sys.view_is) (ap (λ (p : PassSeen _). p.view) c.pass.view_is) c.hand_word.ensures.told in
-    let back = back_is F sys.layouts cells c.args.to.now c.args.answer v c.requires.may entry tag c.hand_word.new.seat.me told.0 c.tell_all.new.seat.me c.tell_all.ensures.seated in
-    subst
-    (λ (z : SysSeen _ × PassSeen _ × Entry × PassView _). StepIs
-    (layouts_on g.L.Kind.object g.L.Layout.tag_of g.L.Layout.ways g.L.Layout.whole g.L.Layout.serves g.L.Layout.admitted g.L.Layout.act_of z.0.procs z.0.callers) z.0.layouts
-    (HandWith z.1.view.number (numbers_of (take z.0.procs cells)) (numbers_of (drop z.0.procs cells)) c.args.to.now z.2) (lock_word (first_cell (numbers_of cells))) (λ word. word)
-    z.1.seat z.1.view found z.3)
-    (λ j. (c.sys.view_is j, c.pass.view_is j, c.done_entry-entry.ensures j, sym back j))
-    (c.hand_word.ensures.event found)
+    let procs : c.sys.inside.board.shared.key.procs ≡ sys.procs = ap (λ (s : SysSeen _). s.procs) c.sys.view_is in
+    let all =
+    subst (λ n. numbers_of (take n cells) ++ numbers_of (drop n cells) ≡ numbers_of cells) (sym procs)
+    (all_numbers F sys.layouts cells c.args.to.now c.args.answer v c.requires.may) in record {
+      drawer = let one = taken 0 in search (rules, one);
+      knows = rw (← c.done_entry-entry.ensures, ← c.pass.view_is, ← c.sys.view_is) (knows_drawn _ c.hand_word.new.seat.me c.tell_all.new.seat.me (taken 0).alone c.tell_all.ensures.seated);
+      takes = λ found. rw (← c.done_entry-entry.ensures, ← c.pass.view_is, ← c.sys.view_is) (takes_drawn _ c.hand_word.new.seat.me c.tell_all.new.seat.me (taken 0).alone c.tell_all.ensures.seated _ all found (taken found).takes);
+    }

@@ -1,7 +1,14 @@
+use Rattle.std.proofs.Common.{rules}
 use Rattle.k42_rule.proofs.swap_begins.begin_step.Goals as goal
 
-pub returns-then-is_swapped-clause-event : goal.returns-then-is_swapped-clause-event
-returns-then-is_swapped-clause-event g c = rw (← c.pass.view_is, ← c.sys.view_is) c.begin_word-found.ensures.event
+pub returns-then-is_swapped : goal.returns-then-is_swapped
+returns-then-is_swapped g c = record {
+  same = search rules;
+  takes = rw (← c.pass.view_is, ← c.sys.view_is) c.begin_word-found.ensures.takes;
+}
 
-pub returns-clause-event : goal.returns-clause-event
-returns-clause-event g c = rw (← c.pass.view_is, ← c.sys.view_is) c.begin_word-found.ensures.event
+pub returns : goal.returns
+returns g c = record {
+  same = search rules;
+  takes = rw (← c.pass.view_is, ← c.sys.view_is) c.begin_word-found.ensures.takes;
+}

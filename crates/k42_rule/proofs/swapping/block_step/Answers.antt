@@ -13,5 +13,8 @@ invariant_of-pass g c =
     let fits = subst (λ o. FitsSwap (Blocking o) pass.turned pass.handed pass.last) (sym c.object_at-object.ensures) (fits_blocked pass.swap pass.turned pass.handed pass.last c.pass.invariant.16 drained) in
     search (rules, fits)
 
-pub returns-clause-event : goal.returns-clause-event
-returns-clause-event g c = rw (← c.pass.view_is, ← c.sys.view_is) c.block_word-found.ensures.event
+pub returns : goal.returns
+returns g c = record {
+  same = search rules;
+  takes = rw (← c.pass.view_is, ← c.sys.view_is) c.block_word-found.ensures.takes;
+}

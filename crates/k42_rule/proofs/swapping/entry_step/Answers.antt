@@ -12,5 +12,8 @@ invariant_of-pass g c =
     (fits_entry pass.swap pass.turned pass.handed pass.last c.pass.invariant.16 _) in
     search (rules, fits)
 
-pub returns-clause-event : goal.returns-clause-event
-returns-clause-event g c = rw (← c.pass.view_is, ← c.sys.view_is) c.change_entry_word-found.ensures.event
+pub returns : goal.returns
+returns g c = record {
+  same = search rules;
+  takes = rw (← c.pass.view_is, ← c.sys.view_is) c.change_entry_word-found.ensures.takes;
+}

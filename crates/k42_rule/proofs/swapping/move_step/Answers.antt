@@ -13,8 +13,14 @@ invariant_of-pass g c =
     let fits = subst (λ o. FitsSwap (Moved o) pass.turned pass.handed pass.last) (sym c.object_at-object.ensures) (fits_moved pass.swap pass.turned pass.handed pass.last c.pass.invariant.16 blocks) in
     search (rules, fits)
 
-pub returns-then-found-old-clause-event : goal.returns-then-found-old-clause-event
-returns-then-found-old-clause-event g c = rw (← c.pass.view_is, ← c.sys.view_is) c.move_word-found.ensures.event
+pub returns-then-found-old : goal.returns-then-found-old
+returns-then-found-old g c = record {
+  same = search rules;
+  takes = rw (← c.pass.view_is, ← c.sys.view_is) c.move_word-found.ensures.takes;
+}
 
-pub returns-else-found-old-clause-event : goal.returns-else-found-old-clause-event
-returns-else-found-old-clause-event g c = rw (← c.pass.view_is, ← c.sys.view_is) c.move_word-found.ensures.event
+pub returns-else-found-old : goal.returns-else-found-old
+returns-else-found-old g c = record {
+  same = search rules;
+  takes = rw (← c.pass.view_is, ← c.sys.view_is) c.move_word-found.ensures.takes;
+}

@@ -1,7 +1,14 @@
+use Rattle.std.proofs.Common.{rules}
 use Rattle.k42_rule.proofs.tabling.install_step.Goals as goal
 
-pub returns-then-found-old-clause-event : goal.returns-then-found-old-clause-event
-returns-then-found-old-clause-event g c = rw (← c.pass.view_is, ← c.sys.view_is) c.install_word-found.ensures.event
+pub returns-then-found-old : goal.returns-then-found-old
+returns-then-found-old g c = record {
+  same = search rules;
+  takes = rw (← c.pass.view_is, ← c.sys.view_is) c.install_word-found.ensures.takes;
+}
 
-pub returns-else-found-old-clause-event : goal.returns-else-found-old-clause-event
-returns-else-found-old-clause-event g c = rw (← c.pass.view_is, ← c.sys.view_is) c.install_word-found.ensures.event
+pub returns-else-found-old : goal.returns-else-found-old
+returns-else-found-old g c = record {
+  same = search rules;
+  takes = rw (← c.pass.view_is, ← c.sys.view_is) c.install_word-found.ensures.takes;
+}

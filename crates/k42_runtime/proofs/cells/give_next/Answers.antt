@@ -1,11 +1,14 @@
-use Rattle.std.proofs.Common.{◌<◌, ℕ, refl, sym, ap, ◌∙◌, subst}
+use Rattle.std.proofs.Common.{◌<◌, ℕ, [], ◌∷◌, refl, sym, ap, ◌∙◌, subst}
 use Rattle.turn_core.specs.Names.{names}
 use Rattle.k42_board.specs.Cells.{cells_noted}
+use Rattle.k42_board.specs.Log.{ComesTo}
 use Rattle.k42_board.specs.Taking.{CELLS, MayPut}
 use Rattle.k42_board.specs.declared.view.PassView.{PassView}
 use Rattle.k42_rule.proofs.PutBack.{may_put}
-use Rattle.k42_mediator.proofs.GivenBack.{cell_in}
+use Rattle.k42_mediator.specs.Taken.{released}
+use Rattle.k42_mediator.proofs.GivenBack.{cell_in, comes_back}
 use Rattle.k42_mediator.proofs.Remaining.{none_remains}
+use Rattle.k42_mediator.proofs.SamePass.{same_twice}
 use Rattle.k42_runtime.specs.Systems.{any_layouts}
 use Rattle.k42_runtime.proofs.cells.give_next.Goals as goal
 
@@ -18,11 +21,23 @@ put-requires-clause-may c κs =
     (record { noted = ready.held.noted; history = ready.held.history; closed = ready.held.closed })
     (ready.due v (record { visitor = refl; last = refl; handed = refl }) ready.held.noted refl))
 
-pub unlock-requires-clause-may : goal.unlock-requires-clause-may
-unlock-requires-clause-may c κs =
-    let v = c.args.pass.now.view in let n : ℕ = c.number-number.result in let ready = c.requires.ready in let knows = c.put.ensures.knows in
+pub unlock-requires-after_bounds : goal.unlock-requires-after_bounds
+unlock-requires-after_bounds c κs =
+    let v = c.args.pass.now.view in let n : ℕ = c.number-number.result in let ready = c.requires.ready in let knows = c.put.ensures.back.knows in
     record {
-      cell = subst (λ m. m < CELLS) (sym c.number-number.ensures) ready.cell;
-      held = ap (λ (w : PassView _). names w.taker.held n) knows ∙ ap (names v.taker.held) c.number-number.ensures ∙ ready.holds;
-      home = ap (λ (w : PassView _). names (cells_noted w.notes) n) knows ∙ none_remains cell_in n v.notes;
+      ours = c.put.ensures.same.table ∙ c.requires.ours;
+      may = record {
+        cell = subst (λ m. m < CELLS) (sym c.number-number.ensures) ready.cell;
+        held = ap (λ (w : PassView _). names w.taker.held n) knows ∙ ap (names v.taker.held) c.number-number.ensures ∙ ready.holds;
+        home = ap (λ (w : PassView _). names (cells_noted w.notes) n) knows ∙ none_remains cell_in n v.notes;
+      };
     }
+
+pub returns-clause-same : goal.returns-clause-same
+returns-clause-same c = same_twice _ _ _ c.put.ensures.same (c.unlock.ensures 0).same
+
+pub returns-clause-comes : goal.returns-clause-comes
+returns-clause-comes c =
+    let v = c.args.pass.now.view in
+    subst (λ (m : ℕ). ComesTo v (released (m ∷ []) v) c.unlock.new.pass.view) c.number-number.ensures
+    (comes_back _ _ v _ _ c.put.ensures.back.knows (c.unlock.ensures 0).takes.knows)

@@ -1,9 +1,13 @@
 use Rattle.std.proofs.Common.{◌≡◌, ◌≤◌, ℕ, ◌++◌, List, length, take, drop, sym, ap, ◌∙◌, subst}
 use Rattle.k42_kinds.specs.declared.entry.Act.TheVariants.{Call}
 use Rattle.k42_kinds.specs.declared.entry.Answer.TheVariants.{Replied}
+use Rattle.k42_joined.specs.Drawing.{first_cell}
 use Rattle.k42_board.specs.Drawing.{AreTold, MayDrawCall, numbers_of, entry_call, drawn_at}
+use Rattle.k42_board.specs.Log.{took}
+use Rattle.k42_board.specs.Words.{lock_word}
 use Rattle.k42_board.specs.declared.cell.Content.{Content}
 use Rattle.k42_board.specs.declared.view.PassView.{PassView}
+use Rattle.k42_board.specs.declared.view.StepName.TheVariants as steps
 use Rattle.k42_mediator.proofs.RowReady.{written_back, told_numbers}
 use Rattle.k42_runtime.specs.Reaching.{MayGiveBack}
 use Rattle.k42_runtime.specs.Stepping.{MayStepCells, HasSteppedCells}
@@ -73,12 +77,15 @@ returns-clause-may c =
     let cells = take c.args.cells.now.len (new ++ drop (length new) items) in
     let back : cells ≡ new =
     written_back new items c.args.cells.now.len (long_stepped F laws declared agrees v layout reach op items has few reply new made) c.args.cells.now.ok.0 in
-    let w = drawn_at new (entry_call v (numbers_of new) (Call op) (Replied reply)) v in let view = c.draw_call.new.pass.view in
-    let knows : view ≡ w = c.draw_call.ensures.knows ∙ ap (λ (xs : List (Content _)). drawn_at xs (entry_call v (numbers_of xs) (Call op) (Replied reply)) v) back in
+    let view = c.draw_call.new.pass.view in
+    let w = took steps.Draw (lock_word (first_cell (numbers_of new))) 0 (drawn_at new (entry_call v (numbers_of new) (Call op) (Replied reply)) v) in
+    let knows : view ≡ w =
+    c.draw_call.ensures.drawn.knows
+    ∙ ap (λ (xs : List (Content _)). took steps.Draw (lock_word (first_cell (numbers_of xs))) 0 (drawn_at xs (entry_call v (numbers_of xs) (Call op) (Replied reply)) v)) back in
     let told : AreTold w.notes new c.draw_call.new.cells.items =
     subst (λ (z : PassView _ × List (Content _)). AreTold z.0.notes z.1 c.draw_call.new.cells.items) (λ j. (knows j, back j)) c.draw_call.ensures.told in
     subst (λ x. MayGiveBack F declared c.draw_call.new.pass.seat x c.draw_call.new.cells.items) (sym knows)
-    (may_give_drawn F laws declared agrees v layout reach op items has few reply new made c.draw_call.new.pass.seat c.draw_call.new.cells.items told)
+    (may_give_drawn F laws declared agrees v layout reach op items has few reply new made c.draw_call.new.pass.seat w.log c.draw_call.new.cells.items told)
 
 pub returns-clause-makes : goal.returns-clause-makes
 returns-clause-makes c =
@@ -92,6 +99,9 @@ returns-clause-makes c =
     let cells = take c.args.cells.now.len (new ++ drop (length new) items) in
     let back : cells ≡ new =
     written_back new items c.args.cells.now.len (long_stepped F laws declared agrees v layout reach op items has few reply new made) c.args.cells.now.ok.0 in
-    let w = drawn_at new (entry_call v (numbers_of new) (Call op) (Replied reply)) v in let view = c.draw_call.new.pass.view in
-    let knows : view ≡ w = c.draw_call.ensures.knows ∙ ap (λ (xs : List (Content _)). drawn_at xs (entry_call v (numbers_of xs) (Call op) (Replied reply)) v) back in
-    has_made F laws declared agrees v layout reach op items has few reply new made view knows
+    let view = c.draw_call.new.pass.view in
+    let w = took steps.Draw (lock_word (first_cell (numbers_of new))) 0 (drawn_at new (entry_call v (numbers_of new) (Call op) (Replied reply)) v) in
+    let knows : view ≡ w =
+    c.draw_call.ensures.drawn.knows
+    ∙ ap (λ (xs : List (Content _)). took steps.Draw (lock_word (first_cell (numbers_of xs))) 0 (drawn_at xs (entry_call v (numbers_of xs) (Call op) (Replied reply)) v)) back in
+    has_made F laws declared agrees v layout reach op items has few reply new made (lock_word (first_cell (numbers_of new))) view knows

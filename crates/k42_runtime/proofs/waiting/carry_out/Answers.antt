@@ -1,12 +1,13 @@
-use Rattle.std.proofs.Common.{refl, subst}
-use Rattle.k42_runtime.specs.Swaps.{HasStepped}
-use Rattle.k42_runtime.specs.declared.swaps.Step.TheVariants.{Ended, Memory}
-use Rattle.k42_runtime.proofs.SwapSteps.{not_held, stepped_before}
-use Rattle.k42_runtime.proofs.SwapWaits.{not_stepped, stepped_again}
+use Rattle.std.proofs.Common.{Ok, Err, length, sym, ap, subst}
+use Rattle.k42_runtime.specs.Swaps.{IsAtStage, HasStepped, is_over}
+use Rattle.k42_runtime.proofs.SwapWaits.{not_stepped, stepped_again, ended_since}
 use Rattle.k42_runtime.proofs.waiting.carry_out.Goals as goal
 
 pub loop-init : goal.loop-init
-loop-init g c = not_stepped c.args.system.now c.args.swap.now c.args.pass.now c.requires.ours c.requires.stage c.requires.going
+loop-init g c =
+    not_stepped c.args.system.now c.args.swap.now c.args.pass.now c.requires.ours
+    (subst (λ stage. IsAtStage stage (length c.args.system.now.plan.objects) c.args.swap.now c.args.pass.now) (sym c.requires.new) c.requires.stage)
+    (ap is_over c.requires.new)
 
 pub loop-preserved : goal.loop-preserved
 loop-preserved g c =
@@ -15,12 +16,10 @@ loop-preserved g c =
 
 pub returns-in-Ended : goal.returns-in-Ended
 returns-in-Ended g c =
-    stepped_before c.args.system.now c.args.swap.now c.loop.swap c.step.new.self c.args.pass.now c.loop.pass c.step.new.pass c.loop.invariant.goes (Ended c.in-Ended.end)
-    (λ cause is. absurd (not_held (Ended c.in-Ended.end) cause refl is))
+    ended_since c.args.system.now c.args.swap.now c.loop.swap c.step.new.self c.args.pass.now c.loop.pass c.step.new.pass c.requires.new c.loop.invariant (Ok c.in-Ended.end)
     (subst (λ answer. HasStepped c.args.system.now answer c.loop.swap c.step.new.self c.loop.pass c.step.new.pass) c.in-Ended.is c.step.ensures)
 
 pub returns-in-Memory : goal.returns-in-Memory
 returns-in-Memory g c =
-    stepped_before c.args.system.now c.args.swap.now c.loop.swap c.step.new.self c.args.pass.now c.loop.pass c.step.new.pass c.loop.invariant.goes Memory
-    (λ cause is. absurd (not_held Memory cause refl is))
+    ended_since c.args.system.now c.args.swap.now c.loop.swap c.step.new.self c.args.pass.now c.loop.pass c.step.new.pass c.requires.new c.loop.invariant (Err _)
     (subst (λ answer. HasStepped c.args.system.now answer c.loop.swap c.step.new.self c.loop.pass c.step.new.pass) c.in-Memory.is c.step.ensures)

@@ -1,4 +1,4 @@
-use Rattle.std.proofs.Common.{◌≡◌, suc, refl, arith}
+use Rattle.std.proofs.Common.{suc, refl, arith}
 use Rattle.swap_future.specs.Rolling.{seen}
 use Rattle.swap_future.proofs.Rolls.{stays, then}
 use Rattle.swap_future.proofs.rolling.go_round.Goals as goal

@@ -1,4 +1,4 @@
-use Rattle.std.proofs.Common.{◌≡◌, Some, None, sym, subst}
+use Rattle.std.proofs.Common.{Some, None, sym, subst}
 use Rattle.k42_runtime.specs.Swaps.{HasStepped}
 use Rattle.swap_future.specs.Rolling.{RollSeen, seen}
 use Rattle.swap_future.specs.Rounds.{HasTurned}

@@ -1,14 +1,16 @@
-use Rattle.std.proofs.Common.{rules, ◌≡◌, ℕ, refl, sym, ap, ◌∙◌, subst}
+use Rattle.std.proofs.Common.{rules, ◌≡◌, ℕ, ◌+◌, refl, sym, ap, ◌∙◌, subst}
 use Rattle.k42_kinds.specs.declared.entry.Act.TheVariants.{Swap}
 use Rattle.k42_board.specs.Views.{word_begun}
-use Rattle.k42_board.specs.declared.view.PassView.{PassView}
-use Rattle.k42_mediator.specs.Marks.{IsMarkAnswer, IsHeldBy, HasMarked}
-use Rattle.k42_runtime.specs.Swaps.{HasFoundCell, HasStepped, graces_due, IsEndBy}
-use Rattle.k42_runtime.specs.Systems.{SystemSeen, IsPassHere, IsAtRest, layouts_in}
+use Rattle.k42_board.specs.Log.{took}
+use Rattle.k42_board.specs.Words.{lock_word}
+use Rattle.k42_board.specs.declared.view.StepName.TheVariants as names
+use Rattle.k42_mediator.specs.Marks.{HasMarked, cell_marked}
+use Rattle.k42_runtime.specs.Swaps.{HasStepped, graces_due, IsEndBy}
+use Rattle.k42_runtime.specs.Systems.{IsPassHere, IsAtRest}
 use Rattle.k42_runtime.specs.Phases.{end_in}
 use Rattle.k42_runtime.specs.declared.swaps.Stage.TheVariants.{New, Marking, Over}
 use Rattle.k42_runtime.specs.declared.swaps.Step.TheVariants.{Ended}
-use Rattle.k42_runtime.proofs.SwapEnds.{marked, over_ends, marked_last, marked_caller, marked_graces, few}
+use Rattle.k42_runtime.proofs.SwapEnds.{found_held, held_answer, marked, over_ends, marked_last, marked_caller, marked_graces, few}
 use Rattle.k42_runtime.proofs.swaps.Swap.mark.Goals as goal
 
 pub returns-in-Marked : goal.returns-in-Marked
@@ -35,7 +37,7 @@ returns-in-Marked c =
       caller = marked_caller (Swap s.to) old new has;
       graces = few new.view.graces old.view.graces (graces_due s.stage s.holder) (marked_graces (Swap s.to) old new has);
       told = subst (λ (l : ℕ). IsEndBy l (end_in word)) (sym (ap word_begun last)) is.ends;
-      brought = marked s.object s.to old new stage.1.begun stage.1.may.over has;
+      brought = (marked s.object s.to old new stage.1.begun stage.1.may.over has, has.comes.log);
     }))
 
 never : Marking ≡ New → ⊥
@@ -43,10 +45,10 @@ never e = cc
 
 pub returns-in-Held : goal.returns-in-Held
 returns-in-Held c =
-    let old = c.args.pass.now in let new = c.mark.new.pass in
-    let F = layouts_in (record { sys = c.system.inside.sys; plan = c.system.inside.plan }) in
-    let held : IsHeldBy F c.system.inside.sys.layouts c.in-Held.holder old new =
-    subst (λ answer. IsMarkAnswer F c.system.inside.sys.layouts answer (Swap c.self.inside.to) old new) c.in-Held.is c.mark.ensures in
+    let old = c.args.pass.now in let new = c.mark.new.pass in let n : ℕ = cell_marked old.view in let holder : ℕ = c.in-Held.holder in
+    let held = held_answer _ _ c.mark.result holder (Swap c.self.inside.to) old new c.in-Held.is c.mark.ensures in
+    let found = found_held holder old.view new.view held.takes.knows held.takes.finds c.requires.marking.1.may.over in
+    let knows : new.view ≡ took names.Lock (lock_word n) (holder + 1) old.view = found.0 in
     record {
       here = search rules;
       stage = search rules;
@@ -58,16 +60,5 @@ returns-in-Held c =
       caller = search rules;
       graces = search rules;
       told = search rules;
-      brought = (
-        search rules,
-        ap (λ (v : PassView _). v.refused) held.knows,
-        subst (λ (z : SystemSeen). HasFoundCell (layouts_in z) z.sys.layouts old.seat c.in-Held.holder new.view) c.system.view_is
-            (record {
-              before = old.view;
-              over = c.requires.marking.1.may.over;
-              knows = held.knows;
-              another = held.another;
-              step = held.event;
-            }),
-      );
+      brought = (search rules, found.1);
     }

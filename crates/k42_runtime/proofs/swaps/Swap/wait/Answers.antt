@@ -1,14 +1,17 @@
 use Rattle.std.proofs.Common.{◌≡◌, ℕ, ◌+◌, ◌≤◌, length, refl, sym, ap, ◌∙◌, subst, arith}
 use Rattle.phase_core.specs.Stages.{is_out}
 use Rattle.turn_core.specs.Plain as turns
+use Rattle.k42_board.proofs.Gained.{extends_as, extends_on, extends_one}
+use Rattle.k42_board.specs.Log.{Extends}
 use Rattle.k42_board.specs.Seen.{IsPassOf}
 use Rattle.k42_board.specs.declared.view.PassView.{PassView}
+use Rattle.k42_quiesce.proofs.GoingOn.{role_extends}
 use Rattle.k42_quiesce.specs.Gracing.{has_role}
-use Rattle.k42_runtime.specs.Swaps.{SwapSeen, IsAtStage, IsHeldUpBy, HasStepped, is_over, graces_due}
-use Rattle.k42_runtime.specs.Systems.{SystemSeen, layouts_in}
-use Rattle.k42_runtime.specs.Phases.{cause_in}
+use Rattle.k42_runtime.specs.Swaps.{SwapSeen, IsAtStage, HasStepped, is_over, graces_due}
+use Rattle.k42_runtime.specs.Systems.{SystemSeen}
 use Rattle.k42_runtime.specs.declared.swaps.Stage.TheVariants.{New, Waiting, Shut}
 use Rattle.k42_runtime.specs.declared.swaps.Step.TheVariants.{Again}
+use Rattle.k42_runtime.proofs.RowsReclaimed.{reclaims_alone}
 use Rattle.k42_runtime.proofs.SwapGraces.{held_up, has_role_now}
 use Rattle.k42_runtime.proofs.SwapSteps.{same_caller, stepped_before}
 use Rattle.k42_runtime.proofs.swaps.Swap.wait.Goals as goal
@@ -24,10 +27,11 @@ returns-in-Again c =
     let is : s ≡ c.args.self.now = c.self.view_is in
     let first : s.stage ≡ Waiting = ap (λ (x : SwapSeen). x.stage) is ∙ c.requires.stage in
     let waits = subst (λ s. IsAtStage Waiting objects s old) (sym is) c.requires.waiting in
-    let same = c.step.ensures.same in let F = layouts_in (record { sys = c.system.inside.sys; plan = c.system.inside.plan }) in
+    let same = c.step.ensures.same in
     let up =
-    held_up objects s t old new same first refl refl waits.0 waits.1 waits.2 F c.system.inside.sys.layouts c.step.result c.in-Again.held c.in-Again.is
-    c.step.ensures.left c.step.ensures.looked c.step.ensures.stalled c.step.ensures.role_held c.step.ensures.tries c.step.ensures.goes in
+    held_up objects s t old new same first refl refl waits.0 waits.1 waits.2 c.step.result c.in-Again.held c.in-Again.is c.step.ensures.left
+    (λ holder e. let is = c.step.ensures.role_held holder e in (record { knows = is.0.knows; finds = is.0.finds }, is.1, is.2))
+    c.step.ensures.goes in
     subst (λ s. HasStepped c.args.system.now (Again c.cause_of.result) s t old new) is
     (subst (λ cause. HasStepped c.args.system.now (Again cause) s t old new) (sym c.cause_of.ensures)
     (record {
@@ -46,11 +50,7 @@ returns-in-Again c =
       caller = up.caller;
       graces = up.graces;
       told = up.told;
-      brought = (
-        ap (λ (x : turns.Caller). x.mine) up.taker,
-        up.newly,
-        subst (λ (z : SystemSeen). IsHeldUpBy (layouts_in z) z.sys.layouts old.seat (cause_in c.in-Again.held) new.view) c.system.view_is up.found,
-      );
+      brought = (ap (λ (x : turns.Caller). x.mine) up.taker, up.found);
     }))
 
 pub returns-in-Quiet : goal.returns-in-Quiet
@@ -62,7 +62,12 @@ returns-in-Quiet c =
     let first : s.stage ≡ Waiting = ap (λ (x : SwapSeen). x.stage) is ∙ c.requires.stage in
     let waits = subst (λ s. IsAtStage Waiting objects s old) (sym is) c.requires.waiting in
     let has = has_role_now s.object s.holder old.view c.step.new.pass.view waits.2 (c.step.ensures.goes (ap has_role c.in-Quiet.is)).0 in
-    let reclaimed = c.reclaim.ensures.knows in let blocked = c.block.ensures.knows in
+    let reclaimed = c.reclaim.ensures.knows in let blocked = c.block.ensures.takes.knows in
+    let goes = (c.step.ensures.goes (ap has_role c.in-Quiet.is)).0 in
+    let log : Extends old.view.log mid.view.log =
+    extends_on (role_extends s.holder old.view)
+    (extends_on goes.log (extends_on (reclaims_alone c.reclaim.ensures.freed)
+    (extends_as (ap (λ (v : PassView _). v.log) blocked) (extends_one _ c.reclaim.new.pass.view.log refl)))) in
     subst (λ s. HasStepped c.args.system.now c.shut.result s c.shut.new.self old c.shut.new.pass) is
     (stepped_before c.args.system.now s m c.shut.new.self old mid c.shut.new.pass
     (record {
@@ -78,14 +83,11 @@ returns-in-Quiet c =
       drawn =
           ap (λ (v : PassView _). v.taker.mine) blocked ∙ ap (λ (v : PassView _). v.taker.mine) reclaimed
           ∙ ap (λ (x : turns.Caller). x.mine) has.taker;
+      log = log;
       graces =
           let n = ap (λ (v : PassView _). v.graces) blocked ∙ ap (λ (v : PassView _). v.graces) reclaimed ∙ has.graces in
           subst (λ stage. mid.view.graces + 0 ≤ old.view.graces + graces_due stage s.holder) (sym first) (omega (arith, n));
       waits = λ e. absurd (cc);
     })
     c.shut.result
-    (λ cause e. record {
-      refused = ap (λ (v : PassView _). v.refused) blocked ∙ ap (λ (v : PassView _). v.refused) reclaimed ∙ has.refused;
-      stalls = ap (λ (v : PassView _). v.stalls) blocked ∙ ap (λ (v : PassView _). v.stalls) reclaimed ∙ c.step.ensures.free c.in-Quiet.is;
-    })
     c.shut.ensures)

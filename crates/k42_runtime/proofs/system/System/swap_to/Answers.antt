@@ -1,18 +1,15 @@
 use Rattle.std.proofs.Common.{subst}
-use Rattle.k42_runtime.specs.Phases.{last_step}
-use Rattle.k42_runtime.specs.Swaps.{SwapSeen, HasStepped}
-use Rattle.k42_runtime.proofs.SwapRows.{has_collected, has_handed, handed_here, ended_now, ended_still}
-use Rattle.k42_runtime.proofs.SwapWaits.{new_swap}
+use Rattle.k42_runtime.specs.Swaps.{HasEnded}
+use Rattle.k42_runtime.proofs.SwapRows.{has_collected, has_handed, handed_here, ended_still}
 use Rattle.k42_runtime.proofs.system.System.swap_to.Goals as goal
 
 pub returns : goal.returns
 returns g c =
     let system = c.args.self.now in let old = c.args.pass.now in let first = c.collect.new.pass in let last = c.carry_out-end.new.pass in let new = c.hand_over.new.pass in
-    let result = c.carry_out-end.result in let t = c.carry_out-end.new.swap in
-    let swap : SwapSeen = new_swap c.args.object c.args.to in
-    let stepped : HasStepped system (last_step result) swap t first last =
-    subst (λ s. HasStepped system (last_step result) s t first last) c.new-swap.ensures c.carry_out-end.ensures in
+    let result = c.carry_out-end.result in
+    let ended : HasEnded system c.args.object c.args.to result first last =
+    subst (λ s. HasEnded system s.object s.to result first last) c.new-swap.ensures c.carry_out-end.ensures in
     ended_still system c.args.object c.args.to result old first last new
     (has_collected c.collect.ensures.collected.0 old first c.collect.ensures.collected.2) (has_handed last new c.hand_over.ensures.handed)
-    (handed_here system last new c.hand_over.ensures.handed c.carry_out-end.ensures.here)
-    (ended_now system c.args.object c.args.to t first last result stepped)
+    (handed_here system last new c.hand_over.ensures.handed ended.here)
+    ended

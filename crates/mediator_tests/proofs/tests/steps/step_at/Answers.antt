@@ -1,17 +1,26 @@
-use Rattle.std.proofs.Common.{◌≡◌, ◌<◌, ℕ, ◌+◌, ◌*◌, ◌%◌, ◌++◌, List, [], ◌∷◌, Some, length, arith, refl, sym, ap, ◌∙◌, subst}
+use Rattle.std.proofs.Common.{◌≡◌, ◌<◌, ℕ, ◌+◌, ◌*◌, ◌%◌, ◌++◌, List, [], ◌∷◌, Some, length, arith, rules, refl, sym, ap, ◌∙◌, subst}
+use Rattle.std.specs.Prelude.{is_some}
 use Rattle.std.specs.Option.{unwrap_or}
 use Rattle.std.proofs.lemmas.Bool.Decides.{nat_tests}
+use Rattle.gen_core.specs.Plain.{Caller}
+use Rattle.phase_core.specs.Plain.{Visitor}
 use Rattle.k42_kinds.specs.LayoutLaws.{IsReached}
 use Rattle.k42_kinds.specs.declared.entry.Reach.TheVariants.{One}
 use Rattle.k42_kinds.specs.declared.entry.Act.TheVariants.{Call}
 use Rattle.k42_kinds.specs.declared.entry.Answer.TheVariants.{Replied}
+use Rattle.k42_joined.specs.Drawing.{first_cell}
 use Rattle.k42_board.specs.Plan.{layouts_on}
 use Rattle.k42_board.specs.Generations.{MOST}
 use Rattle.k42_board.specs.Drawing.{MayDrawCall, drawn_at, entry_call, numbers_of}
-use Rattle.k42_board.specs.Taking.{MayPut, CELLS, taken_view}
+use Rattle.k42_board.specs.Log.{step_at, took}
+use Rattle.k42_board.specs.Phases.{is_served}
+use Rattle.k42_board.specs.Taking.{MayPut, CELLS}
 use Rattle.k42_board.specs.declared.cell.Content.{Content}
+use Rattle.k42_board.specs.Words.{lock_word}
 use Rattle.k42_board.specs.declared.view.PassView.{PassView}
-use Rattle.mediator_tests.proofs.OneCell.{at_one, mine_stays, reached, within, may_draw, may_put_drawn, told_last}
+use Rattle.k42_board.specs.declared.view.StepName.TheVariants as steps
+use Rattle.mediator_tests.proofs.GivenBack.{free_left, left_again}
+use Rattle.mediator_tests.proofs.OneCell.{log_taken, log_locked, taken_from, at_one, mine_stays, reached, within, may_draw, may_put_drawn, told_last}
 use Rattle.mediator_tests.proofs.tests.steps.step_at.Goals as goal
 
 pub step_part-requires-clause-reached : goal.step_part-requires-clause-reached
@@ -21,14 +30,16 @@ step_part-requires-clause-reached g c κs inside_lifetimes =
     let laws = c.layouts_are_lawful.ensures in
     let met = g.met.L.Layout g.world.𝓛 g.world.𝓜 g.world.𝓡 ((λ s x. x), (λ x. x), (λ x. x), λ x. x) in
     let layout = c.args.layout.now in let op = c.args.op.now in let inside = c.args.inside.now in let p : ℕ = c.in-One.place in let content = c.take-cell.result in
-    let e = c.take-cell.ensures.knows ∙ ap (taken_view content) c.lock.ensures.knows in
+    let n : ℕ = (inside.object * 2 + inside.incarnation % 2) * 8 + p in
+    let e = taken_from n c.lock.result content v c.lock.new.pass.view w c.lock.ensures.takes.knows c.take-cell.ensures.moved.back.knows in
     let reach =
     subst (λ (z : ℕ × ℕ). (g.L.Layout.ways layout).reach z.0 op z.1 ≡ One p) (λ k. (c.procs.ensures.is k, c.processor.ensures.is k)) (sym c.reach.ensures ∙ c.in-One.is) in
     let is =
-    at_one F laws c.args.sys.now.layouts met.agrees v w ((inside.object * 2 + inside.incarnation % 2) * 8 + p) c.lock.result content inside layout op p c.requires.serving
+    at_one F laws c.args.sys.now.layouts met.agrees v w (log_locked n c.lock.result v.log) n c.lock.result content inside layout op p c.requires.serving
     c.requires.inside.0 c.requires.layout.0 c.requires.layout.1 c.requires.layout.2 c.requires.busy.free.ours.proc c.requires.takes reach e in
     subst (λ (k : ℕ). IsReached (g.L.Layout.ways layout) (g.L.Layout.whole layout) (unwrap_or content.part ((g.L.Layout.ways layout).empty k p)) op) (sym c.procs-3.ensures.is)
-    (reached F laws c.args.sys.now.layouts met.agrees content c.lock.new.pass.view w c.take-cell.ensures.knows layout op inside.object inside.incarnation p is c.take-cell.ensures.number c.take-cell.ensures.row)
+    (reached F laws c.args.sys.now.layouts met.agrees content (log_taken n c.lock.new.pass.view.log) c.lock.new.pass.view w c.take-cell.ensures.moved.back.knows
+    layout op inside.object inside.incarnation p is c.take-cell.ensures.number c.take-cell.ensures.row)
 
 pub draw_call-stamp-requires-clause-may : goal.draw_call-stamp-requires-clause-may
 draw_call-stamp-requires-clause-may g c κs inside_lifetimes =
@@ -37,11 +48,12 @@ draw_call-stamp-requires-clause-may g c κs inside_lifetimes =
     let laws = c.layouts_are_lawful.ensures in
     let met = g.met.L.Layout g.world.𝓛 g.world.𝓜 g.world.𝓡 ((λ s x. x), (λ x. x), (λ x. x), λ x. x) in
     let layout = c.args.layout.now in let op = c.args.op.now in let inside = c.args.inside.now in let p : ℕ = c.in-One.place in let content = c.take-cell.result in
-    let e = c.take-cell.ensures.knows ∙ ap (taken_view content) c.lock.ensures.knows in
+    let n : ℕ = (inside.object * 2 + inside.incarnation % 2) * 8 + p in
+    let e = taken_from n c.lock.result content v c.lock.new.pass.view w c.lock.ensures.takes.knows c.take-cell.ensures.moved.back.knows in
     let reach =
     subst (λ (z : ℕ × ℕ). (g.L.Layout.ways layout).reach z.0 op z.1 ≡ One p) (λ k. (c.procs.ensures.is k, c.processor.ensures.is k)) (sym c.reach.ensures ∙ c.in-One.is) in
     let is =
-    at_one F laws c.args.sys.now.layouts met.agrees v w ((inside.object * 2 + inside.incarnation % 2) * 8 + p) c.lock.result content inside layout op p c.requires.serving
+    at_one F laws c.args.sys.now.layouts met.agrees v w (log_locked n c.lock.result v.log) n c.lock.result content inside layout op p c.requires.serving
     c.requires.inside.0 c.requires.layout.0 c.requires.layout.1 c.requires.layout.2 c.requires.busy.free.ours.proc c.requires.takes reach e in
     let due = unwrap_or content.part ((g.L.Layout.ways layout).empty procs p) in
     let after = (g.L.Layout.ways layout).part_after due op in
@@ -57,7 +69,8 @@ draw_call-stamp-requires-clause-may g c κs inside_lifetimes =
     let read = ap length c.entries.ensures.are in
     let few : length w.taker.mine < MOST = grind (arith, nat_tests, c.if-entries-ge1048576.false, mine, read) in
     subst (λ (z : List (Content _) × PassView _). MayDrawCall F c.args.sys.now.layouts z.0 op c.in_ok-reply.reply z.1) (λ k. (sym items k, sym same k))
-    (may_draw F laws c.args.sys.now.layouts met.agrees content c.lock.new.pass.view w c.take-cell.ensures.knows layout op inside.object inside.incarnation p is c.take-cell.ensures.number
+    (may_draw F laws c.args.sys.now.layouts met.agrees content (log_taken n c.lock.new.pass.view.log) c.lock.new.pass.view w c.take-cell.ensures.moved.back.knows
+    layout op inside.object inside.incarnation p is c.take-cell.ensures.number
     after c.in_ok-reply.reply replied refl few)
 
 pub put-requires-clause-may : goal.put-requires-clause-may
@@ -67,11 +80,12 @@ put-requires-clause-may g c κs inside_lifetimes =
     let laws = c.layouts_are_lawful.ensures in
     let met = g.met.L.Layout g.world.𝓛 g.world.𝓜 g.world.𝓡 ((λ s x. x), (λ x. x), (λ x. x), λ x. x) in
     let layout = c.args.layout.now in let op = c.args.op.now in let inside = c.args.inside.now in let p : ℕ = c.in-One.place in let content = c.take-cell.result in
-    let e = c.take-cell.ensures.knows ∙ ap (taken_view content) c.lock.ensures.knows in
+    let n : ℕ = (inside.object * 2 + inside.incarnation % 2) * 8 + p in
+    let e = taken_from n c.lock.result content v c.lock.new.pass.view w c.lock.ensures.takes.knows c.take-cell.ensures.moved.back.knows in
     let reach =
     subst (λ (z : ℕ × ℕ). (g.L.Layout.ways layout).reach z.0 op z.1 ≡ One p) (λ k. (c.procs.ensures.is k, c.processor.ensures.is k)) (sym c.reach.ensures ∙ c.in-One.is) in
     let is =
-    at_one F laws c.args.sys.now.layouts met.agrees v w ((inside.object * 2 + inside.incarnation % 2) * 8 + p) c.lock.result content inside layout op p c.requires.serving
+    at_one F laws c.args.sys.now.layouts met.agrees v w (log_locked n c.lock.result v.log) n c.lock.result content inside layout op p c.requires.serving
     c.requires.inside.0 c.requires.layout.0 c.requires.layout.1 c.requires.layout.2 c.requires.busy.free.ours.proc c.requires.takes reach e in
     let due = unwrap_or content.part ((g.L.Layout.ways layout).empty procs p) in
     let after = (g.L.Layout.ways layout).part_after due op in
@@ -81,14 +95,51 @@ put-requires-clause-may g c κs inside_lifetimes =
     c.in_ok-reply.ensures.moved in
     let items : c.push.new.self.items ≡ record content { part = Some after } ∷ [] = c.in_ok-push.ensures.items ∙ (λ k. c.new-cells.ensures.items k ++ moved k ∷ []) in
     let same : c.reserve.new.self.view ≡ w = c.in_ok-reserve.ensures.same.view in
-    let there = within F laws c.args.sys.now.layouts met.agrees content c.lock.new.pass.view w c.take-cell.ensures.knows layout op inside.object inside.incarnation p is c.take-cell.ensures.number in
+    let there = within F laws c.args.sys.now.layouts met.agrees content (log_taken n c.lock.new.pass.view.log) c.lock.new.pass.view w c.take-cell.ensures.moved.back.knows
+    layout op inside.object inside.incarnation p is c.take-cell.ensures.number in
     let number = c.take-cell.ensures.number in let object = c.requires.inside.1 in let most = c.procs.ensures.few in let count = c.procs.ensures.is in
     let few : content.number < CELLS = omega (arith, number, object, most, count, there) in
-    let known = c.draw_call-stamp.ensures.knows ∙ (λ k. drawn_at (items k) (entry_call c.reserve.new.self.view (numbers_of c.push.new.self.items) (Call op) (Replied c.in_ok-reply.reply)) (same k)) in
+    let word = lock_word (first_cell (numbers_of c.push.new.self.items)) in
+    let entry = entry_call c.reserve.new.self.view (numbers_of c.push.new.self.items) (Call op) (Replied c.in_ok-reply.reply) in
+    let known = c.draw_call-stamp.ensures.drawn.knows ∙ (λ k. took steps.Draw word 0 (drawn_at (items k) entry (same k))) in
     let u = c.draw_call-stamp.new.pass in
     subst (λ (n : ℕ). MayPut F c.args.sys.now.layouts u.seat n c.in-Some.cell u.view) number
-    (may_put_drawn F laws c.args.sys.now.layouts u.seat content after _ c.lock.new.pass.view u.view
-    (known ∙ ap (λ (x : PassView _). drawn_at (record content { part = Some after } ∷ []) (entry_call c.reserve.new.self.view (numbers_of c.push.new.self.items) (Call op) (Replied c.in_ok-reply.reply)) x) c.take-cell.ensures.knows)
+    (may_put_drawn F laws c.args.sys.now.layouts u.seat content after _ (step_at steps.Draw word 0 ∷ log_taken n c.lock.new.pass.view.log) c.lock.new.pass.view u.view
+    (known ∙ ap (λ (x : PassView _). took steps.Draw word 0 (drawn_at (record content { part = Some after } ∷ []) entry x)) c.take-cell.ensures.moved.back.knows)
     c.in-Some.cell few
     (told_last u.view.notes (record content { part = Some after }) c.push.new.self.items c.draw_call-stamp.new.cells.items c.pop.new.self.items c.in-Some.cell items c.draw_call-stamp.ensures.told
     c.in-Some.ensures.items))
+
+pub returns-clause-busy : goal.returns-clause-busy
+returns-clause-busy g c =
+    let n : ℕ = (c.args.inside.now.object * 2 + c.args.inside.now.incarnation % 2) * 8 + c.in-One.place in
+    let free : c.lock.result ≡ 0 = search rules in
+    let left =
+    left_again n c.lock.result _ _ c.take-cell.result c.take-cell.ensures.number free c.push.new.self.items
+    (entry_call c.reserve.new.self.view (numbers_of c.push.new.self.items) (Call c.args.op.now) (Replied c.in_ok-reply.reply)) c.args.pass.now.view c.lock.new.pass.view c.take-cell.new.pass.view
+    c.reserve.new.self.view c.draw_call-stamp.new.pass.view c.put.new.pass.view c.unlock.new.pass.view c.lock.ensures.takes.knows c.take-cell.ensures.moved.back.knows
+    c.in_ok-reserve.ensures.same.view c.draw_call-stamp.ensures.drawn.knows c.put.ensures.back.knows (c.unlock.ensures 0).takes.knows c.requires.busy.free.held c.requires.busy.free.notes in
+    let table =
+    (c.unlock.ensures 0).same.table ∙ c.put.ensures.same.table ∙ c.draw_call-stamp.ensures.drawn.drawer.table ∙ c.in_ok-reserve.ensures.same.table ∙ c.take-cell.ensures.moved.same.table
+    ∙ c.lock.ensures.same.table in
+    let queue =
+    (c.unlock.ensures 0).same.queue ∙ c.put.ensures.same.queue ∙ c.draw_call-stamp.ensures.drawn.drawer.queue ∙ c.in_ok-reserve.ensures.same.queue ∙ c.take-cell.ensures.moved.same.queue
+    ∙ c.lock.ensures.same.queue in
+    record {
+      free = free_left c.args.sys.now c.args.pass.now c.unlock.new.pass c.requires.busy.free.ours table queue left;
+      active = ap (λ (turn : Caller). is_some turn.active) left.turn ∙ c.requires.busy.active;
+    }
+
+pub returns-clause-serving : goal.returns-clause-serving
+returns-clause-serving g c =
+    let n : ℕ = (c.args.inside.now.object * 2 + c.args.inside.now.incarnation % 2) * 8 + c.in-One.place in
+    let free : c.lock.result ≡ 0 = search rules in
+    let left =
+    left_again n c.lock.result _ _ c.take-cell.result c.take-cell.ensures.number free c.push.new.self.items
+    (entry_call c.reserve.new.self.view (numbers_of c.push.new.self.items) (Call c.args.op.now) (Replied c.in_ok-reply.reply)) c.args.pass.now.view c.lock.new.pass.view c.take-cell.new.pass.view
+    c.reserve.new.self.view c.draw_call-stamp.new.pass.view c.put.new.pass.view c.unlock.new.pass.view c.lock.ensures.takes.knows c.take-cell.ensures.moved.back.knows
+    c.in_ok-reserve.ensures.same.view c.draw_call-stamp.ensures.drawn.knows c.put.ensures.back.knows (c.unlock.ensures 0).takes.knows c.requires.busy.free.held c.requires.busy.free.notes in
+    record {
+      served = ap (λ (visitor : Visitor). is_served visitor.place) left.visitor ∙ c.requires.serving.served;
+      layout = ap is_some left.layout ∙ c.requires.serving.layout;
+    }

@@ -1,9 +1,8 @@
-use Rattle.std.proofs.Common.{◌≡◌, IsSomeAnd, Option, Ok, Err, sym, subst, ◌∙◌}
-use Rattle.k42_memory.specs.declared.Memory.{Memory}
+use Rattle.std.proofs.Common.{IsSomeAnd, Option, sym, subst, ◌∙◌}
 use Rattle.k42_runtime.specs.Swaps.{HasStepped}
 use Rattle.k42_runtime.specs.Systems.{SystemPass}
 use Rattle.swap_future.specs.Polling.{IsGoing, Ends}
-use Rattle.swap_future.proofs.Polled.{ends_by, ends_later}
+use Rattle.swap_future.proofs.Polled.{ends_later}
 use Rattle.swap_future.proofs.polling.SwapFutureFuture.poll.Goals as goal
 
 pub returns-in-Again-clause-same : goal.returns-in-Again-clause-same

@@ -1,4 +1,4 @@
-use Rattle.std.proofs.Common.{◌≡◌, IsSomeAnd, Option, sym, subst, ◌∙◌}
+use Rattle.std.proofs.Common.{IsSomeAnd, Option, sym, subst, ◌∙◌}
 use Rattle.swap_future.specs.Rolling.{HasRolled, seen}
 use Rattle.swap_future.specs.Rounds.{HasFinished}
 use Rattle.swap_future.specs.declared.rolling.Rolling.{Rolling}

@@ -1,0 +1,29 @@
+-- What is so of a pass that holds no cell is so of one that is like it.
+use Rattle.std.proofs.Common.{◌≡◌, ◌<◌, length, sym, ◌∙◌, subst}
+use Rattle.k42_board.specs.Seen.{SysSeen, PassSeen}
+use Rattle.k42_board.specs.declared.view.PassView.{PassView}
+use Rattle.table_crews.specs.Ready.{HoldsNoCell}
+
+-- what is the same of two views of a pass that holds no cell
+pub record IsAlike {P : Type 0} (v w : PassView P) : Type 0 where
+  pub proc : w.turn.proc ≡ v.turn.proc
+  pub waits : length w.turn.waits ≡ length v.turn.waits
+  pub noted : length w.visitor.noted ≡ length v.visitor.noted
+  pub freeing : length w.visitor.freeing ≡ length v.visitor.freeing
+  pub held : w.taker.held ≡ v.taker.held
+  pub notes : w.notes ≡ v.notes
+
+pub free_alike : {L P : Type 0} (sys : SysSeen L) (old new : PassSeen P) → HoldsNoCell sys old → new.table ≡ old.table → new.queue ≡ old.queue → IsAlike old.view new.view
+    → HoldsNoCell sys new
+free_alike sys old new is table queue alike = record {
+  ours = record {
+    table = table ∙ is.ours.table;
+    proc = subst (λ p. p < sys.procs) (sym alike.proc) is.ours.proc;
+    waits = alike.waits ∙ is.ours.waits;
+    objects = alike.noted ∙ is.ours.objects;
+    spans = alike.freeing ∙ is.ours.spans;
+    queue = queue ∙ is.ours.queue;
+  };
+  held = alike.held ∙ is.held;
+  notes = alike.notes ∙ is.notes;
+}

@@ -1,0 +1,7 @@
+mod Fitting
+mod Reading
+mod Views
+mod Renamed
+mod Seated
+mod Crews
+mod Asked
