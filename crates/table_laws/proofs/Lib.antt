@@ -5,3 +5,8 @@ mod Renamed
 mod Seated
 mod Crews
 mod Asked
+mod NewPasses
+mod NewCells
+mod NewState
+mod NewTable
+mod FirstPasses

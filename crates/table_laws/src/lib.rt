@@ -3,6 +3,7 @@
 
 mod hand_overs;
 mod numbers;
+mod opening;
 mod seats;
 
 pub use hand_overs::{
@@ -10,4 +11,8 @@ pub use hand_overs::{
     taking_in_leaves_the_state,
 };
 pub use numbers::{numbers_are_read, numbers_fit};
+pub use opening::{
+    a_blank_table_shows_just_the_new_state, a_new_table_shows_the_new_state,
+    an_opened_table_has_new_passes,
+};
 pub use seats::{dealing_leaves_the_state, gathering_leaves_the_state, telling_leaves_the_state};

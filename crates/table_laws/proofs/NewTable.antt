@@ -1,0 +1,77 @@
+-- A table whose passes are new and whose entries are blank shows just the new state.
+use Rattle.std.proofs.Common.{◌≡◌, ℕ, ◌<◌, ◌∙◌, List, Some, length, replicate, get_or, sym, ap, ⊎_elim, arith}
+use Rattle.std.specs.List.{slice_get}
+use Rattle.std.proofs.lemmas.List.{ext_get_or, length-replicate}
+use Rattle.std.proofs.Math.ListN.{get_or-replicate}
+use Rattle.std.proofs.lemmas.Option.{slice_get-get_or}
+use Rattle.atomic_table.specs.Table.{State}
+use Rattle.k42_limits.specs.declared.TheConstants.{PROCESSORS}
+use Rattle.phase_core.specs.Effects.{direct_entry}
+use Rattle.phase_core.specs.State.{fresh_object, new_object, empty_entry}
+use Rattle.phase_core.specs.declared.object.LocalEntry.{LocalEntry}
+use Rattle.turn_core.specs.State.{fresh_cell}
+use Rattle.k42_stamp.specs.Layouts.{Layouts}
+use Rattle.k42_joined.specs.Fresh.{fresh}
+use Rattle.k42_joined.specs.Numbers.{place_of}
+use Rattle.k42_joined.specs.Plain.{Joined}
+use Rattle.k42_joined.specs.State.{many_objects, object}
+use Rattle.k42_board.specs.Cells.{Slot}
+use Rattle.k42_board.specs.Rule.{Ruled}
+use Rattle.k42_board.specs.Values.{local_value}
+use Rattle.k42_board.specs.declared.view.View.{View}
+use Rattle.table_laws.specs.Opening.{AreNewPasses, AreBlank, IsAsMade, IsNew}
+use Rattle.table_laws.proofs.NewState.{new_state, as_new, made_is}
+
+-- an entry that leads to a row has a word above 0
+blank_entry : (e : LocalEntry) (layout p i : ℕ) → local_value e ≡ 0 → (e ≡ direct_entry layout p i) → e ≡ empty_entry i
+blank_entry e layout p i value is =
+    let tag : e.tag ≡ 1 = ap (λ (d : LocalEntry). d.tag) is in absurd (omega (arith, value, tag))
+
+module _ {S L P : Type 0} (F : Layouts S L P) (declared : List L) (callers : List ℕ) (table : State (Slot P) (View P))
+    (r : Ruled F declared (length callers) table) (new : AreNewPasses F.procs (length declared) callers table.views)
+    (blank : AreBlank F.procs (length declared) table.words) (all : F.procs ≡ PROCESSORS) where
+  abbrev s : Joined L
+  s = r.rule.state
+
+  abbrev n : Joined L
+  n = fresh F declared callers
+
+  like : IsNew F declared callers s
+  like = new_state F declared callers table r new
+
+  module _ (o : ℕ) (there : o < many_objects s) where
+    made_of : (layout : ℕ) → IsAsMade (new_object F.procs layout) (object s o) → object s o ≡ new_object F.procs layout
+    made_of layout as_made = as_made.is ∙ (λ j. record (new_object F.procs layout) { entries = entries_are j }) where
+      none_leads : (p : ℕ) → p < length (object s o).entries → get_or (object s o).entries p (empty_entry 0) ≡ empty_entry 0
+      none_leads p lt =
+          let e : LocalEntry = get_or (object s o).entries p (empty_entry 0) in
+          let at : slice_get (object s o).entries p ≡ Some e = slice_get-get_or (object s o).entries p (empty_entry 0) lt in
+          let near : p < F.procs = rw (as_made.many ∙ length-replicate F.procs (empty_entry 0)) at lt in
+          let shown = (r.rule.shows.objects o (object s o) (slice_get-get_or s.phases.objects o fresh_object there)).entries p e at in
+          let value : local_value e ≡ 0 = sym shown ∙ blank o p (rw (← r.rule.sound.cells.rows.objects) at there) near in
+          ⊎_elim (λ empty. empty) (λ leads. blank_entry e layout p 0 value leads) (as_made.entries p e at)
+
+      entries_are : (object s o).entries ≡ replicate F.procs (empty_entry 0)
+      entries_are =
+          ext_get_or (empty_entry 0) (object s o).entries (replicate F.procs (empty_entry 0)) as_made.many
+          (λ p lt. none_leads p lt ∙ sym (get_or-replicate F.procs p (empty_entry 0) (empty_entry 0) (rw (as_made.many ∙ length-replicate F.procs (empty_entry 0)) at lt)))
+
+    object_is : object s o ≡ object n o
+    object_is = made_of _ (as_new F declared callers table r new o there) ∙ sym (made_is F declared callers table r new o there)
+
+  objects_are : s.phases.objects ≡ n.phases.objects
+  objects_are = ext_get_or fresh_object s.phases.objects n.phases.objects like.many object_is
+
+  near_of : (m : ℕ) → place_of m < F.procs
+  near_of m = let eight : F.procs ≡ 8 = all in omega (arith, eight)
+
+  cells_are : s.turns.cells ≡ n.turns.cells
+  cells_are = ext_get_or (fresh_cell 0) s.turns.cells n.turns.cells like.many_cells (λ m lt. like.cells m (near_of m))
+
+  pub just_new : s ≡ fresh F declared callers
+  just_new = λ j. record {
+    phases = record { turns = like.turns j; objects = objects_are j; callers = like.visitors j };
+    turns = record { cells = cells_are j; callers = like.callers j };
+    hands = like.hands j;
+    kept = like.kept j;
+  }

@@ -1,0 +1,69 @@
+-- Passes that have done nothing, and what a state is like while all passes are such.
+use Rattle.std.specs.Prelude.{◌≡◌, ◌⊎◌, ℕ, ◌<◌, true, List, [], length, Some, None, slice_get, slice_index}
+use mathlib.Core.Option.{some}
+use lib.ListN.{get_elem?}
+use Rattle.k42_places.specs.Places.{EachPlace}
+use Rattle.phase_core.specs.Effects.{direct_entry}
+use Rattle.phase_core.specs.Plain.{Object}
+use Rattle.phase_core.specs.State.{empty_entry}
+use Rattle.turn_core.specs.Plain.{Cell}
+use Rattle.k42_stamp.specs.Layouts.{Layouts}
+use Rattle.k42_joined.specs.Fresh.{fresh}
+use Rattle.k42_joined.specs.Numbers.{place_of}
+use Rattle.k42_joined.specs.Plain.{Joined}
+use Rattle.k42_joined.specs.State.{many_objects, object, cell}
+use Rattle.k42_board.specs.Views.{new_pass}
+use Rattle.k42_board.specs.Words.{local_word}
+use Rattle.k42_board.specs.declared.view.PassView.{PassView}
+use Rattle.k42_board.specs.declared.view.View.{View}
+use Rattle.k42_board.specs.declared.view.View.TheVariants.{Crew}
+
+-- a seat has the pass, alone or among others
+pub record HasSeat {P : Type 0} (views : List (View P)) (v : PassView P) : Type 0 where
+  pub id : ℕ
+  pub passes : List (PassView P)
+  pub there : get_elem? views id ≡ some (Crew passes)
+  pub place : ℕ
+  pub has : slice_get passes place ≡ Some v
+
+-- the pass of each caller, of those on these processors, is new
+abbrev pub AreNewPasses : {P : Type 0} → ℕ → ℕ → List ℕ → List (View P) → Type 0
+AreNewPasses procs objects callers views =
+    EachPlace (λ c home. HasSeat views (new_pass procs objects c home)) callers
+
+-- the word of each local entry is 0
+abbrev pub AreBlank : ℕ → ℕ → List ℕ → Type 0
+AreBlank procs objects words =
+    (o p : ℕ) → o < objects → p < procs → slice_index words (local_word p o) ≡ 0
+
+-- an object is as it was made, but that entries may lead to its row already
+pub record IsAsMade (made k : Object) : Type 0 where
+  pub is : k ≡ record made { entries = k.entries }
+  pub many : length k.entries ≡ length made.entries
+  pub entries :
+      EachPlace (λ p e.
+      (e ≡ empty_entry made.incarnation) ⊎ (e ≡ direct_entry made.layout p made.incarnation))
+      k.entries
+
+-- nobody holds the cell, and no entry was drawn at it
+pub record IsUnused (x : Cell) : Type 0 where
+  pub lock : x.lock ≡ None
+  pub home : x.home ≡ true
+  pub history : x.history ≡ []
+
+-- A state is like another but for entries that lead to a row, and for cells at places past the processors.
+pub record IsLike {L : Type 0} (procs : ℕ) (new s : Joined L) : Type 0 where
+  pub turns : s.phases.turns ≡ new.phases.turns
+  pub visitors : s.phases.callers ≡ new.phases.callers
+  pub many : many_objects s ≡ many_objects new
+  pub objects : (o : ℕ) → o < many_objects s → IsAsMade (object new o) (object s o)
+  pub callers : s.turns.callers ≡ new.turns.callers
+  pub many_cells : length s.turns.cells ≡ length new.turns.cells
+  pub cells : (n : ℕ) → place_of n < procs → cell s n ≡ cell new n
+  pub unused : EachPlace (λ n x. IsUnused x) s.turns.cells
+  pub hands : s.hands ≡ new.hands
+  pub kept : s.kept ≡ new.kept
+
+-- the state is like the one before the first event
+abbrev pub IsNew : {S L P : Type 0} → Layouts S L P → List L → List ℕ → Joined L → Type 0
+IsNew F declared callers s = IsLike F.procs (fresh F declared callers) s
