@@ -10,9 +10,9 @@ pub mod Lawful
 pub mod Rowed
 pub mod MergeLaw
 pub mod Numbering
-pub mod Sorted
 pub mod PartsAfter
 pub mod Unique
 pub mod Examples
 pub mod Listed
 pub mod NextEntries
+pub mod MergesExist

@@ -13,7 +13,7 @@ use Rattle.k42_kinds.specs.declared.entry.Answer.{Answer}
 use Rattle.k42_kinds.specs.declared.entry.Answer.TheVariants.{Replied, Swapped, Busy, Spent, Gone, Abandoned}
 use Rattle.k42_kinds.specs.declared.entry.Entry.{Entry}
 use Rattle.k42_kinds.specs.OneThread.{OneThread}
-use Rattle.k42_kinds.specs.Histories.{is_call, is_carried_out, state_moved, state_in, number_of}
+use Rattle.k42_kinds.specs.Histories.{is_carried_out, state_moved, state_in, number_of}
 use Rattle.k42_kinds.specs.Legal.{IsAnswerSoFar, IsActSoFar, is_ended_in}
 use Rattle.k42_kinds.specs.LayoutLaws.{StepsRow}
 use Rattle.k42_kinds.proofs.LongerHistories.{state_in-push, number_of-push}

@@ -1,4 +1,4 @@
-//! Laws of rows and lists: what a draw and a hand keep, and that the merged history is legal.
+//! Laws of rows and lists: what a draw and a hand keep, that lists merge, and to a legal history.
 ghost use Rattle.std.specs.Prelude.{◌≡◌, ◌<◌, ℕ, suc, Bool, List, length};
 ghost use Rattle.k42_kinds.specs.declared.entry.Act.{Act};
 ghost use Rattle.k42_kinds.specs.declared.entry.Answer.{Answer};
@@ -8,7 +8,7 @@ ghost use Rattle.k42_stamp.specs.Chains.{Chain};
 ghost use Rattle.k42_stamp.specs.Fits.{Fits};
 ghost use Rattle.k42_stamp.specs.Draws.{IsNext, Draws};
 ghost use Rattle.k42_stamp.specs.Hands.{IsHand, handed, begun_at};
-ghost use Rattle.k42_stamp.specs.Lists.{LetsSteps, AllFit, AreThose, IsMerged, AreLegal};
+ghost use Rattle.k42_stamp.specs.Lists.{AreLists, LetsSteps, AllFit, AreThose, IsMerged, AreLegal};
 
 use k42_kinds::Layout;
 
@@ -34,6 +34,12 @@ pub fn hand_begins<L: Layout>(procs: u32)
         IsHand F declared o histories chain layout entry →
         Fits F declared o (begun_at entry (suc (length chain.past)) histories)
         (handed F chain layout entry) }
+{}
+
+/// Callers' lists always merge to one list in order, those too that no code holds.
+pub fn lists_have_a_merge()
+    ensures { (lists : List (List Entry)) → AreLists lists →
+        (merged : List Entry) × IsMerged lists merged }
 {}
 
 /// Lists whose calls and carried-out swaps are just those of rows that fit merge to a history in which
