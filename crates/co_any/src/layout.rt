@@ -112,6 +112,7 @@ impl Layout for AnyLayout {
         Ok(part)
     }
 
+    #[inline(always)]
     fn step_one(&self, alloc: Global, part: &mut AnyPart, op: &Op) -> Result<Reply, Memory> {
         match part {
             AnyPart::Amount(amount) => Ok(step_counter(amount, op)),

@@ -76,6 +76,7 @@ impl Layout for SpreadCounter {
         Ok(0)
     }
 
+    #[inline(always)]
     fn step_one(&self, _alloc: Global, part: &mut u64, op: &Op) -> Result<Reply, Memory> {
         Ok(step_counter(part, op))
     }

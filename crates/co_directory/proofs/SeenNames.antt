@@ -5,6 +5,7 @@ use Rattle.std.specs.declared.cmp.Ordering.TheVariants.{Less, Equal, Greater}
 use Rattle.std.specs.Ordering.{nat_cmp, is_lt, is_eq, eq_by_cmp}
 use Rattle.std.specs.Cmp.Lexicographic.{slice_cmp, pointwise, nat_list_cmp_total, nat_list_eq_equiv, texts_ties}
 use Rattle.std.specs.List.{AllByRecursion, IsDistinct}
+use Rattle.std.specs.Option.{unwrap_or, option_map}
 use Rattle.std.specs.Map.{lookup, keys_of}
 use Rattle.std.specs.BTreeMap.{is_at}
 use Rattle.std.specs.FinMap.{same_map, empty, entries, entries_sorted, from_entries, is_sorted, get, insert, remove, len, get-empty, get-entries, get-from_entries, get-insert, len-empty, len-insert}
@@ -25,6 +26,16 @@ same_name = pointwise nat_eq
 abbrev pub in_order : List ℕ → List ℕ → Ordering
 in_order = slice_cmp nat_cmp
 
+-- what is seen of a map that may not be there
+abbrev seen_of : {X : Type 0} → (X → List Bound) → Option X → Directory
+seen_of entries_of bound = from_entries (unwrap_or (option_map entries_of bound) [])
+
+pub seen_there : {X : Type 0} (entries_of : X → List Bound) {bound : Option X} {here : X} {names : Directory} {entries : List Bound} → bound ≡ Some here → entries ≡ entries_of here → seen_of entries_of bound ≡ names → from_entries entries ≡ names
+seen_there entries_of there found seen = ap from_entries found ∙ ap (seen_of entries_of) (sym there) ∙ seen
+
+pub seen_of_none : {X : Type 0} (entries_of : X → List Bound) {bound : Option X} {names : Directory} → bound ≡ None → seen_of entries_of bound ≡ names → from_entries [] ≡ names
+seen_of_none entries_of none seen = ap (seen_of entries_of) (sym none) ∙ seen
+
 -- two names are the same where neither comes first
 same_test : (name : List ℕ) (bound : List Bound) → lookup (same_name name) bound ≡ lookup (is_at (in_order name)) bound
 same_test name bound = λ i. lookup (λ other. texts_ties name other i) bound
@@ -37,6 +48,14 @@ insert_named bound changed names is name number updated = insert_seen nat_list_c
 
 pub remove_named : (bound changed : List Bound) (names : Directory) → from_entries bound ≡ names → (name : List ℕ) → ((other : List ℕ) → lookup (same_name other) changed ≡ cond (same_name name other) None (lookup (same_name other) bound)) → from_entries changed ≡ remove names name
 remove_named bound changed names is name updated = remove_seen nat_list_cmp_total exact_bytes bound changed names is name (λ other. sym (same_test other changed) ∙ updated other ∙ (λ i. cond (texts_ties name other i) None (same_test other bound i)))
+
+either_way : (same : Bool) (found : Option ℕ) → found ≡ cond same found found
+either_way true found = refl
+either_way false found = refl
+
+-- a map of nothing stays where a name is unbound
+pub remove_from_none : (names : Directory) → from_entries [] ≡ names → (name : List ℕ) → names ≡ remove names name
+remove_from_none names none name = sym none ∙ remove_named [] [] names none name (λ other. either_way (same_name name other) None)
 
 none_named : (name : List ℕ) (bound : List Bound) → AllByRecursion (λ other. same_name name other ≡ false) (keys_of bound) → lookup (same_name name) bound ≡ None
 none_named name [] apart = refl

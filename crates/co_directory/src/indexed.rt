@@ -12,31 +12,33 @@ use std::marker::Model;
 /// What a directory binds, in the order of binding until a name is unbound, seen as a finite map.
 #[derive(Drop)]
 pub struct IndexedNames {
-    bound: IndexMap<Name, u64>,
+    alloc: Global,
+    /// Behind a box, so that a part is small wherever it moves. There is none before the first bind.
+    bound: Option<Box<IndexMap<Name, u64>>>,
 }
 
 impl Model for IndexedNames {
     ghost use Rattle.std.specs.FinMap as map;
+    ghost use Rattle.std.specs.Option.{unwrap_or, option_map};
     ghost use Rattle.std.specs.Ordering.{nat_cmp};
     ghost use Rattle.std.specs.Cmp.Lexicographic.{slice_cmp};
-    ghost use Rattle.std.specs.Prelude.{ℕ};
+    ghost use Rattle.std.specs.Prelude.{ℕ, []};
     ghost use Rattle.std.specs.Coded.{coded_ℕ, coded_list};
 
     ghost Value = { map.FinMap (slice_cmp nat_cmp) ℕ };
 
     ghost coded = { map.code (coded_list coded_ℕ) coded_ℕ };
 
-    ghost view = { λ names. map.from_entries names.bound.entries };
+    ghost view = { λ names.
+        map.from_entries (unwrap_or (option_map (λ bound. bound.value.entries) names.bound) []) };
 }
 
 impl IndexedNames {
-    /// No name is bound.
+    /// No name is bound. It asks for no memory yet.
     pub fn new(alloc: Global) -> Self
         ensures { result ≡ map.empty }
     {
-        IndexedNames {
-            bound: IndexMap::new(alloc),
-        }
+        IndexedNames { alloc, bound: None }
     }
 
     /// The names and numbers of a directory.
@@ -55,7 +57,10 @@ impl IndexedNames {
         ensures { IfOk result (λ state. state ≡ self.now) }
     {
         let mut state = DirectoryState::new(alloc);
-        for (name, number) in self.bound.iter() {
+        let Some(bound) = &self.bound else {
+            return Ok(state);
+        };
+        for (name, number) in bound.iter() {
             state.insert(name, *number)?;
         }
         Ok(state)
@@ -65,14 +70,20 @@ impl IndexedNames {
     pub fn size(&self) -> usize
         ensures { result ≡ map.len self.now }
     {
-        self.bound.len()
+        let Some(bound) = &self.bound else {
+            return 0;
+        };
+        bound.len()
     }
 
     /// The number to which the name is bound.
     pub fn get(&self, name: &Name) -> Option<u64>
         ensures { result ≡ map.get self.now name.now }
     {
-        self.bound.get(name).copied()
+        let Some(bound) = &self.bound else {
+            return None;
+        };
+        bound.get(name).copied()
     }
 
     /// Binds the name to the number, in place of what it was bound to.
@@ -80,7 +91,13 @@ impl IndexedNames {
         ensures ok { OnOk result (self.new ≡ map.insert self.old name.now number) }
         ensures memory { OnErr result (self.new ≡ self.old) }
     {
-        self.bound.insert(*name, number)?;
+        if let Some(bound) = &mut self.bound {
+            bound.insert(*name, number)?;
+            return Ok(());
+        }
+        let mut bound = IndexMap::new(self.alloc);
+        bound.insert(*name, number)?;
+        self.bound = Some(Box::new(self.alloc, bound)?);
         Ok(())
     }
 
@@ -90,7 +107,10 @@ impl IndexedNames {
         ensures found { result ≡ map.get self.old name.now }
         ensures gone { self.new ≡ map.remove self.old name.now }
     {
-        self.bound.swap_remove(name)
+        let Some(bound) = &mut self.bound else {
+            return None;
+        };
+        bound.swap_remove(name)
     }
 }
 

@@ -98,6 +98,17 @@ fn a_shared_directory_is_counted_at_all_its_cells_too(rt: HostRuntime) -> Result
     Ok(())
 }
 
+/// It passes too where the first allocation fails, as under `rt try --test --fail-alloc 1`.
+#[test]
+fn an_empty_shared_directory_asks_for_no_memory(rt: HostRuntime) -> Result<(), Fail> {
+    let x = Name::of(b"x").ok_or("no name")?;
+    let mut names = SharedDirectory.empty_part(rt.alloc(), 0, 8)?;
+    assert!(rt; names.get(&x) == None && names.remove(&x) == None && names.size() == 0);
+    let state = names.state(rt.alloc())?;
+    assert_eq!(rt; state.size(), 0);
+    Ok(())
+}
+
 #[test]
 fn both_layouts_step_the_directory_of_one_thread(rt: HostRuntime) -> Result<(), Fail> {
     let x = Name::of(b"x").ok_or("no name")?;

@@ -1,5 +1,5 @@
-use Rattle.co_directory.proofs.SeenNames.{insert_named}
+use Rattle.co_directory.proofs.SeenNames.{insert_named, seen_there}
 use Rattle.co_directory.proofs.indexed.IndexedNames.insert.Goals as goal
 
-pub returns-clause-ok : goal.returns-clause-ok
-returns-clause-ok c = insert_named _ _ _ c.self.view_is c.args.name.now c.args.number c.in_ok-insert.ensures.updates.0
+pub returns-in-Some-clause-ok : goal.returns-in-Some-clause-ok
+returns-in-Some-clause-ok c = insert_named _ _ _ (seen_there _ c.in-Some.is (λ i. (c.deref_mut.ensures.value i).entries) c.self.view_is) c.args.name.now c.args.number c.in_ok-insert.ensures.updates.0
