@@ -16,7 +16,7 @@ use Rattle.phase_core.specs.Stages.{named_by, object_named}
 use Rattle.phase_core.specs.declared.caller.SwapAt.{SwapAt}
 use Rattle.phase_core.specs.declared.caller.SwapAt.TheVariants.{Idle, Refused, Begun, Interposing, Interposed, Draining, Drained, Blocking, Moved, Opening, Reopening, Opened}
 use Rattle.turn_core.specs.Events as turns
-use Rattle.turn_core.specs.Events.{caller_drawn, is_next}
+use Rattle.turn_core.specs.Events.{caller_drawn}
 use Rattle.turn_core.specs.Plain.{Caller, Turns}
 use Rattle.turn_core.specs.Stamps.{last_stamp}
 use Rattle.turn_core.specs.State.{cell_at, caller_at, fresh_caller}

@@ -9,7 +9,7 @@ use Rattle.k42_places.specs.Places.{EachPlace}
 use Rattle.k42_places.proofs.EachPlaces.{EachPlace-set_else}
 use Rattle.k42_places.proofs.Written.{at_set}
 use Rattle.gen_core.specs.Events as gens
-use Rattle.gen_core.specs.Events.{is_idle, place_of, turn_of, caller_flipped, proc_flipped, after_flip}
+use Rattle.gen_core.specs.Events.{place_of, after_flip}
 use Rattle.gen_core.specs.Plain.{Generations, Caller}
 use Rattle.gen_core.specs.Sound.{generation_of, is_flipped}
 use Rattle.gen_core.specs.State.{caller_at, proc_at, fresh_proc}

@@ -9,7 +9,7 @@ use lib.ListN.{get_elem?}
 use Rattle.atomic_table.specs.Table.{State}
 use Rattle.k42_places.specs.Places.{EachPlace}
 use Rattle.gen_core.specs.Events as gens
-use Rattle.gen_core.specs.Events.{is_idle, is_even, is_flipping, is_looking, exits_of, other_exits, turn_of, looked_ahead, caller_passed, is_drained, place_of, after_look}
+use Rattle.gen_core.specs.Events.{is_even, exits_of, other_exits, turn_of, looked_ahead, caller_passed, is_drained, place_of}
 use Rattle.gen_core.specs.Plain.{Generations, Caller}
 use Rattle.gen_core.specs.Sound.{generation_of, is_flipped}
 use Rattle.gen_core.specs.State.{caller_at, proc_at, put_caller, fresh_proc}

@@ -16,6 +16,7 @@ use Rattle.k42_board.specs.Starting.{AreFirstWords, AreFirstSlots, IsNewPass, Ar
 use Rattle.k42_board.specs.Views.{new_passes}
 use Rattle.k42_board.specs.Words.{object_word}
 use Rattle.k42_board.specs.declared.view.PassView.{PassView}
+use Rattle.k42_board.specs.declared.keep.Keep.{Keep}
 use Rattle.k42_board.specs.declared.view.View.{View}
 use Rattle.k42_board.specs.declared.view.View.TheVariants.{Crew}
 use Rattle.k42_board.specs.declared.cell.Content.{Content}
@@ -63,26 +64,27 @@ pub dealer_next : {P : Type 0} (procs objects n : ℕ) (homes : List ℕ) → n 
 dealer_next {P} procs objects n homes lt =
     ap (λ (l : List ℕ). dealer (Crew (new_passes {P = P} procs objects n l))) (drop_at homes n (get_or homes n 0) (slice_get-get_or homes n 0 lt))
 
-pub deals_more : {P : Type 0} (table : TableId) (queue : QueueId) (procs objects : ℕ) (homes : List ℕ) (n : ℕ) (seat seat' : TableId) (me me' : Seated P) (passes : List (PassSeen P)) (pass : PassSeen P)
-    → n < length homes → seat' ≡ seat → me' ≡ (dealer me.0, []) → IsNewPass table queue procs objects n (slice_index homes n) pass
-    → IsDealing table queue procs objects homes n seat me passes → IsDealing table queue procs objects homes (n + 1) seat' me' (passes ++ pass ∷ [])
-deals_more {P} table queue procs objects homes n seat seat' me me' passes pass lt same moved new h = record {
+pub deals_more : {P : Type 0} (table : TableId) (queue : QueueId) (keep : Keep) (procs objects : ℕ) (homes : List ℕ) (n : ℕ) (seat seat' : TableId) (me me' : Seated P) (passes : List (PassSeen P)) (pass : PassSeen P)
+    → n < length homes → seat' ≡ seat → me' ≡ (dealer me.0, []) → IsNewPass table queue keep procs objects n (slice_index homes n) pass
+    → IsDealing table queue keep procs objects homes n seat me passes → IsDealing table queue keep procs objects homes (n + 1) seat' me' (passes ++ pass ∷ [])
+deals_more {P} table queue keep procs objects homes n seat seat' me me' passes pass lt same moved new h = record {
   ours = same ∙ h.ours;
   crew = moved ∙ ap (λ (m : Seated P). (dealer m.0, [])) h.crew ∙ ap (λ (w : View P). (w, [])) (dealer_next procs objects n homes lt);
   many = length-append passes (pass ∷ []) ∙ (let many = h.many in omega (arith, many));
   each = λ c p e.
       ⊎_elim
       (λ old. h.each c p old.1)
-      (λ last. subst (λ (z : ℕ × PassSeen P). IsNewPass table queue procs objects z.0 (slice_index homes z.0) z.1) (λ i. (sym (last.0 ∙ h.many) i, last.1 i)) new)
+      (λ last. subst (λ (z : ℕ × PassSeen P). IsNewPass table queue keep procs objects z.0 (slice_index homes z.0) z.1) (λ i. (sym (last.0 ∙ h.many) i, last.1 i)) new)
       (at_push passes pass c p e);
 }
 
 -- a new pass is one of its system
 pub is_of_system : {L P : Type 0} (sys : SysSeen L) (number home : ℕ) (pass : PassSeen P) → home < sys.procs
-    → IsNewPass sys.table sys.queue sys.procs (length sys.layouts) number home pass → IsPassOf sys pass
+    → IsNewPass sys.table sys.queue sys.keep sys.procs (length sys.layouts) number home pass → IsPassOf sys pass
 is_of_system {L} {P} sys number home pass there is = record {
   table = is.ours;
   queue = is.posted;
+  keep = is.keeps;
   proc = rw is.new there;
   waits = ap (λ (v : PassView P). length v.turn.waits) is.new ∙ length-replicate sys.procs 0;
   objects = ap (λ (v : PassView P). length v.visitor.noted) is.new ∙ length-replicate (length sys.layouts) None;
@@ -91,7 +93,7 @@ is_of_system {L} {P} sys number home pass there is = record {
 
 pub is_started : {L P : Type 0} (layouts : List L) (procs : ℕ) (callers : List ℕ) (sys : SysSeen L) (passes : List (PassSeen P))
     → sys.procs ≡ procs → sys.layouts ≡ layouts → sys.callers ≡ callers → EachPlace (λ c p. p < procs) callers
-    → AreDealt sys.table sys.queue procs (length layouts) callers passes → IsStarted layouts procs callers sys passes
+    → AreDealt sys.table sys.queue sys.keep procs (length layouts) callers passes → IsStarted layouts procs callers sys passes
 is_started layouts procs callers sys passes procs_are layouts_are callers_are placed dealt = record {
   procs_are = procs_are;
   layouts_are = layouts_are;

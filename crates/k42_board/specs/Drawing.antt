@@ -27,7 +27,7 @@ use Rattle.k42_joined.specs.Rows.{cells_reached}
 use Rattle.k42_board.specs.Cells.{cells_noted}
 use Rattle.k42_board.specs.Generations.{MOST}
 use Rattle.k42_board.specs.Seats.{LAST_STAMP, told_by}
-use Rattle.k42_board.specs.Seen.{PassSeen}
+use Rattle.k42_board.specs.Seen.{PassSeen, room_due}
 use Rattle.k42_board.specs.Values.{layout_in, incarnation_in}
 use Rattle.k42_board.specs.Views.{word_begun, object_begun}
 use Rattle.k42_board.specs.declared.cell.Content.{Content}
@@ -197,11 +197,12 @@ drawn_at contents entry v = untold_view [] (drawn_view (numbers_of contents) ent
 abbrev pub HasSmallStamp : {P : Type 0} → PassView P → Type 0
 HasSmallStamp v = last_stamp v.taker.mine ≤ LAST_STAMP
 
--- the pass that has drawn has the same seat, and room for one entry less
+-- the pass that has drawn has the same seat, and room for one entry less where it keeps them
 pub record IsDrawer {P : Type 0} (old new : PassSeen P) : Type 0 where
   pub table : new.table ≡ old.table
   pub seat : new.seat ≡ old.seat
-  pub room : new.room + 1 ≡ old.room
+  pub keep : new.keep ≡ old.keep
+  pub room : new.room + room_due new.keep ≡ old.room
   pub row_room : new.row_room ≡ old.row_room
   pub queue : new.queue ≡ old.queue
   pub pushed : new.pushed ≡ old.pushed

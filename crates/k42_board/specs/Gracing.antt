@@ -1,5 +1,5 @@
 -- The steps of a grace, for one pass: where each may be taken, and what the pass knows after it.
-use Rattle.std.specs.Prelude.{◌≡◌, ◌≢◌, ◌⊎◌, ℕ, ◌+◌, ◌*◌, ◌%◌, ◌<◌, ◌≤◌, ◌^◌, ◌==◌, if◌then◌else◌, true, ⊤, [], Option, Some, None, drop, is_some, length, replicate, take, slice_index, slice_set, unwrap_or}
+use Rattle.std.specs.Prelude.{◌≡◌, ◌≢◌, ◌⊎◌, ℕ, ◌+◌, ◌*◌, ◌%◌, ◌<◌, ◌≤◌, ◌^◌, ◌==◌, if◌then◌else◌, true, ⊤, Option, Some, None, drop, is_some, length, replicate, take, slice_index, slice_set, unwrap_or}
 use Rattle.k42_limits.specs.declared.TheConstants.{CALLERS, OBJECTS, LAST_INCARNATION}
 use Rattle.k42_places.specs.Places.{EachPlace}
 use Rattle.gen_core.specs.Events.{is_free, is_flipping, is_looking, place_of, role_taken, role_given, after_flip, caller_passed}
@@ -156,6 +156,7 @@ RowsGiven v stored = EachPlace (λ place row. IsGranted v.visitor.noted row) (ta
 pub record HasGiven {P : Type 0} (old new : PassSeen P) : Type 0 where
   pub table : new.table ≡ old.table
   pub seat : new.seat ≡ old.seat
+  pub keep : new.keep ≡ old.keep
   pub room : new.room ≡ old.room
   pub row_room : new.row_room ≡ old.row_room + old.view.granted
   pub queue : new.queue ≡ old.queue

@@ -10,7 +10,7 @@ use Rattle.k42_joined.specs.Drawing.{first_cell}
 use Rattle.k42_joined.specs.Event.{AtPhases, AtCells, HandWith}
 use Rattle.k42_board.specs.Drawing.{MayDrawAlone, MayDrawMark, MayDrawAs, MayHandOn, HasSmallStamp, entry_alone, entry_mark, entry_call, entry_hand, numbers_of, alone_view, draws_at}
 use Rattle.k42_board.specs.Freeing.{MayFree, number_noted, freed_view, MarkFound}
-use Rattle.k42_board.specs.Generating.{MayEnter, entered_view, EnteredFound, MayLeave, active_in, left_view}
+use Rattle.k42_board.specs.Generating.{MayEnter, entered_view, EnteredFound, MayLeave, left_view}
 use Rattle.k42_board.specs.Gracing.{MayTakeRole, role_view, RoleFound, MayAskGeneration, asked_view, GenerationFound, MayLook, look_event, looked_view, ExitsFound, MayFlip, flip_word, flipped_view, MayGiveRole, given_view, RowsGiven}
 use Rattle.k42_board.specs.Handing.{hands_at}
 use Rattle.k42_board.specs.Log.{took, logs, put_at}

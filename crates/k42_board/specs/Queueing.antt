@@ -154,6 +154,7 @@ HoldsFew v found = length v.rows ≤ MOST_ROWS
 pub record HasPushed {P : Type 0} (old new : PassSeen P) : Type 0 where
   pub table : new.table ≡ old.table
   pub seat : new.seat ≡ old.seat
+  pub keep : new.keep ≡ old.keep
   pub knows : new.view ≡ without_newest old.view
   pub room : new.room ≡ old.room
   pub row_room : new.row_room ≡ old.row_room + 1
@@ -165,6 +166,7 @@ pub record HasPopped {P : Type 0} (old new : PassSeen P) : Type 0 where
   pub row : Row
   pub table : new.table ≡ old.table
   pub seat : new.seat ≡ old.seat
+  pub keep : new.keep ≡ old.keep
   pub knows : new.view ≡ with_newest row old.view
   pub room : new.room ≡ old.room
   pub row_room : new.row_room + 1 ≡ old.row_room

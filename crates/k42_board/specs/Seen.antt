@@ -1,17 +1,19 @@
 -- Systems and passes, as contracts see them.
-use Rattle.std.specs.Prelude.{◌≡◌, ◌+◌, ◌<◌, ◌≤◌, ℕ, ◌&&◌, Bool, true, false, List, [], ◌∷◌, Option, None, is_none, length, unwrap_or}
+use Rattle.std.specs.Prelude.{◌≡◌, ◌+◌, ◌<◌, ◌≤◌, ℕ, ◌&&◌, Bool, true, false, List, [], ◌∷◌, ◌++◌, Option, None, is_none, length, unwrap_or}
 use Rattle.std.specs.Global.{Global}
 use Rattle.atomic_table.specs.Seated.{TableId}
 use Rattle.crossbeam_queue.specs.SegTies.{SegId}
 use Rattle.gen_core.specs.Events as graces
 use Rattle.gen_core.specs.Plain as gens
 use Rattle.phase_core.specs.Stages as swaps
-use Rattle.k42_kinds.specs.declared.entry.Entry.{Entry}
+use Rattle.turn_core.specs.Stamps.{last_stamp}
 use Rattle.phase_core.specs.declared.caller.Place.{Place}
 use Rattle.phase_core.specs.declared.caller.Place.TheVariants.{Tracked}
 use Rattle.phase_core.specs.declared.caller.SwapAt.{SwapAt}
 use Rattle.k42_board.specs.Steps.{Seated}
 use Rattle.k42_board.specs.Views.{pass_in}
+use Rattle.k42_board.specs.declared.keep.Keep.{Keep}
+use Rattle.k42_board.specs.declared.keep.Keep.TheVariants as keeps
 use Rattle.k42_board.specs.declared.view.Inside.{Inside}
 use Rattle.k42_board.specs.declared.view.LastBegin.{LastBegin}
 use Rattle.k42_board.specs.declared.view.PassView.{PassView}
@@ -26,14 +28,32 @@ QueueId = SegId Global
 pub record SysSeen (L : Type 0) : Type 0 where
   pub table : TableId
   pub queue : QueueId
+  pub keep : Keep
   pub procs : ℕ
   pub layouts : List L
   pub callers : List ℕ
 
--- a pass: whose table's seat it has, what it knows, and for how many more entries and rows it has room
+-- what is kept of the entries that were drawn
+abbrev pub kept_by : {A : Type 0} → Keep → List A → List A
+kept_by keeps.All mine = mine
+kept_by keeps.Nothing mine = []
+
+-- and of what was kept, once one more was drawn
+abbrev pub kept_with : {A : Type 0} → Keep → List A → A → List A
+kept_with keeps.All kept entry = kept ++ entry ∷ []
+kept_with keeps.Nothing kept entry = kept
+
+-- how much room the next entry needs
+abbrev pub room_due : Keep → ℕ
+room_due keeps.All = 1
+room_due keeps.Nothing = 0
+
+-- a pass: whose table's seat it has, which of its entries it keeps, what it knows, and for how many more entries and
+-- rows it has room
 pub record PassSeen (P : Type 0) : Type 0 where
   pub table : TableId
   pub seat : ℕ
+  pub keep : Keep
   pub view : PassView P
   pub room : ℕ
   pub row_room : ℕ
@@ -50,7 +70,9 @@ pub record Own : Type 0 where
   pub noted : List (Option ℕ)
   pub freeing : List (ℕ × ℕ)
   pub swap : SwapAt
-  pub mine : List Entry
+  -- how many entries it has drawn, and the stamp of the last
+  pub drawn : ℕ
+  pub drew_last : ℕ
   pub activities : ℕ
   pub graces : ℕ
   pub base : Option ℕ
@@ -69,7 +91,8 @@ own_in v = record {
   noted = v.visitor.noted;
   freeing = v.visitor.freeing;
   swap = v.visitor.swap;
-  mine = v.taker.mine;
+  drawn = length v.taker.mine;
+  drew_last = last_stamp v.taker.mine;
   activities = v.activities;
   graces = v.graces;
   base = v.base;
@@ -92,6 +115,10 @@ pub record Mirrors {P : Type 0} (me : Seated P) (own : Own) : Type 0 where
   pub out : (pass_in me.0).out ≡ None
   pub told : (pass_in me.0).untold ≡ []
 
+-- the pass has room for its next entry
+abbrev pub HasRoom : {P : Type 0} → PassSeen P → Type 0
+HasRoom pass = room_due pass.keep ≤ pass.room
+
 -- the pass has a seat of the system's table
 abbrev pub IsOf : {L P : Type 0} → SysSeen L → PassSeen P → Type 0
 IsOf sys pass = pass.table ≡ sys.table
@@ -104,21 +131,24 @@ pub record IsPassOf {L P : Type 0} (sys : SysSeen L) (pass : PassSeen P) : Type 
   pub objects : length pass.view.visitor.noted ≡ length sys.layouts
   pub spans : length pass.view.visitor.freeing ≡ length sys.layouts
   pub queue : pass.queue ≡ sys.queue
+  pub keep : pass.keep ≡ sys.keep
 
--- it has the same seat, and the same room
+-- it has the same seat and the same room, and keeps the same
 pub record IsSamePass {P : Type 0} (old new : PassSeen P) : Type 0 where
   pub table : new.table ≡ old.table
   pub seat : new.seat ≡ old.seat
+  pub keep : new.keep ≡ old.keep
   pub room : new.room ≡ old.room
   pub row_room : new.row_room ≡ old.row_room
   pub queue : new.queue ≡ old.queue
   pub pushed : new.pushed ≡ old.pushed
   pub popped : new.popped ≡ old.popped
 
--- it has the same seat, and the same room for entries; for rows it has room as before, less what they need that are new
+-- it has the same seat and the same room for entries, and keeps the same; for rows it has room as before, less what they need that are new
 pub record HasSameRoom {P : Type 0} (old new : PassSeen P) : Type 0 where
   pub table : new.table ≡ old.table
   pub seat : new.seat ≡ old.seat
+  pub keep : new.keep ≡ old.keep
   pub room : new.room ≡ old.room
   pub row_room : new.row_room + length new.view.rows ≡ old.row_room + length old.view.rows
   pub queue : new.queue ≡ old.queue
@@ -129,6 +159,7 @@ pub record HasSameRoom {P : Type 0} (old new : PassSeen P) : Type 0 where
 pub record IsRoomier {P : Type 0} (old new : PassSeen P) : Type 0 where
   pub table : new.table ≡ old.table
   pub seat : new.seat ≡ old.seat
+  pub keep : new.keep ≡ old.keep
   pub view : new.view ≡ old.view
   pub room : old.room ≤ new.room
   pub row_room : old.row_room ≤ new.row_room

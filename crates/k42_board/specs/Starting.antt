@@ -11,6 +11,7 @@ use Rattle.k42_board.specs.Views.{new_pass, new_passes}
 use Rattle.k42_board.specs.Words.{object_word, many_words}
 use Rattle.k42_board.specs.declared.view.View.TheVariants.{Crew}
 use Rattle.k42_board.specs.declared.cell.Content.{Content}
+use Rattle.k42_board.specs.declared.keep.Keep.{Keep}
 
 -- the words of the first objects have their layouts, and all other words are 0
 pub record AreFirstWords
@@ -40,12 +41,14 @@ pub record IsStart
   pub few_objects : length layouts ≤ OBJECTS
   pub live : EachPlace (λ o layout. tag_of layout ≤ 1) layouts
 
--- a pass that has done nothing, with room for rows
+-- a pass that has done nothing, with room for rows and for no entry
 pub record IsNewPass
-    {P : Type 0} (table : TableId) (queue : QueueId) (procs objects number home : ℕ) (pass : PassSeen P)
+    {P : Type 0} (table : TableId) (queue : QueueId) (keep : Keep) (procs objects number home : ℕ) (pass : PassSeen P)
     : Type 0 where
   pub ours : pass.table ≡ table
+  pub keeps : pass.keep ≡ keep
   pub new : pass.view ≡ new_pass procs objects number home
+  pub room : pass.room ≡ 0
   pub rows : pass.row_room ≡ 64
   pub posted : pass.queue ≡ queue
   pub pushed : pass.pushed ≡ []
@@ -53,10 +56,11 @@ pub record IsNewPass
 
 -- a new pass for each of these processors
 pub record AreDealt
-    {P : Type 0} (table : TableId) (queue : QueueId) (procs objects : ℕ) (homes : List ℕ) (passes : List (PassSeen P))
+    {P : Type 0} (table : TableId) (queue : QueueId) (keep : Keep) (procs objects : ℕ) (homes : List ℕ)
+    (passes : List (PassSeen P))
     : Type 0 where
   pub many : length passes ≡ length homes
-  pub each : EachPlace (λ c pass. IsNewPass table queue procs objects c (slice_index homes c) pass) passes
+  pub each : EachPlace (λ c pass. IsNewPass table queue keep procs objects c (slice_index homes c) pass) passes
 
 pub record IsStarted
     {L P : Type 0} (layouts : List L) (procs : ℕ) (callers : List ℕ) (sys : SysSeen L) (passes : List (PassSeen P))
@@ -64,15 +68,15 @@ pub record IsStarted
   pub procs_are : sys.procs ≡ procs
   pub layouts_are : sys.layouts ≡ layouts
   pub callers_are : sys.callers ≡ callers
-  pub dealt : AreDealt sys.table sys.queue procs (length layouts) callers passes
+  pub dealt : AreDealt sys.table sys.queue sys.keep procs (length layouts) callers passes
   pub passes_are : EachPlace (λ c pass. IsPassOf sys pass) passes
 
 -- the first passes are dealt, and the seat has the others
 pub record IsDealing
-    {P : Type 0} (table : TableId) (queue : QueueId) (procs objects : ℕ) (homes : List ℕ) (next : ℕ)
+    {P : Type 0} (table : TableId) (queue : QueueId) (keep : Keep) (procs objects : ℕ) (homes : List ℕ) (next : ℕ)
     (seat : TableId) (me : Seated P) (passes : List (PassSeen P))
     : Type 0 where
   pub ours : seat ≡ table
   pub crew : me ≡ (Crew (new_passes procs objects next (drop next homes)), [])
   pub many : length passes ≡ next
-  pub each : EachPlace (λ c pass. IsNewPass table queue procs objects c (slice_index homes c) pass) passes
+  pub each : EachPlace (λ c pass. IsNewPass table queue keep procs objects c (slice_index homes c) pass) passes

@@ -1,5 +1,5 @@
 -- What a step of a pass is, and what it is to take one.
-use Rattle.std.specs.Prelude.{◌≡◌, ℕ, ⊤, List, [], ◌∷◌, length, Option, Some, None}
+use Rattle.std.specs.Prelude.{◌≡◌, ℕ, ⊤, List, [], Option, Some, None}
 use Rattle.atomic_table.specs.Seated.{TableId}
 use Rattle.atomic_table.specs.Table.{Act}
 use Rattle.atomic_table.specs.declared.shared.Seat.{Seat}

@@ -37,6 +37,7 @@ pub fn mark_word<L: Layout, K: Said<L::Part>>(
     board.shared.load::<Draw<K>>(seat, lock_word(number));
 }
 
+#[inline(always)]
 pub fn call_word<L: Layout, K: Said<L::Part>>(
     board: &Board<L>,
     seat: &mut BoardSeat<L>,
@@ -49,6 +50,23 @@ pub fn call_word<L: Layout, K: Said<L::Part>>(
     ensures { (found : ℕ) → HasTaken L.Layout board.now.shared.key (protocol.draw_call cells.now entry.now) seat.old found seat.new }
 {
     let number = first_of(cells) as usize;
+    board.shared.load::<Draw<K>>(seat, lock_word(number));
+}
+
+/// The same at one cell.
+#[inline(always)]
+pub fn one_word<L: Layout, K: Said<L::Part>>(
+    board: &Board<L>,
+    seat: &mut BoardSeat<L>,
+    cell: &Cell<L>,
+    entry: &Entry,
+)
+    requires agree { AgreeOn (layouts_by L.Layout board.now.shared.key) }
+    requires says { K.becomes ≡ draws_at (cell.now ∷ []) entry.now }
+    requires may { MayTake L.Layout board.now.shared.table_id board.now.shared.key (protocol.draw_call (cell.now ∷ []) entry.now) seat.old }
+    ensures { (found : ℕ) → HasTaken L.Layout board.now.shared.key (protocol.draw_call (cell.now ∷ []) entry.now) seat.old found seat.new }
+{
+    let number = cell.number as usize;
     board.shared.load::<Draw<K>>(seat, lock_word(number));
 }
 

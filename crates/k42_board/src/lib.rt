@@ -9,6 +9,7 @@ mod encoding;
 mod first;
 mod grace_words;
 mod hand_words;
+mod keep;
 mod plays;
 mod queueing;
 mod receipts;
@@ -27,7 +28,7 @@ mod words;
 pub use board::{Board, BoardSeat, Ruling};
 pub use cell::{Cell, Content};
 pub use draw_plays::Said;
-pub use draw_words::{alone_word, call_word, first_of, mark_word};
+pub use draw_words::{alone_word, call_word, first_of, mark_word, one_word};
 pub use encoding::{
     BLOCK, COMPLETE, MOVE, SWAP, blocked_word, cell_number, count_in, direct_word, empty_word,
     entries_in, entry_cell, entry_layout, generation_in, generation_with, incarnation_in,
@@ -39,6 +40,7 @@ pub use grace_words::{
     flip_swap, free_word, generation_load, give_role_store, look_word, take_role_word,
 };
 pub use hand_words::{hand_word, number_at};
+pub use keep::Keep;
 pub use plays::{Deal, Gather};
 pub use queueing::{
     Another, Lane, Line, Pop, Post, Push, Rows, name_newest, take_back, take_in, tie_root,

@@ -38,6 +38,7 @@ pub fn unlock_cell<L: Layout>(board: &Board<L>, seat: &mut BoardSeat<L>, cell: u
     board.shared.store::<Unlock>(seat, lock_word(cell), 0);
 }
 
+#[inline(always)]
 pub fn take_cell<L: Layout, K: Known<L::Part>>(
     board: &Board<L>,
     seat: &mut BoardSeat<L>,
@@ -63,6 +64,7 @@ pub fn take_cell<L: Layout, K: Known<L::Part>>(
     content
 }
 
+#[inline(always)]
 pub fn put_cell<L: Layout>(board: &Board<L>, seat: &mut BoardSeat<L>, cell: usize, content: Cell<L>)
     requires slots { board.now.shared.table_id.slots ≡ many_slots }
     requires idle { (pass_in seat.old.me.0).out ≡ None }

@@ -168,6 +168,7 @@ module _ {S L P : Type 0} (F : Layouts S L P) (declared : List L) (first now : P
     same = record {
       table = same.table ∙ is.same.table;
       seat = same.seat ∙ is.same.seat;
+      keep = same.keep ∙ is.same.keep;
       room = same.room ∙ is.same.room;
       row_room = same.row_room ∙ is.same.row_room;
       queue = same.queue ∙ is.same.queue;

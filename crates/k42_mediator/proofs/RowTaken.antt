@@ -54,7 +54,7 @@ module _ {S L P : Type 0} (F : Layouts S L P) (declared : List L) (o i : ℕ) (f
   pub takes_none : first.view.taker.held ≡ numbers_of before → AreTaken first.view.notes before
       → IsTaking F declared o i 0 first first before before len_before len_before room_before room_before
   takes_none held taken = record {
-    same = record { table = refl; seat = refl; room = refl; row_room = refl; queue = refl; pushed = refl; popped = refl };
+    same = record { table = refl; seat = refl; keep = refl; room = refl; row_room = refl; queue = refl; pushed = refl; popped = refl };
     room_is = refl;
     len_is = omega arith;
     numbers = sym (append-nil (numbers_of before));
@@ -75,6 +75,7 @@ module _ {S L P : Type 0} (F : Layouts S L P) (declared : List L) (o i : ℕ) (f
     same = record {
       table = same.table ∙ is.same.table;
       seat = same.seat ∙ is.same.seat;
+      keep = same.keep ∙ is.same.keep;
       room = same.room ∙ is.same.room;
       row_room = same.row_room ∙ is.same.row_room;
       queue = same.queue ∙ is.same.queue;

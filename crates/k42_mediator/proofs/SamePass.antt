@@ -1,12 +1,13 @@
 -- The same pass, some steps later.
 use Rattle.std.proofs.Common.{◌≡◌, ℕ, ◌+◌, length, ap, ◌∙◌, arith}
 use Rattle.k42_board.specs.Drawing.{IsDrawer}
-use Rattle.k42_board.specs.Seen.{PassSeen, IsSamePass, HasSameRoom}
+use Rattle.k42_board.specs.Seen.{PassSeen, IsSamePass, HasSameRoom, room_due}
 
 pub same_twice : {P : Type 0} (p0 p1 p2 : PassSeen P) → IsSamePass p0 p1 → IsSamePass p1 p2 → IsSamePass p0 p2
 same_twice p0 p1 p2 first second = record {
   table = second.table ∙ first.table;
   seat = second.seat ∙ first.seat;
+  keep = second.keep ∙ first.keep;
   room = second.room ∙ first.room;
   row_room = second.row_room ∙ first.row_room;
   queue = second.queue ∙ first.queue;
@@ -22,6 +23,7 @@ pub same_of_room : {P : Type 0} (p0 p1 : PassSeen P) → HasSameRoom p0 p1 → p
 same_of_room p0 p1 same rows = record {
   table = same.table;
   seat = same.seat;
+  keep = same.keep;
   room = same.room;
   row_room = cancel p1.row_room p0.row_room (length p1.view.rows) (length p0.view.rows) same.row_room (ap length rows);
   queue = same.queue;
@@ -33,7 +35,8 @@ pub draws_between : {P : Type 0} (p0 p1 p2 p3 : PassSeen P) → IsSamePass p0 p1
 draws_between p0 p1 p2 p3 first drew last = record {
   table = last.table ∙ drew.table ∙ first.table;
   seat = last.seat ∙ drew.seat ∙ first.seat;
-  room = ap (λ k. k + 1) last.room ∙ drew.room ∙ first.room;
+  keep = last.keep ∙ drew.keep ∙ first.keep;
+  room = (λ i. last.room i + room_due (last.keep i)) ∙ drew.room ∙ first.room;
   row_room = last.row_room ∙ drew.row_room ∙ first.row_room;
   queue = last.queue ∙ drew.queue ∙ first.queue;
   pushed = last.pushed ∙ drew.pushed ∙ first.pushed;

@@ -3,7 +3,7 @@ ghost use Rattle.std.specs.Prelude.{◌≡◌, ◌<◌, ◌≤◌, length};
 ghost use Rattle.k42_board.specs.Drawing.{IsDrawer};
 ghost use Rattle.k42_board.specs.Generations.{MOST};
 ghost use Rattle.k42_board.specs.Log.{with_log};
-ghost use Rattle.k42_board.specs.Seen.{IsPassOf};
+ghost use Rattle.k42_board.specs.Seen.{HasRoom, IsPassOf};
 ghost use Rattle.k42_board.specs.Stepping.{layouts_in};
 ghost use Rattle.k42_mediator.specs.Swaps.{HasMoved, HasGivenUp, abandoned_view};
 
@@ -16,7 +16,7 @@ use k42_rule::{Pass, Sys, clear_step, draw_alone};
 pub fn abandon<L: Layout>(sys: &Sys<L>, pass: &mut Pass<L>, to: &L)
     requires ours { IsPassOf sys.now pass.old }
     requires moved { HasMoved pass.old.view }
-    requires room { 0 < pass.old.room }
+    requires room { HasRoom pass.old }
     requires few { length pass.old.view.taker.mine < MOST }
     requires known { L.tag_of to.now ≤ 2 }
     ensures same { IsDrawer pass.old pass.new }

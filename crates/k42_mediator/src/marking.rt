@@ -1,6 +1,6 @@
 //! A swap that found its object over draws that.
-ghost use Rattle.std.specs.Prelude.{◌≡◌, ◌<◌, true, Some};
-ghost use Rattle.k42_board.specs.Seen.{IsPassOf};
+ghost use Rattle.std.specs.Prelude.{◌≡◌, true, Some};
+ghost use Rattle.k42_board.specs.Seen.{HasRoom, IsPassOf};
 ghost use Rattle.k42_board.specs.Tabling.{is_over_in};
 ghost use Rattle.k42_board.specs.Values.{answer_in};
 ghost use Rattle.k42_mediator.specs.Marks.{MayMark, IsMarkAnswer};
@@ -29,7 +29,7 @@ fn answer_over(word: u64) -> Answer
 pub fn mark<L: Layout>(sys: &Sys<L>, pass: &mut Pass<L>, act: Act) -> Marked
     requires ours { IsPassOf sys.now pass.old }
     requires may { MayMark act pass.old.view }
-    requires room { 0 < pass.old.room }
+    requires room { HasRoom pass.old }
     ensures { IsMarkAnswer L.Layout sys.now result act pass.old pass.new }
 {
     layouts_are_lawful(sys);

@@ -5,7 +5,7 @@ ghost use Rattle.phase_core.specs.declared.caller.SwapAt.TheVariants.{Moved};
 ghost use Rattle.k42_joined.specs.Numbers.{row_cells};
 ghost use Rattle.k42_board.specs.Drawing.{numbers_of};
 ghost use Rattle.k42_board.specs.Generations.{MOST};
-ghost use Rattle.k42_board.specs.Seen.{IsPassOf};
+ghost use Rattle.k42_board.specs.Seen.{HasRoom, IsPassOf};
 ghost use Rattle.k42_board.specs.Steps.{Always};
 ghost use Rattle.k42_board.specs.Stepping.{layouts_in};
 ghost use Rattle.k42_board.specs.Swapping.{object_swapped};
@@ -42,7 +42,7 @@ fn move_and_draw<L: Layout>(
     requires unhanded { pass.old.view.handed ≡ None }
     requires kind { IsOfKind L.object sys.now.layouts row.object to.now }
     requires known { L.tag_of to.now ≤ 2 }
-    requires room { 0 < pass.old.room }
+    requires room { HasRoom pass.old }
     requires few { length pass.old.view.taker.mine < MOST }
     requires numbers { numbers_of cells.old.items ≡ row_cells sys.now.procs row.object row.incarnation ++ row_cells sys.now.procs row.object (row.incarnation + 1) }
     requires held { pass.old.view.taker.held ≡ numbers_of cells.old.items }
@@ -74,7 +74,7 @@ pub fn transfer<L: Layout>(
     requires moved { HasMoved pass.old.view }
     requires kind { IsOfKind L.object sys.now.layouts (object_swapped pass.old.view) to.now }
     requires known { L.tag_of to.now ≤ 2 }
-    requires room { 0 < pass.old.room }
+    requires room { HasRoom pass.old }
     requires few { length pass.old.view.taker.mine < MOST }
     ensures left { (v : PassView L.Part) → v.visitor ≡ pass.old.view.visitor → Always (layouts_in L.Layout sys.now) sys.now.layouts pass.old.seat v (IsVacant (object_swapped pass.old.view)) }
     ensures done { OnOk result (HasDone (L.act_of to.now) (L.tag_of to.now) pass.old pass.new) }

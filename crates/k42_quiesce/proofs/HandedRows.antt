@@ -30,6 +30,7 @@ handed_none old = record {
   row_room = omega arith;
   table = refl;
   seat = refl;
+  keep = refl;
   room = refl;
   queue = refl;
   popped = refl;
@@ -64,6 +65,7 @@ module _ {P : Type 0} (old mid new : PassSeen P) (pushed : HasPushed mid new) wh
             omega (arith, before, after, more);
         table = pushed.table ∙ is.table;
         seat = pushed.seat ∙ is.seat;
+        keep = pushed.keep ∙ is.keep;
         room = pushed.room ∙ is.room;
         queue = pushed.queue ∙ is.queue;
         popped = pushed.popped ∙ is.popped;
@@ -79,6 +81,7 @@ module _ {P : Type 0} (old mid new : PassSeen P) (pushed : HasPushed mid new) wh
       objects = ap (λ (v : PassView P). length v.visitor.noted) pushed.knows ∙ ours.objects;
       spans = ap (λ (v : PassView P). length v.visitor.freeing) pushed.knows ∙ ours.spans;
       queue = pushed.queue ∙ ours.queue;
+      keep = pushed.keep ∙ ours.keep;
     },
     handed_next is some,
   )

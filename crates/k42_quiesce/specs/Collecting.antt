@@ -14,6 +14,7 @@ pub record HasHandedOver {P : Type 0} (old new : PassSeen P) : Type 0 where
   pub row_room : new.row_room ≡ old.row_room + length handed
   pub table : new.table ≡ old.table
   pub seat : new.seat ≡ old.seat
+  pub keep : new.keep ≡ old.keep
   pub room : new.room ≡ old.room
   pub queue : new.queue ≡ old.queue
   pub popped : new.popped ≡ old.popped
@@ -25,6 +26,7 @@ pub record HasCollected {P : Type 0} (rows : List Row) (old new : PassSeen P) : 
   pub row_room : new.row_room + length rows ≡ old.row_room
   pub table : new.table ≡ old.table
   pub seat : new.seat ≡ old.seat
+  pub keep : new.keep ≡ old.keep
   pub room : new.room ≡ old.room
   pub queue : new.queue ≡ old.queue
   pub pushed : new.pushed ≡ old.pushed

@@ -1,10 +1,9 @@
 -- The entries that a pass draws, field by field.
-use Rattle.std.proofs.Common.{◌≡◌, ℕ, ◌+◌, ◌-◌, false, cond, [], ◌∷◌, None, length, sym, ap, ◌∙◌}
+use Rattle.std.proofs.Common.{◌≡◌, ℕ, ◌+◌, ◌-◌, false, cond, [], ◌∷◌, None, sym, ap, ◌∙◌}
 use Rattle.std.specs.Prelude.{max}
 use Rattle.k42_kinds.specs.Histories.{is_call}
 use Rattle.k42_kinds.specs.declared.entry.Act.{Act}
 use Rattle.k42_kinds.specs.declared.entry.Answer.{Answer}
-use Rattle.turn_core.specs.Stamps.{last_stamp}
 use Rattle.k42_board.specs.Drawing.{entry_alone, entry_mark, number_told, stamp_next}
 use Rattle.k42_board.specs.Seen.{Own, own_in}
 use Rattle.k42_board.specs.Values.{incarnation_in}
@@ -12,8 +11,8 @@ use Rattle.k42_board.specs.Views.{object_begun, word_begun}
 use Rattle.k42_board.specs.declared.view.PassView.{PassView}
 
 module _ {P : Type 0} (v : PassView P) (own : Own) (own_is : own ≡ own_in v) (act : Act) (answer : Answer) (is : is_call act ≡ false)
-    (stamp index object incarnation : ℕ) (indexed : index ≡ length own.mine) (begun : object ≡ object_begun own.last) where
-  pub alone_entry : stamp ≡ max (last_stamp own.mine) 0 + 1 → incarnation ≡ number_told answer - 1
+    (stamp index object incarnation : ℕ) (indexed : index ≡ own.drawn) (begun : object ≡ object_begun own.last) where
+  pub alone_entry : stamp ≡ max own.drew_last 0 + 1 → incarnation ≡ number_told answer - 1
       → record {
         stamp = stamp;
         caller = own.number;
@@ -28,9 +27,9 @@ module _ {P : Type 0} (v : PassView P) (own : Own) (own_is : own ≡ own_in v) (
       }
       ≡ entry_alone v act answer
   alone_entry stamped told = λ i. record {
-    stamp = (stamped ∙ ap (λ (o : Own). max (last_stamp o.mine) 0 + 1) own_is) i;
+    stamp = (stamped ∙ ap (λ (o : Own). max o.drew_last 0 + 1) own_is) i;
     caller = ap (λ (o : Own). o.number) own_is i;
-    index = (indexed ∙ ap (λ (o : Own). length o.mine) own_is) i;
+    index = (indexed ∙ ap (λ (o : Own). o.drawn) own_is) i;
     object = (begun ∙ ap (λ (o : Own). object_begun o.last) own_is) i;
     incarnation = told i;
     cell = 0;
@@ -57,7 +56,7 @@ module _ {P : Type 0} (v : PassView P) (own : Own) (own_is : own ≡ own_in v) (
   mark_entry cell n named stamped found = λ i. record {
     stamp = stamped i;
     caller = ap (λ (o : Own). o.number) own_is i;
-    index = (indexed ∙ ap (λ (o : Own). length o.mine) own_is) i;
+    index = (indexed ∙ ap (λ (o : Own). o.drawn) own_is) i;
     object = (begun ∙ ap (λ (o : Own). object_begun o.last) own_is) i;
     incarnation = (found ∙ ap (λ (o : Own). incarnation_in (word_begun o.last)) own_is) i;
     cell = named i;

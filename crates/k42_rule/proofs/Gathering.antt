@@ -1,15 +1,14 @@
--- Seats and lists are gathered one pass after the other, and slots emptied one after the other.
+-- Seats are gathered one pass after the other, and slots emptied one after the other.
 use Rattle.std.proofs.Common.{◌≡◌, ◌≢◌, ℕ, zero, suc, ◌+◌, ◌<◌, Bool, false, List, [], ◌∷◌, ◌++◌, get_or, set, sym, refl, ap, ◌∙◌, subst, ⊎_elim, arith, append_assoc, get_or-set_other}
 use Rattle.std.specs.Slots.Ownership.{Filled}
 use Rattle.std.proofs.lemmas.Bool.{cases_eq}
 use Rattle.atomic_table.specs.Seated.{TableId}
 use Rattle.atomic_table.specs.Table.{Joins}
 use Rattle.atomic_table.specs.declared.shared.Seat.{Seat}
-use Rattle.k42_kinds.specs.declared.entry.Entry.{Entry}
 use Rattle.k42_stamp.specs.Layouts.{Layouts}
 use Rattle.k42_board.specs.Cells.{Slot}
 use Rattle.k42_board.specs.Dealing.{crew_in, IsCrew, both_crews}
-use Rattle.k42_rule.specs.Finishing.{views_of, lists_in, IsGathering}
+use Rattle.k42_rule.specs.Finishing.{views_of, IsGathering}
 use Rattle.k42_board.specs.Rule.{Ruled}
 use Rattle.k42_board.specs.Seen.{PassSeen, IsSeatOf}
 use Rattle.k42_board.specs.Steps.{Seated}
@@ -26,24 +25,21 @@ joins_pass {S} {L} {P} F declared callers id other me own crew seat =
     subst (λ (z : Seated P × Seated P). Joins (Ruled F declared callers) id z.0.0 other z.1.0 (both_crews z.0.0 z.1.0) Spent)
     (λ i. (sym crew i, sym seat i)) (joins F declared callers id other (crew_in me.0) (pass_in own.0 ∷ []))
 
-module _ {P : Type 0} (table : TableId) (first seat seat' : Seat (Slot P) (View P)) (before lists : List (List Entry)) (all rest : List (PassSeen P))
+module _ {P : Type 0} (table : TableId) (first seat seat' : Seat (Slot P) (View P)) (all rest : List (PassSeen P))
     (pass : PassSeen P) (own : Seated P) (own_is : IsSeatOf own (pass_in own.0)) (same : pass_in own.0 ≡ pass.view)
-    (h : IsGathering table first seat before lists all (pass ∷ rest)) where
+    (h : IsGathering table first seat all (pass ∷ rest)) where
   own_crew : crew_in own.0 ≡ pass.view ∷ []
   own_crew = ap (λ (m : Seated P). crew_in m.0) own_is ∙ ap (λ (v : PassView P). v ∷ []) same
 
-  pub gathers_more : (entries : List Entry) → (seat'.table_id ≡ seat.table_id) × (seat'.id ≡ seat.id) × (seat'.me ≡ (both_crews seat.me.0 own.0, seat.me.1))
-      → entries ≡ pass.view.taker.mine → IsGathering table first seat' before (lists ++ entries ∷ []) all rest
-  gathers_more entries is mine = record {
+  pub gathers_more : (seat'.table_id ≡ seat.table_id) × (seat'.id ≡ seat.id) × (seat'.me ≡ (both_crews seat.me.0 own.0, seat.me.1))
+      → IsGathering table first seat' all rest
+  gathers_more is = record {
     ours = is.0 ∙ h.ours;
     same = is.1 ∙ h.same;
     crew = subst IsCrew (sym now) refl;
     views =
         ap (λ (m : Seated P). crew_in m.0 ++ views_of rest) now
         ∙ append_assoc (crew_in seat.me.0) (pass.view ∷ []) (views_of rest) ∙ h.views;
-    drawn =
-        append_assoc lists (entries ∷ []) (lists_in rest)
-        ∙ ap (λ (own : List Entry). lists ++ own ∷ lists_in rest) mine ∙ h.drawn;
     theirs = λ c other e. h.theirs (suc c) other e;
   } where
     now : seat'.me ≡ (Crew (crew_in seat.me.0 ++ pass.view ∷ []), [])

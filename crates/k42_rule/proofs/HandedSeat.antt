@@ -1,17 +1,14 @@
 -- The seat of a pass that has handed a row on, before and after its cells are told.
-use Rattle.std.proofs.Common.{◌≡◌, ℕ, ◌+◌, ◌≤◌, true, List, [], ◌∷◌, ◌++◌, Some, take, drop, sym, refl, ap, ◌∙◌, subst}
-use Rattle.std.specs.Prelude.{max}
+use Rattle.std.proofs.Common.{◌≡◌, ℕ, ◌≤◌, true, List, [], ◌∷◌, ◌++◌, length, Some, take, drop, sym, ap, ◌∙◌, subst}
 use Rattle.k42_kinds.specs.declared.entry.Act.{Act}
 use Rattle.k42_kinds.specs.declared.entry.Answer.{Answer}
 use Rattle.k42_kinds.specs.declared.entry.Entry.{Entry}
 use Rattle.turn_core.specs.Stamps.{last_stamp}
 use Rattle.k42_stamp.specs.Layouts.{Layouts}
-use Rattle.k42_stamp.specs.Lists.{IsListOf}
-use Rattle.k42_board.specs.Drawing.{MayHandOn, entry_hand, numbers_of, stamp_next, last_noted, untold_view, HasSmallStamp}
+use Rattle.k42_board.specs.Drawing.{MayHandOn, entry_hand, numbers_of, stamp_next, untold_view, HasSmallStamp}
 use Rattle.k42_board.specs.Handing.{hands_at, handed_at}
 use Rattle.k42_board.specs.Log.{took}
 use Rattle.k42_board.specs.Receipts.{AreDue}
-use Rattle.k42_board.specs.Seats.{LAST_STAMP}
 use Rattle.k42_board.specs.Seen.{IsSeatOf, Own, own_in, Mirrors}
 use Rattle.k42_board.specs.Steps.{Seated}
 use Rattle.k42_board.specs.Views.{pass_in}
@@ -22,7 +19,6 @@ use Rattle.k42_board.specs.declared.view.View.TheVariants.{Crew}
 use Rattle.k42_rule.proofs.Drawn.{knows_drawn}
 use Rattle.k42_rule.proofs.HandedCells.{many_from, all_cells, all_numbers, parted}
 use Rattle.k42_rule.proofs.HandedNotes.{seat_due}
-use Rattle.k42_rule.proofs.Pushed.{list_drawn}
 
 module _ {S L P : Type 0} (F : Layouts S L P) (declared : List L) (cells : List (Content P)) (to : L) (answer : Answer) (v : PassView P)
     (may : MayHandOn F declared (take F.procs cells) (drop F.procs cells) to answer v) (entry : Entry) (tag : ℕ) where
@@ -36,6 +32,9 @@ module _ {S L P : Type 0} (F : Layouts S L P) (declared : List L) (cells : List 
     pub untold_is : (pass_in me.0).untold ≡ numbers_of cells
     untold_is = ap (λ (m : Seated P). (pass_in m.0).untold) is ∙ all_numbers F declared cells to answer v may
 
+    pub mine_is : (pass_in me.0).taker.mine ≡ v.taker.mine ++ entry ∷ []
+    mine_is = ap (λ (m : Seated P). (pass_in m.0).taker.mine) is
+
     pub due_is : F.procs ≤ 8 → HasSmallStamp (hands_at from onto entry tag v) → AreDue (pass_in me.0).notes F.procs true entry.stamp cells
     due_is few small =
         subst (λ (z : ℕ × List (Content P)). AreDue (pass_in me.0).notes z.0 true entry.stamp z.1)
@@ -48,11 +47,11 @@ module _ {S L P : Type 0} (F : Layouts S L P) (declared : List L) (cells : List 
       knows_is = knows_drawn _ me seated is told
 
       pub mirrors_is : (before : Seated P) (own now : Own) → Mirrors before own → pass_in before.0 ≡ v
-          → now ≡ record own { mine = own.mine ++ entry ∷ []; handed = Some tag } → Mirrors seated now
+          → now ≡ record own { drawn = length (v.taker.mine ++ entry ∷ []); drew_last = last_stamp (v.taker.mine ++ entry ∷ []); handed = Some tag } → Mirrors seated now
       mirrors_is before own now mirrors same becomes = record {
         seat = told ∙ (λ j. (Crew (sym (ap (λ (m : Seated P). pass_in m.0) told) j ∷ []), []));
         own_is =
-            becomes ∙ ap (λ (o : Own). record o { mine = o.mine ++ entry ∷ []; handed = Some tag }) (mirrors.own_is ∙ ap own_in same)
+            becomes ∙ ap (λ (o : Own). record o { drawn = length (v.taker.mine ++ entry ∷ []); drew_last = last_stamp (v.taker.mine ++ entry ∷ []); handed = Some tag }) (mirrors.own_is ∙ ap own_in same)
             ∙ sym (ap own_in knows_is);
         out = ap (λ (x : PassView P). x.out) knows_is ∙ ap (λ (x : PassView P). x.out) (sym same) ∙ mirrors.out;
         told = ap (λ (x : PassView P). x.untold) knows_is;
@@ -61,13 +60,3 @@ module _ {S L P : Type 0} (F : Layouts S L P) (declared : List L) (cells : List 
   module _ (act : Act) (is : entry ≡ entry_hand v (numbers_of from) (numbers_of onto) act answer) where
     pub stamp_told : entry.stamp ≡ stamp_next v (numbers_of cells)
     stamp_told = ap (λ (e : Entry). e.stamp) is ∙ ap (stamp_next v) (all_numbers F declared cells to answer v may)
-
-    pub list_is : (own : Own) → own ≡ own_in v → IsListOf own.number own.mine → IsListOf own.number (own.mine ++ entry ∷ [])
-    list_is own same list =
-        list_drawn own.number own.mine own.mine (own.mine ++ entry ∷ []) entry (last_noted v.notes (numbers_of cells)) list refl
-        (stamp_told ∙ (λ j. max (last_stamp (ap (λ (o : Own). o.mine) (sym same) j)) (last_noted v.notes (numbers_of cells)) + 1))
-        (ap (λ (e : Entry). e.caller) is ∙ ap (λ (o : Own). o.number) (sym same))
-        refl
-
-  pub small_is : HasSmallStamp (hands_at from onto entry tag v) → (own : Own) → own ≡ own_in v → last_stamp (own.mine ++ entry ∷ []) ≤ LAST_STAMP
-  small_is small own same = subst (λ (mine : List Entry). last_stamp (mine ++ entry ∷ []) ≤ LAST_STAMP) (ap (λ (o : Own). o.mine) (sym same)) small

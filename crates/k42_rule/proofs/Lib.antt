@@ -12,5 +12,6 @@ pub mod Opening
 pub mod Joining
 pub mod Gathering
 pub mod Ending
+pub mod GivenLists
 pub mod Showing
 pub mod Plans

@@ -14,7 +14,8 @@ use Rattle.k42_joined.specs.Sound.{IsSound}
 use Rattle.k42_joined.specs.State.{many_callers}
 use Rattle.k42_board.specs.Cells.{Slot}
 use Rattle.k42_board.specs.Dealing.{crew_in, IsCrew}
-use Rattle.k42_board.specs.Seen.{SysSeen, PassSeen, IsOf, is_at_rest}
+use Rattle.k42_board.specs.Seen.{SysSeen, PassSeen, IsOf, is_at_rest, kept_by}
+use Rattle.k42_board.specs.declared.keep.Keep.TheVariants as keeps
 use Rattle.k42_board.specs.declared.view.PassView.{PassView}
 use Rattle.k42_board.specs.declared.view.View.{View}
 
@@ -24,6 +25,17 @@ views_of passes = map (λ pass. pass.view) passes
 
 abbrev pub lists_in : {P : Type 0} → List (PassSeen P) → List (List Entry)
 lists_in passes = map (λ pass. pass.view.taker.mine) passes
+
+-- of these, what the passes have kept
+abbrev pub kept_in : {P : Type 0} → List (PassSeen P) → List (List Entry)
+kept_in passes = map (λ pass. kept_by pass.keep pass.view.taker.mine) passes
+
+-- a pass once it has given that away
+abbrev pub with_none : {P : Type 0} → PassSeen P → PassSeen P
+with_none pass = record pass { keep = keeps.Nothing; room = 0 }
+
+abbrev pub with_none_kept : {P : Type 0} → List (PassSeen P) → List (PassSeen P)
+with_none_kept passes = map with_none passes
 
 -- the pass is that of the caller with this number, and has nothing under way
 pub record IsPassAtRest {L P : Type 0} (sys : SysSeen L) (c : ℕ) (pass : PassSeen P) : Type 0 where
@@ -52,14 +64,12 @@ pub record AreLastLists
   pub drawn : lists ≡ lists_of state
   pub resting : (c : ℕ) → c < callers → IsResting state c
 
--- the seats and the lists of the first passes are with the others, and those of the rest are to come
+-- the seats of the first passes are one with the first, and those of the rest are to come
 pub record IsGathering
-    {P : Type 0} (table : TableId) (first seat : Seat (Slot P) (View P)) (before lists : List (List Entry))
-    (all rest : List (PassSeen P))
+    {P : Type 0} (table : TableId) (first seat : Seat (Slot P) (View P)) (all rest : List (PassSeen P))
     : Type 0 where
   pub ours : seat.table_id ≡ first.table_id
   pub same : seat.id ≡ first.id
   pub crew : IsCrew seat.me
   pub views : crew_in seat.me.0 ++ views_of rest ≡ crew_in first.me.0 ++ views_of all
-  pub drawn : lists ++ lists_in rest ≡ before ++ lists_in all
   pub theirs : EachPlace (λ c pass. pass.table ≡ table) rest

@@ -1,17 +1,18 @@
 //! The steps that draw entries.
-ghost use Rattle.std.specs.Prelude.{◌≡◌, ℕ, ◌<◌, [], ◌∷◌};
+ghost use Rattle.std.specs.Prelude.{◌≡◌, ℕ, [], ◌∷◌};
 ghost use Rattle.k42_board.specs.Drawing.{AgreeOn, MayDrawAlone, MayDrawMark, MayDrawAs, IsDrawer, IsTold, AreTold, entry_alone, entry_mark, entry_call, numbers_of, number_told, stamp_next};
 ghost use Rattle.k42_board.specs.Protocol as protocol;
-ghost use Rattle.k42_board.specs.Seen.{IsOf};
+ghost use Rattle.k42_board.specs.Seen.{HasRoom, IsOf};
 ghost use Rattle.k42_board.specs.Stepping.{HasDrawn, TakesIn, layouts_in};
 
 use crate::begun::{incarnation_at, object_begun_in};
+use crate::keeping::store;
 use crate::pass::Pass;
 use crate::sys::Sys;
 use crate::tabling::{object_in, row_in};
 use k42_board::{
-    Cell, LastBegin, alone_word, call_word, first_of, last_at, mark_word, stamp_after, tell_all,
-    tell_cell,
+    Cell, LastBegin, alone_word, call_word, first_of, last_at, mark_word, one_word, stamp_after,
+    tell_all, tell_cell,
 };
 use k42_kinds::{Act, Answer, Entry, Layout};
 use std::marker::Brand;
@@ -29,17 +30,17 @@ fn number_in(answer: &Answer) -> u32
 /// Draws, at no cell, that a swap was refused by another, or given up.
 pub fn draw_alone<L: Layout>(sys: &Sys<L>, pass: &mut Pass<L>, act: Act, answer: Answer) -> u64
     requires ours { IsOf sys.now pass.old }
-    requires room { 0 < pass.old.room }
+    requires room { HasRoom pass.old }
     requires may { MayDrawAlone act answer pass.old.view }
     ensures stamp { result ≡ stamp_next pass.old.view [] }
     ensures drawer { IsDrawer pass.old pass.new }
     ensures takes { (found : ℕ) → TakesIn L.Layout sys.now (protocol.draw_alone (entry_alone pass.old.view act answer)) pass.old found pass.new }
 {
-    let stamp = stamp_after(pass.entries.as_slice(), 0);
+    let stamp = stamp_after(pass.drew_last, 0);
     let entry = Entry {
         stamp,
         caller: pass.number,
-        index: pass.entries.len() as u32,
+        index: pass.drawn,
         object: object_begun_in(&pass.last),
         incarnation: number_in(&answer).saturating_sub(1),
         cell: 0,
@@ -49,7 +50,9 @@ pub fn draw_alone<L: Layout>(sys: &Sys<L>, pass: &mut Pass<L>, act: Act, answer:
         generation: None,
     };
     alone_word::<L, Brand>(&sys.board, &mut pass.seat, &entry);
-    pass.entries.push_reserved(entry);
+    pass.drawn += 1;
+    pass.drew_last = stamp;
+    store(pass.keep, &mut pass.kept, entry);
     stamp
 }
 
@@ -62,17 +65,17 @@ pub fn draw_mark<L: Layout>(
     answer: Answer,
 ) -> u64
     requires ours { IsOf sys.now pass.old }
-    requires room { 0 < pass.old.room }
+    requires room { HasRoom pass.old }
     requires may { MayDrawMark cell.old act answer pass.old.view }
     ensures stamp { result ≡ stamp_next pass.old.view (cell.old.number ∷ []) }
     ensures drawn { HasDrawn L.Layout sys.now (protocol.draw_mark cell.old (entry_mark pass.old.view cell.old.number act answer)) (cell.old.number ∷ []) pass.old pass.new }
     ensures told { IsTold pass.new.view.notes cell.old cell.new }
 {
-    let stamp = stamp_after(pass.entries.as_slice(), cell.last_stamp());
+    let stamp = stamp_after(pass.drew_last, cell.last_stamp());
     let entry = Entry {
         stamp,
         caller: pass.number,
-        index: pass.entries.len() as u32,
+        index: pass.drawn,
         object: object_begun_in(&pass.last),
         incarnation: incarnation_at(&pass.last),
         cell: cell.number(),
@@ -84,11 +87,14 @@ pub fn draw_mark<L: Layout>(
     mark_word::<L, Brand>(&sys.board, &mut pass.seat, cell, &entry);
     let closed = cell.is_closed();
     tell_cell(&sys.board, &mut pass.seat, cell, closed, stamp);
-    pass.entries.push_reserved(entry);
+    pass.drawn += 1;
+    pass.drew_last = stamp;
+    store(pass.keep, &mut pass.kept, entry);
     stamp
 }
 
 /// Draws a call at cells that stand side by side.
+#[inline(always)]
 fn draw_at<L: Layout>(
     sys: &Sys<L>,
     pass: &mut Pass<L>,
@@ -98,17 +104,17 @@ fn draw_at<L: Layout>(
 ) -> u64
     requires ours { IsOf sys.now pass.old }
     requires agree { AgreeOn (layouts_in L.Layout sys.now) }
-    requires room { 0 < pass.old.room }
+    requires room { HasRoom pass.old }
     requires may { MayDrawAs (layouts_in L.Layout sys.now) sys.now.layouts cells.old act answer pass.old.view }
     ensures stamp { result ≡ stamp_next pass.old.view (numbers_of cells.old) }
     ensures drawn { HasDrawn L.Layout sys.now (protocol.draw_call cells.old (entry_call pass.old.view (numbers_of cells.old) act answer)) (numbers_of cells.old) pass.old pass.new }
     ensures told { AreTold pass.new.view.notes cells.old cells.new }
 {
-    let stamp = stamp_after(pass.entries.as_slice(), last_at(cells));
+    let stamp = stamp_after(pass.drew_last, last_at(cells));
     let entry = Entry {
         stamp,
         caller: pass.number,
-        index: pass.entries.len() as u32,
+        index: pass.drawn,
         object: object_in(&pass.place),
         incarnation: row_in(&pass.place),
         cell: first_of(cells),
@@ -119,7 +125,47 @@ fn draw_at<L: Layout>(
     };
     call_word::<L, Brand>(&sys.board, &mut pass.seat, cells, &entry);
     tell_all(&sys.board, &mut pass.seat, cells, 0, false, stamp);
-    pass.entries.push_reserved(entry);
+    pass.drawn += 1;
+    pass.drew_last = stamp;
+    store(pass.keep, &mut pass.kept, entry);
+    stamp
+}
+
+/// Draws a call that was stepped, at the one cell that its layout names.
+#[inline(always)]
+pub fn draw_one<L: Layout>(
+    sys: &Sys<L>,
+    pass: &mut Pass<L>,
+    cell: &mut Cell<L>,
+    act: Act,
+    answer: Answer,
+) -> u64
+    requires ours { IsOf sys.now pass.old }
+    requires room { HasRoom pass.old }
+    requires may { MayDrawAs (layouts_in L.Layout sys.now) sys.now.layouts (cell.old ∷ []) act answer pass.old.view }
+    ensures stamp { result ≡ stamp_next pass.old.view (cell.old.number ∷ []) }
+    ensures drawn { HasDrawn L.Layout sys.now (protocol.draw_call (cell.old ∷ []) (entry_call pass.old.view (cell.old.number ∷ []) act answer)) (cell.old.number ∷ []) pass.old pass.new }
+    ensures told { IsTold pass.new.view.notes cell.old cell.new }
+{
+    let stamp = stamp_after(pass.drew_last, cell.last_stamp());
+    let entry = Entry {
+        stamp,
+        caller: pass.number,
+        index: pass.drawn,
+        object: object_in(&pass.place),
+        incarnation: row_in(&pass.place),
+        cell: cell.number(),
+        act,
+        answer,
+        proc: pass.home,
+        generation: pass.active,
+    };
+    one_word::<L, Brand>(&sys.board, &mut pass.seat, cell, &entry);
+    let closed = cell.is_closed();
+    tell_cell(&sys.board, &mut pass.seat, cell, closed, stamp);
+    pass.drawn += 1;
+    pass.drew_last = stamp;
+    store(pass.keep, &mut pass.kept, entry);
     stamp
 }
 
@@ -132,7 +178,7 @@ pub fn draw_call<L: Layout>(
     answer: Answer,
 ) -> u64
     requires ours { IsOf sys.now pass.old }
-    requires room { 0 < pass.old.room }
+    requires room { HasRoom pass.old }
     requires may { MayDrawAs (layouts_in L.Layout sys.now) sys.now.layouts cells.old.items act answer pass.old.view }
     ensures stamp { result ≡ stamp_next pass.old.view (numbers_of cells.old.items) }
     ensures drawn { HasDrawn L.Layout sys.now (protocol.draw_call cells.old.items (entry_call pass.old.view (numbers_of cells.old.items) act answer)) (numbers_of cells.old.items) pass.old pass.new }

@@ -4,7 +4,7 @@ ghost use Rattle.atomic_table.specs.Table.{State, Seen};
 ghost use Rattle.k42_places.specs.Places.{EachPlace};
 ghost use Rattle.k42_board.specs.Cells.{Slot};
 ghost use Rattle.k42_board.specs.Dealing.{crew_in, IsCrew};
-ghost use Rattle.k42_rule.specs.Finishing.{views_of, lists_in};
+ghost use Rattle.k42_rule.specs.Finishing.{kept_in, views_of, with_none_kept};
 ghost use Rattle.k42_board.specs.Stepping.{layouts_by};
 ghost use Rattle.k42_board.specs.Rule.{Ruled};
 ghost use Rattle.k42_board.specs.Words.{many_words};
@@ -14,30 +14,31 @@ ghost use Rattle.k42_board.specs.declared.view.View.TheVariants.{Crew};
 use crate::pass::{Pass, Walker};
 use k42_board::{Board, BoardSeat, Gather};
 use k42_kinds::{Entry, Layout};
+use std::alloc::Global;
 
-/// The passes' seats are joined to one, and their lists stand in order.
-pub(crate) fn gather<L: Layout>(
-    board: &Board<L>,
-    seat: &mut BoardSeat<L>,
-    lists: &mut Vec<Vec<Entry>>,
-    passes: Vec<Pass<L>>,
-)
+/// The passes give away the lists that they have kept, in their order.
+pub fn give_lists<L: Layout>(alloc: Global, passes: &mut [Pass<L>], lists: &mut Vec<Vec<Entry>>)
+    requires room { vec_len lists.old + length passes.old ≤ vec_capacity lists.old }
+    ensures lists { map vec_items lists.new.items ≡ map vec_items lists.old.items ++ kept_in passes.old }
+    ensures passes { passes.new ≡ with_none_kept passes.old }
+{
+    if let Some((pass, others)) = passes.split_first_mut() {
+        lists.push_reserved(pass.give_kept(alloc));
+        give_lists::<L>(alloc, others, lists);
+    }
+}
+
+/// The passes' seats are joined to one.
+pub(crate) fn gather<L: Layout>(board: &Board<L>, seat: &mut BoardSeat<L>, passes: Vec<Pass<L>>)
     requires ours { (seat.old.table_id ≡ board.now.shared.table_id) × (board.now.shared.table_id.words ≡ many_words) }
     requires crew { IsCrew seat.old.me }
     requires theirs { EachPlace (λ c pass. pass.table ≡ board.now.shared.table_id) passes.items }
-    requires room { vec_len lists.old + length passes.items ≤ vec_capacity lists.old }
     ensures ours { (seat.new.table_id ≡ seat.old.table_id) × (seat.new.id ≡ seat.old.id) }
     ensures crew { seat.new.me ≡ (Crew (crew_in seat.old.me.0 ++ views_of passes.items), []) }
-    ensures lists { map vec_items lists.new.items ≡ map vec_items lists.old.items ++ lists_in passes.items }
 {
     for pass in passes {
-        let Walker {
-            seat: own,
-            entries,
-            ..
-        } = pass;
+        let Walker { seat: own, .. } = pass;
         board.shared.join_seat::<Gather>(seat, own);
-        lists.push_reserved(entries);
     }
 }
 

@@ -3,10 +3,11 @@ ghost use Rattle.std.specs.Prelude.{◌≡◌, ◌<◌};
 ghost use Rattle.k42_board.specs.Drawing.{AreTold, numbers_of, stamp_next};
 ghost use Rattle.k42_board.specs.Handing.{MayHandAt, entry_done};
 ghost use Rattle.k42_board.specs.Protocol as protocol;
-ghost use Rattle.k42_board.specs.Seen.{IsOf};
+ghost use Rattle.k42_board.specs.Seen.{HasRoom, IsOf};
 ghost use Rattle.k42_board.specs.Stepping.{HasDrawn, layouts_in};
 
 use crate::begun::incarnation_at;
+use crate::keeping::store;
 use crate::pass::Pass;
 use crate::swapping::object_at;
 use crate::sys::Sys;
@@ -25,11 +26,11 @@ fn done_entry<L: Layout>(
     requires may { MayHandAt (layouts_in L.Layout sys.now) sys.now.layouts cells.now to.now answer pass.now.view }
     ensures { result ≡ entry_done sys.now.procs cells.now (L.act_of to.now) answer pass.now.view }
 {
-    let stamp = stamp_after(pass.entries.as_slice(), last_at(cells));
+    let stamp = stamp_after(pass.drew_last, last_at(cells));
     Entry {
         stamp,
         caller: pass.number,
-        index: pass.entries.len() as u32,
+        index: pass.drawn,
         object: object_at(&pass.swap),
         incarnation: incarnation_at(&pass.last),
         cell: number_at(cells, sys.procs as usize),
@@ -49,7 +50,7 @@ fn hand_at<L: Layout>(
     answer: Answer,
 ) -> u64
     requires ours { IsOf sys.now pass.old }
-    requires room { 0 < pass.old.room }
+    requires room { HasRoom pass.old }
     requires may { MayHandAt (layouts_in L.Layout sys.now) sys.now.layouts cells.old to.now answer pass.old.view }
     ensures stamp { result ≡ stamp_next pass.old.view (numbers_of cells.old) }
     ensures drawn { HasDrawn L.Layout sys.now
@@ -63,7 +64,9 @@ fn hand_at<L: Layout>(
     let procs = sys.procs as usize;
     tell_all(&sys.board, &mut pass.seat, cells, procs, true, stamp);
     pass.handed = Some(to.tag());
-    pass.entries.push_reserved(entry);
+    pass.drawn += 1;
+    pass.drew_last = stamp;
+    store(pass.keep, &mut pass.kept, entry);
     stamp
 }
 
@@ -76,7 +79,7 @@ pub fn draw_done<L: Layout>(
     answer: Answer,
 ) -> u64
     requires ours { IsOf sys.now pass.old }
-    requires room { 0 < pass.old.room }
+    requires room { HasRoom pass.old }
     requires may { MayHandAt (layouts_in L.Layout sys.now) sys.now.layouts cells.old.items to.now answer pass.old.view }
     ensures stamp { result ≡ stamp_next pass.old.view (numbers_of cells.old.items) }
     ensures drawn { HasDrawn L.Layout sys.now

@@ -1,13 +1,13 @@
 //! A pass: what one caller steps with.
-ghost use Rattle.std.specs.Prelude.{◌≡◌, ◌<◌, ◌≤◌, true, Some, length, slice_index, is_some, OnOk};
+ghost use Rattle.std.specs.Prelude.{◌≡◌, ◌<◌, ◌≤◌, ◌-◌, true, Some, drop, length, slice_index, is_some, IsOk, OnOk};
+ghost use Rattle.k42_board.specs.declared.keep.Keep.TheVariants as keeps;
 ghost use Rattle.k42_limits.specs.declared.TheConstants.{LAST_INCARNATION};
-ghost use Rattle.k42_stamp.specs.Lists.{IsListOf};
 ghost use Rattle.phase_core.specs.Stages.{named_by, object_named};
 ghost use Rattle.phase_core.specs.State.{note_at};
 ghost use Rattle.k42_rule.specs.Settled.{IsSettled};
 ghost use Rattle.k42_board.specs.Gracing.{FitsGrace};
 ghost use Rattle.k42_board.specs.Phases.{is_served};
-ghost use Rattle.k42_board.specs.Seen.{IsRoomier, inside_in, is_at_rest};
+ghost use Rattle.k42_board.specs.Seen.{HasRoom, IsRoomier, inside_in, is_at_rest, kept_by};
 ghost use Rattle.k42_board.specs.Swapping.{FitsSwap};
 ghost use Rattle.k42_board.specs.Values.{layout_in, incarnation_in};
 ghost use Rattle.k42_board.specs.Views.{object_begun, word_begun};
@@ -15,11 +15,13 @@ ghost use Rattle.k42_board.specs.Views.{object_begun, word_begun};
 use atomic_table::Seat;
 use crossbeam_queue::SegPass;
 use gen_core::GraceAt;
-use k42_board::{Carried, Content, Inside, LastBegin, Row, Slip, View, layout_in};
+use k42_board::{Carried, Content, Inside, Keep, LastBegin, Row, Slip, View, layout_in};
 use k42_kinds::{Entry, Layout};
 use k42_memory::Memory;
 use phase_core::{Place, SwapAt};
+use std::alloc::Global;
 use std::marker::Model;
+use std::mem::replace;
 
 #[derive(Drop)]
 pub struct Walker<P: Drop> {
@@ -35,7 +37,11 @@ pub struct Walker<P: Drop> {
     pub(crate) noted: Vec<Option<u32>>,
     pub(crate) freeing: Vec<(u32, u32)>,
     pub(crate) swap: SwapAt,
-    pub(crate) entries: Vec<Entry>,
+    /// How many entries it has drawn, and the stamp of the last.
+    pub(crate) drawn: u32,
+    pub(crate) drew_last: u64,
+    pub(crate) keep: Keep,
+    pub(crate) kept: Vec<Entry>,
     pub(crate) activities: u32,
     pub(crate) graces: u32,
     pub(crate) base: Option<u32>,
@@ -45,6 +51,8 @@ pub struct Walker<P: Drop> {
     pub(crate) handed: Option<u32>,
     pub(crate) rows: Vec<Row>,
     pub(crate) granted: usize,
+    // Passes that lie side by side are of several threads, which would share a cache line.
+    pub(crate) _apart: [u64; 16],
 }
 
 pub type Pass<L> = Walker<<L as Layout>::Part>;
@@ -54,12 +62,10 @@ impl<P: Drop> Model for Walker<P> {
     ghost use Rattle.std.specs.Option.{unwrap_or};
     ghost use Rattle.k42_limits.specs.declared.TheConstants.{LAST_INCARNATION};
     ghost use Rattle.phase_core.specs.Stages.{object_of, row_of, object_named};
-    ghost use Rattle.turn_core.specs.Stamps.{last_stamp};
-    ghost use Rattle.k42_stamp.specs.Lists.{IsListOf};
     ghost use Rattle.k42_board.specs.Gracing.{FitsGrace};
     ghost use Rattle.k42_board.specs.Queueing.{IsTied};
     ghost use Rattle.k42_board.specs.Seats.{LAST_STAMP};
-    ghost use Rattle.k42_board.specs.Seen.{PassSeen, Mirrors};
+    ghost use Rattle.k42_board.specs.Seen.{PassSeen, Mirrors, kept_by};
     ghost use Rattle.k42_board.specs.Swapping.{next_entry, FitsSwap};
     ghost use Rattle.k42_board.specs.Values.{layout_in, incarnation_in};
     ghost use Rattle.k42_board.specs.Views.{object_begun, pass_in, word_begun};
@@ -69,8 +75,9 @@ impl<P: Drop> Model for Walker<P> {
     ghost view = { λ p. record {
       table = p.seat.table_id;
       seat = p.seat.id;
+      keep = p.keep;
       view = pass_in p.seat.me.0;
-      room = vec_capacity p.entries - length p.entries.items;
+      room = vec_capacity p.kept - length p.kept.items;
       row_room = vec_capacity p.rows - length p.rows.items;
       queue = record { web = p.post.web; heap = p.post.heap };
       pushed = p.post.me.view.client.pushed;
@@ -84,7 +91,8 @@ impl<P: Drop> Model for Walker<P> {
       noted = p.noted.items;
       freeing = p.freeing.items;
       swap = p.swap;
-      mine = p.entries.items;
+      drawn = p.drawn;
+      drew_last = p.drew_last;
       activities = p.activities;
       graces = p.graces;
       base = p.base;
@@ -100,8 +108,8 @@ impl<P: Drop> Model for Walker<P> {
         × (row_of p.place ≤ LAST_INCARNATION)
         × (p.granted ≤ length p.rows.items)
         × FitsGrace p.grace p.base (length p.waits.items) × (unwrap_or p.base 0 + 1 < 2 ^ 32) × (unwrap_or p.coming 0 < 2 ^ 32)
-        × IsListOf p.number p.entries.items
-        × (last_stamp p.entries.items ≤ LAST_STAMP)
+        × (p.kept.items ≡ kept_by p.keep (pass_in p.seat.me.0).taker.mine)
+        × (p.drew_last ≤ LAST_STAMP)
         × FitsSwap p.swap p.turned p.handed p.last
         × (p.post.me.hand ≡ None) × (p.post.me.spare ≡ None) × IsTied p.seat.table_id p.post.me.view.client
         × (unwrap_or p.handed 0 ≤ 2) × (object_begun p.last < 16) };
@@ -165,12 +173,35 @@ impl<P: Drop> Walker<P> {
         self.coming
     }
 
-    /// Its entries, the oldest first.
-    pub fn entries(&self) -> &[Entry]
-        ensures are { result.now ≡ self.now.view.taker.mine }
-        ensures listed { IsListOf self.now.view.number self.now.view.taker.mine }
+    /// How many entries it has drawn.
+    pub fn drawn(&self) -> u32
+        ensures { result ≡ length self.now.view.taker.mine }
     {
-        self.entries.as_slice()
+        self.drawn
+    }
+
+    /// Which of its entries it keeps.
+    pub fn keep(&self) -> Keep
+        ensures { result ≡ self.now.keep }
+    {
+        self.keep
+    }
+
+    /// The entries that it keeps, the oldest first.
+    pub fn kept(&self) -> &[Entry]
+        ensures kept { result.now ≡ kept_by self.now.keep self.now.view.taker.mine }
+        ensures last { result.now ≡ drop (length self.now.view.taker.mine - length result.now) self.now.view.taker.mine }
+    {
+        self.kept.as_slice()
+    }
+
+    /// Gives away the entries that it has kept. It keeps none from now on.
+    pub(crate) fn give_kept(&mut self, alloc: Global) -> Vec<Entry>
+        ensures given { result.items ≡ kept_by self.old.keep self.old.view.taker.mine }
+        ensures stays { self.new ≡ record self.old { keep = keeps.Nothing; room = 0 } }
+    {
+        self.keep = Keep::Nothing;
+        replace(&mut self.kept, Vec::new(alloc))
     }
 
     /// How many activities it has begun.
@@ -288,12 +319,27 @@ impl<P: Drop> Walker<P> {
         layout_in(self.last.map_or(0, |begin| begin.word))
     }
 
+    /// Makes room for one more entry, for which who keeps none needs no memory. Where there is no memory it knows the
+    /// same.
+    pub fn reserve_entry(&mut self) -> Result<(), Memory>
+        ensures same { IsRoomier self.old self.new }
+        ensures rows { self.new.row_room ≡ self.old.row_room }
+        ensures ok { OnOk result (HasRoom self.new) }
+        ensures none { self.old.keep ≡ keeps.Nothing → IsOk result × (self.new ≡ self.old) }
+    {
+        if self.keep == Keep::All {
+            self.kept.reserve(1)?;
+        }
+        Ok(())
+    }
+
     /// Makes room for one more entry and one more row. Where there is no memory it knows the same.
     pub fn reserve(&mut self) -> Result<(), Memory>
         ensures same { IsRoomier self.old self.new }
-        ensures ok { OnOk result ((1 ≤ self.new.room) × (1 ≤ self.new.row_room)) }
+        ensures ok { OnOk result (HasRoom self.new × (1 ≤ self.new.row_room)) }
+        ensures none { self.old.keep ≡ keeps.Nothing → self.new.room ≡ self.old.room }
     {
-        self.entries.reserve(1)?;
+        self.reserve_entry()?;
         self.rows.reserve(1)?;
         Ok(())
     }

@@ -12,7 +12,7 @@ ghost use Rattle.k42_board.specs.declared.view.View.TheVariants.{Crew};
 
 use crate::pass::{Pass, Walker};
 use gen_core::GraceAt;
-use k42_board::{Another, Board, BoardSeat, Deal, Line, Post};
+use k42_board::{Another, Board, BoardSeat, Deal, Keep, Line, Post};
 use k42_kinds::Layout;
 use k42_memory::Memory;
 use phase_core::SwapAt;
@@ -26,6 +26,7 @@ fn deal<L: Layout>(
     root: &mut Post<L::Part>,
     procs: u32,
     objects: usize,
+    keep: Keep,
     number: u32,
     home: u32,
 ) -> Result<Pass<L>, Memory>
@@ -35,7 +36,7 @@ fn deal<L: Layout>(
     requires crew { (rest : List (PassView L.Part)) × (seat.old.me ≡ (Crew (new_pass procs objects number home ∷ rest), [])) }
     ensures ours { (seat.new.table_id ≡ seat.old.table_id) × (seat.new.me ≡ (dealer seat.old.me.0, [])) }
     ensures post { IsSegPassOf line.now root.new × IsTied board.now.shared.table_id root.new.me.view.client }
-    ensures dealt { IfOk result (λ pass. IsNewPass board.now.shared.table_id line.now procs objects number home pass) }
+    ensures dealt { IfOk result (λ pass. IsNewPass board.now.shared.table_id line.now keep procs objects number home pass) }
 {
     let post = line.another::<Another>(root);
     let own = board.shared.split_seat::<Deal>(seat);
@@ -56,7 +57,10 @@ fn deal<L: Layout>(
         noted,
         freeing,
         swap: SwapAt::Idle,
-        entries: Vec::new(alloc),
+        drawn: 0,
+        drew_last: 0,
+        keep,
+        kept: Vec::new(alloc),
         activities: 0,
         graces: 0,
         base: None,
@@ -66,6 +70,7 @@ fn deal<L: Layout>(
         handed: None,
         rows,
         granted: 0,
+        _apart: [0; 16],
     })
 }
 
@@ -77,6 +82,7 @@ pub(crate) fn deal_all<L: Layout>(
     root: &mut Post<L::Part>,
     procs: u32,
     objects: usize,
+    keep: Keep,
     homes: &[u32],
 ) -> Result<Vec<Pass<L>>, Memory>
     requires ours { (seat.old.table_id ≡ board.now.shared.table_id) × (board.now.shared.table_id.words ≡ many_words) }
@@ -84,7 +90,7 @@ pub(crate) fn deal_all<L: Layout>(
     requires post { IsSegPassOf line.now root.old × IsTied board.now.shared.table_id root.old.me.view.client }
     requires crew { seat.old.me ≡ (Crew (new_passes procs objects 0 homes.now), []) }
     requires homes { (length homes.now ≤ 16) × EachPlace (λ c home. home < 8) homes.now }
-    ensures { IfOk result (λ passes. AreDealt board.now.shared.table_id line.now procs objects homes.now passes.items) }
+    ensures { IfOk result (λ passes. AreDealt board.now.shared.table_id line.now keep procs objects homes.now passes.items) }
 {
     let mut passes = Vec::with_capacity(alloc, homes.len())?;
     for (number, home) in homes.iter().enumerate() {
@@ -96,6 +102,7 @@ pub(crate) fn deal_all<L: Layout>(
             root,
             procs,
             objects,
+            keep,
             number as u32,
             *home,
         )?;

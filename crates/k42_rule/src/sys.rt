@@ -1,5 +1,5 @@
 //! A system.
-ghost use Rattle.std.specs.Prelude.{◌≡◌, ◌<◌, ◌≤◌, Some, length, map, slice_get, vec_items, IfOk, IfErr};
+ghost use Rattle.std.specs.Prelude.{◌≡◌, ◌<◌, ◌≤◌, Some, length, slice_get, IfOk};
 ghost use Rattle.k42_limits.specs.declared.TheConstants.{OBJECTS, PROCESSORS};
 ghost use Rattle.k42_rule.specs.Finishing.{AreAtRest, AreLastLists, lists_in};
 ghost use Rattle.k42_rule.specs.Opened.{IsOpened};
@@ -12,8 +12,8 @@ use crate::finish::{close, gather};
 use crate::pass::{Pass, Walker};
 use crate::start::deal_all;
 use atomic_table::Table;
-use k42_board::{Board, Lane, Line, Setup, first_slots, first_words, tie_root};
-use k42_kinds::{Entry, Layout};
+use k42_board::{Board, Keep, Lane, Line, Setup, first_slots, first_words, tie_root};
+use k42_kinds::Layout;
 use k42_memory::Memory;
 use std::alloc::Global;
 use std::marker::Model;
@@ -24,14 +24,8 @@ pub struct Sys<L: Layout> {
     /// The layouts with which the objects were started.
     layouts: Vec<L>,
     pub(crate) procs: u32,
+    keep: Keep,
     pub(crate) lane: Lane<L::Part>,
-}
-
-/// There was no memory for the list of lists. The system and its passes are as they were.
-#[derive(Drop)]
-pub struct Unfinished<L: Layout> {
-    pub sys: Sys<L>,
-    pub passes: Vec<Pass<L>>,
 }
 
 impl<L: Layout> Model for Sys<L> {
@@ -48,6 +42,7 @@ impl<L: Layout> Model for Sys<L> {
     ghost view = { λ s. record {
       table = s.board.shared.table_id;
       queue = s.lane.line;
+      keep = s.keep;
       procs = s.board.shared.key.procs;
       layouts = s.board.shared.key.layouts.items;
       callers = s.board.shared.key.callers.items;
@@ -63,16 +58,18 @@ impl<L: Layout> Model for Sys<L> {
 }
 
 impl<L: Layout> Sys<L> {
-    /// A system with the declared layouts, and a pass for each caller on its processor.
+    /// A system with the declared layouts, and a pass for each caller on its processor, which keeps its entries so.
     pub fn start(
         alloc: Global,
         layouts: Vec<L>,
         procs: u32,
         callers: Vec<u32>,
+        keep: Keep,
     ) -> Result<(Sys<L>, Vec<Pass<L>>), Memory>
         requires start { IsStart L.tag_of layouts.items procs callers.items }
         requires tags { HaveTags L.has_tag layouts.items }
         ensures started { IfOk result (λ made. IsStarted layouts.items procs callers.items made.0 made.1.items) }
+        ensures keeps { IfOk result (λ made. made.0.keep ≡ keep) }
         ensures opened { IfOk result (λ made. IsOpened
             (layouts_of L.Layout procs callers.items)
             layouts.items callers.items) }
@@ -101,6 +98,7 @@ impl<L: Layout> Sys<L> {
             &mut root,
             procs,
             objects,
+            keep,
             setup.callers.as_slice(),
         )?;
         let Setup { layouts, .. } = setup;
@@ -108,37 +106,22 @@ impl<L: Layout> Sys<L> {
             board,
             layouts,
             procs,
+            keep,
             lane,
         };
         Ok((sys, passes))
     }
 
-    /// The entries of each caller, the oldest first.
-    pub fn finish(
-        self,
-        alloc: Global,
-        mut passes: Vec<Pass<L>>,
-    ) -> Result<Vec<Vec<Entry>>, Unfinished<L>>
+    /// Ends the system, and drops what its passes have kept. The lists that they have drawn are those of a state that
+    /// meets the whole invariant, in which everybody rests.
+    pub fn finish(self, mut passes: Vec<Pass<L>>)
         requires { AreAtRest self passes.items }
-        ensures lists { IfOk result (λ lists. map vec_items lists.items ≡ lists_in passes.items) }
-        ensures last { IfOk result (λ lists. AreLastLists
-            (layouts_in L.Layout self)
-            self.layouts (length self.callers) (map vec_items lists.items)) }
-        ensures err { IfErr result (λ back. (back.sys ≡ self) × (back.passes.items ≡ passes.items)) }
+        ensures { AreLastLists (layouts_in L.Layout self) self.layouts (length self.callers) (lists_in passes.items) }
     {
-        let Ok(mut lists) = Vec::with_capacity(alloc, passes.len()) else {
-            return Err(Unfinished { sys: self, passes });
-        };
         let Sys { board, .. } = self;
-        let Walker {
-            mut seat,
-            entries,
-            ..
-        } = passes.remove(0);
-        lists.push_reserved(entries);
-        gather(&board, &mut seat, &mut lists, passes);
+        let Walker { mut seat, .. } = passes.remove(0);
+        gather(&board, &mut seat, passes);
         close(board, seat);
-        Ok(lists)
     }
 
     pub fn procs(&self) -> u32

@@ -29,6 +29,7 @@ pub fn unlock<L: Layout>(sys: &Sys<L>, pass: &mut Pass<L>, cell: u32)
 }
 
 /// Takes a cell out of its slot. The first move of the slot is the Take, the second is no event.
+#[inline(always)]
 pub fn take<L: Layout>(sys: &Sys<L>, pass: &mut Pass<L>, cell: u32) -> Cell<L>
     requires ours { IsOf sys.now pass.old }
     requires may { HoldsHome cell pass.old.view }
@@ -41,6 +42,7 @@ pub fn take<L: Layout>(sys: &Sys<L>, pass: &mut Pass<L>, cell: u32) -> Cell<L>
 }
 
 /// Puts a cell back. The first move of the slot is no event, the second is the Put.
+#[inline(always)]
 pub fn put<L: Layout>(sys: &Sys<L>, pass: &mut Pass<L>, cell: u32, content: Cell<L>)
     requires ours { IsOf sys.now pass.old }
     requires may { MayPut (layouts_in L.Layout sys.now) sys.now.layouts pass.old.seat cell content pass.old.view }

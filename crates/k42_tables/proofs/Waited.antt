@@ -21,6 +21,7 @@ pub same_on : {P : Type 0} {old now new : PassSeen P} → IsSamePass old now →
 same_on first second = record {
   table = second.table ∙ first.table;
   seat = second.seat ∙ first.seat;
+  keep = second.keep ∙ first.keep;
   room = second.room ∙ first.room;
   row_room = second.row_room ∙ first.row_room;
   queue = second.queue ∙ first.queue;
@@ -49,11 +50,12 @@ ours_still sys o old now waits ours = record {
   objects = ap (λ (x : PassView _). length x.visitor.noted) waits.there ∙ ours.objects;
   spans = ap (λ (x : PassView _). length x.visitor.freeing) waits.there ∙ ours.spans;
   queue = waits.same.queue ∙ ours.queue;
+  keep = waits.same.keep ∙ ours.keep;
 }
 
 pub waits_from : {P : Type 0} (o : ℕ) (old : PassSeen P) → IsWaiting o old old
 waits_from o old = record {
-  same = record { table = refl; seat = refl; room = refl; row_room = refl; queue = refl; pushed = refl; popped = refl };
+  same = record { table = refl; seat = refl; keep = refl; room = refl; row_room = refl; queue = refl; pushed = refl; popped = refl };
   tries = [];
   there = refl;
 }

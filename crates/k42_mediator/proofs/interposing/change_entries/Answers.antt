@@ -17,6 +17,7 @@ loop-proc-preserved g c = (
   (let same = c.loop-proc.invariant.0 in let next = c.entry_step.ensures.same in record {
     table = next.table ∙ same.table;
     seat = next.seat ∙ same.seat;
+    keep = next.keep ∙ same.keep;
     room = next.room ∙ same.room;
     row_room = next.row_room ∙ same.row_room;
     queue = next.queue ∙ same.queue;

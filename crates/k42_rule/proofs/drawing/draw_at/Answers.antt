@@ -1,4 +1,5 @@
-use Rattle.std.proofs.Common.{rules, ◌≡◌, ◌≤◌, [], ◌∷◌, List, length, ap, sym, subst, refl, ◌∙◌, arith}
+use Rattle.std.proofs.Common.{rules, ◌≡◌, ◌+◌, ◌≤◌, [], ◌∷◌, List, vec_capacity, ap, sym, subst, refl, ◌∙◌}
+use Rattle.std.specs.Prelude.{max}
 use Rattle.k42_board.specs.Drawing.{AreHeld, AreTold, MayDrawAs, numbers_of, untold_view, stamp_next}
 use Rattle.phase_core.specs.Stages.{object_of, row_of}
 use Rattle.k42_board.specs.Plan.{layouts_on}
@@ -12,7 +13,7 @@ use Rattle.k42_board.specs.declared.view.Note.{Note}
 use Rattle.k42_board.proofs.DrawnCall.{drawn_held, drawn_call}
 use Rattle.k42_board.proofs.Noted.{all_due, call_entry, stamp_held, last_push}
 use Rattle.k42_rule.proofs.Drawn.{knows_drawn, takes_drawn}
-use Rattle.k42_rule.proofs.Pushed.{list_drawn, small_drawn, mirrors_drawn}
+use Rattle.k42_rule.proofs.Pushed.{drawer_is, kept_drawn, mirrors_drawn}
 use Rattle.k42_rule.proofs.drawing.draw_at.Goals as goal
 
 pub call_word-requires-clause-may : goal.call_word-requires-clause-may
@@ -20,15 +21,15 @@ call_word-requires-clause-may g c κs within =
     let F = layouts_on g.L.Kind.object g.L.Layout.tag_of g.L.Layout.ways g.L.Layout.whole g.L.Layout.serves g.L.Layout.admitted g.L.Layout.act_of c.args.sys.now.procs c.args.sys.now.callers in
     let v = pass_in c.pass.inside.seat.me.0 in let cells = c.args.cells.now in let own = c.pass.invariant.0.own_is in
     let held = subst (λ (p : PassSeen _). AreHeld p.view.notes cells) (sym c.pass.view_is) (drawn_held F c.args.sys.now.layouts c.args.pass.now.view cells c.args.act c.args.answer c.requires.may) in
-    let mine = ap (λ (o : Own). o.mine) own in record {
+    record {
       here = search rules;
       may = (
         subst (λ (z : SysSeen _ × PassSeen _). MayDrawAs
             (layouts_on g.L.Kind.object g.L.Layout.tag_of g.L.Layout.ways g.L.Layout.whole g.L.Layout.serves g.L.Layout.admitted g.L.Layout.act_of z.0.procs z.0.callers)
             z.0.layouts cells c.args.act c.args.answer z.1.view) (λ j. (sym c.sys.view_is j, sym c.pass.view_is j)) c.requires.may,
-        call_entry v (numbers_of cells) c.args.act c.args.answer c.stamp_after-stamp.result c.pass.inside.number c.len.result c.object_in.result c.row_in.result c.first_of.result c.pass.inside.home c.pass.inside.active
-            (stamp_held v cells c.as_slice.result.now c.stamp_after-stamp.result c.last_at.result held (c.as_slice.ensures.value ∙ mine) c.last_at.ensures.told c.stamp_after-stamp.ensures)
-            (ap (λ (o : Own). o.number) own) (let is = c.len.ensures in let long = c.pass.inside.entries.ok.0 in let many = ap length mine in omega (arith, is, long, many)) (c.object_in.ensures ∙ ap (λ (o : Own). object_of o.place) own) (c.row_in.ensures ∙ ap (λ (o : Own). row_of o.place) own)
+        call_entry v (numbers_of cells) c.args.act c.args.answer c.stamp_after-stamp.result c.pass.inside.number c.pass.inside.drawn c.object_in.result c.row_in.result c.first_of.result c.pass.inside.home c.pass.inside.active
+            (stamp_held v cells v.taker.mine c.stamp_after-stamp.result c.last_at.result held refl c.last_at.ensures.told (c.stamp_after-stamp.ensures ∙ ap (λ (o : Own). max o.drew_last c.last_at.result + 1) own))
+            (ap (λ (o : Own). o.number) own) (ap (λ (o : Own). o.drawn) own) (c.object_in.ensures ∙ ap (λ (o : Own). object_of o.place) own) (c.row_in.ensures ∙ ap (λ (o : Own). row_of o.place) own)
             c.first_of.ensures.first (ap (λ (o : Own). o.turn.proc) own) (ap (λ (o : Own). o.turn.active) own)
             (drawn_call F c.args.sys.now.layouts c.args.pass.now.view cells c.args.act c.args.answer c.requires.may),
       );
@@ -56,22 +57,21 @@ returns-clause-stamp g c =
     let v = pass_in c.pass.inside.seat.me.0 in let cells = c.args.cells.now in let own = c.pass.invariant.0.own_is in
     let held = subst (λ (p : PassSeen _). AreHeld p.view.notes cells) (sym c.pass.view_is) (drawn_held F c.args.sys.now.layouts c.args.pass.now.view cells c.args.act c.args.answer c.requires.may) in
     subst (λ (p : PassSeen _). c.stamp_after-stamp.result ≡ stamp_next p.view (numbers_of cells)) c.pass.view_is
-    (stamp_held v cells c.as_slice.result.now c.stamp_after-stamp.result c.last_at.result held (c.as_slice.ensures.value ∙ ap (λ (o : Own). o.mine) own) c.last_at.ensures.told c.stamp_after-stamp.ensures)
+    (stamp_held v cells v.taker.mine c.stamp_after-stamp.result c.last_at.result held refl c.last_at.ensures.told (c.stamp_after-stamp.ensures ∙ ap (λ (o : Own). max o.drew_last c.last_at.result + 1) own))
 
 pub returns-clause-drawn : goal.returns-clause-drawn
 returns-clause-drawn g c =
     let F = layouts_on g.L.Kind.object g.L.Layout.tag_of g.L.Layout.ways g.L.Layout.whole g.L.Layout.serves g.L.Layout.admitted g.L.Layout.act_of c.args.sys.now.procs c.args.sys.now.callers in
     let seat = c.pass.inside.seat in let v = pass_in seat.me.0 in let cells = c.args.cells.now in let own = c.pass.invariant.0.own_is in
     let held = subst (λ (p : PassSeen _). AreHeld p.view.notes cells) (sym c.pass.view_is) (drawn_held F c.args.sys.now.layouts c.args.pass.now.view cells c.args.act c.args.answer c.requires.may) in
-    let mine = ap (λ (o : Own). o.mine) own in
     let entry =
-    call_entry v (numbers_of cells) c.args.act c.args.answer c.stamp_after-stamp.result c.pass.inside.number c.len.result c.object_in.result c.row_in.result c.first_of.result c.pass.inside.home c.pass.inside.active
-    (stamp_held v cells c.as_slice.result.now c.stamp_after-stamp.result c.last_at.result held (c.as_slice.ensures.value ∙ mine) c.last_at.ensures.told c.stamp_after-stamp.ensures)
-    (ap (λ (o : Own). o.number) own) (let is = c.len.ensures in let long = c.pass.inside.entries.ok.0 in let many = ap length mine in omega (arith, is, long, many)) (c.object_in.ensures ∙ ap (λ (o : Own). object_of o.place) own) (c.row_in.ensures ∙ ap (λ (o : Own). row_of o.place) own)
+    call_entry v (numbers_of cells) c.args.act c.args.answer c.stamp_after-stamp.result c.pass.inside.number c.pass.inside.drawn c.object_in.result c.row_in.result c.first_of.result c.pass.inside.home c.pass.inside.active
+    (stamp_held v cells v.taker.mine c.stamp_after-stamp.result c.last_at.result held refl c.last_at.ensures.told (c.stamp_after-stamp.ensures ∙ ap (λ (o : Own). max o.drew_last c.last_at.result + 1) own))
+    (ap (λ (o : Own). o.number) own) (ap (λ (o : Own). o.drawn) own) (c.object_in.ensures ∙ ap (λ (o : Own). object_of o.place) own) (c.row_in.ensures ∙ ap (λ (o : Own). row_of o.place) own)
     c.first_of.ensures.first (ap (λ (o : Own). o.turn.proc) own) (ap (λ (o : Own). o.turn.active) own)
     (drawn_call F c.args.sys.now.layouts c.args.pass.now.view cells c.args.act c.args.answer c.requires.may) in
     let taken = c.call_word.ensures in record {
-      drawer = let one = taken 0 in search (rules, one);
+      drawer = drawer_is _ _ _ c.pass.inside.kept.items c.store.new.kept.items _ (vec_capacity c.pass.inside.kept) (vec_capacity c.store.new.kept) c.pass.view_is c.requires.room (c.tell_all.ensures.ours.0 ∙ (taken 0).table) (c.tell_all.ensures.ours.1 ∙ (taken 0).seat) refl refl refl c.store.ensures.kept c.store.ensures.capacity refl refl refl refl;
       knows = rw (← c.pass.view_is, ← entry) (knows_drawn _ c.call_word.new.seat.me c.tell_all.new.seat.me (taken 0).alone c.tell_all.ensures.seated);
       takes = λ found. rw (← c.pass.view_is, ← c.sys.view_is, ← entry) (takes_drawn _ c.call_word.new.seat.me c.tell_all.new.seat.me (taken 0).alone c.tell_all.ensures.seated _ refl found (taken found).takes);
     }
@@ -84,10 +84,10 @@ returns-clause-told g c =
 pub invariant_of-pass : goal.invariant_of-pass
 invariant_of-pass g c =
     let old = c.pass.invariant in let v = pass_in c.pass.inside.seat.me.0 in
-    let taken = c.call_word.ensures 0 in let told = taken.alone in let pushed = c.push_reserved.ensures.items in
+    let taken = c.call_word.ensures 0 in let told = taken.alone in
     let small = subst (λ z. z ≤ LAST_STAMP) (last_push v.taker.mine _) taken.takes.finds in
     let seated = c.tell_all.ensures.seated ∙ (λ i. (Crew (untold_view [] (pass_in (told i).0) ∷ []), [])) in (
-      mirrors_drawn _ c.pass.inside.seat.me c.tell_all.new.seat.me _ _ _ old.0 seated refl refl refl pushed,
+      mirrors_drawn _ c.pass.inside.seat.me c.tell_all.new.seat.me _ _ old.0 seated refl refl refl,
       old.1,
       old.2,
       old.3,
@@ -101,8 +101,8 @@ invariant_of-pass g c =
       old.11,
       old.12,
       old.13,
-      list_drawn c.pass.inside.number c.pass.inside.entries.items c.as_slice.result.now c.push_reserved.new.self.items _ c.last_at.result old.14 c.as_slice.ensures.value c.stamp_after-stamp.ensures refl pushed,
-      small_drawn c.pass.inside.entries.items c.push_reserved.new.self.items _ pushed small,
+      kept_drawn c.pass.inside.keep c.pass.inside.kept.items c.store.new.kept.items v _ c.tell_all.new.seat.me _ old.14 c.store.ensures.kept seated refl,
+      small,
       old.16,
       old.17,
       old.18,

@@ -1,4 +1,4 @@
-use Rattle.std.proofs.Common.{rules, ◌≤◌, [], ◌∷◌, refl, sym, ap, subst, ◌∙◌}
+use Rattle.std.proofs.Common.{rules, ◌≤◌, [], ◌∷◌, vec_capacity, refl, sym, ap, subst, ◌∙◌}
 use Rattle.k42_board.specs.Drawing.{IsHeld, untold_view}
 use Rattle.k42_board.specs.Queueing.{IsTied}
 use Rattle.k42_board.specs.Receipts.{IsDue, after_first}
@@ -10,7 +10,7 @@ use Rattle.k42_board.specs.declared.view.View.TheVariants.{Crew}
 use Rattle.k42_board.proofs.Noted.{mark_due, last_push}
 use Rattle.k42_rule.proofs.Drawn.{knows_drawn, takes_drawn}
 use Rattle.k42_rule.proofs.Entries.{mark_entry}
-use Rattle.k42_rule.proofs.Pushed.{list_drawn, small_drawn, mirrors_drawn}
+use Rattle.k42_rule.proofs.Pushed.{drawer_is, kept_drawn, mirrors_drawn}
 use Rattle.k42_rule.proofs.drawing.draw_mark.Goals as goal
 
 pub tell_cell-requires-clause-ours : goal.tell_cell-requires-clause-ours
@@ -33,10 +33,10 @@ pub returns-clause-drawn : goal.returns-clause-drawn
 returns-clause-drawn g c =
     let taken = c.mark_word.ensures in let seat = c.pass.inside.seat in let v = pass_in seat.me.0 in
     let entry =
-    mark_entry v _ c.pass.invariant.0.own_is c.args.act c.args.answer c.requires.may.act_is c.stamp_after-stamp.result c.len.result c.object_begun_in.result c.incarnation_at.result
-    (c.len.ensures ∙ c.pass.inside.entries.ok.0) c.object_begun_in.ensures c.number.result c.args.cell.now.number (search rules) (search rules) (search rules) in
+    mark_entry v _ c.pass.invariant.0.own_is c.args.act c.args.answer c.requires.may.act_is c.stamp_after-stamp.result c.pass.inside.drawn c.object_begun_in.result c.incarnation_at.result
+    refl c.object_begun_in.ensures c.number.result c.args.cell.now.number (search rules) (search rules) (search rules) in
     let told = c.tell_cell.ensures.seated ∙ ap (λ (m : Seated _). (Crew (untold_view (after_first (pass_in m.0).untold) (pass_in c.mark_word.new.seat.me.0) ∷ []), [])) (taken 0).alone in record {
-      drawer = let one = taken 0 in search (rules, one);
+      drawer = drawer_is _ _ _ c.pass.inside.kept.items c.store.new.kept.items _ (vec_capacity c.pass.inside.kept) (vec_capacity c.store.new.kept) c.pass.view_is c.requires.room (c.tell_cell.ensures.ours.0 ∙ (taken 0).table) (c.tell_cell.ensures.ours.1 ∙ (taken 0).seat) refl refl refl c.store.ensures.kept c.store.ensures.capacity refl refl refl refl;
       knows = rw (← c.pass.view_is, ← entry) (knows_drawn _ c.mark_word.new.seat.me c.tell_cell.new.seat.me (taken 0).alone told);
       takes = λ found. rw (← c.pass.view_is, ← c.sys.view_is, ← entry) (takes_drawn _ c.mark_word.new.seat.me c.tell_cell.new.seat.me (taken 0).alone told _ refl found (taken found).takes);
     }
@@ -45,10 +45,10 @@ returns-clause-drawn g c =
 pub invariant_of-pass : goal.invariant_of-pass
 invariant_of-pass g c =
     let old = c.pass.invariant in let v = pass_in c.pass.inside.seat.me.0 in
-    let taken = c.mark_word.ensures 0 in let told = taken.alone in let pushed = c.push_reserved.ensures.items in
+    let taken = c.mark_word.ensures 0 in let told = taken.alone in
     let small = subst (λ z. z ≤ LAST_STAMP) (last_push v.taker.mine _) taken.takes.finds in
     let seated = c.tell_cell.ensures.seated ∙ (λ i. (Crew (untold_view (after_first (pass_in (told i).0).untold) (pass_in (told i).0) ∷ []), [])) in (
-      mirrors_drawn _ c.pass.inside.seat.me c.tell_cell.new.seat.me _ _ _ old.0 seated refl refl refl pushed,
+      mirrors_drawn _ c.pass.inside.seat.me c.tell_cell.new.seat.me _ _ old.0 seated refl refl refl,
       old.1,
       old.2,
       old.3,
@@ -62,8 +62,8 @@ invariant_of-pass g c =
       old.11,
       old.12,
       old.13,
-      list_drawn c.pass.inside.number c.pass.inside.entries.items c.as_slice.result.now c.push_reserved.new.self.items _ c.last_stamp.result old.14 c.as_slice.ensures.value c.stamp_after-stamp.ensures refl pushed,
-      small_drawn c.pass.inside.entries.items c.push_reserved.new.self.items _ pushed small,
+      kept_drawn c.pass.inside.keep c.pass.inside.kept.items c.store.new.kept.items v _ c.tell_cell.new.seat.me _ old.14 c.store.ensures.kept seated refl,
+      small,
       old.16,
       old.17,
       old.18,

@@ -1,7 +1,7 @@
 use Rattle.std.proofs.Common.{rules, ◌≡◌, [], ◌∷◌, drop, length, arith, sym, ap, ◌∙◌, subst}
 use Rattle.std.specs.Prelude.{replicate}
 use Rattle.k42_board.specs.Queueing.{IsTied}
-use Rattle.k42_board.specs.Seen.{Own, own_in}
+use Rattle.k42_board.specs.Seen.{Own, own_in, kept_by}
 use Rattle.k42_board.specs.Views.{pass_in}
 use Rattle.k42_board.specs.declared.view.PassView.{PassView}
 use Rattle.k42_board.specs.declared.view.View.TheVariants.{Crew}
@@ -41,7 +41,7 @@ invariant_of-pass g c =
       tt,
       old.12,
       old.13,
-      old.14,
+      old.14 ∙ ap (λ (x : PassView _). kept_by c.pass.inside.keep x.taker.mine) (sym is),
       old.15,
       old.16,
       old.17,

@@ -7,7 +7,7 @@ use Rattle.k42_board.specs.Swapping.{next_entry}
 use Rattle.std.specs.Option.{unwrap_or}
 use Rattle.k42_board.specs.Views.{pass_in}
 use Rattle.k42_rule.proofs.Fitting.{fits_draining}
-use Rattle.k42_rule.proofs.RoleTaken.{draining_named, draining_next, noted_anew, role_mirrors}
+use Rattle.k42_rule.proofs.RoleTaken.{draining_named, draining_next, noted_anew, role_keeps, role_mirrors}
 use Rattle.k42_rule.proofs.gracing.take_role.Goals as goal
 
 pub invariant_of-pass : goal.invariant_of-pass
@@ -30,7 +30,7 @@ invariant_of-pass g c =
       (subst (λ (o : Own). 0 < length o.turn.waits) (sym was.0.own_is) c.take_role_word-found.ensures.takes.finds.procs, λ some. absurd (omega (arith, some))),
       omega arith,
       was.13,
-      was.14,
+      was.14 ∙ sym (role_keeps v pass.keep c.take_role_word-found.new.seat.me c.take_role_word-found.result c.take_role_word-found.ensures.alone c.if-found-eq0.true),
       was.15,
       fits_draining pass.swap pass.turned pass.handed pass.last was.16 c.draining-pass-inside.result swap_is,
       was.17,

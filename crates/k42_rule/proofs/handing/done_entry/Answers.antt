@@ -1,7 +1,6 @@
-use Rattle.std.proofs.Common.{◌≡◌, ◌+◌, cond, None, length, drop, sym, ap, ◌∙◌}
+use Rattle.std.proofs.Common.{◌≡◌, ◌+◌, cond, None, drop, sym, ap, ◌∙◌}
 use Rattle.std.specs.Prelude.{max}
 use Rattle.phase_core.specs.Stages.{object_named}
-use Rattle.turn_core.specs.Stamps.{last_stamp}
 use Rattle.k42_joined.specs.Drawing.{first_cell}
 use Rattle.k42_board.specs.Drawing.{numbers_of}
 use Rattle.k42_board.specs.Plan.{layouts_on}
@@ -24,10 +23,10 @@ returns g c =
     λ j. record {
       stamp =
           (c.stamp_after-stamp.ensures
-          ∙ (λ k. max (last_stamp ((c.as_slice.ensures.value ∙ ap (λ (o : Own). o.mine) own) k)) (c.last_at.ensures.told k) + 1)
+          ∙ (λ k. max (ap (λ (o : Own). o.drew_last) own k) (c.last_at.ensures.told k) + 1)
           ∙ stamp_is F sys.layouts cells c.args.to.now c.args.answer v c.requires.may) j;
       caller = ap (λ (o : Own). o.number) own j;
-      index = (c.len.ensures ∙ c.pass.inside.entries.ok.0 ∙ ap (λ (o : Own). length o.mine) own) j;
+      index = ap (λ (o : Own). o.drawn) own j;
       object = (c.object_at.ensures ∙ ap (λ (o : Own). object_named o.swap) own) j;
       incarnation = (c.incarnation_at.ensures ∙ ap (λ (o : Own). incarnation_in (word_begun o.last)) own) j;
       cell = (c.number_at.ensures.is ∙ ap (λ n. first_cell (numbers_of (drop n cells))) procs) j;

@@ -1,4 +1,4 @@
-use Rattle.std.proofs.Common.{rules, ◌≡◌, ℕ, ◌≤◌, true, List, ◌++◌, Some, take, drop, sym, ap, ◌∙◌, subst}
+use Rattle.std.proofs.Common.{rules, refl, ◌≡◌, ℕ, ◌≤◌, true, List, ◌++◌, Some, vec_capacity, take, drop, sym, ap, ◌∙◌, subst}
 use Rattle.k42_kinds.specs.declared.entry.Entry.{Entry}
 use Rattle.k42_joined.specs.Drawing.{first_cell}
 use Rattle.phase_core.specs.Stages.{is_moved}
@@ -8,10 +8,8 @@ use Rattle.k42_board.specs.Log.{took}
 use Rattle.k42_board.specs.Plan.{layouts_on}
 use Rattle.k42_board.specs.Queueing.{IsTied}
 use Rattle.k42_board.specs.Receipts.{AreDue}
-use Rattle.turn_core.specs.Stamps.{last_stamp}
-use Rattle.k42_stamp.specs.Lists.{IsListOf}
 use Rattle.k42_board.specs.Seats.{LAST_STAMP}
-use Rattle.k42_board.specs.Seen.{IsSeatOf, SysSeen, PassSeen, Own, own_in}
+use Rattle.k42_board.specs.Seen.{IsSeatOf, SysSeen, PassSeen, Own, own_in, kept_by}
 use Rattle.k42_board.specs.Steps.{Seated}
 use Rattle.k42_board.specs.Views.{pass_in}
 use Rattle.k42_board.specs.Words.{lock_word}
@@ -19,10 +17,12 @@ use Rattle.k42_board.specs.declared.cell.Content.{Content}
 use Rattle.k42_board.specs.declared.view.Note.{Note}
 use Rattle.k42_board.specs.declared.view.PassView.{PassView}
 use Rattle.k42_board.specs.declared.view.StepName.TheVariants as steps
+use Rattle.k42_board.proofs.Noted.{last_push}
 use Rattle.k42_rule.proofs.Drawn.{knows_drawn, takes_drawn}
 use Rattle.k42_rule.proofs.Fitting.{fits_handed}
 use Rattle.k42_rule.proofs.HandedCells.{all_numbers}
-use Rattle.k42_rule.proofs.HandedSeat.{untold_is, due_is, mirrors_is, stamp_told, list_is, small_is}
+use Rattle.k42_rule.proofs.HandedSeat.{untold_is, due_is, mine_is, mirrors_is, stamp_told}
+use Rattle.k42_rule.proofs.Pushed.{drawer_is, kept_drawn, longer_drawn, last_drawn}
 use Rattle.k42_rule.proofs.handing.hand_at.Goals as goal
 
 -- what the step has told, of the view that the caller sees
@@ -69,7 +69,7 @@ invariant_of-pass g c =
     (ap (λ (s : SysSeen _). s.procs) c.sys.view_is) same (taken.alone, taken.takes.finds) in
     let old = c.pass.invariant in
     let own = old.0.own_is ∙ ap own_in same in
-    let pushed = c.push_reserved.ensures.items in (
+    let mine_now = mine_is F sys.layouts cells c.args.to.now c.args.answer v c.requires.may entry tag c.hand_word.new.seat.me (lock_word (first_cell (numbers_of cells))) told.0 in (
       mirrors_is F sys.layouts cells c.args.to.now c.args.answer v c.requires.may entry tag c.hand_word.new.seat.me (lock_word (first_cell (numbers_of cells))) told.0 c.tell_all.new.seat.me c.tell_all.ensures.seated
           c.pass.inside.seat.me _ _ old.0 same (λ j. record (own_in (pass_in c.pass.inside.seat.me.0)) {
             number = c.pass.inside.number;
@@ -78,7 +78,8 @@ invariant_of-pass g c =
             noted = c.pass.inside.noted.items;
             freeing = c.pass.inside.freeing.items;
             swap = c.pass.inside.swap;
-            mine = pushed j;
+            drawn = longer_drawn v.taker.mine entry c.pass.inside.drawn (ap (λ (o : Own). o.drawn) own) j;
+            drew_last = last_drawn v.taker.mine entry j;
             activities = c.pass.inside.activities;
             graces = c.pass.inside.graces;
             base = c.pass.inside.base;
@@ -102,10 +103,8 @@ invariant_of-pass g c =
       old.11,
       old.12,
       old.13,
-      subst (λ (mine : List Entry). IsListOf c.pass.inside.number mine) (sym pushed)
-          (list_is F sys.layouts cells c.args.to.now c.args.answer v c.requires.may entry tag (g.L.Layout.act_of c.args.to.now) c.done_entry-entry.ensures _ own old.14),
-      subst (λ (mine : List Entry). last_stamp mine ≤ LAST_STAMP) (sym pushed)
-          (small_is F sys.layouts cells c.args.to.now c.args.answer v c.requires.may entry tag told.1 _ own),
+      kept_drawn c.pass.inside.keep c.pass.inside.kept.items c.store.new.kept.items v entry c.tell_all.new.seat.me _ (old.14 ∙ ap (λ (x : PassView _). kept_by c.pass.inside.keep x.taker.mine) same) c.store.ensures.kept c.tell_all.ensures.seated mine_now,
+      subst (λ z. z ≤ LAST_STAMP) (last_push v.taker.mine entry) told.1,
       fits_handed c.pass.inside.swap c.pass.inside.turned c.pass.inside.handed c.pass.inside.last old.16 _
           (ap (λ (o : Own). is_moved o.swap) own ∙ ap is_moved c.requires.may.moved),
       old.17,
@@ -134,7 +133,7 @@ returns-clause-drawn g c =
     let all =
     subst (λ n. numbers_of (take n cells) ++ numbers_of (drop n cells) ≡ numbers_of cells) (sym procs)
     (all_numbers F sys.layouts cells c.args.to.now c.args.answer v c.requires.may) in record {
-      drawer = let one = taken 0 in search (rules, one);
+      drawer = drawer_is _ _ _ c.pass.inside.kept.items c.store.new.kept.items _ (vec_capacity c.pass.inside.kept) (vec_capacity c.store.new.kept) c.pass.view_is c.requires.room (c.tell_all.ensures.ours.0 ∙ (taken 0).table) (c.tell_all.ensures.ours.1 ∙ (taken 0).seat) refl refl refl c.store.ensures.kept c.store.ensures.capacity refl refl refl refl;
       knows = rw (← c.done_entry-entry.ensures, ← c.pass.view_is, ← c.sys.view_is) (knows_drawn _ c.hand_word.new.seat.me c.tell_all.new.seat.me (taken 0).alone c.tell_all.ensures.seated);
       takes = λ found. rw (← c.done_entry-entry.ensures, ← c.pass.view_is, ← c.sys.view_is) (takes_drawn _ c.hand_word.new.seat.me c.tell_all.new.seat.me (taken 0).alone c.tell_all.ensures.seated _ all found (taken found).takes);
     }

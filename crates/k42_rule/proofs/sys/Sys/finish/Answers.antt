@@ -1,10 +1,9 @@
-use Rattle.std.proofs.Common.{rules, ◌≡◌, ℕ, suc, ◌<◌, List, ◌∷◌, Some, length, map, vec_items, sym, ap, ◌∙◌, subst, arith}
+use Rattle.std.proofs.Common.{refl, ◌≡◌, ℕ, suc, ◌<◌, List, ◌∷◌, Some, length, sym, ap, ◌∙◌, subst, arith}
 use Rattle.std.specs.List.{slice_get}
 use Rattle.k42_rule.specs.Finishing.{AreAtRest, AreLastLists, lists_in}
 use Rattle.k42_board.specs.Plan.{layouts_on}
-use Rattle.k42_board.specs.Seen.{SysSeen, PassSeen, Own}
+use Rattle.k42_board.specs.Seen.{SysSeen, PassSeen}
 use Rattle.k42_board.specs.Views.{pass_in}
-use Rattle.k42_board.specs.declared.view.PassView.{PassView}
 use mathlib.Core.Option.{some}
 use Rattle.k42_rule.proofs.Ending.{are_last, first_removed, all_views}
 use Rattle.k42_rule.proofs.sys.Sys.finish.Goals as goal
@@ -39,21 +38,18 @@ close-requires-after_bounds g c κs within =
     (λ lt. first_removed _ _ _ lt c.remove.ensures.value c.remove.ensures.items) in
     c.gather.ensures.ours.0 ∙ ap (λ (p : PassSeen _). p.table) c.seat.view_is ∙ parts.1
 
-pub returns-clause-last : goal.returns-clause-last
-returns-clause-last g c =
+pub returns : goal.returns
+returns g c =
     let parts = parted c.args.self _ c.args.passes.items c.remove.new.self.items c.remove.result c.self.view_is c.requires c.self.invariant.6
     (λ lt. first_removed _ _ _ lt c.remove.ensures.value c.remove.ensures.items) in
     let mirrors = c.seat.invariant.0 in let own = c.seat.inside.seat.me in
     let same : pass_in own.0 ≡ c.remove.result.view = ap (λ (p : PassSeen _). p.view) c.seat.view_is in
     let crew = all_views c.args.passes.items c.remove.new.self.items c.remove.result own c.gather.new.seat.me parts.0 mirrors.seat same c.gather.ensures.crew in
-    let entries : c.seat.inside.entries.items ≡ c.remove.result.view.taker.mine =
-    ap (λ (o : Own). o.mine) mirrors.own_is ∙ ap (λ (v : PassView _). v.taker.mine) same in
-    let lists : map vec_items c.gather.new.lists.items ≡ lists_in c.args.passes.items = search rules in
     let closed = c.close.ensures in
     subst
     (λ (s : SysSeen _). AreLastLists
     (layouts_on g.L.Kind.object g.L.Layout.tag_of g.L.Layout.ways g.L.Layout.whole g.L.Layout.serves g.L.Layout.admitted g.L.Layout.act_of s.procs s.callers)
-    s.layouts (length s.callers) (map vec_items c.gather.new.lists.items))
+    s.layouts (length s.callers) (lists_in c.args.passes.items))
     c.self.view_is
     (are_last _ _ _ c.args.passes.items (subst (λ (s : SysSeen _). AreAtRest s c.args.passes.items) (sym c.self.view_is) c.requires) c.gather.new.seat.id closed.0
-    (closed.1.0, closed.1.1 ∙ ap some crew) (map vec_items c.gather.new.lists.items) lists)
+    (closed.1.0, closed.1.1 ∙ ap some crew) (lists_in c.args.passes.items) refl)

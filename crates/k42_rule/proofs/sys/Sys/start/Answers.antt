@@ -78,8 +78,8 @@ returns-clause-started g c =
     let procs : ℕ = c.args.procs in let objects : ℕ = c.len-objects.result in
     let many : objects ≡ length c.args.layouts.items = c.len-objects.ensures ∙ c.args.layouts.ok.0 in
     let queue = c.in-Ok.line in
-    let dealt : AreDealt table queue procs (length c.args.layouts.items) c.args.callers.items passes =
-    subst (λ (z : ℕ × List ℕ). AreDealt table queue procs z.0 z.1 passes) (λ i. (many i, c.as_slice-3.ensures.value i)) c.in_ok-passes.ensures in
+    let dealt : AreDealt table queue c.args.keep procs (length c.args.layouts.items) c.args.callers.items passes =
+    subst (λ (z : ℕ × List ℕ). AreDealt table queue c.args.keep procs z.0 z.1 passes) (λ i. (many i, c.as_slice-3.ensures.value i)) c.in_ok-passes.ensures in
     is_started c.args.layouts.items procs c.args.callers.items _ passes (ap (λ k. k.procs) key) (ap (λ k. k.layouts.items) key) (ap (λ k. k.callers.items) key)
     c.requires.start.turns.placed dealt
 
