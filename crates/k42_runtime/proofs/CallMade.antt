@@ -24,12 +24,13 @@ use Rattle.k42_stamp.specs.Layouts.{Layouts}
 use Rattle.k42_joined.specs.Numbers.{cell_of, row_cells}
 use Rattle.k42_joined.specs.Rows.{cells_reached}
 use Rattle.k42_board.specs.Cells.{cells_noted}
-use Rattle.k42_board.specs.Drawing.{IsHeld, AreHeld, AreTold, HaveParts, IsStepped, MayDrawCall, numbers_of, part_noted, part_in, part_due, parts_due, entry_call, drawn_at}
+use Rattle.k42_board.specs.Drawing.{IsHeld, AreHeld, IsTold, AreTold, HaveParts, IsStepped, MayDrawCall, numbers_of, part_noted, part_in, part_due, parts_due, entry_call, drawn_at}
 use Rattle.k42_board.specs.Generations.{MOST}
 use Rattle.k42_board.specs.Phases.{is_served}
 use Rattle.k42_board.specs.Taking.{CELLS, IsRowNoted}
 use Rattle.k42_board.specs.Log.{step_at, took, with_log}
 use Rattle.k42_board.specs.declared.cell.Content.{Content}
+use Rattle.k42_board.specs.declared.view.Note.{Note}
 use Rattle.k42_board.specs.declared.view.PassView.{PassView}
 use Rattle.k42_board.specs.declared.view.StepName.TheVariants as steps
 use Rattle.k42_board.specs.declared.view.Taken.{Taken}
@@ -46,12 +47,12 @@ use Rattle.k42_mediator.proofs.NotesHanded.{part_at_once}
 use Rattle.k42_mediator.proofs.NotesTold.{told_part}
 use Rattle.k42_mediator.proofs.RowMoved.{length_made, at_of, filled_numbers, filled_parts, filled_held, parts_noted}
 use Rattle.k42_mediator.proofs.RowReady.{told_numbers}
-use Rattle.k42_runtime.specs.Reaching.{MayGiveBack}
-use Rattle.k42_runtime.specs.Serving.{object_inside, row_inside, HasCells, HasMade}
+use Rattle.k42_runtime.specs.Reaching.{HasTakenNext, MayGiveBack}
+use Rattle.k42_runtime.specs.Serving.{object_inside, row_inside, IsCallAt, HasCells, HasMade}
 use Rattle.k42_runtime.specs.Stepping.{due_in, stepped_at, MayStepCells, HasSteppedCells}
 use Rattle.k42_runtime.proofs.CallTaken.{row_small, named_only, may_give}
 
-served_inside : (place : Place) → is_served place ≡ true → IsInside place (object_of place) (row_of place)
+pub served_inside : (place : Place) → is_served place ≡ true → IsInside place (object_of place) (row_of place)
 served_inside (Direct o i) e = (refl, refl)
 served_inside (Tracked o i) e = (refl, refl)
 served_inside Out e = absurd (cc)
@@ -84,6 +85,45 @@ only : {P : Type 0} (Q : Content P → Type 0) (c : Content P) → Q c → EachP
 only Q c q zero x e = subst Q (same_Some c x e) q
 only Q c q (suc place) x e = absurd (cc)
 
+-- a list of one is told what its cell is
+pub told_alone : {P : Type 0} (notes : List (Note P)) (x y : Content P) → IsTold notes x y → AreTold notes (x ∷ []) (y ∷ [])
+told_alone {P} notes x y is = (refl, each) where
+  each : (k : ℕ) (a b : Content P) → slice_get (x ∷ []) k ≡ Some a → slice_get (y ∷ []) k ≡ Some b → IsTold notes a b
+  each zero a b e f = subst (λ (z : Content P × Content P). IsTold notes z.0 z.1) (λ j. (same_Some x a e j, same_Some y b f j)) is
+  each (suc k) a b e f = absurd (cc)
+
+module _ {S L P : Type 0} (F : Layouts S L P) (declared : List L) (layout : L) (op : Op) where
+  -- cells are taken of the row that it is inside
+  pub at_still : (reach : Reach) (cells others : List ℕ) (log : List Taken) (v w : PassView P) → released others w ≡ with_log log (released cells v)
+      → IsCallAt F declared v layout reach op → IsCallAt F declared w layout reach op
+  at_still reach cells others log v w e is = record {
+    served = ap (λ (x : PassView P). is_served x.visitor.place) e ∙ is.served;
+    few = subst (λ (x : PassView P). object_inside x < 16) (sym e) is.few;
+    declaration = is.declaration;
+    declares = ap (λ (x : PassView P). slice_get declared (object_inside x)) e ∙ is.declares;
+    same = is.same;
+    tagged = ap (λ (x : PassView P). x.layout) e ∙ is.tagged;
+    known = is.known;
+    on = subst (λ (x : PassView P). x.turn.proc < F.procs) (sym e) is.on;
+    takes = is.takes;
+    reaches = is.reaches ∙ ap (λ (x : PassView P). (F.ways_of layout).reach F.procs op x.turn.proc) (sym e);
+    spread = is.spread;
+  }
+
+  -- the one cell is taken
+  pub has_alone : (p n : ℕ) (v w : PassView P) (cell : Content P) → n ≡ cell_of (object_inside v) (row_inside v) p → IsCallAt F declared v layout (One p) op
+      → HasTakenNext F declared n v w [] (cell ∷ []) → HasCells F declared w layout (One p) op (cell ∷ [])
+  has_alone p n v w cell named is next = record {
+    call = at_still (One p) [] (numbers_of (cell ∷ [])) w.log v w next.released_is is;
+    numbers =
+        next.numbers ∙ ap (λ m. m ∷ []) named
+        ∙ ap (λ (x : PassView P). cell_of (object_inside x) (row_inside x) p ∷ []) (sym next.released_is);
+    held = next.held;
+    taken = next.taken;
+    rows = next.rows;
+    back = next.back;
+  }
+
 module _ {S L P : Type 0} (F : Layouts S L P) (laws : AreLaws F) (declared : List L)
     (agrees : (l m : L) → F.object_of l ≡ F.object_of m → F.tag_of l ≡ F.tag_of m
     → Agree (F.ways_of l) (F.ways_of m) (F.Whole l) (F.Whole m) (F.Serves l) (F.Serves m))
@@ -99,10 +139,10 @@ module _ {S L P : Type 0} (F : Layouts S L P) (laws : AreLaws F) (declared : Lis
   ways = F.ways_of layout
 
   inside : IsInside v.visitor.place o i
-  inside = served_inside v.visitor.place has.served
+  inside = served_inside v.visitor.place has.call.served
 
   row_is : IsRowNoted F declared v.notes o i (F.tag_of layout)
-  row_is = has.rows.inside o i (F.tag_of layout) inside has.tagged
+  row_is = has.rows.inside o i (F.tag_of layout) inside has.call.tagged
 
   -- where one cell is needed
 
@@ -121,14 +161,14 @@ module _ {S L P : Type 0} (F : Layouts S L P) (laws : AreLaws F) (declared : Lis
     within : p < F.procs
     within =
         few_cells (F.tag_of layout) F.procs p laws.some
-        (subst (IsWithin (cells_of (F.tag_of layout) F.procs)) (sym has.reaches ∙ e) (laws.reaches layout v.turn.proc op has.known has.on has.takes))
+        (subst (IsWithin (cells_of (F.tag_of layout) F.procs)) (sym has.call.reaches ∙ e) (laws.reaches layout v.turn.proc op has.call.known has.call.on has.call.takes))
 
     may_one : MayStepCells ways F.procs (F.Whole layout) op (One p) cells
     may_one =
         subst (MayStepCells ways F.procs (F.Whole layout) op (One p)) (sym one.are) (
           within,
           subst (λ part. IsReached ways (F.Whole layout) part op) (sym due_is)
-              (part_reached F laws declared v.notes o i has.declaration layout has.declares has.same row_is agrees op v.turn.proc p has.on has.takes (sym has.reaches ∙ e)
+              (part_reached F laws declared v.notes o i has.call.declaration layout has.call.declares has.call.same row_is agrees op v.turn.proc p has.call.on has.call.takes (sym has.call.reaches ∙ e)
               (ap (names (cells_noted v.notes)) (sym one.number) ∙ here.noted)),
         )
 
@@ -146,7 +186,7 @@ module _ {S L P : Type 0} (F : Layouts S L P) (laws : AreLaws F) (declared : Lis
     all_numbers = has.numbers ∙ ap (cells_reached F.procs o i) e
 
     all_cells : cells_of (F.tag_of layout) F.procs ≡ F.procs
-    all_cells = ap (λ t. cells_of t F.procs) (has.spread e)
+    all_cells = ap (λ t. cells_of t F.procs) (has.call.spread e)
 
     all_long : length cells ≡ F.procs
     all_long = sym (length-map cells (λ (content : Content P). content.number)) ∙ ap length all_numbers ∙ length_made (cell_of o i) 0 F.procs
@@ -166,18 +206,18 @@ module _ {S L P : Type 0} (F : Layouts S L P) (laws : AreLaws F) (declared : Lis
     whole : F.Whole layout F.procs (parts_from ways F.procs 0 cells)
     whole =
         subst (F.Whole layout F.procs) (sym parts_are)
-        (parts_whole F laws declared v.notes o i has.declaration layout has.declares has.same row_is agrees noted_at)
+        (parts_whole F laws declared v.notes o i has.call.declaration layout has.call.declares has.call.same row_is agrees noted_at)
 
     may_all : MayStepCells ways F.procs (F.Whole layout) op All cells
     may_all =
         let parts = parts_from ways F.procs 0 cells in
         let after : F.Whole layout F.procs (ways.row_after parts op) =
-        subst (λ r. F.Whole layout F.procs (row_moved ways parts op r)) (sym has.reaches ∙ e) (laws.steps layout v.turn.proc parts op has.known has.on has.takes whole).whole in (
+        subst (λ r. F.Whole layout F.procs (row_moved ways parts op r)) (sym has.call.reaches ∙ e) (laws.steps layout v.turn.proc parts op has.call.known has.call.on has.call.takes whole).whole in (
           all_long,
           record {
             some = laws.some;
             whole = whole;
-            same = (laws.stands layout (ways.row_after parts op) has.known after).sized ∙ sym (laws.stands layout parts has.known whole).sized;
+            same = (laws.stands layout (ways.row_after parts op) has.call.known after).sized ∙ sym (laws.stands layout parts has.call.known whole).sized;
           },
         )
 
@@ -199,10 +239,10 @@ module _ {S L P : Type 0} (F : Layouts S L P) (laws : AreLaws F) (declared : Lis
   small n named = go reach refl where
     go : (r : Reach) → reach ≡ r → n < CELLS
     go (One p) e =
-        let there = within p e in let few = procs_few in let object = has.few in
+        let there = within p e in let few = procs_few in let object = has.call.few in
         let is : cell_of o i p ≡ n = named_only (cell_of o i p) n (ap (λ ns. names ns n) (sym (has.numbers ∙ ap (cells_reached F.procs o i) e)) ∙ named) in
         omega (arith, there, few, object, is)
-    go All e = row_small F.procs o i n procs_few has.few (ap (λ ns. names ns n) (sym (all_numbers e)) ∙ named)
+    go All e = row_small F.procs o i n procs_few has.call.few (ap (λ ns. names ns n) (sym (all_numbers e)) ∙ named)
 
   pub may_give_taken : (id : ℕ) → MayGiveBack F declared id v cells
   may_give_taken id = may_give F declared laws id v cells once has.back has.held has.taken small
@@ -248,15 +288,15 @@ module _ {S L P : Type 0} (F : Layouts S L P) (laws : AreLaws F) (declared : Lis
       object = o;
       row = i;
       inside = inside;
-      declaration = has.declaration;
-      declares = has.declares;
+      declaration = has.call.declaration;
+      declares = has.call.declares;
       layout = layout;
-      same = has.same;
-      tagged = has.tagged;
-      takes = has.takes;
-      named = numbers_stepped ∙ has.numbers ∙ ap (cells_reached F.procs o i) has.reaches;
+      same = has.call.same;
+      tagged = has.call.tagged;
+      takes = has.call.takes;
+      named = numbers_stepped ∙ has.numbers ∙ ap (cells_reached F.procs o i) has.call.reaches;
       held = held_stepped;
-      stepped = subst (λ r. IsStepped F declared layout v.notes o i news op r reply) has.reaches stepped_is;
+      stepped = subst (λ r. IsStepped F declared layout v.notes o i news op r reply) has.call.reaches stepped_is;
       few = few;
     }
 

@@ -172,10 +172,10 @@ module _ {P : Type 0} (object : ℕ) (op : Op) (p0 p1 : PassView P) (goes : Goes
 
   -- and once it was served and has ended the call
   module _ (inside : GoesIn None object p0 p1) (p2 p3 : PassView P) (ended : p3 ≡ with_log p3.log (ended_view p2)) (last : Extends p2.log p3.log) where
-    kept : (mine : List Entry) → own_in p3 ≡ record (own_in p1) { place = Out; layout = None; mine = mine } → KeepsElse p0 p3
+    kept : (mine : List Entry) → own_in p3 ≡ record (own_in p1) { place = Out; layout = None; drawn = length mine; drew_last = last_stamp mine } → KeepsElse p0 p3
     kept mine is =
-        is ∙ ap (λ (own : Own). record own { place = Out; layout = None; mine = mine }) goes.keeps
-        ∙ (λ j. record (own_in p0) { place = (sym is j).place; layout = (sym is j).layout; mine = (sym is j).mine })
+        is ∙ ap (λ (own : Own). record own { place = Out; layout = None; drawn = length mine; drew_last = last_stamp mine }) goes.keeps
+        ∙ (λ j. record (own_in p0) { place = (sym is j).place; layout = (sym is j).layout; drawn = (sym is j).drawn; drew_last = (sym is j).drew_last })
 
     still : p2 ≡ with_log p2.log p1 → p3 ≡ with_log p3.log (ended_view p1)
     still same = ended ∙ ap (λ (v : PassView P). with_log p3.log (ended_view v)) same

@@ -1,5 +1,5 @@
 -- The cells that a call needs: taken one after the other, or left to another caller.
-use Rattle.std.proofs.Common.{◌≡◌, ◌≢◌, ℕ, ◌+◌, ◌-◌, ◌<◌, ◌≤◌, Bool, true, false, not, ◌||◌, cond, eqb, Option, Some, List, [], ◌∷◌, ◌++◌, None, refl, sym, ap, ◌∙◌, subst, arith}
+use Rattle.std.proofs.Common.{◌≡◌, ◌≢◌, ℕ, ◌+◌, ◌-◌, ◌<◌, ◌≤◌, Bool, true, false, not, ◌||◌, cond, eqb, List, [], ◌∷◌, ◌++◌, None, refl, sym, ap, ◌∙◌, subst, arith}
 use Rattle.std.proofs.lemmas.Bool.{eqb-true}
 use Rattle.std.proofs.lemmas.Bool.Decides.{nat_tests}
 use Rattle.k42_limits.specs.declared.TheConstants.{PROCESSORS}
@@ -27,7 +27,8 @@ use Rattle.k42_mediator.specs.Taken.{released, AreTaken}
 use Rattle.k42_mediator.proofs.GivenBack.{held_due, released_taken}
 use Rattle.k42_mediator.proofs.NotesTold.{taken_more}
 use Rattle.k42_mediator.proofs.RowTaken.{IsTaking, takes_none, takes_next}
-use Rattle.k42_runtime.specs.Reaching.{TakesNext, Takes, HasTakenNext, WasRefused, HasTaken, WasStopped, MayGiveBack}
+use Rattle.k42_runtime.specs.Calls.{WasHeld}
+use Rattle.k42_runtime.specs.Reaching.{HasTakenNext, WasRefused, HasTaken, WasStopped, MayGiveBack}
 
 -- the cells of a row are numbers of cells
 pub row_small : (place o i n : ℕ) → place ≤ 8 → o < 16 → names (row_cells place o i) n ≡ true → n < CELLS
@@ -192,43 +193,31 @@ pub named_only : (n m : ℕ) → names (n ∷ []) m ≡ true → n ≡ m
 named_only n m e = eqb-true n m (or_left (eqb n m) e)
 
 module _ {S L P : Type 0} (F : Layouts S L P) (declared : List L) where
-  pub one_may_give : AreLaws F → (id n : ℕ) (result : Option ℕ) (old new : PassView P) (olds news : List (Content P))
-      → olds ≡ [] → old.taker.held ≡ [] → old.out ≡ None → n < CELLS → TakesNext F declared result n old new olds news → MayGiveBack F declared id new news
-  one_may_give laws id n None old new olds news none held back few next =
-      let numbers : numbers_of news ≡ n ∷ [] = next.numbers ∙ ap (λ (xs : List (Content P)). numbers_of xs ++ n ∷ []) none in
-      may_give F declared laws id new news (ap names_once numbers) next.back next.held next.taken
-      (λ m named. subst (λ k. k < CELLS) (named_only n m (ap (λ ns. names ns m) (sym numbers) ∙ named)) few)
-  one_may_give laws id n (Some holder) old new olds news none held back few next =
-      subst (MayGiveBack F declared id new) (sym (next.same ∙ none))
-      (may_give_stopped F declared laws id holder n old new [] next.knows refl back held (λ k content at. absurd (cc)) (λ m named. absurd (cc)))
+  -- it was taken
+  pub taken_alone : (n : ℕ) (old new : PassView P) (news : List (Content P)) → HasTakenNext F declared n old new [] news → HasTaken F declared (n ∷ []) old new news
+  taken_alone n old new news next = record {
+    numbers = next.numbers;
+    held = next.held ∙ next.numbers;
+    taken = next.taken;
+    released_is = ap (λ ns. released ns new) (sym next.numbers) ∙ next.released_is;
+    log = next.log;
+    rows = next.rows;
+  }
 
-  pub one_taken : (o i p n : ℕ) (result : Option ℕ) (old new : PassView P) (olds news : List (Content P)) → olds ≡ [] → n ≡ cell_of o i p → p < PROCESSORS
-      → TakesNext F declared result n old new olds news → Takes F declared result o (cell_of o i p ∷ []) old new news
-  one_taken o i p n None old new olds news none named there next =
-      let numbers : numbers_of news ≡ cell_of o i p ∷ [] =
-      next.numbers ∙ ap (λ (xs : List (Content P)). numbers_of xs ++ n ∷ []) none ∙ ap (λ m. m ∷ []) named in
-      record {
-        numbers = numbers;
-        held = next.held ∙ numbers;
-        taken = next.taken;
-        released_is =
-            ap (λ ns. released ns new) (sym numbers) ∙ next.released_is
-            ∙ ap (λ (xs : List (Content P)). with_log new.log (released (numbers_of xs) old)) none;
-        log = next.log;
-        rows = next.rows;
-      }
-  one_taken o i p n (Some holder) old new olds news none named there next =
-      let word = lock_word (cell_of o i p) in let same = next.same ∙ none in
-      let knows : new ≡ took steps.Lock word (holder + 1) old = next.knows ∙ ap (λ m. took steps.Lock (lock_word m) (holder + 1) old) named in
-      let log = ap (λ (v : PassView P). v.log) knows in
-      record {
-        released_is = (λ j. released (numbers_of (same j)) (knows j)) ∙ ap (λ l. with_log l (released [] old)) (sym log);
-        was = record {
+  -- another caller has it
+  pub refused_alone : (o i p n holder : ℕ) (old new : PassView P) → n ≡ cell_of o i p → p < PROCESSORS → WasRefused F declared holder n old new [] []
+      → (new ≡ with_log new.log old) × WasHeld o holder old new
+  refused_alone o i p n holder old new named there was =
+      let log = ap (λ (v : PassView P). v.log) was.knows in let word = lock_word n in (
+        was.knows ∙ ap (λ l. with_log l old) (sym log),
+        record {
           incarnation = i;
           place = p;
           there = there;
-          another = next.another;
-          caller = next.caller;
-          met = meets_as log (meets_lock word holder old.log);
-        };
-      }
+          another = was.another;
+          caller = was.caller;
+          met =
+              subst (λ (m : ℕ). Meets (step_at steps.Lock (lock_word m) (holder + 1)) old.log new.log) named
+              (meets_as log (meets_lock word holder old.log));
+        },
+      )

@@ -8,10 +8,10 @@ use Rattle.k42_kinds.specs.declared.entry.Answer.TheVariants.{Replied}
 use Rattle.k42_kinds.specs.declared.operation.Op.{Op}
 use Rattle.k42_kinds.specs.declared.operation.Reply.{Reply}
 use Rattle.turn_core.specs.Stamps.{last_stamp}
-use Rattle.k42_board.specs.Seen.{Own}
+use Rattle.k42_board.specs.Seen.{Own, PassSeen}
 use Rattle.k42_board.specs.declared.view.PassView.{PassView}
 use Rattle.k42_runtime.specs.Calls.{CallSeen, IsAsked, HasCalled, HasNotCalled}
-use Rattle.k42_runtime.specs.Serving.{IsAskedOf}
+use Rattle.k42_runtime.specs.Serving.{IsAskedOf, IsSameSeat}
 use Rattle.k42_runtime.specs.Systems.{SystemSeen, IsPlanned, IsPassHere, IsAtWork, KeepsElse, layout_of, SystemPass}
 
 -- what the plan declares the table does
@@ -29,10 +29,27 @@ pub record IsCalling (system : SystemSeen) (object : ℕ) (op : Op) (first now :
   pub here : IsPassHere system now
   pub works : IsAtWork now.view
   pub since : HasNotCalled first.view now.view
+  pub seat : IsSameSeat first now
 
 module _ {P : Type 0} where
+  pub same_seat : (pass : PassSeen P) → IsSameSeat pass pass
+  same_seat pass = record { table = refl; seat = refl; keep = refl; room = λ none. refl; row_room = refl; queue = refl }
+
+  pub same_seat_on : (first now new : PassSeen P) → IsSameSeat first now → IsSameSeat now new → IsSameSeat first new
+  same_seat_on first now new one two = record {
+    table = two.table ∙ one.table;
+    seat = two.seat ∙ one.seat;
+    keep = two.keep ∙ one.keep;
+    room = λ none. two.room (one.keep ∙ none) ∙ one.room none;
+    row_room = two.row_room ∙ one.row_room;
+    queue = two.queue ∙ one.queue;
+  }
+
   pub keeps_on : (u v w : PassView P) → KeepsElse u v → KeepsElse v w → KeepsElse u w
-  keeps_on u v w first second = second ∙ ap (λ (own : Own). record own { place = w.visitor.place; layout = w.layout; mine = w.taker.mine }) first
+  keeps_on u v w first second =
+      second
+      ∙ ap (λ (own : Own). record own { place = w.visitor.place; layout = w.layout; drawn = length w.taker.mine; drew_last = last_stamp w.taker.mine })
+      first
 
   pub not_called : (v : PassView P) → HasNotCalled v v
   not_called v = record { same = refl; keeps = refl }

@@ -1,16 +1,17 @@
 -- The one history of a system that is closed.
-use Rattle.std.proofs.Common.{inl, inr, ◌≡◌, ℕ, zero, suc, ◌+◌, ◌<◌, true, List, [], ◌∷◌, Some, length, map, slice_index_or, refl, sym, ap, ◌∙◌, subst, arith}
+use Rattle.std.proofs.Common.{inl, inr, ◌≡◌, ℕ, zero, suc, ◌<◌, true, List, [], ◌∷◌, ◌++◌, Some, length, map, take, drop, slice_index_or, refl, sym, ap, ◌∙◌, subst, arith}
 use Rattle.std.specs.List.{slice_get, AllByRecursion, All}
+use Rattle.std.proofs.Math.Seq.{take-append_seam}
 use Rattle.std.proofs.lemmas.List.Elements.{All-from_recursion}
 use Rattle.std.proofs.lemmas.List.{length-map}
-use Rattle.std.proofs.lemmas.Option.{same_Some, slice_get_within}
+use Rattle.std.proofs.lemmas.Option.{same_Some, slice_get_within, slice_get-get_or}
 use Rattle.k42_kinds.specs.declared.entry.Entry.{Entry}
 use Rattle.k42_places.specs.Places.{EachPlace}
 use Rattle.k42_stamp.specs.Lists.{IsListOf, AreLists, IsMerged, numbered_from}
-use Rattle.k42_stamp.specs.Orders.{In}
+use Rattle.k42_stamp.specs.Layouts.{Layouts}
+use Rattle.k42_stamp.specs.Orders.{In, Ordered}
 use Rattle.k42_stamp.proofs.Elements.{all_at}
-use Rattle.k42_board.specs.Seen.{SysSeen, PassSeen}
-use Rattle.k42_rule.specs.Finishing.{AreAtRest, AreLastLists, IsPassAtRest, IsResting}
+use Rattle.k42_rule.specs.Finishing.{AreAtRest, AreLastLists, IsResting, with_none, with_none_kept}
 use Rattle.k42_kinds.specs.Histories.{IsInOrder}
 use Rattle.k42_kinds.specs.Legal.{IsLegalHistoryOf}
 use Rattle.k42_joined.specs.Fitting.{lists_of}
@@ -22,33 +23,44 @@ use Rattle.phase_core.specs.Stages.{is_idle, named_by}
 use Rattle.phase_core.specs.declared.caller.SwapAt.{SwapAt}
 use Rattle.phase_core.specs.declared.caller.SwapAt.TheVariants.{Idle, Refused, Begun, Interposing, Interposed, Draining, Drained, Blocking, Moved, Opening, Reopening, Opened}
 use Rattle.turn_core.specs.Plain.{Caller}
+use Rattle.turn_core.specs.Sound.{IsRising}
 use Rattle.turn_core.specs.State.{fresh_caller}
-use Rattle.k42_runtime.specs.Closing.{AreNumbered, AreListsFrom}
-use Rattle.k42_runtime.specs.Histories.{IsClosed, MayClose}
+use Rattle.k42_runtime.specs.Histories.{IsClosed, HasHistory, MayEnd}
 use Rattle.k42_runtime.specs.Systems.{SystemSeen, IsPlanned, any_with, layouts_in, object_in, SystemLayout, SystemPass}
 use Rattle.k42_runtime.proofs.Traces.{legal, all_placed}
 
--- the passes at rest are numbered in order
-numbered_at : {L P : Type 0} (sys : SysSeen L) (first : ℕ) (passes : List (PassSeen P))
-    → ((i : ℕ) (pass : PassSeen P) → slice_get passes i ≡ Some pass → pass.view.number ≡ first + i) → AreNumbered first passes
-numbered_at sys first [] is = tt
-numbered_at sys first (pass ∷ passes) is = (
-  let here = is 0 pass refl in omega (arith, here),
-  numbered_at sys (first + 1) passes (λ i other at. let there = is (suc i) other at in omega (arith, there)),
+-- the list of a caller is what it drew
+mine_at : (callers : List Caller) (c : ℕ) (list : List Entry) → slice_get (map (λ (x : Caller). x.mine) callers) c ≡ Some list
+    → (slice_index_or callers c fresh_caller).mine ≡ list
+mine_at [] c list at = absurd (cc)
+mine_at (x ∷ callers) zero list at = same_Some x.mine list at
+mine_at (x ∷ callers) (suc c) list at = mine_at callers c list at
+
+-- so its stamps rise, and its entries are its own
+each_all : (P : Entry → Type 0) (entries : List Entry) → EachPlace (λ i entry. P entry) entries → AllByRecursion P entries
+each_all P [] each = tt
+each_all P (entry ∷ entries) each = (each 0 entry refl, each_all P entries (λ i. each (suc i)))
+
+ordered : (entries : List Entry) → IsRising entries → Ordered (λ (one other : Entry). one.stamp < other.stamp) entries
+ordered [] rising = tt
+ordered (entry ∷ entries) rising = (
+  each_all (λ (other : Entry). entry.stamp < other.stamp) entries (λ i other at. rising 0 (suc i) entry other (omega arith) refl at),
+  ordered entries (λ i j one other less here there. rising (suc i) (suc j) one other (omega (arith, less)) here there),
 )
 
-pub numbered : {L P : Type 0} (sys : SysSeen L) (passes : List (PassSeen P)) → EachPlace (IsPassAtRest sys) passes → AreNumbered 0 passes
-numbered sys passes is = numbered_at sys 0 passes (λ i pass at. let here = (is i pass at).number in omega (arith, here))
-
-lists_at : (first : ℕ) (lists : List (List Entry)) → AreListsFrom first lists → (i : ℕ) (list : List Entry) → slice_get lists i ≡ Some list → IsListOf (first + i) list
-lists_at first [] are i list at = absurd (cc)
-lists_at first (here ∷ lists) are zero list at =
-    subst (λ n. IsListOf n list) (let same : first ≡ first + 0 = omega arith in same) (subst (IsListOf first) (same_Some here list at) are.0)
-lists_at first (here ∷ lists) are (suc i) list at =
-    subst (λ n. IsListOf n list) (let same : first + 1 + i ≡ first + suc i = omega arith in same) (lists_at (first + 1) lists are.1 i list at)
-
-pub listed : (lists : List (List Entry)) → AreListsFrom 0 lists → AreLists lists
-listed lists are i list at = subst (λ n. IsListOf n list) (let same : 0 + i ≡ i = omega arith in same) (lists_at 0 lists are i list at)
+pub lists_are : {S L P : Type 0} (F : Layouts S L P) (declared : List L) (callers : ℕ) (lists : List (List Entry)) → AreLastLists F declared callers lists
+    → AreLists lists
+lists_are F declared callers lists last c list at =
+    let drawn = ap (λ (ls : List (List Entry)). slice_get ls c) (sym last.drawn) ∙ at in
+    let there : c < length last.state.turns.callers =
+    subst (λ n. c < n) (length-map last.state.turns.callers (λ (x : Caller). x.mine)) (slice_get_within (lists_of last.state) c list drawn) in
+    let x = slice_index_or last.state.turns.callers c fresh_caller in
+    let is = last.sound.cells.turns.callers c x (slice_get-get_or last.state.turns.callers c fresh_caller there) in
+    subst (IsListOf c) (mine_at last.state.turns.callers c list drawn)
+    (record {
+      rising = ordered x.mine is.rising;
+      own = each_all (λ (entry : Entry). entry.caller ≡ c) x.mine (λ i entry here. (is.own i entry here).caller);
+    })
 
 -- no other caller has an entry
 below : (limit n : ℕ) (entries : List Entry) → ((entry : Entry) → In entry entries → entry.caller < limit) → AllByRecursion (λ (entry : Entry). entry.caller < limit) (numbered_from n entries)
@@ -83,13 +95,6 @@ unnamed (Opened p) o idle named = absurd (cc)
 rests : {L : Type 0} (s : Joined L) (callers : ℕ) → many_callers s ≡ callers → ((c : ℕ) → c < callers → IsResting s c) → IsAtRest s
 rests s callers many each c o lt named = absurd (unnamed (swap_of s c) o (each c (subst (λ n. c < n) many lt)).swap named)
 
--- the list of a caller is what it drew
-mine_at : (callers : List Caller) (c : ℕ) (list : List Entry) → slice_get (map (λ (x : Caller). x.mine) callers) c ≡ Some list
-    → (slice_index_or callers c fresh_caller).mine ≡ list
-mine_at [] c list at = absurd (cc)
-mine_at (x ∷ callers) zero list at = same_Some x.mine list at
-mine_at (x ∷ callers) (suc c) list at = mine_at callers c list at
-
 -- what closing needs of the law
 abbrev pub TraceLaw : ℕ → Type 0
 TraceLaw procs =
@@ -98,13 +103,20 @@ TraceLaw procs =
     → IsSound (any_with procs proc_of) declared s → IsAtRest s → IsMerged (lists_of s) merged → IsHistoryOf (any_with procs proc_of) declared s merged
 
 -- the table asks it of its own callers, which are the plan's
-pub at_rest : (system : SystemSeen) (passes : List SystemPass) → IsPlanned system → MayClose system passes → AreAtRest system.sys passes
+pub at_rest : (system : SystemSeen) (passes : List SystemPass) → IsPlanned system → MayEnd system passes → AreAtRest system.sys passes
 at_rest system passes planned may = record { many = may.many ∙ ap length (sym planned.callers); each = may.each }
 
+-- and so it asks of its passes that have given their lists away, as a slice of them leaves them in their vector
+pub come_back : (passes given : List SystemPass) (len : ℕ) → given ≡ with_none_kept passes → len ≡ length passes
+    → take len (given ++ drop (length given) passes) ≡ with_none_kept passes
+come_back passes given len is all =
+    let many : len ≡ length given = all ∙ sym (ap length is ∙ length-map passes with_none) in
+    subst (λ n. take n (given ++ drop (length given) passes) ≡ given) (sym many) (take-append_seam given (drop (length given) passes)) ∙ is
+
 pub closed : (system : SystemSeen) → IsPlanned system → TraceLaw system.sys.procs → (lists : List (List Entry)) (merged : List Entry)
-    → AreListsFrom 0 lists → AreLastLists (layouts_in system) system.sys.layouts (length system.sys.callers) lists → IsMerged lists merged
+    → AreLastLists (layouts_in system) system.sys.layouts (length system.sys.callers) lists → IsMerged lists merged
     → IsClosed system.plan lists (record { entries = merged; plan = system.plan })
-closed system planned law lists merged from last is = record {
+closed system planned law lists merged last is = record {
   plan_is = refl;
   merged = is;
   legal = legal system.plan merged (subst (λ declared. IsLegalHistoryOf object_in declared merged) planned.layouts history.legal);
@@ -112,7 +124,7 @@ closed system planned law lists merged from last is = record {
   no_stranger =
       subst (λ n. All (λ (entry : Entry). entry.caller < n) merged)
       (many ∙ ap length planned.callers)
-      (no_stranger lists merged (listed lists from) is);
+      (no_stranger lists merged (lists_are (layouts_in system) system.sys.layouts (length system.sys.callers) lists last) is);
 } where
   s : Joined SystemLayout
   s = last.state
@@ -130,3 +142,13 @@ closed system planned law lists merged from last is = record {
       let lt = slice_get_within lists c list at in
       let there : c < many_callers s = subst (λ n. c < n) (many ∙ sym last.many) lt in
       subst (IsInOrder merged c) (mine_at s.turns.callers c list (ap (λ ls. slice_get ls c) (sym last.drawn) ∙ at)) (history.in_order c there)
+
+-- and a history there is, whether anybody has merged the lists or not
+abbrev pub MergeLaw : Type 0
+MergeLaw = (lists : List (List Entry)) → AreLists lists → (merged : List Entry) × IsMerged lists merged
+
+pub has_history : (system : SystemSeen) → IsPlanned system → TraceLaw system.sys.procs → MergeLaw → (lists : List (List Entry))
+    → AreLastLists (layouts_in system) system.sys.layouts (length system.sys.callers) lists → HasHistory system.plan lists
+has_history system planned law merges lists last =
+    let merge = merges lists (lists_are (layouts_in system) system.sys.layouts (length system.sys.callers) lists last) in
+    (record { entries = merge.0; plan = system.plan }, closed system planned law lists merge.0 last merge.1)

@@ -24,7 +24,7 @@ placed procs first (here ∷ homes) e = go (ltb here procs) refl e (placed procs
   go true is none others = placed_behind procs first here homes (others none) (ltb-true here procs is)
   go false is none others = absurd (cc)
 
-pub sound : (plan : PlanSeen) → plan_fault plan ≡ None → IsSoundPlan plan
+pub sound : (plan : PlanSeen) → plan_fault plan.procs plan.objects plan.callers ≡ None → IsSoundPlan plan
 sound plan = by_procs (is_within PROCESSORS plan.procs) refl where
   Goal : Bool → Bool → Bool → Type 0
   Goal a b c = cond a (cond b (cond c (stray_from plan.procs 0 plan.callers) (Some faults.Callers)) (Some faults.Objects)) (Some faults.Procs) ≡ None → IsSoundPlan plan

@@ -1,5 +1,5 @@
 -- A plan is what a table asks of a start, and its passes are the first of the system.
-use Rattle.std.proofs.Common.{zero, suc, ◌≤◌, List, [], ◌∷◌, map, slice_index, refl, ap, ◌∙◌, subst, arith}
+use Rattle.std.proofs.Common.{◌≡◌, zero, suc, ◌≤◌, List, [], ◌∷◌, map, slice_index, refl, ap, ◌∙◌, subst, arith}
 use Rattle.std.proofs.lemmas.List.{length-map}
 use Rattle.std.proofs.lemmas.Option.{same_Some}
 use Rattle.co_any.specs.Layouts.{tag_named}
@@ -35,16 +35,17 @@ is_start plan sound = record {
 
 -- the table is the plan's
 pub planned : (plan : PlanSeen) (sys : SysSeen SystemLayout) (passes : List SystemPass) → IsSoundPlan plan → IsStarted (layouts_of plan) plan.procs plan.callers sys passes
-    → IsPlanned (record { sys = sys; plan = plan })
-planned plan sys passes sound is = record { sound = sound; procs = is.procs_are; layouts = is.layouts_are; callers = is.callers_are }
+    → sys.keep ≡ plan.keep → IsPlanned (record { sys = sys; plan = plan })
+planned plan sys passes sound is keeps = record { sound = sound; procs = is.procs_are; layouts = is.layouts_are; callers = is.callers_are; keep = keeps }
 
 -- a system that was started so
 pub started : (plan : PlanSeen) (sys : SysSeen SystemLayout) (passes : List SystemPass) → IsSoundPlan plan → IsStarted (layouts_of plan) plan.procs plan.callers sys passes
+    → sys.keep ≡ plan.keep
     → IsOpened (any_layouts plan.procs plan.callers) (layouts_of plan) plan.callers
     → HasStarted plan (record { sys = sys; plan = plan }) passes
-started plan sys passes sound is opened = record {
+started plan sys passes sound is keeps opened = record {
   plan_is = refl;
-  planned = planned plan sys passes sound is;
+  planned = planned plan sys passes sound is keeps;
   opened = opened;
   many = is.dealt.many;
   each = each;

@@ -11,9 +11,10 @@ use Rattle.turn_core.specs.Plain as turns
 use Rattle.k42_board.specs.Generations.{MOST}
 use Rattle.k42_board.specs.Gracing.{RoleFound, role_view}
 use Rattle.k42_board.specs.Log.{took}
-use Rattle.k42_board.specs.Seen.{PassSeen, IsSamePass}
+use Rattle.k42_board.specs.Seen.{PassSeen, IsSamePass, room_due}
 use Rattle.k42_board.specs.Views.{word_begun}
 use Rattle.k42_board.specs.Words.{role_word}
+use Rattle.k42_board.specs.declared.keep.Keep.{Keep}
 use Rattle.k42_board.specs.declared.view.PassView.{PassView}
 use Rattle.k42_board.specs.declared.view.StepName.TheVariants as names
 use Rattle.k42_quiesce.proofs.GoingOn.{not_taken}
@@ -106,7 +107,7 @@ module _ {P : Type 0} (objects : ℕ) (s t : SwapSeen) (old new : PassSeen P) (s
       subst (λ stage. IsAtStage stage objects t new) (sym (stays ∙ first)) (
         record {
           there = subst (λ o. o < objects) (sym object) way.there;
-          entry = subst (λ n. 0 < n) (sym same.room) way.entry;
+          entry = subst (λ (z : Keep × ℕ). room_due z.0 ≤ z.1) (λ j. (sym same.keep j, sym same.room j)) way.entry;
           row = subst (λ n. 0 < n) (sym same.row_room) way.row;
           few = subst (λ (x : turns.Caller). length x.mine < MOST) (sym taker) way.few;
         },

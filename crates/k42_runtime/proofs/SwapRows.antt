@@ -37,6 +37,7 @@ handed_here system mid new handed here = record {
     objects = ap (λ (v : PassView SystemPart). length v.visitor.noted) handed.knows ∙ here.ours.objects;
     spans = ap (λ (v : PassView SystemPart). length v.visitor.freeing) handed.knows ∙ here.ours.spans;
     queue = handed.queue ∙ here.ours.queue;
+    keep = handed.keep ∙ here.ours.keep;
   };
   out = ap (λ (v : PassView SystemPart). is_out v.visitor.place) handed.knows ∙ here.out;
   held = ap (λ (v : PassView SystemPart). v.taker.held) handed.knows ∙ here.held;

@@ -3,15 +3,17 @@ use Rattle.std.specs.Prelude.{ℕ, ◌+◌, ◌<◌, ◌≤◌, Bool, ◌&&◌, 
 use Rattle.k42_limits.specs.declared.TheConstants.{PROCESSORS, OBJECTS, CALLERS}
 use Rattle.k42_kinds.specs.declared.operation.KindName.{KindName}
 use Rattle.gen_core.specs.State as gens
+use Rattle.k42_board.specs.declared.keep.Keep.{Keep}
 use Rattle.k42_runtime.specs.declared.plan.ObjectPlan.{ObjectPlan}
 use Rattle.k42_runtime.specs.declared.plan.PlanFault.{PlanFault}
 use Rattle.k42_runtime.specs.declared.plan.PlanFault.TheVariants as faults
 
--- so many processors, objects each of a kind and in a layout, and callers each on a processor
+-- so many processors, objects each of a kind and in a layout, callers each on a processor, and which entries are kept
 pub record PlanSeen : Type 0 where
   pub procs : ℕ
   pub objects : List ObjectPlan
   pub callers : List ℕ
+  pub keep : Keep
 
 -- there is one or more, and not too many
 abbrev pub is_within : ℕ → ℕ → Bool
@@ -24,12 +26,12 @@ stray_from procs first (home ∷ homes) =
     if nat_lt home procs then stray_from procs (first + 1) homes else Some (faults.Processor first)
 
 -- the first fault of a plan, in this order
-abbrev pub plan_fault : PlanSeen → Option PlanFault
-plan_fault plan =
-    if is_within PROCESSORS plan.procs
-    then if is_within OBJECTS (length plan.objects)
-    then if is_within CALLERS (length plan.callers)
-    then stray_from plan.procs 0 plan.callers
+abbrev pub plan_fault : ℕ → List ObjectPlan → List ℕ → Option PlanFault
+plan_fault procs objects callers =
+    if is_within PROCESSORS procs
+    then if is_within OBJECTS (length objects)
+    then if is_within CALLERS (length callers)
+    then stray_from procs 0 callers
     else Some faults.Callers
     else Some faults.Objects
     else Some faults.Procs

@@ -1,8 +1,6 @@
 -- The cells that a call needs, as its pass takes them one after the other.
 use Rattle.std.specs.Prelude.{◌≡◌, ◌≢◌, ℕ, ◌+◌, ◌<◌, true, List, [], ◌∷◌, ◌++◌, Option, Some, None}
 use Rattle.k42_limits.specs.declared.TheConstants.{CALLERS}
-use Rattle.k42_kinds.specs.declared.entry.Reach.{Reach}
-use Rattle.k42_kinds.specs.declared.entry.Reach.TheVariants.{One, All}
 use Rattle.turn_core.specs.Names.{names_once}
 use Rattle.k42_stamp.specs.Layouts.{Layouts}
 use Rattle.k42_board.specs.Drawing.{numbers_of}
@@ -14,11 +12,6 @@ use Rattle.k42_board.specs.declared.view.PassView.{PassView}
 use Rattle.k42_board.specs.declared.view.StepName.TheVariants as steps
 use Rattle.k42_mediator.specs.Taken.{released, AreTaken, MayPutAllBack}
 use Rattle.k42_runtime.specs.Calls.{WasHeld}
-
--- the cells that are needed are there, of so many processors
-abbrev pub IsThere : ℕ → Reach → Type 0
-IsThere procs (One p) = p < procs
-IsThere procs All = 0 < procs
 
 module _ {S L P : Type 0} (F : Layouts S L P) (declared : List L) where
   -- it has taken a cell, behind those that it had

@@ -1,5 +1,5 @@
 -- Rows that are freed.
-use Rattle.std.specs.Prelude.{◌≡◌, ℕ, ◌+◌, ◌++◌, List, length}
+use Rattle.std.specs.Prelude.{◌≡◌, ℕ, ◌++◌, List, length}
 use Rattle.k42_stamp.specs.Layouts.{Layouts}
 use Rattle.k42_board.specs.Log.{Grows}
 use Rattle.k42_board.specs.Noting.{notes_due}

@@ -18,6 +18,7 @@ use Rattle.k42_board.specs.Phases.{is_served}
 use Rattle.k42_board.specs.Seen.{PassSeen}
 use Rattle.k42_board.specs.Taking.{AreRowsNoted}
 use Rattle.k42_board.specs.declared.cell.Content.{Content}
+use Rattle.k42_board.specs.declared.keep.Keep.TheVariants as keeps
 use Rattle.k42_board.specs.declared.view.PassView.{PassView}
 use Rattle.k42_mediator.specs.Taken.{released, AreTaken}
 use Rattle.k42_runtime.specs.Calls.{WasHeld, HasCalled, HoldsUp}
@@ -52,10 +53,13 @@ pub record IsAskedOf (layouts : List SystemLayout) (object : ℕ) (op : Op) : Ty
   pub declares : slice_get layouts object ≡ Some declaration
   pub takes : IsTrue ((object_in declaration).takes op)
 
--- it has the seat that it had
+-- it has the seat that it had, and keeps as before; for rows it has room as before, and, where it keeps none, for entries
 pub record IsSameSeat {P : Type 0} (old new : PassSeen P) : Type 0 where
   pub table : new.table ≡ old.table
   pub seat : new.seat ≡ old.seat
+  pub keep : new.keep ≡ old.keep
+  pub room : old.keep ≡ keeps.Nothing → new.room ≡ old.room
+  pub row_room : new.row_room ≡ old.row_room
   pub queue : new.queue ≡ old.queue
 
 -- the entry of a call, the next one of the pass
@@ -110,10 +114,8 @@ abbrev pub GoesOut : {P : Type 0} → PassView P → PassView P → Type 0
 GoesOut old new = (is_out new.visitor.place ≡ true) × Extends old.log new.log
 
 module _ {S L P : Type 0} (F : Layouts S L P) (declared : List L) where
-  -- it has taken the cells that the operation needs, of a row with this layout
-  pub record HasCells
-      (v : PassView P) (layout : L) (reach : Reach) (op : Op) (contents : List (Content P))
-      : Type 0 where
+  -- it is inside a row with this layout, of which the operation needs these cells
+  pub record IsCallAt (v : PassView P) (layout : L) (reach : Reach) (op : Op) : Type 0 where
     pub served : is_served v.visitor.place ≡ true
     pub few : object_inside v < 16
     pub declaration : L
@@ -125,6 +127,12 @@ module _ {S L P : Type 0} (F : Layouts S L P) (declared : List L) where
     pub takes : IsTrue ((F.object_of layout).takes op)
     pub reaches : reach ≡ (F.ways_of layout).reach F.procs op v.turn.proc
     pub spread : reach ≡ All → F.tag_of layout ≡ 1
+
+  -- it has taken them
+  pub record HasCells
+      (v : PassView P) (layout : L) (reach : Reach) (op : Op) (contents : List (Content P))
+      : Type 0 where
+    pub call : IsCallAt v layout reach op
     pub numbers : numbers_of contents ≡ cells_reached F.procs (object_inside v) (row_inside v) reach
     pub held : v.taker.held ≡ numbers_of contents
     pub taken : AreTaken v.notes contents

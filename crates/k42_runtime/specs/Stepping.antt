@@ -9,11 +9,6 @@ use Rattle.k42_kinds.specs.declared.operation.Reply.{Reply}
 use Rattle.k42_board.specs.declared.cell.Content.{Content}
 use Rattle.k42_mediator.specs.Parts.{parts_from, filled}
 
--- how many cells are needed
-abbrev pub many_reached : ℕ → Reach → ℕ
-many_reached procs (One p) = 1
-many_reached procs All = procs
-
 module _ {S P : Type 0} (ways : Ways S P) (procs : ℕ) where
   -- the part that is due at a place: a missing one stands for the empty one
   abbrev pub due_in : ℕ → Content P → P

@@ -13,7 +13,7 @@ use Rattle.k42_joined.specs.Numbers.{cell_of}
 use Rattle.k42_limits.specs.declared.TheConstants.{CALLERS}
 use Rattle.k42_board.specs.Generations.{MOST}
 use Rattle.k42_board.specs.Log.{Follows, Extends, EndsWith, step_at}
-use Rattle.k42_board.specs.Seen.{PassSeen}
+use Rattle.k42_board.specs.Seen.{HasRoom, PassSeen}
 use Rattle.k42_board.specs.Swapping.{object_swapped, clears, IsRestored}
 use Rattle.k42_board.specs.Tabling.{is_over_in}
 use Rattle.k42_board.specs.Values.{count_in, incarnation_in}
@@ -55,7 +55,7 @@ answer_told ends.Gone = answers.Gone
 -- a swap of one of so many objects is under way, and the pass has room for its entry and its row
 pub record IsUnderWay (objects object : ℕ) {P : Type 0} (pass : PassSeen P) : Type 0 where
   pub there : object < objects
-  pub entry : 0 < pass.room
+  pub entry : HasRoom pass
   pub row : 0 < pass.row_room
   pub few : length pass.view.taker.mine < MOST
 

@@ -9,6 +9,7 @@ use Rattle.k42_kinds.specs.declared.entry.Act.{Act}
 use Rattle.k42_kinds.specs.declared.watch.WatchState.{WatchState}
 use Rattle.k42_places.specs.Places.{EachPlace}
 use Rattle.phase_core.specs.Stages as swaps
+use Rattle.turn_core.specs.Stamps.{last_stamp}
 use Rattle.phase_core.specs.Stages.{is_out}
 use Rattle.k42_stamp.specs.Layouts.{Layouts, layouts_with}
 use Rattle.co_any.specs.Layouts.{ways_of, whole_of, serves_of, admitted_of, act_of, tag_named}
@@ -80,6 +81,7 @@ pub record IsPlanned (system : SystemSeen) : Type 0 where
   pub procs : system.sys.procs ≡ system.plan.procs
   pub layouts : system.sys.layouts ≡ layouts_of system.plan
   pub callers : system.sys.callers ≡ system.plan.callers
+  pub keep : system.sys.keep ≡ system.plan.keep
 
 -- the layouts of all kinds, on so many processors and for callers there
 abbrev pub any_with : ℕ → (ℕ → ℕ) → Layouts SystemState SystemLayout SystemPart
@@ -111,7 +113,12 @@ IsAtRest v = is_at_rest v ≡ true
 -- of what a pass keeps by itself, only its entries, its place and the layout that it last learned may be others
 abbrev pub KeepsElse : {P : Type 0} → PassView P → PassView P → Type 0
 KeepsElse old new =
-    own_in new ≡ record (own_in old) { place = new.visitor.place; layout = new.layout; mine = new.taker.mine }
+    own_in new ≡ record (own_in old) {
+      place = new.visitor.place;
+      layout = new.layout;
+      drawn = length new.taker.mine;
+      drew_last = last_stamp new.taker.mine;
+    }
 
 -- a pass that has done nothing
 pub record IsFirst (system : SystemSeen) (c home : ℕ) (pass : SystemPass) : Type 0 where

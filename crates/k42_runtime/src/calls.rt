@@ -60,6 +60,7 @@ impl Model for Call {
 }
 
 /// One try of a call.
+#[inline(always)]
 fn try_once(
     alloc: Global,
     sys: &Sys<SystemLayout>,
@@ -76,7 +77,7 @@ fn try_once(
     ensures same { IsSameSeat pass.old pass.new }
     ensures tried { HasTried result object op.now pass.old.view pass.new.view }
 {
-    let Ok(()) = pass.reserve() else {
+    let Ok(()) = pass.reserve_entry() else {
         return CallStep::Memory;
     };
     match go_inside(alloc, sys, pass, object) {
@@ -117,6 +118,7 @@ impl Call {
         requires few { length pass.old.view.taker.mine < MOST }
         requires going { self.old.ended ≡ false }
         ensures here { IsPassHere system.now pass.new }
+        ensures seat { IsSameSeat pass.old pass.new }
         ensures works { IsAtWork pass.new.view }
         ensures same { self.new ≡ record self.old { ended = is_last result } }
         ensures ended { (reply : Reply) → result ≡ CallStep.Ended reply → HasCalled self.old.object self.old.op reply pass.old.view pass.new.view }
@@ -147,6 +149,7 @@ impl System {
         requires asked { IsAsked self.now.plan object op }
         requires few { length pass.old.view.taker.mine < MOST }
         ensures here { IsPassHere self.now pass.new }
+        ensures seat { IsSameSeat pass.old pass.new }
         ensures works { IsAtWork pass.new.view }
         ensures called { IfOk result (λ reply. HasCalled object op reply pass.old.view pass.new.view) }
         ensures memory { OnErr result (HasNotCalled pass.old.view pass.new.view) }

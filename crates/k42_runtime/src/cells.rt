@@ -2,21 +2,18 @@
 ghost use Rattle.std.specs.Prelude.{◌≡◌, ℕ, ◌<◌, ◌≤◌, ◌+◌, false, None, [], ◌∷◌, vec_len, vec_capacity, is_some, IsSome};
 ghost use Rattle.phase_core.specs.Stages.{IsInside};
 ghost use Rattle.turn_core.specs.Names.{names};
-ghost use Rattle.k42_joined.specs.Numbers.{cell_of, row_cells};
-ghost use Rattle.k42_joined.specs.Rows.{cells_reached};
+ghost use Rattle.k42_joined.specs.Numbers.{row_cells};
 ghost use Rattle.k42_board.specs.Drawing.{numbers_of};
 ghost use Rattle.k42_board.specs.Log.{ComesTo};
 ghost use Rattle.k42_board.specs.Seen.{IsOf, IsSamePass};
 ghost use Rattle.k42_board.specs.Taking.{TouchesInside};
 ghost use Rattle.k42_mediator.specs.Taken.{released, AreTaken, MayPutBack};
-ghost use Rattle.k42_runtime.specs.Reaching.{IsThere, TakesNext, Takes, MayGiveBack};
-ghost use Rattle.k42_runtime.specs.Stepping.{many_reached};
+ghost use Rattle.k42_runtime.specs.Reaching.{TakesNext, Takes, MayGiveBack};
 ghost use Rattle.k42_runtime.specs.Systems.{any_layouts};
 
 use crate::system::{Pass, SystemLayout};
 use k42_board::cell_number;
-use k42_kinds::Reach;
-use k42_rule::{Cell, Inside, Sys, layouts_are_lawful, lock, put, take, unlock};
+use k42_rule::{Cell, Sys, layouts_are_lawful, lock, put, take, unlock};
 
 /// Takes a cell, or answers which caller has it.
 fn take_next(
@@ -48,7 +45,7 @@ fn take_next(
 
 /// Takes all cells of a row, in rising order. Where another caller has one of them, it answers which caller, and those
 /// before it are taken.
-fn take_row(
+pub(crate) fn take_row(
     sys: &Sys<SystemLayout>,
     pass: &mut Pass,
     object: u32,
@@ -77,61 +74,8 @@ fn take_row(
     None
 }
 
-/// Takes the one cell.
-fn take_one(
-    sys: &Sys<SystemLayout>,
-    pass: &mut Pass,
-    object: u32,
-    row: u32,
-    place: u32,
-    cells: &mut Vec<Cell<SystemLayout>>,
-) -> Option<u32>
-    requires ours { IsOf sys.now pass.old }
-    requires there { place < sys.now.procs }
-    requires few { object < 16 }
-    requires inside { IsInside pass.old.view.visitor.place object row }
-    requires room { 1 ≤ vec_capacity cells.old }
-    requires none { cells.old.items ≡ [] }
-    requires held { pass.old.view.taker.held ≡ [] }
-    ensures same { IsSamePass pass.old pass.new }
-    ensures takes { Takes (any_layouts sys.now.procs sys.now.callers) sys.now.layouts result object (cell_of object row place ∷ []) pass.old.view pass.new.view cells.new.items }
-    ensures may { MayGiveBack (any_layouts sys.now.procs sys.now.callers) sys.now.layouts pass.new.seat pass.new.view cells.new.items }
-{
-    layouts_are_lawful(sys);
-    let _home = pass.processor();
-    let _procs = sys.procs();
-    take_next(sys, pass, cell_number(object, row, place), cells)
-}
-
-/// Takes the cells that a call needs. Where another caller has one of them, it answers which caller, and those before
-/// it are taken.
-pub(crate) fn take_cells(
-    sys: &Sys<SystemLayout>,
-    pass: &mut Pass,
-    inside: &Inside,
-    reach: &Reach,
-    cells: &mut Vec<Cell<SystemLayout>>,
-) -> Option<u32>
-    requires ours { IsOf sys.now pass.old }
-    requires there { IsThere sys.now.procs reach.now }
-    requires few { inside.now.object < 16 }
-    requires inside { IsInside pass.old.view.visitor.place inside.now.object inside.now.incarnation }
-    requires room { many_reached sys.now.procs reach.now ≤ vec_capacity cells.old }
-    requires none { cells.old.items ≡ [] }
-    requires held { pass.old.view.taker.held ≡ [] }
-    ensures same { IsSamePass pass.old pass.new }
-    ensures takes { Takes (any_layouts sys.now.procs sys.now.callers) sys.now.layouts result inside.now.object (cells_reached sys.now.procs inside.now.object inside.now.incarnation reach.now) pass.old.view pass.new.view cells.new.items }
-    ensures may { MayGiveBack (any_layouts sys.now.procs sys.now.callers) sys.now.layouts pass.new.seat pass.new.view cells.new.items }
-{
-    let (object, row) = (inside.object, inside.incarnation);
-    match *reach {
-        Reach::One(place) => take_one(sys, pass, object, row, place, cells),
-        Reach::All => take_row(sys, pass, object, row, cells),
-    }
-}
-
 /// Puts one cell back, and leaves its lock.
-fn give_next(sys: &Sys<SystemLayout>, pass: &mut Pass, cell: Cell<SystemLayout>)
+pub(crate) fn give_next(sys: &Sys<SystemLayout>, pass: &mut Pass, cell: Cell<SystemLayout>)
     requires ours { IsOf sys.now pass.old }
     requires ready { MayPutBack (any_layouts sys.now.procs sys.now.callers) sys.now.layouts pass.old.seat pass.old.view cell }
     ensures same { IsSamePass pass.old pass.new }

@@ -1,32 +1,28 @@
 //! A system is closed.
-ghost use Rattle.std.specs.Prelude.{◌≡◌, ◌≤◌, ◌+◌, true, length, map, vec_items, IfOk, IfErr, IfSome, OnOk};
-ghost use Rattle.k42_limits.specs.declared.TheConstants.{CALLERS};
+ghost use Rattle.std.specs.Prelude.{◌≡◌, true, map, vec_items, IfOk, IfErr, IfSome};
 ghost use Rattle.k42_rule.specs.Finishing.{lists_in};
 ghost use Rattle.k42_stamp.specs.Lists.{AreLists, IsMerged};
 ghost use Rattle.k42_stamp.specs.Merging.{AreEmpty, IsAlone, entries_in};
-ghost use Rattle.k42_runtime.specs.Closing.{AreNumbered, AreListsFrom, Fits};
-ghost use Rattle.k42_runtime.specs.Histories.{IsClosed, MayClose};
+ghost use Rattle.k42_runtime.specs.Closing.{Fits};
+ghost use Rattle.k42_runtime.specs.Histories.{IsClosed, HasHistory, MayClose, MayEnd};
 
 use crate::history::{History, Unclosed};
 use crate::system::{Pass, System, SystemLayout};
 use k42_joined::trace_at_rest_is_a_history;
 use k42_kinds::Entry;
 use k42_memory::Memory;
-use k42_rule::{Unfinished, layouts_are_lawful};
-use k42_stamp::{Room, merge_into, take_alone};
+use k42_rule::{give_lists, layouts_are_lawful};
+use k42_stamp::{Room, lists_have_a_merge, merge_into, take_alone};
 use std::alloc::Global;
 
-/// How many entries the passes have, where a number is so large. The passes are counted from a first caller.
-fn total_of(first: u32, passes: &[Pass]) -> Option<usize>
-    requires numbered { AreNumbered first passes.now }
-    requires few { first + length passes.now ≤ CALLERS }
-    ensures total { IfSome result (λ total. total ≡ entries_in (lists_in passes.now)) }
-    ensures listed { IfSome result (λ total. AreListsFrom first (lists_in passes.now)) }
+/// How many entries the passes have drawn, where a number is so large.
+fn total_of(passes: &[Pass]) -> Option<usize>
+    ensures { IfSome result (λ total. total ≡ entries_in (lists_in passes.now)) }
 {
     let Some((pass, others)) = passes.split_first() else {
         return Some(0);
     };
-    total_of(first + 1, others)?.checked_add(pass.entries().len())
+    total_of(others)?.checked_add(pass.drawn() as usize)
 }
 
 /// Whether no pass has entries.
@@ -36,7 +32,7 @@ fn are_empty(passes: &[Pass]) -> bool
     let Some((pass, others)) = passes.split_first() else {
         return true;
     };
-    pass.entries().is_empty() && are_empty(others)
+    pass.drawn() == 0 && are_empty(others)
 }
 
 /// The place of the pass that alone has entries.
@@ -47,7 +43,7 @@ fn only_place(passes: &[Pass]) -> Option<usize>
     if are_empty(others) {
         return Some(0);
     }
-    if !pass.entries().is_empty() {
+    if pass.drawn() != 0 {
         return None;
     }
     Some(only_place(others)? + 1)
@@ -62,12 +58,9 @@ enum Way {
 
 /// It needs room for all entries only where several passes have some.
 fn way_for(alloc: Global, passes: &[Pass]) -> Result<Way, Memory>
-    requires numbered { AreNumbered 0 passes.now }
-    requires few { length passes.now ≤ CALLERS }
-    ensures way { IfOk result (Fits (lists_in passes.now)) }
-    ensures listed { OnOk result (AreListsFrom 0 (lists_in passes.now)) }
+    ensures { IfOk result (Fits (lists_in passes.now)) }
 {
-    let Some(total) = total_of(0, passes) else {
+    let Some(total) = total_of(passes) else {
         return Err(Memory);
     };
     match only_place(passes) {
@@ -89,8 +82,20 @@ fn merged(way: Way, lists: Vec<Vec<Entry>>) -> Vec<Entry>
 }
 
 impl System {
-    /// The one history of all its passes' entries.
-    pub fn close(self, alloc: Global, passes: Vec<Pass>) -> Result<History, Unclosed>
+    /// Ends a system of which nobody asks for the history. It takes no memory.
+    pub fn end(self, passes: Vec<Pass>)
+        requires { MayEnd self passes.items }
+        ensures { HasHistory self.plan (lists_in passes.items) }
+    {
+        layouts_are_lawful(&self.sys);
+        trace_at_rest_is_a_history::<SystemLayout>(self.sys.procs());
+        lists_have_a_merge();
+        let System { sys, .. } = self;
+        sys.finish(passes);
+    }
+
+    /// The one history of all its passes' entries, of which each has kept its own.
+    pub fn close(self, alloc: Global, mut passes: Vec<Pass>) -> Result<History, Unclosed>
         requires { MayClose self passes.items }
         ensures ok { IfOk result (IsClosed self.plan (lists_in passes.items)) }
         ensures err { IfErr result (λ back. (back.system ≡ self) × (back.passes.items ≡ passes.items)) }
@@ -103,16 +108,18 @@ impl System {
                 passes,
             });
         };
-        let System { sys, plan } = self;
-        match sys.finish(alloc, passes) {
-            Ok(lists) => Ok(History {
-                entries: merged(way, lists),
-                plan,
-            }),
-            Err(Unfinished { sys, passes }) => Err(Unclosed {
-                system: System { sys, plan },
+        let Ok(mut lists) = Vec::with_capacity(alloc, passes.len()) else {
+            return Err(Unclosed {
+                system: self,
                 passes,
-            }),
-        }
+            });
+        };
+        give_lists::<SystemLayout>(alloc, passes.as_mut_slice(), &mut lists);
+        let System { sys, plan } = self;
+        sys.finish(passes);
+        Ok(History {
+            entries: merged(way, lists),
+            plan,
+        })
     }
 }

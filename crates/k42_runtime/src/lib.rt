@@ -19,6 +19,7 @@ pub use calls::{Call, CallCause, CallStep};
 pub use history::{History, Unclosed};
 pub use k42_kinds::{Act, Answer, Entry, KindName, LayoutName, Name, Op, Reply, Text, To};
 pub use k42_memory::Memory;
+pub use k42_rule::Keep;
 pub use laws::{
     nothing_seen_is_later_than_the_last_entry, the_end_of_a_swap_given_up_leaves_its_object_open,
     traces_are_legal,

@@ -3,6 +3,7 @@ ghost use Rattle.std.specs.Prelude.{◌≡◌, ◌≤◌, ◌+◌, length, Some,
 ghost use Rattle.k42_limits.specs.declared.TheConstants.{CALLERS};
 ghost use Rattle.k42_runtime.specs.Plans.{plan_fault, stray_from};
 
+use k42_board::Keep;
 use k42_kinds::{KindName, LayoutName};
 use k42_limits::{CALLERS, OBJECTS, PROCESSORS};
 use std::marker::Model;
@@ -27,12 +28,13 @@ pub enum PlanFault {
     Processor { caller: u32 },
 }
 
-/// Processors, objects, and callers, of each its processor.
+/// Processors, objects, callers, of each its processor, and which entries their passes keep.
 #[derive(Drop)]
 pub struct Plan {
     pub(crate) procs: u32,
     pub(crate) objects: Vec<ObjectPlan>,
     pub(crate) callers: Vec<u32>,
+    pub(crate) keep: Keep,
 }
 
 impl Model for Plan {
@@ -40,9 +42,9 @@ impl Model for Plan {
 
     ghost Value = { PlanSeen };
 
-    ghost view = { λ p. record { procs = p.procs; objects = p.objects.items; callers = p.callers.items } };
+    ghost view = { λ p. record { procs = p.procs; objects = p.objects.items; callers = p.callers.items; keep = p.keep } };
 
-    ghost invariant = { λ p. IsSoundPlan (record { procs = p.procs; objects = p.objects.items; callers = p.callers.items }) };
+    ghost invariant = { λ p. IsSoundPlan (record { procs = p.procs; objects = p.objects.items; callers = p.callers.items; keep = p.keep }) };
 }
 
 /// The first caller whose processor is not there; these callers are counted from a first one.
@@ -60,7 +62,7 @@ fn stray(procs: u32, first: u32, homes: &[u32]) -> Option<PlanFault>
 
 /// The first fault of such a plan, in the order in which they are listed.
 fn first_fault(procs: u32, objects: &[ObjectPlan], callers: &[u32]) -> Option<PlanFault>
-    ensures { result ≡ plan_fault (record { procs = procs; objects = objects.now; callers = callers.now }) }
+    ensures { result ≡ plan_fault procs objects.now callers.now }
 {
     if procs == 0 || procs > PROCESSORS {
         return Some(PlanFault::Procs);
@@ -75,11 +77,23 @@ fn first_fault(procs: u32, objects: &[ObjectPlan], callers: &[u32]) -> Option<Pl
 }
 
 impl Plan {
+    /// Which of its entries each pass keeps.
+    pub fn keep(&self) -> Keep
+        ensures { result ≡ self.now.keep }
+    {
+        self.keep
+    }
+
     /// A plan with these fields, or the first of their faults, in the order in which they are listed.
-    pub fn new(procs: u32, objects: Vec<ObjectPlan>, callers: Vec<u32>) -> Result<Plan, PlanFault>
-        ensures plan { IfOk result (λ plan. plan ≡ record { procs = procs; objects = objects.items; callers = callers.items }) }
-        ensures sound { IfOk result (λ plan. plan_fault plan ≡ None) }
-        ensures fault { IfErr result (λ fault. plan_fault (record { procs = procs; objects = objects.items; callers = callers.items }) ≡ Some fault) }
+    pub fn new(
+        procs: u32,
+        objects: Vec<ObjectPlan>,
+        callers: Vec<u32>,
+        keep: Keep,
+    ) -> Result<Plan, PlanFault>
+        ensures plan { IfOk result (λ plan. plan ≡ record { procs = procs; objects = objects.items; callers = callers.items; keep = keep }) }
+        ensures sound { IfOk result (λ plan. plan_fault procs objects.items callers.items ≡ None) }
+        ensures fault { IfErr result (λ fault. plan_fault procs objects.items callers.items ≡ Some fault) }
     {
         match first_fault(procs, objects.as_slice(), callers.as_slice()) {
             Some(fault) => Err(fault),
@@ -87,6 +101,7 @@ impl Plan {
                 procs,
                 objects,
                 callers,
+                keep,
             }),
         }
     }

@@ -1,24 +1,28 @@
 //! A call, once it has begun: it gets inside a row, and is served there.
-ghost use Rattle.std.specs.Prelude.{◌≡◌, ◌<◌, true, [], length, IfOk, OnErr};
+ghost use Rattle.std.specs.Prelude.{◌≡◌, ◌<◌, true, [], ◌∷◌, length, IfOk, OnErr};
+ghost use Rattle.k42_kinds.specs.declared.entry.Reach.TheVariants.{One, All};
 ghost use Rattle.phase_core.specs.Stages.{is_missed, is_at_mediator};
+ghost use Rattle.k42_joined.specs.Numbers.{cell_of};
 ghost use Rattle.k42_board.specs.Drawing.{numbers_of};
 ghost use Rattle.k42_board.specs.Generations.{MOST};
 ghost use Rattle.k42_board.specs.Phases.{is_served};
-ghost use Rattle.k42_board.specs.Seen.{IsOf, IsPassOf, IsSamePass};
+ghost use Rattle.k42_board.specs.Seen.{HasRoom, IsOf, IsPassOf, IsSamePass};
 ghost use Rattle.k42_board.specs.Tabling.{MayLookUp};
+ghost use Rattle.k42_rule.specs.Settled.{IsSettled};
+ghost use Rattle.k42_mediator.specs.Taken.{MayPutBack};
 ghost use Rattle.k42_runtime.specs.Reaching.{MayGiveBack};
-ghost use Rattle.k42_runtime.specs.Serving.{object_inside, IsServing, GoesBy, IsAskedOf, IsSameSeat, Makes, GoesIn, GoesOut, HasCells, IsServedBy};
-ghost use Rattle.k42_runtime.specs.Stepping.{many_reached};
+ghost use Rattle.k42_runtime.specs.Serving.{object_inside, row_inside, IsServing, GoesBy, IsAskedOf, IsSameSeat, Makes, GoesIn, GoesOut, IsCallAt, HasCells, IsServedBy};
 ghost use Rattle.k42_runtime.specs.Systems.{any_layouts};
 
 use crate::calls::{CallCause, CallStep};
-use crate::cells::{give_back, take_cells};
-use crate::stepping::step_cells;
+use crate::cells::{give_back, give_next, take_row};
+use crate::stepping::{step_part, step_row};
 use crate::system::{Pass, SystemLayout};
+use k42_board::cell_number;
 use k42_kinds::{Act, Answer, Layout, Op, Reach};
 use k42_mediator::{Knocked, knock};
 use k42_memory::Memory;
-use k42_rule::{Cell, Sys, draw_call, layouts_are_lawful};
+use k42_rule::{Cell, Sys, draw_call, draw_one, layouts_are_lawful, lock, take};
 use k42_tables::{Entered, Filled, Tried, look_up, try_miss};
 use std::alloc::Global;
 
@@ -84,30 +88,84 @@ pub(crate) fn go_inside(
     }
 }
 
-/// How many cells a call needs.
-fn many_reached(reach: &Reach, procs: u32) -> usize
-    ensures { result ≡ many_reached procs reach.now }
-{
-    match *reach {
-        Reach::One(_) => 1,
-        Reach::All => procs as usize,
-    }
-}
-
-/// Makes the operation at the cells that it needs, and draws that.
-fn make(
+/// Makes the operation at the one cell that it needs, and draws that.
+#[inline(always)]
+fn make_one(
     alloc: Global,
     sys: &Sys<SystemLayout>,
     pass: &mut Pass,
     layout: &SystemLayout,
-    reach: &Reach,
+    place: u32,
+    op: &Op,
+    cell: &mut Cell<SystemLayout>,
+) -> CallStep
+    requires ours { IsOf sys.now pass.old }
+    requires room { HasRoom pass.old }
+    requires few { length pass.old.view.taker.mine < MOST }
+    requires has { HasCells (any_layouts sys.now.procs sys.now.callers) sys.now.layouts pass.old.view layout.now (One place) op.now (cell.old ∷ []) }
+    ensures same { IsSameSeat pass.old pass.new }
+    ensures number { cell.new.number ≡ cell.old.number }
+    ensures may { MayPutBack (any_layouts sys.now.procs sys.now.callers) sys.now.layouts pass.new.seat pass.new.view cell.new }
+    ensures makes { Makes result (cell.old.number ∷ []) op.now pass.old.view pass.new.view }
+{
+    layouts_are_lawful(sys);
+    let procs = sys.procs();
+    let Ok(reply) = step_part(alloc, layout, procs, place, op, cell) else {
+        return CallStep::Memory;
+    };
+    let told = Answer::Replied(*&reply);
+    draw_one(sys, pass, cell, Act::Call(*op), told);
+    CallStep::Ended(reply)
+}
+
+/// Takes the one cell that the operation needs, makes it, and gives the cell back.
+#[inline(always)]
+fn serve_one(
+    alloc: Global,
+    sys: &Sys<SystemLayout>,
+    pass: &mut Pass,
+    layout: &SystemLayout,
+    number: u32,
+    place: u32,
+    op: &Op,
+) -> CallStep
+    requires ours { IsOf sys.now pass.old }
+    requires call { IsCallAt (any_layouts sys.now.procs sys.now.callers) sys.now.layouts pass.old.view layout.now (One place) op.now }
+    requires there { place < sys.now.procs }
+    requires number { number ≡ cell_of (object_inside pass.old.view) (row_inside pass.old.view) place }
+    requires held { pass.old.view.taker.held ≡ [] }
+    requires settled { IsSettled pass.old.view }
+    requires room { HasRoom pass.old }
+    requires few { length pass.old.view.taker.mine < MOST }
+    ensures same { IsSameSeat pass.old pass.new }
+    ensures served { IsServedBy result op.now pass.old.view pass.new.view }
+{
+    let _procs = sys.procs();
+    let found = lock(sys, pass, number);
+    if found != 0 {
+        return CallStep::Again(CallCause::CellHeld {
+            holder: (found - 1) as u32,
+        });
+    }
+    let mut cell = take(sys, pass, number);
+    let step = make_one(alloc, sys, pass, layout, place, op, &mut cell);
+    give_next(sys, pass, cell);
+    step
+}
+
+/// Makes the operation at all cells of the row, and draws that.
+fn make_all(
+    alloc: Global,
+    sys: &Sys<SystemLayout>,
+    pass: &mut Pass,
+    layout: &SystemLayout,
     op: &Op,
     cells: &mut Vec<Cell<SystemLayout>>,
 ) -> CallStep
     requires ours { IsOf sys.now pass.old }
-    requires room { 0 < pass.old.room }
+    requires room { HasRoom pass.old }
     requires few { length pass.old.view.taker.mine < MOST }
-    requires has { HasCells (any_layouts sys.now.procs sys.now.callers) sys.now.layouts pass.old.view layout.now reach.now op.now cells.old.items }
+    requires has { HasCells (any_layouts sys.now.procs sys.now.callers) sys.now.layouts pass.old.view layout.now All op.now cells.old.items }
     ensures same { IsSameSeat pass.old pass.new }
     ensures numbers { numbers_of cells.new.items ≡ numbers_of cells.old.items }
     ensures may { MayGiveBack (any_layouts sys.now.procs sys.now.callers) sys.now.layouts pass.new.seat pass.new.view cells.new.items }
@@ -115,7 +173,7 @@ fn make(
 {
     layouts_are_lawful(sys);
     let procs = sys.procs();
-    let Ok(reply) = step_cells(alloc, layout, procs, reach, op, cells.as_mut_slice()) else {
+    let Ok(reply) = step_row(alloc, layout, procs, op, cells.as_mut_slice()) else {
         return CallStep::Memory;
     };
     let told = Answer::Replied(*&reply);
@@ -123,14 +181,50 @@ fn make(
     CallStep::Ended(reply)
 }
 
+/// Takes all cells of the row, makes the operation, and gives them back.
+fn serve_all(
+    alloc: Global,
+    sys: &Sys<SystemLayout>,
+    pass: &mut Pass,
+    layout: &SystemLayout,
+    op: &Op,
+) -> CallStep
+    requires ours { IsOf sys.now pass.old }
+    requires call { IsCallAt (any_layouts sys.now.procs sys.now.callers) sys.now.layouts pass.old.view layout.now All op.now }
+    requires some { 0 < sys.now.procs }
+    requires held { pass.old.view.taker.held ≡ [] }
+    requires settled { IsSettled pass.old.view }
+    requires room { HasRoom pass.old }
+    requires few { length pass.old.view.taker.mine < MOST }
+    ensures same { IsSameSeat pass.old pass.new }
+    ensures served { IsServedBy result op.now pass.old.view pass.new.view }
+{
+    let inside = pass.inside();
+    let Ok(mut cells) = Vec::with_capacity(alloc, sys.procs() as usize) else {
+        return CallStep::Memory;
+    };
+    match take_row(sys, pass, inside.object, inside.incarnation, &mut cells) {
+        Some(holder) => {
+            give_back(sys, pass, cells);
+            CallStep::Again(CallCause::CellHeld { holder })
+        }
+        None => {
+            let step = make_all(alloc, sys, pass, layout, op, &mut cells);
+            give_back(sys, pass, cells);
+            step
+        }
+    }
+}
+
 /// Takes the cells that the operation needs, makes it, and gives them back.
+#[inline(always)]
 pub(crate) fn serve(alloc: Global, sys: &Sys<SystemLayout>, pass: &mut Pass, op: &Op) -> CallStep
     requires ours { IsPassOf sys.now pass.old }
     requires serving { IsServing (object_inside pass.old.view) pass.old.view }
     requires asked { IsAskedOf sys.now.layouts (object_inside pass.old.view) op.now }
     requires held { pass.old.view.taker.held ≡ [] }
     requires notes { pass.old.view.notes ≡ [] }
-    requires room { 0 < pass.old.room }
+    requires room { HasRoom pass.old }
     requires few { length pass.old.view.taker.mine < MOST }
     ensures same { IsSameSeat pass.old pass.new }
     ensures served { IsServedBy result op.now pass.old.view pass.new.view }
@@ -138,19 +232,11 @@ pub(crate) fn serve(alloc: Global, sys: &Sys<SystemLayout>, pass: &mut Pass, op:
     let inside = pass.inside();
     let procs = sys.procs();
     let layout = sys.declared(inside.object).with_tag(inside.layout);
-    let reach = layout.reach(op, pass.processor(), procs);
-    let Ok(mut cells) = Vec::with_capacity(alloc, many_reached(&reach, procs)) else {
-        return CallStep::Memory;
-    };
-    match take_cells(sys, pass, &inside, &reach, &mut cells) {
-        Some(holder) => {
-            give_back(sys, pass, cells);
-            CallStep::Again(CallCause::CellHeld { holder })
+    match layout.reach(op, pass.processor(), procs) {
+        Reach::One(place) => {
+            let number = cell_number(inside.object, inside.incarnation, place);
+            serve_one(alloc, sys, pass, &layout, number, place, op)
         }
-        None => {
-            let step = make(alloc, sys, pass, &layout, &reach, op, &mut cells);
-            give_back(sys, pass, cells);
-            step
-        }
+        Reach::All => serve_all(alloc, sys, pass, &layout, op),
     }
 }

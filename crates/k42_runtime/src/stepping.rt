@@ -2,19 +2,19 @@
 ghost use Rattle.std.specs.Prelude.{◌≡◌, ◌<◌, ◌≤◌, ◌+◌, ◌++◌, IsTrue, None, if◌then◌else◌, length, take, drop, is_some, vec_capacity, IfOk, OnOk, OnErr};
 ghost use Rattle.k42_limits.specs.declared.TheConstants.{PROCESSORS};
 ghost use Rattle.k42_kinds.specs.LayoutLaws.{IsReached};
-ghost use Rattle.k42_kinds.specs.declared.entry.Reach.TheVariants.{One};
 ghost use Rattle.k42_mediator.specs.Parts.{parts_from, filled};
-ghost use Rattle.k42_runtime.specs.Stepping.{due_in, stepped_at, row_behind, MayStepRow, MayStepCells, HasSteppedCells};
+ghost use Rattle.k42_runtime.specs.Stepping.{due_in, stepped_at, row_behind, MayStepRow};
 ghost use Rattle.k42_runtime.specs.Systems.{object_in, ways_in, whole_in};
 
 use crate::system::{SystemLayout, SystemPart};
-use k42_kinds::{Layout, Op, Reach, Reply};
+use k42_kinds::{Layout, Op, Reply};
 use k42_memory::Memory;
 use k42_rule::Cell;
 use std::alloc::Global;
 
 /// Makes the operation on the part of the one cell that it needs.
-fn step_part(
+#[inline(always)]
+pub(crate) fn step_part(
     alloc: Global,
     layout: &SystemLayout,
     procs: u32,
@@ -40,28 +40,6 @@ fn step_part(
     let reply = layout.step_one(alloc, &mut part, op)?;
     cell.set_part(part);
     Ok(reply)
-}
-
-/// The same where the cell stands alone.
-fn step_first(
-    alloc: Global,
-    layout: &SystemLayout,
-    procs: u32,
-    place: u32,
-    op: &Op,
-    cells: &mut [Cell<SystemLayout>],
-) -> Result<Reply, Memory>
-    requires known { (layout.now.inner.tag ≤ 2) × (procs ≤ PROCESSORS) }
-    requires takes { IsTrue ((object_in layout.now).takes op.now) }
-    requires may { MayStepCells (ways_in layout.now) procs (whole_in layout.now) op.now (One place) cells.old }
-    ensures stepped { IfOk result (λ reply.
-        HasSteppedCells (ways_in layout.now) procs op.now (One place) reply cells.old cells.new) }
-    ensures memory { OnErr result (cells.new ≡ cells.old) }
-{
-    let Some((cell, _others)) = cells.split_first_mut() else {
-        unreachable!()
-    };
-    step_part(alloc, layout, procs, place, op, cell)
 }
 
 /// The part of a cell, or the empty one that is due there, and whether it is the cell's own.
@@ -147,8 +125,8 @@ fn step_behind(
     reply
 }
 
-/// Makes the operation on the parts of a whole row.
-fn step_row(
+/// Makes the operation on the parts of a whole row. Without memory they are as they were.
+pub(crate) fn step_row(
     alloc: Global,
     layout: &SystemLayout,
     procs: u32,
@@ -168,26 +146,4 @@ fn step_row(
 {
     let mut parts = Vec::with_capacity(alloc, cells.len())?;
     step_behind(alloc, layout, procs, op, cells, &mut parts)
-}
-
-/// Makes the operation on the parts of the cells that it needs. Without memory they are as they were.
-pub(crate) fn step_cells(
-    alloc: Global,
-    layout: &SystemLayout,
-    procs: u32,
-    reach: &Reach,
-    op: &Op,
-    cells: &mut [Cell<SystemLayout>],
-) -> Result<Reply, Memory>
-    requires known { (layout.now.inner.tag ≤ 2) × (procs ≤ PROCESSORS) }
-    requires takes { IsTrue ((object_in layout.now).takes op.now) }
-    requires may { MayStepCells (ways_in layout.now) procs (whole_in layout.now) op.now reach.now cells.old }
-    ensures stepped { IfOk result (λ reply.
-        HasSteppedCells (ways_in layout.now) procs op.now reach.now reply cells.old cells.new) }
-    ensures memory { OnErr result (cells.new ≡ cells.old) }
-{
-    match *reach {
-        Reach::One(place) => step_first(alloc, layout, procs, place, op, cells),
-        Reach::All => step_row(alloc, layout, procs, op, cells),
-    }
 }

@@ -15,7 +15,7 @@ use crate::plan::{ObjectPlan, Plan};
 use co_any::{AnyLayout, AnyPart};
 use k42_kinds::{KindName, Op, is_seen, kind_of};
 use k42_memory::Memory;
-use k42_rule::Sys;
+use k42_rule::{Keep, Sys};
 use k42_watch::{Layer, Watch, WatchPart};
 use std::alloc::Global;
 use std::marker::Model;
@@ -76,7 +76,7 @@ impl System {
     {
         let layouts = layouts_for(alloc, plan.objects.as_slice())?;
         let callers = copied(alloc, plan.callers.as_slice())?;
-        let (sys, passes) = Sys::start(alloc, layouts, plan.procs, callers)?;
+        let (sys, passes) = Sys::start(alloc, layouts, plan.procs, callers, plan.keep)?;
         Ok((System { sys, plan }, passes))
     }
 
@@ -93,6 +93,13 @@ impl System {
         ensures { result.now ≡ self.now.sys }
     {
         &self.sys
+    }
+
+    /// Which of its entries each of its passes keeps.
+    pub fn keep(&self) -> Keep
+        ensures { result ≡ self.now.plan.keep }
+    {
+        self.plan.keep
     }
 
     /// How many objects it has.

@@ -1,8 +1,8 @@
-use Rattle.std.proofs.Common.{◌≡◌, ◌+◌, ◌<◌, [], ◌∷◌, length, rules, sym, ◌∙◌, subst}
-use Rattle.std.proofs.lemmas.List.{length-map}
+use Rattle.std.proofs.Common.{◌≡◌, ◌+◌, ◌<◌, ◌∷◌, length, rules, sym, subst}
+use Rattle.std.proofs.lemmas.List.{length-map, nil_from_length}
 use Rattle.k42_rule.specs.Finishing.{lists_in}
 use Rattle.k42_stamp.specs.Merging.{IsAlone}
-use Rattle.k42_runtime.proofs.AloneLists.{none_in, first_alone, later_alone, alone_within}
+use Rattle.k42_runtime.proofs.AloneLists.{first_alone, later_alone, alone_within}
 use Rattle.k42_runtime.proofs.closing.+only_place.Goals as goal
 
 pub returns-then-are_empty : goal.returns-then-are_empty
@@ -24,7 +24,6 @@ pub returns : goal.returns
 returns t c =
     let parts : c.args.passes.now ≡ c.in_ok-pass.pass.now ∷ c.in_ok-pass.others.now = search rules in
     let alone : IsAlone (lists_in c.in_ok-pass.others.now) c.in_ok-only_place.field-0 = search rules in
-    let none : c.in_ok-pass.pass.now.view.taker.mine ≡ [] =
-    sym c.entries.ensures.are ∙ none_in c.entries.result.now (sym c.if-not-is_empty.false ∙ c.is_empty.ensures) in
+    let zero : length c.in_ok-pass.pass.now.view.taker.mine ≡ 0 = search rules in
     subst (λ passes. IsAlone (lists_in passes) (c.in_ok-only_place.field-0 + 1)) (sym parts)
-    (later_alone c.in_ok-pass.pass.now.view.taker.mine (lists_in c.in_ok-pass.others.now) c.in_ok-only_place.field-0 none alone)
+    (later_alone c.in_ok-pass.pass.now.view.taker.mine (lists_in c.in_ok-pass.others.now) c.in_ok-only_place.field-0 (nil_from_length _ zero) alone)

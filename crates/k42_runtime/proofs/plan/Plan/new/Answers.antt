@@ -5,5 +5,5 @@ use Rattle.k42_runtime.proofs.plan.Plan.new.Goals as goal
 
 pub invariant_of-result : goal.invariant_of-result
 invariant_of-result c =
-    let none : plan_fault (record { procs = c.args.procs; objects = c.args.objects.items; callers = c.args.callers.items }) ≡ None = search rules in
-    sound _ none
+    let none : plan_fault c.args.procs c.args.objects.items c.args.callers.items ≡ None = search rules in
+    sound (record { procs = c.args.procs; objects = c.args.objects.items; callers = c.args.callers.items; keep = c.args.keep }) none

@@ -8,7 +8,7 @@ use Rattle.k42_runtime.proofs.system.System.start.Goals as goal
 
 pub start-requires-clause-start : goal.start-requires-clause-start
 start-requires-clause-start c κs =
-    let plan : PlanSeen = record { procs = c.plan.inside.procs; objects = c.plan.inside.objects.items; callers = c.plan.inside.callers.items } in
+    let plan : PlanSeen = record { procs = c.plan.inside.procs; objects = c.plan.inside.objects.items; callers = c.plan.inside.callers.items; keep = c.plan.inside.keep } in
     let layouts : c.in_ok-layouts.layouts.items ≡ layouts_of plan = search rules in
     let callers : c.in_ok-callers.callers.items ≡ plan.callers = search rules in
     subst (λ (z : List SystemLayout × List ℕ). IsStart tag_in z.0 plan.procs z.1) (λ k. (sym layouts k, sym callers k))
@@ -21,5 +21,6 @@ returns c =
     let layouts : c.in_ok-layouts.layouts.items ≡ layouts_of c.args.plan = search rules in
     let callers : c.in_ok-callers.callers.items ≡ c.args.plan.callers = search rules in
     let sound : IsSoundPlan c.args.plan = search rules in
-    started c.args.plan c.in_ok-sys.sys c.in_ok-sys.passes.items sound is
+    let keeps : c.in_ok-sys.sys.keep ≡ c.args.plan.keep = search rules in
+    started c.args.plan c.in_ok-sys.sys c.in_ok-sys.passes.items sound is keeps
     (subst (λ (z : ℕ × List SystemLayout × List ℕ). IsOpened (any_layouts z.0 z.2) z.1 z.2) (λ k. (procs k, layouts k, callers k)) c.in_ok-sys.ensures.opened)

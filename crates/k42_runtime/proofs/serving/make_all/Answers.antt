@@ -1,6 +1,7 @@
-use Rattle.std.proofs.Common.{◌≡◌, ◌≤◌, ℕ, ◌++◌, List, length, take, drop, sym, ap, ◌∙◌, subst}
+use Rattle.std.proofs.Common.{◌≡◌, ◌≤◌, ℕ, ◌++◌, List, length, take, drop, sym, ap, ◌∙◌, subst, arith}
 use Rattle.k42_kinds.specs.declared.entry.Act.TheVariants.{Call}
 use Rattle.k42_kinds.specs.declared.entry.Answer.TheVariants.{Replied}
+use Rattle.k42_kinds.specs.declared.entry.Reach.TheVariants.{All}
 use Rattle.k42_joined.specs.Drawing.{first_cell}
 use Rattle.k42_board.specs.Drawing.{AreTold, MayDrawCall, numbers_of, entry_call, drawn_at}
 use Rattle.k42_board.specs.Log.{took}
@@ -8,75 +9,85 @@ use Rattle.k42_board.specs.Words.{lock_word}
 use Rattle.k42_board.specs.declared.cell.Content.{Content}
 use Rattle.k42_board.specs.declared.view.PassView.{PassView}
 use Rattle.k42_board.specs.declared.view.StepName.TheVariants as steps
+use Rattle.k42_mediator.specs.Parts.{parts_from}
 use Rattle.k42_mediator.proofs.RowReady.{written_back, told_numbers}
 use Rattle.k42_runtime.specs.Reaching.{MayGiveBack}
-use Rattle.k42_runtime.specs.Stepping.{MayStepCells, HasSteppedCells}
+use Rattle.k42_runtime.specs.Stepping.{MayStepRow, HasSteppedCells}
 use Rattle.k42_runtime.specs.Systems.{any_layouts}
 use Rattle.k42_runtime.proofs.Agreed.{watched_agrees}
 use Rattle.k42_runtime.proofs.CallMade.{may_step, may_draw, numbers_stepped, long_stepped, may_give_taken, may_give_drawn, has_made}
-use Rattle.k42_runtime.proofs.serving.make.Goals as goal
+use Rattle.k42_runtime.proofs.serving.make_all.Goals as goal
 
-pub step_cells-requires-clause-may : goal.step_cells-requires-clause-may
-step_cells-requires-clause-may c =
+pub step_row-requires-clause-few : goal.step_row-requires-clause-few
+step_row-requires-clause-few c =
     let procs : ℕ = c.args.sys.now.procs in let F = any_layouts procs c.args.sys.now.callers in let declared = c.args.sys.now.layouts in let laws = c.layouts_are_lawful.ensures in
     let agrees = watched_agrees in
-    let layout = c.args.layout.now in let v = c.args.pass.now.view in let op = c.args.op.now in let reach = c.args.reach.now in let items = c.args.cells.now.items in
+    let layout = c.args.layout.now in let v = c.args.pass.now.view in let op = c.args.op.now in let items = c.args.cells.now.items in
     let has = c.requires.has in let is = c.procs-procs.ensures.is in let few : procs ≤ 8 = subst (λ k. k ≤ 8) is c.procs-procs.ensures.few in
-    subst (λ (z : ℕ × List (Content _)). MayStepCells (F.ways_of layout) z.0 (F.Whole layout) op reach z.1) (λ j. (sym is j, sym c.as_mut_slice.ensures.value j))
-    (may_step F laws declared agrees v layout reach op items has few)
+    let long : length items ≡ procs = (may_step F laws declared agrees v layout All op items has few).0 in
+    let size = ap length c.as_mut_slice.ensures.value in omega (arith, long, size, is)
+
+pub step_row-requires-clause-row : goal.step_row-requires-clause-row
+step_row-requires-clause-row c =
+    let procs : ℕ = c.args.sys.now.procs in let F = any_layouts procs c.args.sys.now.callers in let declared = c.args.sys.now.layouts in let laws = c.layouts_are_lawful.ensures in
+    let agrees = watched_agrees in
+    let layout = c.args.layout.now in let v = c.args.pass.now.view in let op = c.args.op.now in let items = c.args.cells.now.items in
+    let has = c.requires.has in let is = c.procs-procs.ensures.is in let few : procs ≤ 8 = subst (λ k. k ≤ 8) is c.procs-procs.ensures.few in
+    subst (λ (z : ℕ × List (Content _)). MayStepRow (F.ways_of layout) z.0 (F.Whole layout) (parts_from (F.ways_of layout) z.0 0 z.1) op)
+    (λ j. (sym is j, sym c.as_mut_slice.ensures.value j)) (may_step F laws declared agrees v layout All op items has few).1
 
 pub returns-in_default-clause-may : goal.returns-in_default-clause-may
 returns-in_default-clause-may c =
     let procs : ℕ = c.args.sys.now.procs in let F = any_layouts procs c.args.sys.now.callers in let declared = c.args.sys.now.layouts in let laws = c.layouts_are_lawful.ensures in
     let agrees = watched_agrees in
-    let layout = c.args.layout.now in let v = c.args.pass.now.view in let op = c.args.op.now in let reach = c.args.reach.now in let items = c.args.cells.now.items in
+    let layout = c.args.layout.now in let v = c.args.pass.now.view in let op = c.args.op.now in let items = c.args.cells.now.items in
     let has = c.requires.has in let is = c.procs-procs.ensures.is in let few : procs ≤ 8 = subst (λ k. k ≤ 8) is c.procs-procs.ensures.few in
-    let new = c.step_cells.new.cells in
+    let new = c.step_row.new.cells in
     let same : new ≡ items = c.in_default.ensures.memory ∙ c.as_mut_slice.ensures.value in
     let back : take c.args.cells.now.len (new ++ drop (length new) items) ≡ items = written_back new items c.args.cells.now.len (ap length same) c.args.cells.now.ok.0 ∙ same in
-    subst (MayGiveBack F declared c.args.pass.now.seat v) (sym back) (may_give_taken F laws declared agrees v layout reach op items has few c.args.pass.now.seat)
+    subst (MayGiveBack F declared c.args.pass.now.seat v) (sym back) (may_give_taken F laws declared agrees v layout All op items has few c.args.pass.now.seat)
 
 pub draw_call-requires-clause-may : goal.draw_call-requires-clause-may
 draw_call-requires-clause-may c κs =
     let procs : ℕ = c.args.sys.now.procs in let F = any_layouts procs c.args.sys.now.callers in let declared = c.args.sys.now.layouts in let laws = c.layouts_are_lawful.ensures in
     let agrees = watched_agrees in
-    let layout = c.args.layout.now in let v = c.args.pass.now.view in let op = c.args.op.now in let reach = c.args.reach.now in let items = c.args.cells.now.items in
+    let layout = c.args.layout.now in let v = c.args.pass.now.view in let op = c.args.op.now in let items = c.args.cells.now.items in
     let has = c.requires.has in let is = c.procs-procs.ensures.is in let few : procs ≤ 8 = subst (λ k. k ≤ 8) is c.procs-procs.ensures.few in
-    let reply = c.in-Ok.reply in let new = c.step_cells.new.cells in
-    let made : HasSteppedCells (F.ways_of layout) procs op reach reply items new =
-    subst (λ (z : ℕ × List (Content _)). HasSteppedCells (F.ways_of layout) z.0 op reach reply z.1 new) (λ j. (is j, c.as_mut_slice.ensures.value j)) c.in-Ok.ensures.stepped in
+    let reply = c.in-Ok.reply in let new = c.step_row.new.cells in
+    let made : HasSteppedCells (F.ways_of layout) procs op All reply items new =
+    subst (λ (z : ℕ × List (Content _)). HasSteppedCells (F.ways_of layout) z.0 op All reply z.1 new) (λ j. (is j, c.as_mut_slice.ensures.value j)) (c.in-Ok.ensures.replied, c.in-Ok.ensures.moved) in
     let cells = take c.args.cells.now.len (new ++ drop (length new) items) in
     let back : cells ≡ new =
-    written_back new items c.args.cells.now.len (long_stepped F laws declared agrees v layout reach op items has few reply new made) c.args.cells.now.ok.0 in
-    subst (λ xs. MayDrawCall F declared xs op reply v) (sym back) (may_draw F laws declared agrees v layout reach op items has few reply new made c.requires.few)
+    written_back new items c.args.cells.now.len (long_stepped F laws declared agrees v layout All op items has few reply new made) c.args.cells.now.ok.0 in
+    subst (λ xs. MayDrawCall F declared xs op reply v) (sym back) (may_draw F laws declared agrees v layout All op items has few reply new made c.requires.few)
 
 pub returns-clause-numbers : goal.returns-clause-numbers
 returns-clause-numbers c =
     let procs : ℕ = c.args.sys.now.procs in let F = any_layouts procs c.args.sys.now.callers in let declared = c.args.sys.now.layouts in let laws = c.layouts_are_lawful.ensures in
     let agrees = watched_agrees in
-    let layout = c.args.layout.now in let v = c.args.pass.now.view in let op = c.args.op.now in let reach = c.args.reach.now in let items = c.args.cells.now.items in
+    let layout = c.args.layout.now in let v = c.args.pass.now.view in let op = c.args.op.now in let items = c.args.cells.now.items in
     let has = c.requires.has in let is = c.procs-procs.ensures.is in let few : procs ≤ 8 = subst (λ k. k ≤ 8) is c.procs-procs.ensures.few in
-    let reply = c.in-Ok.reply in let new = c.step_cells.new.cells in
-    let made : HasSteppedCells (F.ways_of layout) procs op reach reply items new =
-    subst (λ (z : ℕ × List (Content _)). HasSteppedCells (F.ways_of layout) z.0 op reach reply z.1 new) (λ j. (is j, c.as_mut_slice.ensures.value j)) c.in-Ok.ensures.stepped in
+    let reply = c.in-Ok.reply in let new = c.step_row.new.cells in
+    let made : HasSteppedCells (F.ways_of layout) procs op All reply items new =
+    subst (λ (z : ℕ × List (Content _)). HasSteppedCells (F.ways_of layout) z.0 op All reply z.1 new) (λ j. (is j, c.as_mut_slice.ensures.value j)) (c.in-Ok.ensures.replied, c.in-Ok.ensures.moved) in
     let cells = take c.args.cells.now.len (new ++ drop (length new) items) in
     let back : cells ≡ new =
-    written_back new items c.args.cells.now.len (long_stepped F laws declared agrees v layout reach op items has few reply new made) c.args.cells.now.ok.0 in
+    written_back new items c.args.cells.now.len (long_stepped F laws declared agrees v layout All op items has few reply new made) c.args.cells.now.ok.0 in
     told_numbers c.draw_call.new.pass.view.notes cells c.draw_call.new.cells.items c.draw_call.ensures.told ∙ ap numbers_of back
-    ∙ numbers_stepped F laws declared agrees v layout reach op items has few reply new made
+    ∙ numbers_stepped F laws declared agrees v layout All op items has few reply new made
 
 pub returns-clause-may : goal.returns-clause-may
 returns-clause-may c =
     let procs : ℕ = c.args.sys.now.procs in let F = any_layouts procs c.args.sys.now.callers in let declared = c.args.sys.now.layouts in let laws = c.layouts_are_lawful.ensures in
     let agrees = watched_agrees in
-    let layout = c.args.layout.now in let v = c.args.pass.now.view in let op = c.args.op.now in let reach = c.args.reach.now in let items = c.args.cells.now.items in
+    let layout = c.args.layout.now in let v = c.args.pass.now.view in let op = c.args.op.now in let items = c.args.cells.now.items in
     let has = c.requires.has in let is = c.procs-procs.ensures.is in let few : procs ≤ 8 = subst (λ k. k ≤ 8) is c.procs-procs.ensures.few in
-    let reply = c.in-Ok.reply in let new = c.step_cells.new.cells in
-    let made : HasSteppedCells (F.ways_of layout) procs op reach reply items new =
-    subst (λ (z : ℕ × List (Content _)). HasSteppedCells (F.ways_of layout) z.0 op reach reply z.1 new) (λ j. (is j, c.as_mut_slice.ensures.value j)) c.in-Ok.ensures.stepped in
+    let reply = c.in-Ok.reply in let new = c.step_row.new.cells in
+    let made : HasSteppedCells (F.ways_of layout) procs op All reply items new =
+    subst (λ (z : ℕ × List (Content _)). HasSteppedCells (F.ways_of layout) z.0 op All reply z.1 new) (λ j. (is j, c.as_mut_slice.ensures.value j)) (c.in-Ok.ensures.replied, c.in-Ok.ensures.moved) in
     let cells = take c.args.cells.now.len (new ++ drop (length new) items) in
     let back : cells ≡ new =
-    written_back new items c.args.cells.now.len (long_stepped F laws declared agrees v layout reach op items has few reply new made) c.args.cells.now.ok.0 in
+    written_back new items c.args.cells.now.len (long_stepped F laws declared agrees v layout All op items has few reply new made) c.args.cells.now.ok.0 in
     let view = c.draw_call.new.pass.view in
     let w = took steps.Draw (lock_word (first_cell (numbers_of new))) 0 (drawn_at new (entry_call v (numbers_of new) (Call op) (Replied reply)) v) in
     let knows : view ≡ w =
@@ -85,23 +96,23 @@ returns-clause-may c =
     let told : AreTold w.notes new c.draw_call.new.cells.items =
     subst (λ (z : PassView _ × List (Content _)). AreTold z.0.notes z.1 c.draw_call.new.cells.items) (λ j. (knows j, back j)) c.draw_call.ensures.told in
     subst (λ x. MayGiveBack F declared c.draw_call.new.pass.seat x c.draw_call.new.cells.items) (sym knows)
-    (may_give_drawn F laws declared agrees v layout reach op items has few reply new made c.draw_call.new.pass.seat w.log c.draw_call.new.cells.items told)
+    (may_give_drawn F laws declared agrees v layout All op items has few reply new made c.draw_call.new.pass.seat w.log c.draw_call.new.cells.items told)
 
 pub returns-clause-makes : goal.returns-clause-makes
 returns-clause-makes c =
     let procs : ℕ = c.args.sys.now.procs in let F = any_layouts procs c.args.sys.now.callers in let declared = c.args.sys.now.layouts in let laws = c.layouts_are_lawful.ensures in
     let agrees = watched_agrees in
-    let layout = c.args.layout.now in let v = c.args.pass.now.view in let op = c.args.op.now in let reach = c.args.reach.now in let items = c.args.cells.now.items in
+    let layout = c.args.layout.now in let v = c.args.pass.now.view in let op = c.args.op.now in let items = c.args.cells.now.items in
     let has = c.requires.has in let is = c.procs-procs.ensures.is in let few : procs ≤ 8 = subst (λ k. k ≤ 8) is c.procs-procs.ensures.few in
-    let reply = c.in-Ok.reply in let new = c.step_cells.new.cells in
-    let made : HasSteppedCells (F.ways_of layout) procs op reach reply items new =
-    subst (λ (z : ℕ × List (Content _)). HasSteppedCells (F.ways_of layout) z.0 op reach reply z.1 new) (λ j. (is j, c.as_mut_slice.ensures.value j)) c.in-Ok.ensures.stepped in
+    let reply = c.in-Ok.reply in let new = c.step_row.new.cells in
+    let made : HasSteppedCells (F.ways_of layout) procs op All reply items new =
+    subst (λ (z : ℕ × List (Content _)). HasSteppedCells (F.ways_of layout) z.0 op All reply z.1 new) (λ j. (is j, c.as_mut_slice.ensures.value j)) (c.in-Ok.ensures.replied, c.in-Ok.ensures.moved) in
     let cells = take c.args.cells.now.len (new ++ drop (length new) items) in
     let back : cells ≡ new =
-    written_back new items c.args.cells.now.len (long_stepped F laws declared agrees v layout reach op items has few reply new made) c.args.cells.now.ok.0 in
+    written_back new items c.args.cells.now.len (long_stepped F laws declared agrees v layout All op items has few reply new made) c.args.cells.now.ok.0 in
     let view = c.draw_call.new.pass.view in
     let w = took steps.Draw (lock_word (first_cell (numbers_of new))) 0 (drawn_at new (entry_call v (numbers_of new) (Call op) (Replied reply)) v) in
     let knows : view ≡ w =
     c.draw_call.ensures.drawn.knows
     ∙ ap (λ (xs : List (Content _)). took steps.Draw (lock_word (first_cell (numbers_of xs))) 0 (drawn_at xs (entry_call v (numbers_of xs) (Call op) (Replied reply)) v)) back in
-    has_made F laws declared agrees v layout reach op items has few reply new made (lock_word (first_cell (numbers_of new))) view knows
+    has_made F laws declared agrees v layout All op items has few reply new made (lock_word (first_cell (numbers_of new))) view knows
