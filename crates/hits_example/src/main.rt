@@ -2,7 +2,7 @@
 #![tactic(auto)]
 
 use k42_crews::{Work, call_once, close, start, swap_once, work_all};
-use k42_runtime::{KindName, LayoutName, Memory, ObjectPlan, Op, Pass, Plan, System};
+use k42_runtime::{Keep, KindName, LayoutName, Memory, ObjectPlan, Op, Pass, Plan, System};
 use std::alloc::Global;
 use std::process::ExitCode;
 use std::sync::Wait;
@@ -41,7 +41,7 @@ fn run<R: Threads + Wait + Sync>(rt: &R, alloc: Global) -> Result<usize, Memory>
         },
     ]?;
     let processors = vec![in alloc; 0u32, 0u32, 1u32]?;
-    let Ok(plan) = Plan::new(2, objects, processors) else {
+    let Ok(plan) = Plan::new(2, objects, processors, Keep::All) else {
         return Ok(0);
     };
     let (system, mut passes) = start(alloc, plan)?;

@@ -1,16 +1,19 @@
 //! How the library is used: a system is started, its passes call and swap on threads, and it is closed.
-ghost use Rattle.k42_crews.specs.Ready.{IsFree, StaysFree};
+ghost use Rattle.std.specs.Prelude.{◌≡◌, IfOk, IfSome};
+ghost use Rattle.k42_board.specs.declared.keep.Keep.TheVariants.{All};
+ghost use Rattle.k42_crews.specs.Ready.{IsFree, AreFree, StaysFree};
 
-use crate::load::{Load, op_of};
-use k42_crews::{LIMIT, Work, close, may_call, may_swap, start, work_all};
-use k42_kinds::{Answer, LayoutName};
+use crate::load::{Load, op_of, size_due, size_of};
+use k42_crews::{LIMIT, Work, call_once, close, end, may_call, may_swap, start, work_all};
+use k42_kinds::{Answer, KindName, LayoutName, Reply};
 use k42_memory::Memory;
-use k42_runtime::{History, ObjectPlan, Pass, Plan, System};
+use k42_runtime::{History, Keep, ObjectPlan, Pass, Plan, System};
 use std::alloc::Global;
 use std::sync::Wait;
 use std::thread::Threads;
 
-/// How many calls and swaps were done, and whether the history has just the entries of the passes.
+/// How many calls and swaps were done, and whether the history has just the entries of the passes, or, where there is
+/// none, the object what the calls have left in it.
 #[derive(Clone, Copy, Debug, PartialEq, Eq)]
 pub struct Done {
     pub calls: usize,
@@ -18,16 +21,17 @@ pub struct Done {
     pub whole: bool,
 }
 
-/// Whether the pass has made its calls, the last of them after all swaps.
+/// Whether the pass has made its calls, the last of them after all swaps, where its entries tell so.
 fn is_done(pass: &Pass, load: &Load, calls: u32) -> bool {
-    let seen = match pass.entries().last() {
-        Some(entry) => entry.incarnation,
-        None => 0,
+    let seen = match (load.keep, pass.kept().last()) {
+        (Keep::All, Some(entry)) => entry.incarnation,
+        (Keep::All, None) => 0,
+        (Keep::Nothing, _) => load.swaps,
     };
     calls >= load.calls && seen >= load.swaps
 }
 
-/// Calls so often, and until all swaps are done.
+/// Calls so often, and until all swaps are done where entries are kept.
 fn call_often<R: Wait>(
     rt: &R,
     alloc: Global,
@@ -112,7 +116,9 @@ fn told_by(history: &History, entries: usize) -> Done {
 }
 
 /// A system of one object, with a processor for each thread and a pass more that swaps.
-fn plan_of(alloc: Global, load: &Load) -> Result<Option<Plan>, Memory> {
+fn plan_of(alloc: Global, load: &Load) -> Result<Option<Plan>, Memory>
+    ensures { IfOk result (λ made. IfSome made (λ plan. plan.keep ≡ load.now.keep)) }
+{
     let objects = vec![in alloc;
         ObjectPlan {
             kind: load.kind,
@@ -124,16 +130,95 @@ fn plan_of(alloc: Global, load: &Load) -> Result<Option<Plan>, Memory> {
         callers.push(caller)?;
     }
     callers.push(0)?;
-    Ok(Plan::new(load.threads, objects, callers).ok())
+    Ok(Plan::new(load.threads, objects, callers, load.keep).ok())
 }
 
-/// How many entries the passes have.
+/// How many entries the passes have drawn.
 fn entries_of(passes: &[Pass]) -> usize {
     let mut entries: usize = 0;
     for pass in passes {
-        entries = entries.saturating_add(pass.entries().len());
+        entries = entries.saturating_add(pass.drawn() as usize);
     }
     entries
+}
+
+/// What was done, as the history tells.
+fn closed(alloc: Global, system: System, passes: Vec<Pass>) -> Result<Option<Done>, Memory>
+    requires free { AreFree system passes.items }
+    requires keeps { system.plan.keep ≡ All }
+{
+    let entries = entries_of(passes.as_slice());
+    let history = close(alloc, system, passes)?;
+    Ok(history.map(|history| told_by(&history, entries)))
+}
+
+/// What was done, as the passes tell by what they have drawn.
+fn drawn_by(load: &Load, passes: &[Pass]) -> Done {
+    let mut done = Done {
+        calls: 0,
+        swaps: 0,
+        whole: false,
+    };
+    for pass in passes {
+        let drawn = pass.drawn() as usize;
+        if pass.caller() == load.threads {
+            done.swaps = done.swaps.saturating_add(drawn);
+        } else {
+            done.calls = done.calls.saturating_add(drawn);
+        }
+    }
+    done
+}
+
+/// Whether the object tells the pass that so much is in it.
+fn has_size<R: Wait>(
+    rt: &R,
+    alloc: Global,
+    system: &System,
+    pass: &mut Pass,
+    kind: KindName,
+    due: u64,
+) -> Result<bool, Memory>
+    requires { IsFree system.now pass.old }
+    ensures { StaysFree system.now pass.old pass.new }
+{
+    let reply = call_once(rt, alloc, system, pass, 0, size_of(kind))?;
+    Ok(reply == Some(Reply::Number(due)))
+}
+
+/// Whether the object tells the first pass that what the calls have left is in it.
+fn is_whole<R: Wait>(
+    rt: &R,
+    alloc: Global,
+    system: &System,
+    load: &Load,
+    passes: &mut [Pass],
+) -> Result<bool, Memory>
+    requires { AreFree system.now passes.old }
+    ensures { AreFree system.now passes.new }
+{
+    let Some(due) = size_due(load) else {
+        return Ok(true);
+    };
+    let Some((pass, _others)) = passes.split_first_mut() else {
+        return Ok(true);
+    };
+    has_size(rt, alloc, system, pass, load.kind, due)
+}
+
+/// What was done, where no entry was kept.
+fn ended<R: Wait>(
+    rt: &R,
+    alloc: Global,
+    system: System,
+    load: &Load,
+    mut passes: Vec<Pass>,
+) -> Result<Option<Done>, Memory>
+    requires { AreFree system passes.items }
+{
+    let mut done = drawn_by(load, passes.as_slice());
+    done.whole = is_whole(rt, alloc, &system, load, passes.as_mut_slice())?;
+    Ok(end(system, passes).then_some(done))
 }
 
 /// Runs the load, and answers what was done.
@@ -147,7 +232,11 @@ pub fn run<R: Threads + Wait + Sync>(
     };
     let (system, mut passes) = start(alloc, plan)?;
     work_all(rt, alloc, &system, load, passes.as_mut_slice())?;
-    let entries = entries_of(passes.as_slice());
-    let history = close(alloc, system, passes)?;
-    Ok(history.map(|history| told_by(&history, entries)))
+    match load.keep {
+        Keep::All => closed(alloc, system, passes),
+        Keep::Nothing => ended(rt, alloc, system, load, passes),
+    }
 }
+
+#[cfg(test)]
+mod tests;

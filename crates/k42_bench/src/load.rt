@@ -1,5 +1,6 @@
 //! What is asked, and how often.
 use k42_kinds::{KindName, LayoutName, Name, Op, Text};
+use k42_runtime::Keep;
 
 /// Which operations a thread asks.
 #[derive(Clone, Copy, Debug, PartialEq, Eq)]
@@ -21,6 +22,8 @@ pub struct Load {
     /// At least so many on each thread.
     pub calls: u32,
     pub swaps: u32,
+    /// Which entries the passes keep.
+    pub keep: Keep,
 }
 
 /// A name of the caller's own, one of ten.
@@ -71,4 +74,25 @@ pub fn op_of(load: &Load, caller: u32, number: u32) -> Option<Op> {
         Ops::Near => near(load, caller, number),
         Ops::Mix => mix(load.kind, caller, number),
     }
+}
+
+/// Asks how much is in the object.
+pub fn size_of(kind: KindName) -> Op {
+    match kind {
+        KindName::Counter => Op::Get,
+        KindName::Directory => Op::Size,
+        KindName::Pages => Op::Dirty,
+    }
+}
+
+/// How much is in it once each thread has made its calls, where their order does not matter for it.
+pub fn size_due(load: &Load) -> Option<u64> {
+    let each = match (load.kind, load.ops) {
+        (KindName::Counter, Ops::Near) => load.calls,
+        (KindName::Directory, Ops::Near) => 0,
+        (KindName::Directory, Ops::Mix) => u32::from(load.calls % 4 != 0),
+        (KindName::Pages, Ops::Near) => (load.calls / 2 + load.calls % 2).min(50),
+        (KindName::Counter | KindName::Pages, Ops::Mix) => return None,
+    };
+    Some(u64::from(load.threads).saturating_mul(u64::from(each)))
 }

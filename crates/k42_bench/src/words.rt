@@ -2,6 +2,7 @@
 use crate::load::{Load, Ops};
 use k42_crews::LIMIT;
 use k42_kinds::{KindName, LayoutName};
+use k42_runtime::Keep;
 
 fn kind_of(word: &str) -> Option<KindName> {
     if word == "counter" {
@@ -35,6 +36,20 @@ fn ops_of(word: &str) -> Option<Ops> {
     }
 }
 
+/// Without the word all entries are kept.
+fn keep_of(words: &[String]) -> Option<Keep> {
+    let [word] = words else {
+        return words.is_empty().then_some(Keep::All);
+    };
+    if word.as_str() == "keep" {
+        Some(Keep::All)
+    } else if word.as_str() == "none" {
+        Some(Keep::Nothing)
+    } else {
+        None
+    }
+}
+
 /// Whether the word begins as a number does: with a digit, which is no zero where more stands behind it.
 fn begins_as_number(word: &str) -> bool {
     match word.as_bytes() {
@@ -54,7 +69,7 @@ fn number_of(word: &str) -> Option<u32> {
 
 /// The load that the words ask for.
 pub fn load_of(words: &[String]) -> Option<Load> {
-    let [kind, layout, ops, threads, calls, swaps] = words else {
+    let [kind, layout, ops, threads, calls, swaps, keep @ ..] = words else {
         return None;
     };
     let threads = number_of(threads.as_str())?;
@@ -68,6 +83,7 @@ pub fn load_of(words: &[String]) -> Option<Load> {
         threads,
         calls: number_of(calls.as_str())?,
         swaps: number_of(swaps.as_str())?,
+        keep: keep_of(keep)?,
     })
 }
 

@@ -1,5 +1,5 @@
 -- The passes of a system that has started are free, and free passes in order may be closed.
-use Rattle.std.proofs.Common.{◌≡◌, ◌∙◌, ℕ, zero, suc, ◌+◌, true, List, [], ◌∷◌, ◌++◌, Option, Some, None, length, map, refl, sym, ap, subst, add-zero, zero-add, arith}
+use Rattle.std.proofs.Common.{◌≡◌, ◌∙◌, ℕ, zero, suc, ◌+◌, true, List, [], ◌∷◌, ◌++◌, Option, Some, None, length, refl, sym, ap, subst, add-zero, zero-add, arith}
 use Rattle.std.specs.List.{slice_get, range_with_len}
 use Rattle.std.specs.Option.{option_to_list}
 use Rattle.std.specs.Prelude.{IfSome}
@@ -7,12 +7,12 @@ use Rattle.std.proofs.lemmas.List.{length-map}
 use Rattle.std.proofs.lemmas.List.FromFn.{length-range_with_len}
 use Rattle.std.proofs.lemmas.Option.{same_Some}
 use Rattle.k42_board.specs.Seen.{is_at_rest}
+use Rattle.k42_board.specs.declared.keep.Keep.TheVariants.{All}
 use Rattle.k42_board.specs.declared.view.PassView.{PassView}
-use Rattle.k42_rule.specs.Finishing.{IsPassAtRest}
-use Rattle.k42_runtime.specs.Histories.{MayClose}
+use Rattle.k42_runtime.specs.Histories.{MayClose, MayEnd}
 use Rattle.k42_runtime.specs.Plans.{PlanSeen}
 use Rattle.k42_runtime.specs.Swaps.{SwapSeen, IsAtStage, is_over}
-use Rattle.k42_runtime.specs.Systems.{SystemSeen, IsAtRest, HasStarted, SystemPart, SystemPass}
+use Rattle.k42_runtime.specs.Systems.{SystemSeen, IsAtRest, IsPlanned, HasStarted, SystemPart, SystemPass}
 use Rattle.k42_runtime.specs.declared.swaps.Stage.{Stage}
 use Rattle.k42_runtime.specs.declared.swaps.Stage.TheVariants as stages
 use Rattle.k42_crews.specs.Ready.{IsFree, AreFree, AreAll, callers_of}
@@ -78,8 +78,8 @@ pub many_all : (system : SystemSeen) (passes : List SystemPass) → AreAll syste
 many_all system passes all =
     sym (length-map passes (λ (p : SystemPass). p.view.number)) ∙ ap (λ (numbers : List ℕ). length numbers) all ∙ length-range_with_len 0 (length system.plan.callers)
 
-pub may_close : (system : SystemSeen) (passes : List SystemPass) → AreFree system passes → AreAll system passes → MayClose system passes
-may_close system passes free all = record {
+pub may_end : (system : SystemSeen) (passes : List SystemPass) → AreFree system passes → AreAll system passes → MayEnd system passes
+may_end system passes free all = record {
   many = many_all system passes all;
   each = λ i pass at.
       let is = free_at system passes free i pass at in
@@ -88,6 +88,13 @@ may_close system passes free all = record {
         number = number_at 0 (length system.plan.callers) passes all i pass at ∙ zero-add i;
         rests = is.rests;
       };
+}
+
+pub may_close : (system : SystemSeen) (passes : List SystemPass) → IsPlanned system → system.plan.keep ≡ All → AreFree system passes
+    → AreAll system passes → MayClose system passes
+may_close system passes planned keeps free all = record {
+  may_end = may_end system passes free all;
+  all = λ i pass at. (free_at system passes free i pass at).here.ours.keep ∙ planned.keep ∙ keeps;
 }
 
 -- a swap that is over has left its pass with nothing under way

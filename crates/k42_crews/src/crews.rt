@@ -2,9 +2,10 @@
 ghost use Rattle.std.specs.Prelude.{◌≡◌, ◌+◌, ◌<◌, ◌^◌, ◌++◌, ◌↔◌, true, length, IfOk, IfSome, IsSome};
 ghost use Rattle.std.specs.List.{range_with_len};
 ghost use Rattle.std.specs.Option.{option_to_list};
+ghost use Rattle.k42_board.specs.declared.keep.Keep.TheVariants.{All};
 ghost use Rattle.k42_crews.specs.Ready.{IsFree, AreFree, AreAll, MayCall, MaySwap, callers_of};
 ghost use Rattle.k42_rule.specs.Finishing.{lists_in};
-ghost use Rattle.k42_runtime.specs.Histories.{IsClosed};
+ghost use Rattle.k42_runtime.specs.Histories.{IsClosed, HasHistory};
 ghost use Rattle.k42_runtime.specs.Systems.{HasStarted};
 
 use k42_memory::Memory;
@@ -39,14 +40,14 @@ pub fn last(system: &System, passes: &mut Vec<Pass>) -> Option<Pass>
 pub fn may_call(pass: &Pass) -> bool
     ensures { (result ≡ true) ↔ MayCall pass.now.view }
 {
-    pass.entries().len() < LIMIT as usize && pass.activities() < LIMIT
+    pass.drawn() < LIMIT && pass.activities() < LIMIT
 }
 
 /// Whether the pass may swap once more.
 pub fn may_swap(pass: &Pass) -> bool
     ensures { (result ≡ true) ↔ MaySwap pass.now.view }
 {
-    pass.entries().len() < LIMIT as usize && pass.graces() < LIMIT
+    pass.drawn() < LIMIT && pass.graces() < LIMIT
 }
 
 /// Whether the passes are those of the next callers.
@@ -68,10 +69,12 @@ fn are_all(system: &System, passes: &[Pass]) -> bool
     passes.len() == system.callers() as usize && are_in_order(passes, 0)
 }
 
-/// The history of the passes. There is none where they are not those of all callers in order.
+/// The history of the passes, which have kept all their entries. There is none where they are not those of all callers in
+/// order.
 #[tactic(auto, using(crate::proofs::FreePasses::may_close))]
 pub fn close(alloc: Global, system: System, passes: Vec<Pass>) -> Result<Option<History>, Memory>
-    requires { AreFree system passes.items }
+    requires free { AreFree system passes.items }
+    requires keeps { system.plan.keep ≡ All }
     ensures whole { IfOk result (λ closed. IsSome closed ↔ AreAll system passes.items) }
     ensures closed { IfOk result (λ closed. IfSome closed (IsClosed system.plan (lists_in passes.items))) }
 {
@@ -82,4 +85,19 @@ pub fn close(alloc: Global, system: System, passes: Vec<Pass>) -> Result<Option<
         Ok(history) => Ok(Some(history)),
         Err(_) => Err(Memory),
     }
+}
+
+/// Ends a system of which nobody asks for the history, with no memory. It is not ended where the passes are not those of
+/// all callers in order.
+#[tactic(auto, using(crate::proofs::FreePasses::may_end))]
+pub fn end(system: System, passes: Vec<Pass>) -> bool
+    requires { AreFree system passes.items }
+    ensures whole { (result ≡ true) ↔ AreAll system passes.items }
+    ensures history { result ≡ true → HasHistory system.plan (lists_in passes.items) }
+{
+    let all = are_all(&system, passes.as_slice());
+    if all {
+        system.end(passes);
+    }
+    all
 }

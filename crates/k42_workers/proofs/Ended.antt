@@ -17,12 +17,13 @@ use Rattle.script_text.specs.Sound.{IsSound}
 use Rattle.script_text.specs.declared.script.Script.{Script}
 use Rattle.script_text.specs.declared.script.WorkerLines.{WorkerLines}
 use Rattle.k42_board.specs.Seen.{is_at_rest}
+use Rattle.k42_board.specs.declared.keep.Keep.TheVariants as keeps
 use Rattle.k42_board.specs.declared.view.PassView.{PassView}
 use Rattle.k42_rule.specs.Finishing.{lists_in}
 use Rattle.k42_runtime.specs.Histories.{HistorySeen, IsClosed, MayClose}
 use Rattle.k42_runtime.specs.Plans as plans
 use Rattle.k42_runtime.specs.Systems.{SystemPart, SystemPass, SystemSeen, HasStarted}
-use Rattle.k42_workers.specs.Passes.{IsReady, AreFresh, HaveWorked, MayWork}
+use Rattle.k42_workers.specs.Passes.{IsReady, AreFresh, HasWorked, HaveWorked, MayWork}
 use Rattle.k42_workers.specs.Plans.{plan_of, idle_plan, asks}
 use Rattle.k42_workers.specs.Workers.{IsMadeBy, IsRunOf}
 use Rattle.k42_workers.proofs.Filtered.{found_at}
@@ -55,15 +56,24 @@ module _ (script : Script) (system : SystemSeen) where
     fresh = fresh passes started;
   }
 
-  -- and when they have worked the system may be closed
-  pub worked_out : (passes : List SystemPass) → system.plan ≡ plan_of script → length passes ≡ length script.workers → HaveWorked system 0 script.workers passes → MayClose system passes
-  worked_out passes planned crew worked = record {
-    many = omega (arith, crew, ap (λ (plan : plans.PlanSeen). length plan.callers) planned, length-map script.workers (λ (w : WorkerLines). w.proc));
-    each = λ number pass there.
-        let worker = found_at script.workers number (omega (arith, crew, slice_get_within passes number pass there)) in
-        let done = worked number worker.0 pass worker.1 there in
-        let plain : 0 + number ≡ number = omega arith in
-        record { ours = done.here.ours.table; number = done.caller ∙ plain; rests = done.rests };
+  -- the worker whose pass it is
+  worked_by : (passes : List SystemPass) → length passes ≡ length script.workers → HaveWorked system 0 script.workers passes
+      → (number : ℕ) (pass : SystemPass) → slice_get passes number ≡ Some pass → (worker : WorkerLines) × HasWorked system (0 + number) worker pass
+  worked_by passes crew worked number pass there =
+      let worker = found_at script.workers number (omega (arith, crew, slice_get_within passes number pass there)) in
+      (worker.0, worked number worker.0 pass worker.1 there)
+
+  -- and when they have worked the system, which keeps all entries, may be closed
+  pub worked_out : (passes : List SystemPass) → system.plan ≡ plan_of script → length passes ≡ length script.workers → HaveWorked system 0 script.workers passes → system.sys.keep ≡ keeps.All → MayClose system passes
+  worked_out passes planned crew worked keep = record {
+    may_end = record {
+      many = omega (arith, crew, ap (λ (plan : plans.PlanSeen). length plan.callers) planned, length-map script.workers (λ (w : WorkerLines). w.proc));
+      each = λ number pass there.
+          let done = (worked_by passes crew worked number pass there).1 in
+          let plain : 0 + number ≡ number = omega arith in
+          record { ours = done.here.ours.table; number = done.caller ∙ plain; rests = done.rests };
+    };
+    all = λ number pass there. (worked_by passes crew worked number pass there).1.here.ours.keep ∙ keep;
   }
 
   -- the closed history is that of a run
@@ -118,17 +128,24 @@ whole new items n many as_before =
     let none : drop (length new) items ≡ [] = drop_of_length-le items {i = length new} (omega (arith, many, as_before)) in
     rw (none, append-nil new) (take_all n new (omega (arith, many)))
 
--- passes that have just started may be closed
-pub started_at_rest : (plan : plans.PlanSeen) (system : SystemSeen) (passes : List SystemPass) → HasStarted plan system passes → MayClose system passes
-started_at_rest plan system passes started = record {
-  many = started.many ∙ ap (λ (p : plans.PlanSeen). length p.callers) (sym started.plan_is);
-  each = λ number pass there.
-      let first = started.each number pass there in
-      record {
-        ours = first.here.ours.table;
-        number = ap (λ (v : PassView SystemPart). v.number) first.new;
-        rests = ap (λ (v : PassView SystemPart). is_at_rest v) first.new;
-      };
+-- a started system keeps what its plan says
+pub started_keep : (plan : plans.PlanSeen) (system : SystemSeen) (passes : List SystemPass) → HasStarted plan system passes → system.sys.keep ≡ plan.keep
+started_keep plan system passes started = started.planned.keep ∙ ap (λ (p : plans.PlanSeen). p.keep) started.plan_is
+
+-- passes that have just started, and keep all entries, may be closed
+pub started_at_rest : (plan : plans.PlanSeen) (system : SystemSeen) (passes : List SystemPass) → HasStarted plan system passes → plan.keep ≡ keeps.All → MayClose system passes
+started_at_rest plan system passes started keep = record {
+  may_end = record {
+    many = started.many ∙ ap (λ (p : plans.PlanSeen). length p.callers) (sym started.plan_is);
+    each = λ number pass there.
+        let first = started.each number pass there in
+        record {
+          ours = first.here.ours.table;
+          number = ap (λ (v : PassView SystemPart). v.number) first.new;
+          rests = ap (λ (v : PassView SystemPart). is_at_rest v) first.new;
+        };
+  };
+  all = λ number pass there. (started.each number pass there).here.ours.keep ∙ started_keep plan system passes started ∙ keep;
 }
 
 -- and one caller that has just started leaves no entries

@@ -88,7 +88,7 @@ module _ (script : Script) (sound : IsSound script) where
           let first = All-found (IsSoundLine script) (line ∷ all) 0 line each refl in
           omega (arith, slice_get_within (lawful.kinds_of script) line.object first.kind first.declared, length-map script.objects (λ (object : ObjectLine). object.kind))
 
-  pub no_fault : list_any asks script.workers ≡ true → plan_fault (plan_of script) ≡ None
+  pub no_fault : list_any asks script.workers ≡ true → plan_fault script.procs (plan_of script).objects (plan_of script).callers ≡ None
   no_fault asked =
       let first = asking script.workers asked in
       let objects : 0 < length script.objects = some_object first.worker.items (sound_worker first.number first.worker first.found).lines (has_line first.worker.items first.asked) in

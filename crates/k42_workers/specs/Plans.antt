@@ -8,23 +8,30 @@ use Rattle.script_text.specs.declared.script.Item.TheVariants.{Begin, End, Line}
 use Rattle.script_text.specs.declared.script.ObjectLine.{ObjectLine}
 use Rattle.script_text.specs.declared.script.Script.{Script}
 use Rattle.script_text.specs.declared.script.WorkerLines.{WorkerLines}
+use Rattle.k42_board.specs.declared.keep.Keep.TheVariants.{All}
 use Rattle.k42_runtime.specs.Plans.{PlanSeen}
 use Rattle.k42_runtime.specs.declared.plan.ObjectPlan.{ObjectPlan}
 
 abbrev pub object_plan : ObjectLine → ObjectPlan
 object_plan object = record { kind = object.kind; layout = object.layout }
 
--- the script's processors, its objects in their kinds and layouts, and its workers on their processors
+-- the script's processors, its objects in their kinds and layouts, its workers on their processors, and all entries kept
 abbrev pub plan_of : Script → PlanSeen
 plan_of script = record {
   procs = script.procs;
   objects = map object_plan script.objects;
   callers = map (λ worker. worker.proc) script.workers;
+  keep = All;
 }
 
 -- one processor, one shared counter, and one caller that does nothing
 abbrev pub idle_plan : PlanSeen
-idle_plan = record { procs = 1; objects = record { kind = Counter; layout = Shared } ∷ []; callers = 0 ∷ [] }
+idle_plan = record {
+  procs = 1;
+  objects = record { kind = Counter; layout = Shared } ∷ [];
+  callers = 0 ∷ [];
+  keep = All;
+}
 
 -- whether the item asks something of an object
 abbrev pub is_line : Item → Bool

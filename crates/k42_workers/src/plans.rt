@@ -6,7 +6,7 @@ ghost use Rattle.k42_workers.specs.Plans as due;
 
 use k42_kinds::{KindName, LayoutName};
 use k42_memory::Memory;
-use k42_runtime::{ObjectPlan, Plan};
+use k42_runtime::{Keep, ObjectPlan, Plan};
 use script_text::{Item, ObjectLine, Script, WorkerLines};
 use std::alloc::Global;
 
@@ -56,7 +56,7 @@ pub(crate) fn plan_of(alloc: Global, script: &Script) -> Result<Plan, Memory>
 {
     let objects = object_plans(alloc, script.objects.as_slice())?;
     let callers = processors(alloc, script.workers.as_slice())?;
-    match Plan::new(script.procs, objects, callers) {
+    match Plan::new(script.procs, objects, callers, Keep::All) {
         Ok(plan) => Ok(plan),
         Err(_) => unreachable!(),
     }
@@ -73,7 +73,7 @@ pub(crate) fn idle_plan(alloc: Global) -> Result<Plan, Memory>
     })?;
     let mut callers = Vec::new(alloc);
     callers.push(0)?;
-    match Plan::new(1, objects, callers) {
+    match Plan::new(1, objects, callers, Keep::All) {
         Ok(plan) => Ok(plan),
         Err(_) => unreachable!(),
     }

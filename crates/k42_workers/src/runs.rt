@@ -1,6 +1,7 @@
 //! A run of a script: how it begins, and the history that it leaves, whoever carries out the lines in between.
 ghost use Rattle.std.specs.Prelude.{◌≡◌, ℕ, true, false, All, IfOk, length};
 ghost use Rattle.std.specs.List.{list_any};
+ghost use Rattle.k42_board.specs.declared.keep.Keep.TheVariants as Keep;
 ghost use Rattle.script_text.specs.Lawful.{IsLawful};
 ghost use Rattle.script_text.specs.Sound.{IsSound};
 ghost use Rattle.record_text.specs.Histories.{record_of};
@@ -28,6 +29,7 @@ pub fn begin_run(alloc: Global, script: &Script) -> Result<(System, Vec<Pass>), 
     requires sound { IsSound script.now }
     requires asked { list_any due.asks script.now.workers ≡ true }
     ensures plan { IfOk result (λ begun. begun.0.plan ≡ due.plan_of script.now) }
+    ensures keep { IfOk result (λ begun. begun.0.sys.keep ≡ Keep.All) }
     ensures may { IfOk result (λ begun. MayWork begun.0 0 script.now.workers begun.1.items) }
 {
     let (system, passes) = System::start(alloc, plan_of(alloc, script)?)?;
@@ -43,6 +45,7 @@ fn closed(
 ) -> Result<History, Memory>
     requires sound { IsSound script.now }
     requires plan { system.plan ≡ due.plan_of script.now }
+    requires keep { system.sys.keep ≡ Keep.All }
     requires many { length passes.items ≡ length script.now.workers }
     requires worked { HaveWorked system 0 script.now.workers passes.items }
     ensures plan { IfOk result (λ history. history.plan ≡ due.plan_of script.now) }
@@ -77,6 +80,7 @@ pub fn end_run(
     requires sound { IsSound script.now }
     requires asked { list_any due.asks script.now.workers ≡ true }
     requires plan { system.plan ≡ due.plan_of script.now }
+    requires keep { system.sys.keep ≡ Keep.All }
     requires many { length passes.items ≡ length script.now.workers }
     requires worked { HaveWorked system 0 script.now.workers passes.items }
     ensures lawful { IfOk result (λ history. IsLawful script.now history.entries) }

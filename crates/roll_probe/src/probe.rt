@@ -1,5 +1,6 @@
 //! A plan that is carried out, or comes to want of memory.
 ghost use Rattle.std.specs.Prelude.{◌≡◌, ◌<◌, ◌≤◌, length, IfErr, IfOk, IfSome, IsSomeAnd};
+ghost use Rattle.k42_board.specs.declared.keep.Keep.TheVariants.{All};
 ghost use Rattle.k42_crews.specs.Ready.{AreFree};
 ghost use Rattle.k42_places.specs.Places.{EachPlace};
 ghost use Rattle.swap_future.specs.Rolling.{IsRolling, MayRoll, seen};
@@ -8,7 +9,7 @@ use futures::executor::block_on;
 use k42_crews::{close, start};
 use k42_kinds::{Answer, Entry, KindName, LayoutName, To};
 use k42_memory::Memory;
-use k42_runtime::{History, ObjectPlan, Pass, Plan, Swapped, System};
+use k42_runtime::{History, Keep, ObjectPlan, Pass, Plan, Swapped, System};
 use std::alloc::{AllocGlobal, Global};
 use std::io;
 use std::random::RandomSource;
@@ -26,6 +27,7 @@ pub enum Found {
 
 /// The system of the plan, and its passes, which have done nothing.
 fn started(alloc: Global, plan: Plan) -> Result<(System, Vec<Pass>), Memory>
+    ensures plan { IfOk result (λ made. made.0.plan ≡ plan) }
     ensures may { IfOk result (λ made. EachPlace (λ i. MayRoll made.0 4) made.1.items) }
 {
     let made = start(alloc, plan)?;
@@ -34,6 +36,7 @@ fn started(alloc: Global, plan: Plan) -> Result<(System, Vec<Pass>), Memory>
 
 /// A system of three counters on one processor, and the passes of its two callers.
 fn counters(alloc: Global) -> Result<Option<(System, Vec<Pass>)>, Memory>
+    ensures keeps { IfOk result (λ made. IfSome made (λ crew. crew.0.plan.keep ≡ All)) }
     ensures may { IfOk result (λ made. IfSome made (λ crew. EachPlace (λ i. MayRoll crew.0 4) crew.1.items)) }
 {
     let mut objects = Vec::new(alloc);
@@ -44,7 +47,7 @@ fn counters(alloc: Global) -> Result<Option<(System, Vec<Pass>)>, Memory>
         })?;
     }
     let homes = vec![in alloc; 0, 0]?;
-    match Plan::new(1, objects, homes) {
+    match Plan::new(1, objects, homes, Keep::All) {
         Ok(plan) => Ok(Some(started(alloc, plan)?)),
         Err(_) => Ok(None),
     }
@@ -79,7 +82,8 @@ fn is_told(history: &History, answers: &[Option<Swapped>]) -> bool {
 
 /// One request was refused: where that was in the roll, none is refused to the close.
 fn of_rolled(alloc: Global, system: System, end: Rolled) -> Found
-    requires { AreFree system end.passes.items }
+    requires keeps { system.plan.keep ≡ All }
+    requires free { AreFree system end.passes.items }
 {
     let Rolled { answers, passes } = end;
     let is_whole = answers.iter().all(|answer| answer.is_some());
@@ -98,7 +102,8 @@ fn of_rolled(alloc: Global, system: System, end: Rolled) -> Found
 
 /// The passes have come back, and have done nothing.
 fn of_unrolled(alloc: Global, system: System, back: Unrolled) -> Found
-    requires { AreFree system back.passes.items }
+    requires keeps { system.plan.keep ≡ All }
+    requires free { AreFree system back.passes.items }
 {
     match close(alloc, system, back.passes) {
         Ok(Some(history)) if history.entries().is_empty() => Found::Memory,

@@ -1,11 +1,12 @@
 //! A counter that is swapped as often as it may be, and more.
-ghost use Rattle.std.specs.Prelude.{IfOk, IfSome};
+ghost use Rattle.std.specs.Prelude.{◌≡◌, IfOk, IfSome};
+ghost use Rattle.k42_board.specs.declared.keep.Keep.TheVariants.{All};
 ghost use Rattle.k42_crews.specs.Ready.{AreFree, IsFree};
 
 use k42_crews::{call_once, close, last, start, swap_once};
 use k42_kinds::{Answer, Entry, KindName, LayoutName, Op, Reply};
 use k42_memory::Memory;
-use k42_runtime::{ObjectPlan, Pass, Plan, Swapped, System};
+use k42_runtime::{Keep, ObjectPlan, Pass, Plan, Swapped, System};
 use std::alloc::Global;
 use std::sync::Wait;
 
@@ -23,6 +24,7 @@ pub struct Told {
 /// A system of one counter on one processor, and the passes of its two callers.
 fn counter(alloc: Global) -> Result<Option<(System, Vec<Pass>)>, Memory>
     ensures free { IfOk result (λ made. IfSome made (λ crew. AreFree crew.0 crew.1.items)) }
+    ensures keeps { IfOk result (λ made. IfSome made (λ crew. crew.0.plan.keep ≡ All)) }
 {
     let objects = vec![in alloc;
         ObjectPlan {
@@ -31,7 +33,7 @@ fn counter(alloc: Global) -> Result<Option<(System, Vec<Pass>)>, Memory>
         },
     ]?;
     let homes = vec![in alloc; 0, 0]?;
-    match Plan::new(1, objects, homes) {
+    match Plan::new(1, objects, homes, Keep::All) {
         Ok(plan) => Ok(Some(start(alloc, plan)?)),
         Err(_) => Ok(None),
     }

@@ -1,5 +1,6 @@
 //! The history of the three passes.
 ghost use Rattle.std.specs.Prelude.{◌≡◌, [], ◌∷◌, IfOk};
+ghost use Rattle.k42_board.specs.declared.keep.Keep.TheVariants.{All};
 ghost use Rattle.k42_crews.specs.Ready.{IsFree};
 
 use crate::steps::Fault;
@@ -25,6 +26,7 @@ pub(crate) fn closed(
     one: Pass,
     two: Pass,
 ) -> Result<History, Fault>
+    requires keeps { system.plan.keep ≡ All }
     requires zero { IsFree system zero }
     requires one { IsFree system one }
     requires two { IsFree system two }

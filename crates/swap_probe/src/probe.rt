@@ -1,5 +1,6 @@
 //! A swap beside an activity, from the start of the system to its close.
-ghost use Rattle.std.specs.Prelude.{OnOk, IfOk, IfSome};
+ghost use Rattle.std.specs.Prelude.{◌≡◌, OnOk, IfOk, IfSome};
+ghost use Rattle.k42_board.specs.declared.keep.Keep.TheVariants.{All};
 ghost use Rattle.k42_crews.specs.Ready.{AreFree, IsFree};
 ghost use Rattle.swap_probe.specs.Ready.{IsSwapping};
 
@@ -8,7 +9,7 @@ use crate::steps::{Fault, ask, come_in, due, end_swap, free, new_swap, step};
 use k42_crews::{call_once, last, start, swap_once};
 use k42_kinds::{Answer, Entry, KindName, LayoutName, Op, Reply};
 use k42_memory::Memory;
-use k42_runtime::{Cause, ObjectPlan, Pass, Plan, Step, Swap, Swapped, System};
+use k42_runtime::{Cause, Keep, ObjectPlan, Pass, Plan, Step, Swap, Swapped, System};
 use std::alloc::Global;
 use std::sync::Wait;
 
@@ -40,7 +41,9 @@ struct Three {
 }
 
 /// One counter on one processor, for three callers.
-fn plan_of(alloc: Global) -> Result<Option<Plan>, Memory> {
+fn plan_of(alloc: Global) -> Result<Option<Plan>, Memory>
+    ensures keeps { IfOk result (λ made. IfSome made (λ plan. plan.keep ≡ All)) }
+{
     let objects = vec![in alloc;
         ObjectPlan {
             kind: KindName::Counter,
@@ -48,7 +51,7 @@ fn plan_of(alloc: Global) -> Result<Option<Plan>, Memory> {
         },
     ]?;
     let homes = vec![in alloc; 0, 0, 0]?;
-    Ok(Plan::new(1, objects, homes).ok())
+    Ok(Plan::new(1, objects, homes, Keep::All).ok())
 }
 
 /// Takes the passes of the last three callers.
@@ -66,6 +69,7 @@ fn take_three(system: &System, passes: &mut Vec<Pass>) -> Option<Three>
 
 /// A system of this plan, and the passes of its callers.
 fn started(alloc: Global) -> Result<(System, Three), Fault>
+    ensures keeps { IfOk result (λ made. made.0.plan.keep ≡ All) }
     ensures zero { IfOk result (λ made. IsFree made.0 made.1.zero) }
     ensures one { IfOk result (λ made. IsFree made.0 made.1.one) }
     ensures two { IfOk result (λ made. IsFree made.0 made.1.two) }
@@ -102,7 +106,7 @@ fn find_left(alloc: Global, system: &System, pass: &mut Pass) -> Result<Swap, Fa
         return Ok(swap);
     }
     end_swap(system, pass, &swap)?;
-    due(pass.entries().is_empty())?;
+    due(pass.drawn() == 0)?;
     let (swap, found) = begun(alloc, system, pass)?;
     due(found == left)?;
     Ok(swap)
@@ -117,7 +121,7 @@ fn find_busy<R: Wait>(rt: &R, alloc: Global, system: &System, pass: &mut Pass) -
     if let Ok(end) = swap_once(rt, alloc, system, pass, 0, LayoutName::Spread) {
         return due(end == busy);
     }
-    due(pass.entries().is_empty())?;
+    due(pass.drawn() == 0)?;
     due(swap_once(rt, alloc, system, pass, 0, LayoutName::Spread)? == busy)
 }
 
@@ -153,7 +157,7 @@ fn find_done<R: Wait>(
         due(found == done)?;
         return Ok(0);
     }
-    due(are_answered(pass.entries(), &[], 1))?;
+    due(are_answered(pass.kept(), &[], 1))?;
     find(rt, alloc, system, other)?;
     let (swap, found) = begun(alloc, system, pass)?;
     due(found == done)?;

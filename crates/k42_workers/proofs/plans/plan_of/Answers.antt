@@ -12,5 +12,5 @@ unreachable-requires c =
     let script = c.args.script.now in
     let objects : c.in_ok-objects.objects.items ≡ map object_plan script.objects = search rules in
     let callers : c.in_ok-callers.callers.items ≡ map (λ (worker : WorkerLines). worker.proc) script.workers = search rules in
-    let fault : plan_fault (plan_of script) ≡ Some c.in-Err.field-0 = subst (λ (z : List ObjectPlan × List ℕ). plan_fault (record { procs = script.procs; objects = z.0; callers = z.1 }) ≡ Some c.in-Err.field-0) (λ k. (objects k, callers k)) c.in-Err.ensures.fault in
+    let fault : plan_fault script.procs (plan_of script).objects (plan_of script).callers ≡ Some c.in-Err.field-0 = subst (λ (z : List ObjectPlan × List ℕ). plan_fault script.procs z.0 z.1 ≡ Some c.in-Err.field-0) (λ k. (objects k, callers k)) c.in-Err.ensures.fault in
     none-some c.in-Err.field-0 (sym (no_fault script c.requires.sound c.requires.asked) ∙ fault)

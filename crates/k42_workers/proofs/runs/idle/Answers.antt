@@ -1,4 +1,4 @@
-use Rattle.std.proofs.Common.{subst}
+use Rattle.std.proofs.Common.{refl, subst}
 use Rattle.k42_runtime.specs.Systems.{HasStarted}
 use Rattle.k42_workers.specs.Plans.{idle_plan}
 use Rattle.k42_workers.proofs.Ended.{started_at_rest, run_of_none, idle_closed}
@@ -8,7 +8,7 @@ pub close-requires : goal.close-requires
 close-requires c =
     let made = c.in_ok-system in
     let started : HasStarted idle_plan made.system made.passes.items = subst (λ plan. HasStarted plan made.system made.passes.items) c.in_ok-idle_plan.ensures made.ensures in
-    started_at_rest idle_plan made.system made.passes.items started
+    started_at_rest idle_plan made.system made.passes.items started refl
 
 pub returns-in-Ok-clause-closed : goal.returns-in-Ok-clause-closed
 returns-in-Ok-clause-closed c =
