@@ -27,9 +27,9 @@ pub record HasLeft {P : Type 0} (v w : PassView P) : Type 0 where
   pub held : w.taker.held ≡ []
   pub notes : w.notes ≡ []
 
-pub free_left : {L P : Type 0} (sys : SysSeen L) (old new : PassSeen P) → IsPassOf sys old → new.table ≡ old.table → new.queue ≡ old.queue → HasLeft old.view new.view
+pub free_left : {L P : Type 0} (sys : SysSeen L) (old new : PassSeen P) → IsPassOf sys old → new.table ≡ old.table → new.queue ≡ old.queue → new.keep ≡ old.keep → HasLeft old.view new.view
     → HoldsNoCell sys new
-free_left sys old new ours table queue left = record {
+free_left sys old new ours table queue keep left = record {
   ours = record {
     table = table ∙ ours.table;
     proc = subst (λ (turn : Caller). turn.proc < sys.procs) (sym left.turn) ours.proc;
@@ -37,6 +37,7 @@ free_left sys old new ours table queue left = record {
     objects = ap (λ (visitor : Visitor). length visitor.noted) left.visitor ∙ ours.objects;
     spans = ap (λ (visitor : Visitor). length visitor.freeing) left.visitor ∙ ours.spans;
     queue = queue ∙ ours.queue;
+    keep = keep ∙ ours.keep;
   };
   held = left.held;
   notes = left.notes;

@@ -16,7 +16,7 @@ use Rattle.table_crews.specs.Ready.{HoldsNoCell}
 pub left_free : {L P : Type 0} (sys : SysSeen L) (old new : PassSeen P) (word found : ℕ) → HoldsNoCell sys old → IsSamePass old new
     → new.view ≡ took Leave word found (left_view old.view) → HoldsNoCell sys new
 left_free sys old new word found is same e =
-    free_alike sys old new is same.table same.queue (subst (IsAlike old.view) (sym e) (record {
+    free_alike sys old new is same.table same.queue same.keep (subst (IsAlike old.view) (sym e) (record {
       proc = refl;
       waits = refl;
       noted = refl;
@@ -43,7 +43,7 @@ stepped_free sys old new holder is ours goes = record {
 pub reclaimed_free : {L P : Type 0} (sys : SysSeen L) (old new : PassSeen P) → HoldsNoCell sys old → HasGiven old new
     → new.view ≡ reclaimed_view old.view new.view → HoldsNoCell sys new
 reclaimed_free sys old new is given e =
-    free_alike sys old new is given.table given.queue (subst (IsAlike old.view) (sym e) (record {
+    free_alike sys old new is given.table given.queue given.keep (subst (IsAlike old.view) (sym e) (record {
       proc = refl;
       waits = refl;
       noted = refl;

@@ -1,5 +1,5 @@
 //! Plans that are refused, and calls, swaps and destroys that meet on one thread.
-use crate::tests::crews::{Three, closed, counters, on_two};
+use crate::tests::crews::{Three, closed, counters, ended, forgetting, on_two};
 use crate::tests::ending::{destroy_once, find_gone, free_once, swap_and_keep_none, swap_twice};
 use crate::tests::waiting::{find, free_in_turn, swap_beside};
 use crate::tests::watching::{
@@ -7,7 +7,7 @@ use crate::tests::watching::{
     watch_and_call,
 };
 use k42_kinds::{Act, Answer, Entry, KindName, LayoutName, Op, Reply, To};
-use k42_runtime::{ObjectPlan, Plan, PlanFault};
+use k42_runtime::{Keep, ObjectPlan, Plan, PlanFault};
 use std::test::Fail;
 
 mod crews;
@@ -63,7 +63,7 @@ fn a_plan_is_refused_for_its_first_fault(rt: HostRuntime) -> Result<(), Fail> {
         for home in homes.iter().take(callers) {
             passes.push(*home)?;
         }
-        assert_eq!(rt; Plan::new(procs, kinds, passes).err(), Some(due));
+        assert_eq!(rt; Plan::new(procs, kinds, passes, Keep::All).err(), Some(due));
     }
     Ok(())
 }
@@ -154,6 +154,27 @@ fn a_destroyed_object_is_gone(rt: HostRuntime) -> Result<(), Fail> {
     assert!(rt; are_answered(history.entries(), due.as_slice()));
     let second = history.entries().get(1).map(|entry| entry.act);
     assert_eq!(rt; second, Some(Act::Swap(To::Dead)));
+    Ok(())
+}
+
+#[test]
+fn a_system_that_keeps_nothing_is_called_swapped_and_ended(rt: HostRuntime) -> Result<(), Fail> {
+    let alloc = rt.alloc();
+    let Some((system, crew)) = forgetting(alloc)? else {
+        return Err("no system")?;
+    };
+    let Three { mut zero, one, two } = crew;
+    let deeds = [
+        called(Op::Add(5), Reply::Done),
+        called(Op::Add(30), Reply::Done),
+        swapped(To::Layout(LayoutName::Spread), 1),
+        called(Op::Add(200), Reply::Done),
+        called(Op::Get, Reply::Number(235)),
+    ];
+    follow(&rt, alloc, &system, &mut zero, deeds.as_slice())?;
+    assert!(rt; zero.kept().is_empty());
+    assert_eq!(rt; zero.drawn(), 5);
+    assert!(rt; ended(alloc, system, zero, one, two)?);
     Ok(())
 }
 

@@ -13,9 +13,9 @@ pub record IsAlike {P : Type 0} (v w : PassView P) : Type 0 where
   pub held : w.taker.held ≡ v.taker.held
   pub notes : w.notes ≡ v.notes
 
-pub free_alike : {L P : Type 0} (sys : SysSeen L) (old new : PassSeen P) → HoldsNoCell sys old → new.table ≡ old.table → new.queue ≡ old.queue → IsAlike old.view new.view
+pub free_alike : {L P : Type 0} (sys : SysSeen L) (old new : PassSeen P) → HoldsNoCell sys old → new.table ≡ old.table → new.queue ≡ old.queue → new.keep ≡ old.keep → IsAlike old.view new.view
     → HoldsNoCell sys new
-free_alike sys old new is table queue alike = record {
+free_alike sys old new is table queue keep alike = record {
   ours = record {
     table = table ∙ is.ours.table;
     proc = subst (λ p. p < sys.procs) (sym alike.proc) is.ours.proc;
@@ -23,6 +23,7 @@ free_alike sys old new is table queue alike = record {
     objects = alike.noted ∙ is.ours.objects;
     spans = alike.freeing ∙ is.ours.spans;
     queue = queue ∙ is.ours.queue;
+    keep = keep ∙ is.ours.keep;
   };
   held = alike.held ∙ is.held;
   notes = alike.notes ∙ is.notes;

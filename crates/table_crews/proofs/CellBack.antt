@@ -66,8 +66,8 @@ module _ {P : Type 0} where
       layout = ap (λ (x : PassView P). is_some x.layout) e ∙ is.layout;
     }
 
-    pub through_free : {L : Type 0} (sys : SysSeen L) → content.number ≡ n → HoldsNoCell sys old → new.table ≡ old.table → new.queue ≡ old.queue → HoldsNoCell sys new
-    through_free sys number is table queue = record {
+    pub through_free : {L : Type 0} (sys : SysSeen L) → content.number ≡ n → HoldsNoCell sys old → new.table ≡ old.table → new.queue ≡ old.queue → new.keep ≡ old.keep → HoldsNoCell sys new
+    through_free sys number is table queue keep = record {
       ours = record {
         table = table ∙ is.ours.table;
         proc = subst (λ (x : PassView P). x.turn.proc < sys.procs) (sym e) is.ours.proc;
@@ -75,6 +75,7 @@ module _ {P : Type 0} where
         objects = ap (λ (x : PassView P). length x.visitor.noted) e ∙ is.ours.objects;
         spans = ap (λ (x : PassView P). length x.visitor.freeing) e ∙ is.ours.spans;
         queue = queue ∙ is.ours.queue;
+        keep = keep ∙ is.ours.keep;
       };
       held = ap (λ (x : PassView P). x.taker.held) e ∙ ap (λ held. filter (λ m. not (m == n)) (held ++ n ∷ [])) is.held ∙ none_held n;
       notes =

@@ -5,14 +5,15 @@ ghost use Rattle.gen_core.specs.State.{IsPlan};
 ghost use Rattle.k42_kinds.specs.declared.operation.KindName.TheVariants.{Counter};
 ghost use Rattle.co_any.specs.Layouts.{tag_named};
 ghost use Rattle.k42_board.specs.Starting.{IsStart, IsStarted};
-ghost use Rattle.k42_rule.specs.Finishing.{lists_in};
+ghost use Rattle.k42_board.specs.declared.keep.Keep.TheVariants as keeps;
+ghost use Rattle.k42_rule.specs.Finishing.{kept_in};
 ghost use Rattle.k42_rule.specs.Tags.{HaveTags};
 ghost use Rattle.table_crews.specs.Ready.{HoldsNoCell, HoldNoCells, rests_at, rest_from};
 
 use co_any::AnyLayout;
 use k42_kinds::{Entry, KindName, Layout, LayoutName};
 use k42_memory::Memory;
-use k42_rule::{Pass, Sys};
+use k42_rule::{Keep, Pass, Sys, give_lists};
 use std::alloc::Global;
 
 /// A pass of a system of any layouts.
@@ -24,18 +25,20 @@ pub fn start<L: Layout>(
     layouts: Vec<L>,
     procs: u32,
     callers: Vec<u32>,
+    keep: Keep,
 ) -> Result<(Sys<L>, Vec<Pass<L>>), Memory>
     requires start { IsStart L.tag_of layouts.items procs callers.items }
     requires tags { HaveTags L.has_tag layouts.items }
     ensures started { IfOk result (λ made. IsStarted layouts.items procs callers.items made.0 made.1.items) }
     ensures free { IfOk result (λ made. HoldNoCells made.0 made.1.items) }
     ensures callers { IfOk result (λ made. length made.0.callers ≡ length callers.items) }
+    ensures keeps { IfOk result (λ made. made.0.keep ≡ keep) }
 {
-    let (sys, passes) = Sys::start(alloc, layouts, procs, callers)?;
+    let (sys, passes) = Sys::start(alloc, layouts, procs, callers, keep)?;
     Ok((sys, passes))
 }
 
-/// Starts a system of one counter.
+/// Starts a system of one counter, which keeps all entries.
 #[tactic(auto, using(crate::proofs::PassLists::any_tags))]
 pub fn start_counter(
     alloc: Global,
@@ -47,9 +50,10 @@ pub fn start_counter(
     ensures started { IfOk result (λ made. IsStarted (record { kind = Counter; tag = tag_named layout } ∷ []) procs callers.items made.0 made.1.items) }
     ensures free { IfOk result (λ made. HoldNoCells made.0 made.1.items) }
     ensures callers { IfOk result (λ made. length made.0.callers ≡ length callers.items) }
+    ensures keeps { IfOk result (λ made. made.0.keep ≡ keeps.All) }
 {
     let layouts = vec![in alloc; AnyLayout::of(KindName::Counter, layout)]?;
-    start(alloc, layouts, procs, callers)
+    start(alloc, layouts, procs, callers, Keep::All)
 }
 
 /// Takes the last pass out of the list, if there is one.
@@ -81,22 +85,22 @@ fn rest<L: Layout>(passes: &[Pass<L>], first: usize) -> bool
     rests::<L>(pass, first) && rest::<L>(others, first + 1)
 }
 
-/// The lists of all callers. There are none where a pass is not in its place, or has something under way.
+/// The lists that the passes of all callers have kept. There are none where a pass is not in its place, or has something under way.
 pub fn finish<L: Layout>(
     alloc: Global,
     sys: Sys<L>,
-    passes: Vec<Pass<L>>,
+    mut passes: Vec<Pass<L>>,
 ) -> Result<Option<Vec<Vec<Entry>>>, Memory>
     requires many { length passes.items ≡ length sys.callers }
     requires free { HoldNoCells sys passes.items }
     ensures rest { IfOk result (λ lists. IsSome lists ↔ (rest_from 0 passes.items ≡ true)) }
-    ensures lists { IfOk result (λ lists. IfSome lists (λ drawn. map vec_items drawn.items ≡ lists_in passes.items)) }
+    ensures lists { IfOk result (λ lists. IfSome lists (λ drawn. map vec_items drawn.items ≡ kept_in passes.items)) }
 {
     if !rest::<L>(passes.as_slice(), 0) {
         return Ok(None);
     }
-    match sys.finish(alloc, passes) {
-        Ok(lists) => Ok(Some(lists)),
-        Err(_) => Err(Memory),
-    }
+    let mut lists = Vec::with_capacity(alloc, passes.len())?;
+    give_lists::<L>(alloc, passes.as_mut_slice(), &mut lists);
+    sys.finish(passes);
+    Ok(Some(lists))
 }

@@ -66,7 +66,7 @@ pub fn step_at<L: Layout>(
     let Reach::One(place) = layout.reach(op, pass.processor(), sys.procs()) else {
         return Ok(None);
     };
-    if place >= sys.procs() || pass.entries().len() >= 1_048_576 {
+    if place >= sys.procs() || pass.drawn() >= 1_048_576 {
         return Ok(None);
     }
     // Others may wait for the cell, so room is made before its lock is taken.

@@ -9,7 +9,7 @@ ghost use Rattle.tables_tests.specs.Callers.{IsFresh, IsBusy, AreFresh};
 use co_any::AnyLayout;
 use k42_kinds::{KindName, Layout, LayoutName};
 use k42_memory::Memory;
-use k42_rule::{Pass, Sys, enter_step, lock, root_step};
+use k42_rule::{Keep, Pass, Sys, enter_step, lock, root_step};
 use k42_tables::{
     Entered, Filled, Root, SharedRoot, SpreadRoot, Tried, finish_call, look_up, miss, try_miss,
 };
@@ -91,7 +91,7 @@ fn start_three<L: Layout>(alloc: Global, layout: L) -> Result<(Sys<L>, Vec<Pass<
     let mut layouts = Vec::new(alloc);
     layouts.push(layout)?;
     let callers = Vec::from_array(alloc, [0, 0, 1])?;
-    Sys::start(alloc, layouts, 2, callers)
+    Sys::start(alloc, layouts, 2, callers, Keep::All)
 }
 
 /// Two callers of one processor miss, and one of them installs the entry of both.

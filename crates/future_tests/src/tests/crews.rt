@@ -1,11 +1,12 @@
 //! Systems on one processor, and the passes of their callers.
-ghost use Rattle.std.specs.Prelude.{IfOk, IfSome};
+ghost use Rattle.std.specs.Prelude.{◌≡◌, IfOk, IfSome};
+ghost use Rattle.k42_board.specs.declared.keep.Keep.TheVariants.{All};
 ghost use Rattle.k42_crews.specs.Ready.{IsFree};
 
 use k42_crews::{close, last, start};
 use k42_kinds::{KindName, LayoutName};
 use k42_memory::Memory;
-use k42_runtime::{History, ObjectPlan, Pass, Plan, System};
+use k42_runtime::{History, Keep, ObjectPlan, Pass, Plan, System};
 use std::alloc::Global;
 
 /// Passes of the callers 0 to 2.
@@ -18,6 +19,7 @@ pub(super) struct Three {
 
 /// A system of so many shared counters on one processor, and the passes of its three callers.
 pub(super) fn counters(alloc: Global, objects: u32) -> Result<Option<(System, Three)>, Memory>
+    ensures keeps { IfOk result (λ made. IfSome made (λ crew. crew.0.plan.keep ≡ All)) }
     ensures zero { IfOk result (λ made. IfSome made (λ crew. IsFree crew.0 crew.1.zero)) }
     ensures one { IfOk result (λ made. IfSome made (λ crew. IsFree crew.0 crew.1.one)) }
     ensures two { IfOk result (λ made. IfSome made (λ crew. IsFree crew.0 crew.1.two)) }
@@ -30,7 +32,7 @@ pub(super) fn counters(alloc: Global, objects: u32) -> Result<Option<(System, Th
         })?;
     }
     let homes = vec![in alloc; 0, 0, 0]?;
-    let Ok(plan) = Plan::new(1, kinds, homes) else {
+    let Ok(plan) = Plan::new(1, kinds, homes, Keep::All) else {
         return Ok(None);
     };
     let (system, mut passes) = start(alloc, plan)?;
@@ -52,6 +54,7 @@ pub(super) fn closed(
     one: Pass,
     two: Pass,
 ) -> Result<Option<History>, Memory>
+    requires keeps { system.plan.keep ≡ All }
     requires zero { IsFree system zero }
     requires one { IsFree system one }
     requires two { IsFree system two }

@@ -5,7 +5,7 @@ ghost use Rattle.mediator_tests.specs.Ready.{HoldsNoCell, HoldNoCells, RestsAt};
 
 use k42_kinds::{Entry, Layout};
 use k42_memory::Memory;
-use k42_rule::{Pass, Sys};
+use k42_rule::{Keep, Pass, Sys, give_lists};
 use std::alloc::Global;
 
 pub(super) fn start<L: Layout>(alloc: Global, layout: L) -> Result<(Sys<L>, Vec<Pass<L>>), Memory>
@@ -16,7 +16,7 @@ pub(super) fn start<L: Layout>(alloc: Global, layout: L) -> Result<(Sys<L>, Vec<
     let mut layouts = Vec::new(alloc);
     layouts.push(layout)?;
     let callers = vec![in alloc; 0, 0]?;
-    let (sys, passes) = Sys::start(alloc, layouts, 1, callers)?;
+    let (sys, passes) = Sys::start(alloc, layouts, 1, callers, Keep::All)?;
     Ok((sys, passes))
 }
 
@@ -48,11 +48,11 @@ pub(super) fn finish<L: Layout>(
     if !rests::<L>(&one, 0) || !rests::<L>(&two, 1) {
         return Ok(None);
     }
+    let mut lists = Vec::with_capacity(alloc, 2)?;
     let mut passes = Vec::new(alloc);
     passes.push(one)?;
     passes.push(two)?;
-    match sys.finish(alloc, passes) {
-        Ok(lists) => Ok(Some(lists)),
-        Err(_) => Err(Memory),
-    }
+    give_lists::<L>(alloc, passes.as_mut_slice(), &mut lists);
+    sys.finish(passes);
+    Ok(Some(lists))
 }

@@ -2,6 +2,7 @@
 ghost use Rattle.std.specs.Prelude.{◌<◌, OnOk};
 ghost use Rattle.k42_kinds.specs.declared.entry.Act.TheVariants as Act;
 ghost use Rattle.k42_kinds.specs.declared.entry.To.TheVariants as To;
+ghost use Rattle.k42_board.specs.Seen.{HasRoom};
 ghost use Rattle.k42_mediator.specs.Marks.{MayMark};
 ghost use Rattle.mediator_tests.specs.Ready.{HoldsNoCell, IsHolding};
 
@@ -71,12 +72,12 @@ fn find_dead(
     requires { HoldsNoCell sys.now pass.old }
     ensures free { OnOk result (HoldsNoCell sys.now pass.new) }
     ensures may { OnOk result (MayMark (Act.Swap To.Dead) pass.new.view) }
-    ensures room { OnOk result (0 < pass.new.room) }
+    ensures room { OnOk result (HasRoom pass.new) }
 {
     assert!(rt; pass.is_idle() && 0 < sys.objects());
     assert!(rt; begin(sys, pass, 0) == Begun::Gone);
     pass.reserve()?;
-    assert!(rt; pass.entries().len() < 1_048_576);
+    assert!(rt; pass.drawn() < 1_048_576);
     Ok(())
 }
 
@@ -84,10 +85,10 @@ fn find_dead(
 fn find_held(rt: &impl Abort, sys: &Sys<AnyLayout>, pass: &mut Pass<AnyLayout>, holder: u32)
     requires free { HoldsNoCell sys.now pass.old }
     requires may { MayMark (Act.Swap To.Dead) pass.old.view }
-    requires room { 0 < pass.old.room }
+    requires room { HasRoom pass.old }
     ensures free { HoldsNoCell sys.now pass.new }
     ensures may { MayMark (Act.Swap To.Dead) pass.new.view }
-    ensures room { 0 < pass.new.room }
+    ensures room { HasRoom pass.new }
 {
     let answer = mark(sys, pass, Act::Swap(To::Dead));
     assert!(rt; answer == Marked::Held { holder });
@@ -97,7 +98,7 @@ fn find_held(rt: &impl Abort, sys: &Sys<AnyLayout>, pass: &mut Pass<AnyLayout>, 
 fn draw(rt: &impl Abort, sys: &Sys<AnyLayout>, pass: &mut Pass<AnyLayout>)
     requires free { HoldsNoCell sys.now pass.old }
     requires may { MayMark (Act.Swap To.Dead) pass.old.view }
-    requires room { 0 < pass.old.room }
+    requires room { HasRoom pass.old }
     ensures { HoldsNoCell sys.now pass.new }
 {
     let answer = mark(sys, pass, Act::Swap(To::Dead));

@@ -131,7 +131,7 @@ pub(super) fn give_up<L: Layout>(
     ensures { OnOk result (HoldsNoCell sys.now pass.new) }
 {
     pass.reserve()?;
-    assert!(rt; pass.entries().len() < 1_048_576);
+    assert!(rt; pass.drawn() < 1_048_576);
     abandon(sys, pass, to);
     Ok(())
 }
@@ -153,7 +153,7 @@ pub(super) fn hand_nothing_on<L: Layout>(
 {
     assert!(rt; pass.swap() == SwapAt::Moved(0));
     pass.reserve()?;
-    assert!(rt; pass.entries().len() < 1_048_576);
+    assert!(rt; pass.drawn() < 1_048_576);
     assert!(rt; transfer(alloc, sys, pass, to).is_err());
     Ok(())
 }
@@ -175,7 +175,7 @@ pub(super) fn transfer_to<L: Layout>(
 {
     assert!(rt; pass.swap() == SwapAt::Moved(0));
     pass.reserve()?;
-    assert!(rt; pass.entries().len() < 1_048_576);
+    assert!(rt; pass.drawn() < 1_048_576);
     transfer(alloc, sys, pass, to)
 }
 

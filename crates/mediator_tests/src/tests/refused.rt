@@ -154,7 +154,7 @@ fn a_transfer_that_finds_no_memory_leaves_the_state_to_the_next_swap(
     find_busy(&rt, &sys, &mut zero, Phase::Transfer);
     go_back(&rt, alloc, &sys, &mut one)?;
     let refused = swapped(1, 0, 0, Answer::Abandoned(1));
-    assert!(rt; one.entries() == [refused].as_slice());
+    assert!(rt; one.kept() == [refused].as_slice());
     find_open(&rt, &sys, &mut zero);
     go_on(&rt, alloc, &sys, &mut one)?;
     assert_eq!(rt; call(&rt, alloc, &sys, &mut zero, &Op::Get)?, Some(3));

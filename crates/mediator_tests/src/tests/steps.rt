@@ -62,7 +62,7 @@ pub(super) fn step_at<L: Layout>(
     let Reach::One(place) = layout.reach(op, pass.processor(), sys.procs()) else {
         return Ok(None);
     };
-    if place >= sys.procs() || pass.entries().len() >= 1_048_576 {
+    if place >= sys.procs() || pass.drawn() >= 1_048_576 {
         return Ok(None);
     }
     let number = (inside.object * 2 + inside.incarnation % 2) * 8 + place;

@@ -1,11 +1,12 @@
 //! Systems of counters, and the passes of their callers.
-ghost use Rattle.std.specs.Prelude.{IfOk, IfSome};
+ghost use Rattle.std.specs.Prelude.{◌≡◌, IfOk, IfSome};
+ghost use Rattle.k42_board.specs.declared.keep.Keep.TheVariants.{All};
 ghost use Rattle.k42_crews.specs.Ready.{AreFree, IsFree};
 
 use k42_crews::{last, start};
 use k42_kinds::{KindName, LayoutName};
 use k42_memory::Memory;
-use k42_runtime::{ObjectPlan, Pass, Plan, System};
+use k42_runtime::{Keep, ObjectPlan, Pass, Plan, System};
 use std::alloc::Global;
 
 /// A system of so many shared counters, and the passes of so many callers, each on the next processor.
@@ -16,6 +17,7 @@ pub(super) fn counters_for(
     callers: u32,
 ) -> Result<Option<(System, Vec<Pass>)>, Memory>
     ensures free { IfOk result (λ made. IfSome made (λ crew. AreFree crew.0 crew.1.items)) }
+    ensures keeps { IfOk result (λ made. IfSome made (λ crew. crew.0.plan.keep ≡ All)) }
 {
     let mut kinds = Vec::new(alloc);
     for _ in 0..objects {
@@ -28,7 +30,7 @@ pub(super) fn counters_for(
     for caller in 0..callers {
         homes.push(caller.checked_rem(procs).unwrap_or(0))?;
     }
-    match Plan::new(procs, kinds, homes) {
+    match Plan::new(procs, kinds, homes, Keep::All) {
         Ok(plan) => Ok(Some(start(alloc, plan)?)),
         Err(_) => Ok(None),
     }

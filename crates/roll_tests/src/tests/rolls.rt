@@ -26,7 +26,7 @@ fn have_room(passes: &[Pass], items: usize) -> bool
     let Some((pass, others)) = passes.split_first() else {
         return true;
     };
-    if items > MOST || pass.entries().len() > MOST - items {
+    if items > MOST || pass.drawn() as usize > MOST - items {
         return false;
     }
     if pass.graces() as usize > MOST - items {

@@ -1,13 +1,15 @@
 //! What a system keeps of the calls of one pass.
-ghost use Rattle.std.specs.Prelude.{◌<◌};
+ghost use Rattle.std.specs.Prelude.{◌≡◌, ◌<◌};
+ghost use Rattle.k42_board.specs.Seen.{HasRoom};
+ghost use Rattle.k42_board.specs.declared.keep.Keep.TheVariants as keeps;
 ghost use Rattle.table_crews.specs.Ready.{HoldsNoCell};
 
 use crate::tests::graces::{give, go_on, take};
 use co_any::AnyLayout;
-use k42_kinds::{Act, Answer, Entry, LayoutName, Op, Reply};
-use k42_rule::Sys;
+use k42_kinds::{Act, Answer, Entry, KindName, LayoutName, Op, Reply};
+use k42_rule::{Keep, Sys};
 use std::test::Fail;
-use table_crews::{Walk, call, finish, last, start_counter};
+use table_crews::{Walk, call, finish, last, start, start_counter};
 
 /// The entry of a call of object 0 by caller 0 on processor 0.
 fn called(stamp: u64, index: u32, incarnation: u32, op: Op, reply: Reply, generation: u32) -> Entry
@@ -74,5 +76,40 @@ fn a_call_after_a_grace_bears_the_next_generation(rt: HostRuntime) -> Result<(),
     ];
     assert_eq!(rt; lists.len(), 1);
     assert!(rt; lists.iter().all(|list| list.as_slice() == due.as_slice()));
+    Ok(())
+}
+
+/// Makes room for the next entry of a pass that keeps none: there is no way to fail.
+fn make_room(sys: &Sys<AnyLayout>, pass: &mut Walk)
+    requires free { HoldsNoCell sys.now pass.old }
+    requires nothing { sys.now.keep ≡ keeps.Nothing }
+    ensures stays { pass.new ≡ pass.old }
+    ensures room { HasRoom pass.new }
+{
+    if pass.reserve_entry().is_err() {
+        unreachable!()
+    }
+}
+
+#[tactic(auto, using(table_crews::proofs::PassLists::any_tags))]
+#[test]
+fn a_pass_that_keeps_nothing_draws_and_counts_without_room(rt: HostRuntime) -> Result<(), Fail> {
+    let layouts = vec![in rt.alloc(); AnyLayout::of(KindName::Counter, LayoutName::Shared)]?;
+    let callers = vec![in rt.alloc(); 0]?;
+    let (sys, mut passes) = start(rt.alloc(), layouts, 1, callers, Keep::Nothing)?;
+    let Some(mut pass) = last(&sys, &mut passes) else {
+        return Err("no pass")?;
+    };
+    make_room(&sys, &mut pass);
+    assert_eq!(rt; call(rt.alloc(), &sys, &mut pass, 0, &Op::Add(5))?, Some(1));
+    assert_eq!(rt; call(rt.alloc(), &sys, &mut pass, 0, &Op::Get)?, Some(2));
+    assert_eq!(rt; pass.drawn(), 2);
+    assert!(rt; pass.kept().is_empty());
+    let passes = vec![in rt.alloc(); pass]?;
+    let Some(lists) = finish(rt.alloc(), sys, passes)? else {
+        return Err("no lists")?;
+    };
+    assert_eq!(rt; lists.len(), 1);
+    assert!(rt; lists.iter().all(|list| list.is_empty()));
     Ok(())
 }

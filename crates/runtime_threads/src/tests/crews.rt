@@ -1,11 +1,12 @@
 //! Systems of one spread object on two processors, and the passes of their callers.
-ghost use Rattle.std.specs.Prelude.{IfOk, IfSome};
+ghost use Rattle.std.specs.Prelude.{◌≡◌, IfOk, IfSome};
+ghost use Rattle.k42_board.specs.declared.keep.Keep.TheVariants.{All};
 ghost use Rattle.k42_crews.specs.Ready.{AreFree};
 
 use k42_crews::start;
 use k42_kinds::{KindName, LayoutName};
 use k42_memory::Memory;
-use k42_runtime::{ObjectPlan, Pass, Plan, System};
+use k42_runtime::{Keep, ObjectPlan, Pass, Plan, System};
 use std::alloc::Global;
 use std::sync::Wait;
 use std::sync::atomic::{AtomicU64, Ordering};
@@ -18,7 +19,8 @@ fn started(
     kind: KindName,
     homes: Vec<u32>,
 ) -> Result<Option<(System, Vec<Pass>)>, Memory>
-    ensures { IfOk result (λ made. IfSome made (λ crew. AreFree crew.0 crew.1.items)) }
+    ensures free { IfOk result (λ made. IfSome made (λ crew. AreFree crew.0 crew.1.items)) }
+    ensures keeps { IfOk result (λ made. IfSome made (λ crew. crew.0.plan.keep ≡ All)) }
 {
     let objects = vec![in alloc;
         ObjectPlan {
@@ -26,21 +28,23 @@ fn started(
             layout: LayoutName::Spread
         },
     ]?;
-    match Plan::new(2, objects, homes) {
+    match Plan::new(2, objects, homes, Keep::All) {
         Ok(plan) => Ok(Some(start(alloc, plan)?)),
         Err(_) => Ok(None),
     }
 }
 
 pub(super) fn five(alloc: Global, kind: KindName) -> Result<Option<(System, Vec<Pass>)>, Memory>
-    ensures { IfOk result (λ made. IfSome made (λ crew. AreFree crew.0 crew.1.items)) }
+    ensures free { IfOk result (λ made. IfSome made (λ crew. AreFree crew.0 crew.1.items)) }
+    ensures keeps { IfOk result (λ made. IfSome made (λ crew. crew.0.plan.keep ≡ All)) }
 {
     let homes = vec![in alloc; 0, 1, 0, 1, 0]?;
     started(alloc, kind, homes)
 }
 
 pub(super) fn six(alloc: Global, kind: KindName) -> Result<Option<(System, Vec<Pass>)>, Memory>
-    ensures { IfOk result (λ made. IfSome made (λ crew. AreFree crew.0 crew.1.items)) }
+    ensures free { IfOk result (λ made. IfSome made (λ crew. AreFree crew.0 crew.1.items)) }
+    ensures keeps { IfOk result (λ made. IfSome made (λ crew. crew.0.plan.keep ≡ All)) }
 {
     let homes = vec![in alloc; 0, 1, 0, 1, 0, 1]?;
     started(alloc, kind, homes)

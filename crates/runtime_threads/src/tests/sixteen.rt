@@ -1,5 +1,6 @@
 //! Passes add to one counter, up to sixteen, as many as a system has.
-ghost use Rattle.std.specs.Prelude.{IfOk, IfSome, OnOk};
+ghost use Rattle.std.specs.Prelude.{◌≡◌, IfOk, IfSome, OnOk};
+ghost use Rattle.k42_board.specs.declared.keep.Keep.TheVariants.{All};
 ghost use Rattle.k42_crews.specs.Crews.{EachBecomes};
 ghost use Rattle.k42_crews.specs.Ready.{IsFree, AreFree, StaysFree};
 ghost use Rattle.runtime_threads.specs.Ready.{HasAdded};
@@ -8,7 +9,7 @@ use crate::tests::crews::wait_for;
 use k42_crews::{Work, call_once, close, start, work_all};
 use k42_kinds::{KindName, LayoutName, Op};
 use k42_memory::Memory;
-use k42_runtime::{ObjectPlan, Pass, Plan, System};
+use k42_runtime::{Keep, ObjectPlan, Pass, Plan, System};
 use std::alloc::Global;
 use std::sync::Wait;
 use std::sync::atomic::{AtomicU64, Ordering};
@@ -16,7 +17,8 @@ use std::thread::Threads;
 
 /// A spread counter on eight processors, and the passes of so many callers.
 pub(super) fn crew_of(alloc: Global, callers: u32) -> Result<Option<(System, Vec<Pass>)>, Memory>
-    ensures { IfOk result (λ made. IfSome made (λ crew. AreFree crew.0 crew.1.items)) }
+    ensures free { IfOk result (λ made. IfSome made (λ crew. AreFree crew.0 crew.1.items)) }
+    ensures keeps { IfOk result (λ made. IfSome made (λ crew. crew.0.plan.keep ≡ All)) }
 {
     let objects = vec![in alloc;
         ObjectPlan {
@@ -28,7 +30,7 @@ pub(super) fn crew_of(alloc: Global, callers: u32) -> Result<Option<(System, Vec
     for caller in 0..callers {
         homes.push(caller % 8)?;
     }
-    match Plan::new(8, objects, homes) {
+    match Plan::new(8, objects, homes, Keep::All) {
         Ok(plan) => Ok(Some(start(alloc, plan)?)),
         Err(_) => Ok(None),
     }

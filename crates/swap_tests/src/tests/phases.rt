@@ -122,7 +122,7 @@ pub(super) fn transfer_to(
     assert!(rt; object < sys.objects() && tag <= 2);
     assert!(rt; pass.swap() == SwapAt::Moved(object));
     pass.reserve()?;
-    assert!(rt; pass.entries().len() < 1_048_576);
+    assert!(rt; pass.drawn() < 1_048_576);
     let to = sys.declared(object).with_tag(tag);
     transfer(alloc, sys, pass, &to)
 }
@@ -140,7 +140,7 @@ pub(super) fn give_up(
 {
     assert!(rt; sys.objects() > 0 && tag <= 2);
     pass.reserve()?;
-    assert!(rt; pass.entries().len() < 1_048_576);
+    assert!(rt; pass.drawn() < 1_048_576);
     let to = sys.declared(0).with_tag(tag);
     abandon(sys, pass, &to);
     Ok(())

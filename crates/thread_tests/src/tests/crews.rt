@@ -5,7 +5,7 @@ ghost use Rattle.thread_tests.specs.Ready.{HoldsNoCell, HoldNoCells, RestsAt};
 use co_any::AnyLayout;
 use k42_kinds::{Entry, KindName, LayoutName};
 use k42_memory::Memory;
-use k42_rule::{Pass, Sys};
+use k42_rule::{Keep, Pass, Sys, give_lists};
 use std::alloc::Global;
 
 pub(super) type Walk = Pass<AnyLayout>;
@@ -25,7 +25,7 @@ pub(super) fn start(alloc: Global) -> Result<(Sys<AnyLayout>, Vec<Walk>), Memory
 {
     let layouts = vec![in alloc; AnyLayout::of(KindName::Counter, LayoutName::Spread)]?;
     let callers = vec![in alloc; 0, 1, 0, 1]?;
-    let (sys, passes) = Sys::start(alloc, layouts, 2, callers)?;
+    let (sys, passes) = Sys::start(alloc, layouts, 2, callers, Keep::All)?;
     Ok((sys, passes))
 }
 
@@ -60,13 +60,13 @@ pub(super) fn finish(
     if !rests(&one, 0) || !rests(&two, 1) || !rests(&three, 2) || !rests(&four, 3) {
         return Ok(None);
     }
+    let mut lists = Vec::with_capacity(alloc, 4)?;
     let mut passes = Vec::new(alloc);
     passes.push(one)?;
     passes.push(two)?;
     passes.push(three)?;
     passes.push(four)?;
-    match sys.finish(alloc, passes) {
-        Ok(lists) => Ok(Some(lists)),
-        Err(_) => Err(Memory),
-    }
+    give_lists::<AnyLayout>(alloc, passes.as_mut_slice(), &mut lists);
+    sys.finish(passes);
+    Ok(Some(lists))
 }

@@ -138,7 +138,7 @@ fn transfer_to(
     assert!(rt; object < sys.objects() && tag <= 2);
     assert!(rt; pass.swap() == SwapAt::Moved(object));
     pass.reserve()?;
-    assert!(rt; pass.entries().len() < 1_048_576);
+    assert!(rt; pass.drawn() < 1_048_576);
     let to = sys.declared(object).with_tag(tag);
     transfer(alloc, sys, pass, &to)
 }

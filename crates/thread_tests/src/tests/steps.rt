@@ -68,7 +68,7 @@ fn step_at<L: Layout>(
     let Reach::One(place) = layout.reach(op, pass.processor(), sys.procs()) else {
         panic!(rt; "it needs more than one cell")
     };
-    if place >= sys.procs() || pass.entries().len() >= 1_048_576 {
+    if place >= sys.procs() || pass.drawn() >= 1_048_576 {
         panic!(rt; "no such cell, or no more entries")
     }
     // Others wait for the cell, so room is made before its lock is taken.

@@ -1,11 +1,12 @@
 //! Systems on one processor, and the passes of their callers.
-ghost use Rattle.std.specs.Prelude.{IfOk, IfSome};
+ghost use Rattle.std.specs.Prelude.{◌≡◌, IfOk, IfSome};
+ghost use Rattle.k42_board.specs.declared.keep.Keep.TheVariants.{All};
 ghost use Rattle.k42_crews.specs.Ready.{AreFree, IsFree};
 
 use k42_crews::{close, last, start};
 use k42_kinds::{KindName, LayoutName};
 use k42_memory::Memory;
-use k42_runtime::{History, ObjectPlan, Pass, Plan, System};
+use k42_runtime::{History, Keep, ObjectPlan, Pass, Plan, System};
 use std::alloc::Global;
 
 /// Passes of the callers 0 to 2.
@@ -18,7 +19,8 @@ pub(super) struct Three {
 
 /// A system of one shared counter on one processor, and the passes of its three callers.
 fn started(alloc: Global) -> Result<Option<(System, Vec<Pass>)>, Memory>
-    ensures { IfOk result (λ made. IfSome made (λ crew. AreFree crew.0 crew.1.items)) }
+    ensures free { IfOk result (λ made. IfSome made (λ crew. AreFree crew.0 crew.1.items)) }
+    ensures keeps { IfOk result (λ made. IfSome made (λ crew. crew.0.plan.keep ≡ All)) }
 {
     let objects = vec![in alloc;
         ObjectPlan {
@@ -27,7 +29,7 @@ fn started(alloc: Global) -> Result<Option<(System, Vec<Pass>)>, Memory>
         },
     ]?;
     let homes = vec![in alloc; 0, 0, 0]?;
-    match Plan::new(1, objects, homes) {
+    match Plan::new(1, objects, homes, Keep::All) {
         Ok(plan) => Ok(Some(start(alloc, plan)?)),
         Err(_) => Ok(None),
     }
@@ -51,6 +53,7 @@ pub(super) fn counter(alloc: Global) -> Result<Option<(System, Three)>, Memory>
     ensures zero { IfOk result (λ made. IfSome made (λ crew. IsFree crew.0 crew.1.zero)) }
     ensures one { IfOk result (λ made. IfSome made (λ crew. IsFree crew.0 crew.1.one)) }
     ensures two { IfOk result (λ made. IfSome made (λ crew. IsFree crew.0 crew.1.two)) }
+    ensures keeps { IfOk result (λ made. IfSome made (λ crew. crew.0.plan.keep ≡ All)) }
 {
     let Some((system, mut passes)) = started(alloc)? else {
         return Ok(None);
@@ -72,6 +75,7 @@ pub(super) fn closed(
     requires zero { IsFree system zero }
     requires one { IsFree system one }
     requires two { IsFree system two }
+    requires keeps { system.plan.keep ≡ All }
 {
     let mut passes = Vec::new(alloc);
     passes.push(zero)?;

@@ -5,7 +5,7 @@ ghost use Rattle.word_tests.specs.Ready.{HoldsNoCell, HoldNoCells};
 use co_any::AnyLayout;
 use k42_kinds::{KindName, LayoutName};
 use k42_memory::Memory;
-use k42_rule::{Pass, Sys};
+use k42_rule::{Keep, Pass, Sys};
 use std::alloc::Global;
 
 pub(super) type Walk = Pass<AnyLayout>;
@@ -16,7 +16,7 @@ pub(super) fn start(alloc: Global) -> Result<(Sys<AnyLayout>, Vec<Walk>), Memory
 {
     let layouts = vec![in alloc; AnyLayout::of(KindName::Counter, LayoutName::Shared)]?;
     let callers = vec![in alloc; 0, 5, 2, 1]?;
-    let (sys, passes) = Sys::start(alloc, layouts, 6, callers)?;
+    let (sys, passes) = Sys::start(alloc, layouts, 6, callers, Keep::All)?;
     Ok((sys, passes))
 }
 

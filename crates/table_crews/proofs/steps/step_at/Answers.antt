@@ -60,8 +60,7 @@ draw_call-stamp-requires-clause-may g c κs inside_lifetimes =
     let replied =
     subst (λ (k : ℕ). c.in_ok-reply.reply ≡ (g.L.Layout.ways layout).part_reply (unwrap_or content.part ((g.L.Layout.ways layout).empty k p)) op) count c.in_ok-reply.ensures.replied in
     let mine : length w.taker.mine ≡ length v.taker.mine = ap (λ (x : PassView _). length x.taker.mine) e ∙ ap length (mine_stays n c.lock.result v) in
-    let read = ap length c.entries.ensures.are in
-    let few : length w.taker.mine < MOST = grind (arith, nat_tests, c.if-entries-ge1048576.false, mine, read) in
+    let few : length w.taker.mine < MOST = grind (arith, nat_tests, c.if-drawn-ge1048576.false, mine, c.drawn.ensures) in
     subst (λ cells. MayDrawCall F c.args.sys.now.layouts cells op c.in_ok-reply.reply w) (sym items)
     (may_draw F laws c.args.sys.now.layouts met.agrees content (lifted_at n c.lock.new.pass.view) w c.take-cell.ensures.moved.back.knows layout op inside.object inside.incarnation p is c.take-cell.ensures.number
     after c.in_ok-reply.reply replied refl few)
@@ -116,6 +115,8 @@ returns-clause-free g c =
     ∙ c.in_ok-reserve.ensures.same.table)
     ((c.unlock.ensures 0).same.queue ∙ c.put.ensures.same.queue ∙ c.draw_call-stamp.ensures.drawn.drawer.queue ∙ c.take-cell.ensures.moved.same.queue ∙ c.lock.ensures.same.queue
     ∙ c.in_ok-reserve.ensures.same.queue)
+    ((c.unlock.ensures 0).same.keep ∙ c.put.ensures.same.keep ∙ c.draw_call-stamp.ensures.drawn.drawer.keep ∙ c.take-cell.ensures.moved.same.keep ∙ c.lock.ensures.same.keep
+    ∙ c.in_ok-reserve.ensures.same.keep)
 
 pub returns-clause-serving : goal.returns-clause-serving
 returns-clause-serving g c =

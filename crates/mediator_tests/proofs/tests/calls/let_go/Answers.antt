@@ -11,7 +11,7 @@ returns-clause-busy g c =
     let old = c.args.pass.now in let new = c.unlock.new.pass in let is = c.unlock.ensures 0 in let held = c.requires.holding in
     let left = left_lock c.args.cell old.view new.view is.takes.knows held.held held.notes in
     record {
-      free = free_left c.args.sys.now old new held.ours is.same.table is.same.queue left;
+      free = free_left c.args.sys.now old new held.ours is.same.table is.same.queue is.same.keep left;
       active = ap (λ (turn : Caller). is_some turn.active) left.turn ∙ held.active;
     }
 

@@ -66,8 +66,8 @@ draw_call-stamp-requires-clause-may g c κs inside_lifetimes =
     let replied =
     subst (λ (k : ℕ). c.in_ok-reply.reply ≡ (g.L.Layout.ways layout).part_reply (unwrap_or content.part ((g.L.Layout.ways layout).empty k p)) op) count c.in_ok-reply.ensures.replied in
     let mine : length w.taker.mine ≡ length v.taker.mine = ap (λ (x : PassView _). length x.taker.mine) e ∙ ap length (mine_stays _ c.lock.result v) in
-    let read = ap length c.entries.ensures.are in
-    let few : length w.taker.mine < MOST = grind (arith, nat_tests, c.if-entries-ge1048576.false, mine, read) in
+    let read = c.drawn.ensures in
+    let few : length w.taker.mine < MOST = grind (arith, nat_tests, c.if-drawn-ge1048576.false, mine, read) in
     subst (λ (z : List (Content _) × PassView _). MayDrawCall F c.args.sys.now.layouts z.0 op c.in_ok-reply.reply z.1) (λ k. (sym items k, sym same k))
     (may_draw F laws c.args.sys.now.layouts met.agrees content (log_taken n c.lock.new.pass.view.log) c.lock.new.pass.view w c.take-cell.ensures.moved.back.knows
     layout op inside.object inside.incarnation p is c.take-cell.ensures.number
@@ -125,8 +125,11 @@ returns-clause-busy g c =
     let queue =
     (c.unlock.ensures 0).same.queue ∙ c.put.ensures.same.queue ∙ c.draw_call-stamp.ensures.drawn.drawer.queue ∙ c.in_ok-reserve.ensures.same.queue ∙ c.take-cell.ensures.moved.same.queue
     ∙ c.lock.ensures.same.queue in
+    let keep =
+    (c.unlock.ensures 0).same.keep ∙ c.put.ensures.same.keep ∙ c.draw_call-stamp.ensures.drawn.drawer.keep ∙ c.in_ok-reserve.ensures.same.keep ∙ c.take-cell.ensures.moved.same.keep
+    ∙ c.lock.ensures.same.keep in
     record {
-      free = free_left c.args.sys.now c.args.pass.now c.unlock.new.pass c.requires.busy.free.ours table queue left;
+      free = free_left c.args.sys.now c.args.pass.now c.unlock.new.pass c.requires.busy.free.ours table queue keep left;
       active = ap (λ (turn : Caller). is_some turn.active) left.turn ∙ c.requires.busy.active;
     }
 

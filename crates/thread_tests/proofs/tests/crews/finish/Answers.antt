@@ -1,6 +1,6 @@
 use Rattle.std.proofs.Common.{rules, ◌≡◌, true, [], ◌∷◌, ◌++◌, sym, ap, ◌∙◌, subst}
-use Rattle.k42_rule.specs.Finishing.{AreAtRest}
-use Rattle.thread_tests.proofs.Crews.{at_rest}
+use Rattle.k42_rule.specs.Finishing.{AreAtRest, with_none_kept}
+use Rattle.thread_tests.proofs.Crews.{at_rest, given_at_rest}
 use Rattle.thread_tests.proofs.tests.crews.finish.Goals as goal
 
 pub finish-requires-after_bounds : goal.finish-requires-after_bounds
@@ -15,6 +15,8 @@ finish-requires-after_bounds c κs =
     (c.in_ok-push-3.ensures.items
     ∙ ap (λ passes. passes ++ c.args.three ∷ [])
     (c.in_ok-push-2.ensures.items ∙ ap (λ passes. passes ++ c.args.two ∷ []) (c.in_ok-push.ensures.items ∙ ap (λ passes. passes ++ c.args.one ∷ []) c.new-passes.ensures.items))) in
-    subst (AreAtRest c.args.sys) (sym items)
+    let given = c.give_lists.ensures.passes ∙ ap with_none_kept c.as_mut_slice.ensures.value in
+    given_at_rest c.args.sys _ c.push-4.new.self.items c.give_lists.new.passes c.push-4.new.self.ok.0 given
+    (subst (AreAtRest c.args.sys) (sym items)
     (at_rest c.args.sys c.args.one c.args.two c.args.three c.args.four c.requires.callers c.requires.front.0 c.requires.front.1 c.requires.back.0 c.requires.back.1 (c.rests.ensures one)
-    (c.rests-else-not-rests.ensures two) (c.rests-else-not-rests-2.ensures three) (c.rests-else-not-rests-3.ensures four))
+    (c.rests-else-not-rests.ensures two) (c.rests-else-not-rests-2.ensures three) (c.rests-else-not-rests-3.ensures four)))
