@@ -10,3 +10,4 @@ mod NewCells
 mod NewState
 mod NewTable
 mod FirstPasses
+mod Keeping

@@ -2,3 +2,4 @@ pub mod Numbers
 pub mod Fields
 pub mod Seating
 pub mod Opening
+pub mod Kept

@@ -2,6 +2,7 @@
 #![tactic(auto)]
 
 mod hand_overs;
+mod kept;
 mod numbers;
 mod opening;
 mod seats;
@@ -10,6 +11,7 @@ pub use hand_overs::{
     naming_leaves_the_state, reading_leaves_the_state, taking_back_leaves_the_state,
     taking_in_leaves_the_state,
 };
+pub use kept::{what_is_kept_follows_the_draws, what_is_kept_is_the_end, what_was_drawn_rises};
 pub use numbers::{numbers_are_read, numbers_fit};
 pub use opening::{
     a_blank_table_shows_just_the_new_state, a_new_table_shows_the_new_state,
