@@ -3,6 +3,7 @@ use crate::tests::polls::{both, stopped, swap_with, swapped, waits};
 use crate::tests::steps::{come_in, go_home, step_to};
 use k42_crews::call_once;
 use k42_kinds::{Act, Answer, LayoutName, Op, Reply, To};
+use k42_memory::Memory;
 use k42_runtime::{Cause, Swapped};
 use std::test::Fail;
 
@@ -17,7 +18,7 @@ fn two_swaps_wait_each_for_its_cause_and_end_together(rt: HostRuntime) -> Result
         return Err("no system")?;
     };
     let Three { mut zero, one, two } = crew;
-    come_in(&rt, &system, &mut zero);
+    come_in(&system, &mut zero);
     let first = swap_with(&rt, alloc, &system, one, 0);
     let first = waits(&rt, &system, first, Cause::Left { proc: 0, left: 1 })?;
     let second = swap_with(&rt, alloc, &system, two, 1);
@@ -40,7 +41,7 @@ fn a_swap_that_is_stopped_is_stepped_on_by_hand(rt: HostRuntime) -> Result<(), F
         return Err("no system")?;
     };
     let Three { mut zero, one, two } = crew;
-    come_in(&rt, &system, &mut zero);
+    come_in(&system, &mut zero);
     let future = swap_with(&rt, alloc, &system, one, 0);
     let future = waits(&rt, &system, future, Cause::Left { proc: 0, left: 1 })?;
     let (mut swap, mut one) = stopped(&system, future);
@@ -80,8 +81,8 @@ fn a_watch_by_a_future_is_a_watch(rt: HostRuntime) -> Result<(), Fail> {
     let Three { mut zero, one, two } = crew;
     let end = swapped(&rt, alloc, &system, one, 0, To::Watch)?;
     assert!(rt; end.result == Ok(Swapped::Done(1)));
-    call_once(&rt, alloc, &system, &mut zero, 0, Op::Add(5))?;
-    let seen = call_once(&rt, alloc, &system, &mut zero, 0, Op::Seen)?;
+    call_once(&rt, alloc, &system, &mut zero, 0, Op::Add(5)).map_err(|_| Memory)?;
+    let seen = call_once(&rt, alloc, &system, &mut zero, 0, Op::Seen).map_err(|_| Memory)?;
     assert_eq!(rt; seen, Some(Reply::Number(1)));
     let end = swapped(&rt, alloc, &system, end.pass, 0, To::Unwatch)?;
     assert!(rt; end.result == Ok(Swapped::Done(2)));

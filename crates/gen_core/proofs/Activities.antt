@@ -1,5 +1,5 @@
 -- A caller that enters or leaves keeps every fact.
-use Rattle.std.proofs.Common.{◌≡◌, ℕ, ◌+◌, ◌-◌, ◌^◌, ◌<◌, ◌≢◌, ◌⊎◌, ◌∙◌, Bool, true, false, not, List, Some, None, set, sym, refl, inl, inr, ⊎_elim, arith}
+use Rattle.std.proofs.Common.{◌≡◌, ℕ, ◌+◌, ◌≢◌, ◌⊎◌, ◌∙◌, Bool, true, false, not, List, Some, None, set, sym, refl, inl, inr, ⊎_elim, arith}
 use Rattle.std.specs.List.{slice_get}
 use Rattle.std.proofs.lemmas.Option.{same_Some}
 use Rattle.std.proofs.lemmas.Bool.Decides.{nat_tests}
@@ -10,8 +10,8 @@ use Rattle.gen_core.specs.Plain.{Caller, Generations}
 use Rattle.gen_core.specs.State.{put_proc, put_caller}
 use Rattle.gen_core.specs.Events.{is_even, exits_of, caller_entered, proc_entered, caller_left}
 use Rattle.gen_core.specs.Sound.{Course, is_flipped, is_passed, is_next, is_active_in, active_in, generation_of, IsOfStep, IsInCourse}
-use Rattle.k42_places.proofs.Counts.{count_by-set_same, count_by-set_more, count_by-set_less, count_by_some}
-use Rattle.gen_core.proofs.Stages.{is_even-next, CountsExit, exits_fit, exits_fit_both}
+use Rattle.k42_places.proofs.Counts.{count_by-set_same, count_by-set_more, count_by-set_less}
+use Rattle.gen_core.proofs.Stages.{is_even-next, CountsExit}
 use Rattle.gen_core.proofs.Frames.{with_active, no_holder_active, no_holder_idle, keeps_activity}
 
 -- the counts of a caller's own processor, as it enters and as it leaves
@@ -35,10 +35,6 @@ module _ (callers : List Caller) (c : ℕ) (x : Caller) (at_c : slice_get caller
       → active_in (set callers c (with_active x None)) x.proc g ≡ active_in callers x.proc g
   active_in_less_else g active other =
       count_by-set_same (is_active_in x.proc g) callers c x (with_active x None) at_c (rw active (grind (arith, nat_tests)))
-
-  -- an active caller is counted
-  pub active_in_some : x.active ≡ Some own → 0 < active_in callers x.proc own
-  active_in_some active = count_by_some (is_active_in x.proc own) callers c x at_c (rw active (grind (arith, nat_tests)))
 
 -- an activity in the present generation is in step
 pub IsOfStep_present : (base generation : ℕ) (flipped passed : Bool) → generation ≡ generation_of base flipped
@@ -69,16 +65,15 @@ next_not_flipped Quiet p e = cc
 
 module _ (course : Course) (s : Generations) (h : IsInCourse course s) (c : ℕ) (x : Caller) (at_c : slice_get s.callers c ≡ Some x)
     (k : GenProc) (at_p : slice_get s.procs x.proc ≡ Some k) where
-  pub keeps_entered : x.grace ≡ Idle → x.active ≡ None → k.entered < 2 ^ 32 - 1
+  pub keeps_entered : x.grace ≡ Idle → x.active ≡ None
       → IsInCourse course (put_proc (put_caller s c (caller_entered x k)) x.proc (proc_entered k))
-  keeps_entered idle inactive room =
+  keeps_entered idle inactive =
       let in_step = h.generations_in_step x.proc k at_p in
       let old = h.counted_generations x.proc k at_p in
-      let fits = h.no_count_passes_its_field x.proc k at_p in
       keeps_activity course s h c x at_c (Some k.generation) (proc_entered k) (no_holder_idle course s h c x at_c idle)
       (h.known_ahead x.proc k at_p)
       in_step
-      (record { generation = fits.generation; entered = omega arith; exits_even = fits.exits_even; exits_odd = fits.exits_odd })
+      (h.no_generation_passes_its_field x.proc k at_p)
       (λ generation e. IsOfStep_present course.base generation (is_flipped course.stage x.proc) (is_passed course.stage x.proc)
       (sym (same_Some k.generation generation e) ∙ in_step))
       (record {
@@ -88,7 +83,6 @@ module _ (course : Course) (s : Generations) (h : IsInCourse course s) (c : ℕ)
             let ahead : k.generation ≡ course.base + 1 = rw flipped at in_step in
             let other : course.base ≢ k.generation = omega arith in
             rw (active_in_more_else s.callers c x at_c k.generation course.base inactive other) (old.former flipped passed);
-        noted = old.noted;
       })
 
   module _ (own : ℕ) (active : x.active ≡ Some own) where
@@ -98,25 +92,11 @@ module _ (course : Course) (s : Generations) (h : IsInCourse course s) (c : ℕ)
         present_or_former course.base k.generation own (is_flipped course.stage x.proc) (is_passed course.stage x.proc)
         (h.generations_in_step x.proc k at_p) (h.activities_in_step c x at_c own active)
 
-    -- the exit of an active caller fits its field
-    pub exit_fits : exits_of k (is_even own) + 1 < 2 ^ 32
-    exit_fits =
-        let some = active_in_some s.callers c x at_c own active in
-        let old = h.counted_generations x.proc k at_p in
-        let fits = h.no_count_passes_its_field x.proc k at_p in
-        ⊎_elim
-        (λ present. let counted = rw (← present) at old.present in omega (arith, some, counted, fits.entered))
-        (λ former. let counted = rw (← (former.0)) at (old.former former.2 former.3) in
-        let noted = old.noted former.2 former.3 in omega (arith, some, counted, noted))
-        own_step
-
     pub keeps_left : (l : GenProc) → CountsExit (is_even own) k l
         → IsInCourse course (put_proc (put_caller s c (caller_left x)) x.proc l)
     keeps_left l exit =
         let in_step = h.generations_in_step x.proc k at_p in
         let old = h.counted_generations x.proc k at_p in
-        let fits = h.no_count_passes_its_field x.proc k at_p in
-        let both = exits_fit_both l (is_even own) (rw exit.own exit_fits) (rw exit.other (exits_fit x.proc k (not (is_even own)) fits)) in
         keeps_activity course s h c x at_c None l (no_holder_active course s h c x at_c own active)
         (λ next exits known.
         let unflipped = next_not_flipped course.stage x.proc next in
@@ -124,7 +104,7 @@ module _ (course : Course) (s : Generations) (h : IsInCourse course s) (c : ℕ)
         let same : exits ≡ exits_of k (not (is_even own)) = rw here (h.known_ahead x.proc k at_p next exits known) in
         rw (exit.generation, ← here) (same ∙ sym exit.other))
         (rw exit.generation in_step)
-        (record { generation = rw exit.generation fits.generation; entered = rw exit.entered fits.entered; exits_even = both.0; exits_odd = both.1 })
+        (rw exit.generation (h.no_generation_passes_its_field x.proc k at_p))
         (λ generation e. absurd (cc))
         (record {
           present = ⊎_elim
@@ -151,5 +131,4 @@ module _ (course : Course) (s : Generations) (h : IsInCourse course s) (c : ℕ)
               let counted = rw (← (former.0)) at (old.former flipped passed) in
               rw (← (former.0)) (omega (arith, less, counted, exit.own)))
               own_step;
-          noted = old.noted;
         })

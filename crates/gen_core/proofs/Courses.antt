@@ -1,15 +1,16 @@
 -- Each event, and each list of events, keeps every fact.
-use Rattle.std.proofs.Common.{◌≡◌, ℕ, ◌+◌, ◌-◌, ◌^◌, ◌<◌, Bool, true, false, cond, Option, Some, None, length, refl}
+use Rattle.std.proofs.Common.{◌≡◌, ℕ, ◌+◌, ◌<◌, Bool, true, false, cond, Option, Some, None, length, refl}
 use Rattle.std.specs.List.{slice_get, slice_index}
+use Rattle.std.specs.Option.{is_some}
 use Rattle.std.proofs.lemmas.Option.{slice_get-get_or}
-use Rattle.std.proofs.lemmas.Bool.{and_parts, ltb-true, eqb-true}
+use Rattle.std.proofs.lemmas.Bool.{and_parts, eqb-true}
 use Rattle.gen_core.specs.declared.event.GenEvent.{GenEvent}
 use Rattle.gen_core.specs.declared.event.GenEvent.TheVariants.{Enter, Leave, TakeRole, LookAhead, Flip, Look, GiveRole}
 use Rattle.gen_core.specs.declared.state.GraceAt.{GraceAt}
 use Rattle.gen_core.specs.declared.state.GraceAt.TheVariants.{Idle, Flipping, Looking, Quiet}
 use Rattle.gen_core.specs.Plain.{Caller, Generations}
 use Rattle.gen_core.specs.State.{fresh_proc, caller_at, put_proc, put_caller}
-use Rattle.gen_core.specs.Events.{is_even, other_exits, is_idle, is_looking, place_of, can_leave, is_drained, caller_left, proc_left, exit_counted, role_taken, looked_ahead, caller_flipped, caller_passed, role_given, home_of, turn_of, taken, is_possible, effect, caller_of}
+use Rattle.gen_core.specs.Events.{is_even, other_exits, is_idle, is_looking, place_of, is_drained, caller_left, proc_left, exit_counted, role_taken, looked_ahead, caller_flipped, caller_passed, role_given, home_of, turn_of, taken, is_possible, effect, caller_of}
 use Rattle.gen_core.specs.Sound.{Course, StageFits, IsInCourse}
 use Rattle.gen_core.proofs.Stages.{from_is_idle, from_is_flipping, from_is_looking, from_is_quiet, from_is_none, from_is_some, exit_is_counted}
 use Rattle.gen_core.proofs.Frames.{steered, holder_from_grace}
@@ -63,7 +64,7 @@ module _ (course : Course) (s : Generations) (h : IsInCourse course s) (c : ℕ)
       → slice_get s.procs (place_of (caller_at s c).grace) ≡ Some (turn_of s c)
   at_turn busy = slice_get-get_or s.procs (place_of (caller_at s c).grace) fresh_proc (place_there busy)
 
-  keeps_leave : (active : Option ℕ) → (caller_at s c).active ≡ active → can_leave active (home_of s c) ≡ true
+  keeps_leave : (active : Option ℕ) → (caller_at s c).active ≡ active → is_some active ≡ true
       → IsInCourse course (put_proc (put_caller s c (caller_left (caller_at s c))) (caller_at s c).proc (proc_left (home_of s c) active))
   keeps_leave None e possible = cc
   keeps_leave (Some own) e possible =
@@ -93,10 +94,9 @@ pub keeps_effect : (course : Course) (s : Generations) (event : GenEvent) → Is
     → IsInCourse (course_after course s event) (effect s event)
 keeps_effect course s (Enter c) h there possible =
     let x : Caller = caller_at s c in
-    let parts = and_parts _ _ possible in
-    let alone = and_parts (is_idle x.grace) _ parts.0 in
+    let alone = and_parts (is_idle x.grace) _ possible in
     keeps_entered course s h c x (at_caller course s h c there) (home_of s c) (at_home course s h c there)
-    (from_is_idle x.grace alone.0) (from_is_none x.active alone.1) (ltb-true (home_of s c).entered (2 ^ 32 - 1) parts.1)
+    (from_is_idle x.grace alone.0) (from_is_none x.active alone.1)
 keeps_effect course s (Leave c) h there possible = keeps_leave course s h c there (caller_at s c).active refl possible
 keeps_effect course s (TakeRole c) h there possible = keeps_take course s h c there s.role refl possible
 keeps_effect course s (LookAhead c) h there possible =

@@ -33,7 +33,7 @@ module _ (s : Generations) (generation : ℕ) where
       → (caller_at s (caller_of event)).active ≡ Some generation
       → (event ≡ Leave (caller_of event)) ⊎ ((caller_at (effect s event) (caller_of event)).active ≡ Some generation)
   own_active (Enter c) there possible active =
-      let none = from_is_none (caller_at s c).active (and_parts (is_idle (caller_at s c).grace) _ (and_parts _ _ possible).0).1 in absurd (cc)
+      let none = from_is_none (caller_at s c).active (and_parts (is_idle (caller_at s c).grace) _ possible).1 in absurd (cc)
   own_active (Leave c) there possible active = inl refl
   own_active (TakeRole c) there possible active =
       let none = from_is_none (caller_at s c).active (and_parts (is_idle (caller_at s c).grace) _ (and_parts _ _ possible).0).1 in absurd (cc)

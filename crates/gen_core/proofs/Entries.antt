@@ -1,6 +1,7 @@
 -- The entries of a processor so far, exits and activities under way, rise at an Enter there and else stay.
 use Rattle.std.proofs.Common.{◌≡◌, ℕ, ◌+◌, ◌<◌, ◌≢◌, ◌⊎◌, Bool, true, false, cond, eqb, List, Option, Some, None, length, set, sym, refl, ⊎_elim, arith}
 use Rattle.std.specs.List.{slice_get, count_by}
+use Rattle.std.specs.Option.{is_some}
 use Rattle.std.proofs.Math.Nat.{add-zero}
 use Rattle.std.proofs.lemmas.Bool.{and_parts, cases_eq, eq-eqb, ne_eqb}
 use Rattle.std.proofs.lemmas.Bool.Decides.{nat_tests}
@@ -12,7 +13,7 @@ use Rattle.gen_core.specs.declared.event.GenEvent.TheVariants.{Enter, Leave, Tak
 use Rattle.gen_core.specs.declared.state.GenProc.{GenProc}
 use Rattle.gen_core.specs.Plain.{Caller, Generations}
 use Rattle.gen_core.specs.State.{fresh_proc, proc_at, caller_at, put_proc, put_caller}
-use Rattle.gen_core.specs.Events.{is_even, is_idle, place_of, exit_counted, caller_entered, proc_entered, caller_left, proc_left, role_taken, looked_ahead, caller_flipped, proc_flipped, caller_passed, role_given, is_drained, home_of, turn_of, taken, can_leave, is_possible, effect, happens, caller_of}
+use Rattle.gen_core.specs.Events.{is_even, is_idle, place_of, exit_counted, caller_entered, proc_entered, caller_left, proc_left, role_taken, looked_ahead, caller_flipped, proc_flipped, caller_passed, role_given, is_drained, home_of, turn_of, taken, is_possible, effect, happens, caller_of}
 use Rattle.gen_core.specs.Sound.{IsSound}
 use Rattle.gen_core.specs.Consequences.{is_active_on, exits_so_far, entries_so_far, entries_by}
 use Rattle.gen_core.proofs.Stages.{from_is_none}
@@ -71,7 +72,7 @@ module _ (s : Generations) (sound : IsSound s) (c : ℕ) (there : c < length s.c
       rw (ne_eqb home p else) (omega (arith, exits, same)))
       at_home_or_else
 
-  left_stays : (active : Option ℕ) → (caller_at s c).active ≡ active → can_leave active (home_of s c) ≡ true
+  left_stays : (active : Option ℕ) → (caller_at s c).active ≡ active → is_some active ≡ true
       → entries_so_far (put_proc (put_caller s c (caller_left (caller_at s c))) home (proc_left (home_of s c) active)) p ≡ entries_so_far s p
   left_stays None e possible = absurd (cc)
   left_stays (Some generation) e possible =
@@ -95,7 +96,7 @@ module _ (s : Generations) (sound : IsSound s) (p : ℕ) where
   effect_entries : (event : GenEvent) → caller_of event < length s.callers → is_possible s event ≡ true
       → entries_so_far (effect s event) p ≡ entries_so_far s p + entries_by s event p
   effect_entries (Enter c) there possible =
-      let alone = and_parts (is_idle (caller_at s c).grace) _ (and_parts _ _ possible).0 in
+      let alone = and_parts (is_idle (caller_at s c).grace) _ possible in
       rw possible (entered_rises s sound c there p (from_is_none (caller_at s c).active alone.1))
   effect_entries (Leave c) there possible = rw add-zero (left_stays s sound c there p (caller_at s c).active refl possible)
   effect_entries (TakeRole c) there possible = rw add-zero (by_role s.role) where

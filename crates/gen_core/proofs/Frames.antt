@@ -8,7 +8,7 @@ use Rattle.gen_core.specs.declared.state.GraceAt.{GraceAt}
 use Rattle.gen_core.specs.declared.state.GraceAt.TheVariants.{Idle, Flipping, Looking, Quiet}
 use Rattle.gen_core.specs.Plain.{Caller, Generations}
 use Rattle.k42_places.specs.Places.{EachPlace}
-use Rattle.gen_core.specs.Sound.{Course, holds_role, is_active_in, active_in, IsPlaced, StageFits, IsHolder, IsNoHolder, IsHolderOrIdle, IsComing, IsInStep, IsActiveInStep, IsCounted, FitsFields, IsInCourse}
+use Rattle.gen_core.specs.Sound.{Course, holds_role, is_active_in, active_in, IsPlaced, StageFits, IsHolder, IsNoHolder, IsHolderOrIdle, IsComing, IsInStep, IsActiveInStep, IsCounted, FitsField, IsInCourse}
 use Rattle.k42_places.proofs.EachPlaces.{EachPlace-set, EachPlace-set_else, EachPlace-then}
 use Rattle.k42_places.proofs.Counts.{count_by-set_same}
 
@@ -44,7 +44,6 @@ pub IsCounted-same : (course : Course) (callers callers' : List Caller) (q : ℕ
 IsCounted-same course callers callers' q k same counted = record {
   present = rw (same k.generation) counted.present;
   former = λ flipped passed. rw (same course.base) (counted.former flipped passed);
-  noted = counted.noted;
 }
 
 module _ (course : Course) (s : Generations) (h : IsInCourse course s) (c : ℕ) (x : Caller) (at_c : slice_get s.callers c ≡ Some x) where
@@ -83,7 +82,7 @@ module _ (course : Course) (s : Generations) (h : IsInCourse course s) (c : ℕ)
 
   -- one caller changes its activity, and its processor with it
   pub keeps_activity : (active : Option ℕ) (l : GenProc) → holds_role course.holder c ≡ false
-      → IsComing course x.proc l → IsInStep course x.proc l → FitsFields x.proc l
+      → IsComing course x.proc l → IsInStep course x.proc l → FitsField x.proc l
       → IsActiveInStep course c (with_active x active)
       → IsCounted course (set s.callers c (with_active x active)) x.proc l
       → IsInCourse course (record s { procs = set s.procs x.proc l; callers = set s.callers c (with_active x active) })
@@ -105,7 +104,7 @@ module _ (course : Course) (s : Generations) (h : IsInCourse course s) (c : ℕ)
         s.procs x.proc l h.counted_generations counted
         (λ q k other at_q old. IsCounted-same course s.callers (set s.callers c (with_active x active)) q k
         (λ generation. active_in_else s.callers c x active q generation at_c other) old);
-    no_count_passes_its_field = EachPlace-set FitsFields s.procs x.proc l h.no_count_passes_its_field fits;
+    no_generation_passes_its_field = EachPlace-set FitsField s.procs x.proc l h.no_generation_passes_its_field fits;
   }
 
   -- one caller, in no activity, changes its grace, and the course with it
@@ -116,7 +115,7 @@ module _ (course : Course) (s : Generations) (h : IsInCourse course s) (c : ℕ)
       → ((i : ℕ) → i ≢ c → (holds_role course.holder i ≡ false) × (holds_role holder i ≡ false))
       → EachPlace (IsComing next) procs → EachPlace (IsInStep next) procs
       → ((i : ℕ) (z : Caller) → slice_get s.callers i ≡ Some z → IsActiveInStep course i z → IsActiveInStep next i z)
-      → EachPlace (IsCounted next s.callers) procs → EachPlace FitsFields procs
+      → EachPlace (IsCounted next s.callers) procs → EachPlace FitsField procs
       → IsInCourse next (record { procs = procs; callers = set s.callers c (with_grace x grace coming waits); role = role })
   keeps_grace base holder role grace coming waits procs same_role many noted stage inactive holds others known in_step activities counted fits =
       let y : Caller = with_grace x grace coming waits in
@@ -138,5 +137,5 @@ module _ (course : Course) (s : Generations) (h : IsInCourse course s) (c : ℕ)
         counted_generations = EachPlace-then (IsCounted next s.callers) (IsCounted next (set s.callers c y)) procs counted
             (λ q k at_q old. IsCounted-same next s.callers (set s.callers c y) q k
             (λ generation. active_in_grace s.callers c x grace coming waits q generation at_c) old);
-        no_count_passes_its_field = fits;
+        no_generation_passes_its_field = fits;
       }

@@ -5,7 +5,7 @@ use Rattle.std.proofs.lemmas.Bool.{and_right}
 use Rattle.gen_core.specs.declared.state.GraceAt.TheVariants.{Idle}
 use Rattle.gen_core.specs.Plain.{Generations}
 use Rattle.gen_core.specs.State.{fresh_proc, fresh_caller, fresh, IsPlan}
-use Rattle.gen_core.specs.Sound.{Course, is_active_in, active_in, IsPlaced, IsHolderOrIdle, IsComing, IsInStep, IsActiveInStep, IsCounted, FitsFields, IsInCourse, IsSound}
+use Rattle.gen_core.specs.Sound.{Course, is_active_in, active_in, IsPlaced, IsHolderOrIdle, IsComing, IsInStep, IsActiveInStep, IsCounted, FitsField, IsInCourse, IsSound}
 use Rattle.k42_places.proofs.EachPlaces.{EachPlace-map, EachPlace-replicate}
 use Rattle.k42_places.proofs.Counts.{count_by_none}
 
@@ -40,10 +40,8 @@ fresh_in_course procs callers plan =
           (λ i. record {
             present = rw (nobody_active procs callers i 0) refl;
             former = λ flipped passed. absurd (cc);
-            noted = λ flipped passed. absurd (cc);
           });
-      no_count_passes_its_field = EachPlace-replicate FitsFields procs fresh_proc
-          (λ i. record { generation = omega arith; entered = omega arith; exits_even = omega arith; exits_odd = omega arith });
+      no_generation_passes_its_field = EachPlace-replicate FitsField procs fresh_proc (λ i. omega arith);
     }
 
 pub IsSound-fresh : (procs : ℕ) (callers : List ℕ) → IsPlan procs callers → IsSound (fresh procs callers)

@@ -13,10 +13,10 @@ use Rattle.gen_core.specs.Plain.{Caller, Generations}
 use Rattle.k42_places.specs.Places.{EachPlace}
 use Rattle.gen_core.specs.State.{fresh_proc, put_proc, put_caller}
 use Rattle.gen_core.specs.Events.{is_even, exits_of, other_exits, role_taken, looked_ahead, after_flip, proc_flipped, after_look, role_given}
-use Rattle.gen_core.specs.Sound.{Course, is_flipped, is_passed, holds_role, is_in, is_active_in, active_in, StageFits, IsHolderOrIdle, IsInStep, IsOfStep, IsActiveInStep, IsCounted, FitsFields, IsInCourse}
+use Rattle.gen_core.specs.Sound.{Course, is_flipped, is_passed, holds_role, is_in, is_active_in, active_in, StageFits, IsHolderOrIdle, IsInStep, IsOfStep, IsActiveInStep, IsCounted, FitsField, IsInCourse}
 use Rattle.k42_places.proofs.EachPlaces.{EachPlace-set, EachPlace-set_else, EachPlace-list_all}
 use Rattle.k42_places.proofs.Counts.{count_by_none, count_by_zero}
-use Rattle.gen_core.proofs.Stages.{is_even-next, exits_fit, passed-after_flip, flipped-after_flip_here, flipped-after_flip_else, flipped-after_look, passed-after_look_here, passed-after_look_else}
+use Rattle.gen_core.proofs.Stages.{is_even-next, passed-after_flip, flipped-after_flip_here, flipped-after_flip_else, flipped-after_look, passed-after_look_here, passed-after_look_else}
 use Rattle.gen_core.proofs.Frames.{with_grace, steered, holder_from_grace, keeps_grace}
 
 -- no other caller holds the role
@@ -64,9 +64,8 @@ module _ (course : Course) (s : Generations) (h : IsInCourse course s) (c : ℕ)
       record {
         present = old.present;
         former = λ flipped passed. let unflipped = none_below p in absurd (cc);
-        noted = λ flipped passed. let unflipped = none_below p in absurd (cc);
       })
-      h.no_count_passes_its_field
+      h.no_generation_passes_its_field
 
   pub keeps_looked_ahead : (p : ℕ) (k : GenProc) → slice_get s.procs p ≡ Some k → x.grace ≡ Flipping p
       → IsInCourse (steered course course.base course.holder (looked_ahead x k)) (put_caller s c (looked_ahead x k))
@@ -89,8 +88,8 @@ module _ (course : Course) (s : Generations) (h : IsInCourse course s) (c : ℕ)
       (rw holder.grace h.generations_in_step)
       (rw holder.grace (λ i z at_i old. old))
       (λ q l at_q. let old = h.counted_generations q l at_q in
-      rw (holder.grace, holder.waits) (record { present = old.present; former = old.former; noted = old.noted }))
-      h.no_count_passes_its_field
+      rw (holder.grace, holder.waits) (record { present = old.present; former = old.former }))
+      h.no_generation_passes_its_field
 
   pub keeps_given : x.grace ≡ Quiet → IsInCourse (steered course (course.base + 1) None (role_given x)) (record (put_caller s c (role_given x)) { role = None })
   keeps_given grace =
@@ -108,8 +107,8 @@ module _ (course : Course) (s : Generations) (h : IsInCourse course s) (c : ℕ)
       (λ p k at_p. rw at_stage at (h.generations_in_step p k at_p))
       (λ i z at_i old generation active. rw at_stage at (old generation active))
       (λ p k at_p. let old = h.counted_generations p k at_p in
-      record { present = old.present; former = λ flipped passed. absurd (cc); noted = λ flipped passed. absurd (cc) })
-      h.no_count_passes_its_field
+      record { present = old.present; former = λ flipped passed. absurd (cc) })
+      h.no_generation_passes_its_field
 
 -- a grace that has flipped or passed one more processor fits
 
@@ -145,7 +144,7 @@ nobody_later course callers p in_step unflipped = count_by_none (is_active_in p 
   at_proc z step (inr else) = rw else refl
 
 -- the exits of the other parity, one generation on, are those of the former one
-other_exits_former : (k : GenProc) (base : ℕ) → k.generation ≡ base + 1 → other_exits k ≡ exits_of k (is_even base)
+pub other_exits_former : (k : GenProc) (base : ℕ) → k.generation ≡ base + 1 → other_exits k ≡ exits_of k (is_even base)
 other_exits_former k base ahead = rw (ahead, is_even-next base) (twice (is_even base)) where
   twice : (b : Bool) → exits_of k (not (not b)) ≡ exits_of k b
   twice true = refl
@@ -168,7 +167,6 @@ module _ (course : Course) (s : Generations) (h : IsInCourse course s) (c : ℕ)
       let unflipped : is_flipped course.stage p ≡ false = rw at_stage (le-ltb p p (omega arith)) in
       let at_base : k.generation ≡ course.base = rw unflipped at (h.generations_in_step p k at_p) in
       let old = h.counted_generations p k at_p in
-      let room = h.no_count_passes_its_field p k at_p in
       let coming : exits ≡ other_exits k = h.known_ahead p k at_p (rw at_stage (eq-eqb p p refl)) exits (sym holder.coming ∙ known) in
       let entered : unwrap_or x.coming 0 ≡ exits = rw known refl in
       let none_later = nobody_later course s.callers p h.activities_in_step unflipped in
@@ -197,7 +195,6 @@ module _ (course : Course) (s : Generations) (h : IsInCourse course s) (c : ℕ)
             let later : active_in s.callers p (k.generation + 1) ≡ 0 = rw at_base none_later in
             rw (entered, is_even-next k.generation, later) (omega (arith, coming));
         former = λ flipped passed. get_or-set_same x.waits p k.entered 0 noted ∙ rw at_base at old.present;
-        noted = λ flipped passed. rw (get_or-set_same x.waits p k.entered 0 noted) room.entered;
       })
       (λ q l other at_q was.
       let within : q < n = slice_get_within s.procs q l at_q in
@@ -208,15 +205,8 @@ module _ (course : Course) (s : Generations) (h : IsInCourse course s) (c : ℕ)
       record {
         present = was.present;
         former = λ flipped passed. was_waits ∙ was.former (was_flipped flipped) (rw at_stage refl);
-        noted = λ flipped passed. rw was_waits (was.noted (was_flipped flipped) (rw at_stage refl));
       }))
-      (EachPlace-set FitsFields s.procs p (proc_flipped k x.coming) h.no_count_passes_its_field
-      (record {
-        generation = rw at_base fits.2;
-        entered = rw (entered, coming) (exits_fit p k (not (is_even k.generation)) room);
-        exits_even = room.exits_even;
-        exits_odd = room.exits_odd;
-      }))
+      (EachPlace-set FitsField s.procs p (proc_flipped k x.coming) h.no_generation_passes_its_field (rw at_base fits.2))
 
   pub keeps_passed : x.grace ≡ Looking p → other_exits k ≡ slice_index x.waits p
       → IsInCourse (steered course course.base course.holder (with_grace x (after_look p (length s.procs)) x.coming x.waits))
@@ -268,9 +258,8 @@ module _ (course : Course) (s : Generations) (h : IsInCourse course s) (c : ℕ)
       rw holder.waits (record {
         present = was.present;
         former = λ flipped passed. was.former (rw at_stage refl) (not_passed passed);
-        noted = λ flipped passed. was.noted (rw at_stage refl) (not_passed passed);
       }))
-      h.no_count_passes_its_field
+      h.no_generation_passes_its_field
     where
       left_behind : (z : Caller) (generation : ℕ) → z.active ≡ Some generation → z.proc ≡ p
           → generation ≡ course.base → is_active_in p course.base z ≡ false → ⊥

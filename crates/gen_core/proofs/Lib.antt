@@ -7,6 +7,7 @@ pub mod Ranges
 pub mod Fresh
 pub mod Alone
 pub mod Reached
+pub mod Modulo
 pub mod Holding
 pub mod Entries
 pub mod Ended

@@ -1,13 +1,11 @@
 -- What the code of an event needs: that places are there, and that numbers fit.
-use Rattle.std.proofs.Common.{◌≡◌, ℕ, ◌+◌, ◌^◌, ◌<◌, ◌≤◌, ◌∙◌, not, Some, length, sym, refl, eq-eqb, arith}
+use Rattle.std.proofs.Common.{◌≡◌, ℕ, ◌+◌, ◌^◌, ◌<◌, ◌≤◌, ◌∙◌, length, sym, arith}
 use Rattle.std.proofs.lemmas.Bool.{le-ltb}
 use Rattle.k42_limits.specs.declared.TheConstants.{PROCESSORS}
 use Rattle.gen_core.specs.declared.state.GraceAt.TheVariants.{Flipping, Looking}
 use Rattle.gen_core.specs.Plain.{Generations}
 use Rattle.gen_core.specs.State.{proc_at, caller_at}
-use Rattle.gen_core.specs.Events.{is_even}
 use Rattle.gen_core.specs.Sound.{IsHolder, IsSound}
-use Rattle.gen_core.proofs.Stages.{exits_fit}
 use Rattle.gen_core.proofs.Frames.{holder_from_grace}
 use Rattle.gen_core.proofs.Courses.{at_caller, proc_there, place_there, at_turn}
 
@@ -45,14 +43,7 @@ module _ (s : Generations) (c : ℕ) (sound : IsSound s) (there : c < length s.c
         let fits = rw at_stage at sound.in_course.stage in
         rw in_step fits.2
 
-    -- and so do the exits that it counts on from
-    pub coming_fits : (exits : ℕ) → (caller_at s c).coming ≡ Some exits → exits < 2 ^ 32
-    coming_fits exits known =
-        let at_p = rw grace at (at_turn sound.course s sound.in_course c there (λ idle. absurd (cc))) in
-        rw (sound.in_course.known_ahead p (proc_at s p) at_p (rw at_stage (eq-eqb p p refl)) exits (sym holder.coming ∙ known))
-        (exits_fit p (proc_at s p) (not (is_even (proc_at s p).generation)) (sound.in_course.no_count_passes_its_field p (proc_at s p) at_p))
-
 -- what the code of a flip and of a look cites
-pub ruleset flipping = (flipping_there, few_procs, length-waits, next_fits, coming_fits)
+pub ruleset flipping = (flipping_there, few_procs, length-waits, next_fits)
 
 pub ruleset looking = (looking_there, few_procs, length-waits)

@@ -1,6 +1,6 @@
 -- What is true after every list of events: the facts are kept, one caller holds the role, and the counts agree.
 use Rattle.std.proofs.Common.{◌≡◌, ℕ, ◌+◌, ◌<◌, ◌≢◌, ◌∙◌, Bool, true, false, cond, List, [], ◌∷◌, Option, Some, None, length, sym, refl, ap, arith}
-use Rattle.std.specs.List.{slice_get}
+use Rattle.std.specs.List.{slice_get, slice_index}
 use Rattle.std.proofs.lemmas.List.{length-map}
 use Rattle.std.proofs.lemmas.Option.{slice_get-get_or}
 use Rattle.std.proofs.lemmas.Bool.{MatchBool-at_true, eqb-true, eq-eqb}
@@ -12,7 +12,7 @@ use Rattle.gen_core.specs.State.{proc_at, caller_at, fresh}
 use Rattle.gen_core.specs.Events.{is_possible, effect, happens, caller_of}
 use Rattle.gen_core.specs.Sound.{Course, is_flipped, is_passed, holds_role, StageFits, IsHolder, IsNoHolder, IsInCourse, IsSound}
 use Rattle.gen_core.specs.Runs.{run, AreInRange, IsReached}
-use Rattle.gen_core.specs.Consequences.{HasOneHolder, CountsAgree}
+use Rattle.gen_core.specs.Consequences.{HasOneHolder, EntriesAre, WaitsFor, CountsAgree}
 use Rattle.gen_core.proofs.Frames.{holder_from_grace}
 use Rattle.gen_core.proofs.Courses.{course_after, at_caller, keeps_effect}
 use Rattle.gen_core.proofs.Fresh.{IsSound-fresh}
@@ -73,19 +73,36 @@ one_holder s sound =
       inactive = λ c held. (known c held).inactive;
     }
 
+-- where the holder waits for a processor, that is one generation ahead
+module _ (s : Generations) (sound : IsSound s) (p holder : ℕ) (there : p < length s.procs) (waits : WaitsFor s holder p) where
+  abbrev course : Course
+  course = sound.course
+
+  at_p : slice_get s.procs p ≡ Some (proc_at s p)
+  at_p = slice_get-get_or s.procs p _ there
+
+  known : IsHolder course (caller_at s holder)
+  known =
+      let place = role_there course course.stage holder sound.in_course.stage (sym sound.in_course.role ∙ waits.0) in
+      holder_from_role course s holder sound.in_course waits.0 (rw sound.in_course.many_callers place.0)
+
+  flipped : is_flipped course.stage p ≡ true
+  flipped = rw (← (known.grace)) waits.1
+
+  pub one_ahead : (proc_at s p).generation ≡ course.base + 1
+  one_ahead = rw flipped at (sound.in_course.generations_in_step p (proc_at s p) at_p)
+
+  -- what it waits for are the exits of the former generation and the callers active in it
+  pub waits_agree : EntriesAre s p course.base (slice_index (caller_at s holder).waits p)
+  waits_agree =
+      let passed : is_passed course.stage p ≡ false = rw (← (known.grace)) waits.2 in
+      rw known.waits ((sound.in_course.counted_generations p (proc_at s p) at_p).former flipped passed)
+
 pub counts_agree : (s : Generations) → IsSound s → CountsAgree s
-counts_agree s sound =
-    let course : Course = sound.course in
-    let h = sound.in_course in
-    record {
-      present = λ p there. (h.counted_generations p (proc_at s p) (slice_get-get_or s.procs p _ there)).present;
-      former = λ p holder generation there waits before.
-          let at_p : slice_get s.procs p ≡ Some (proc_at s p) = slice_get-get_or s.procs p _ there in
-          let place = role_there course course.stage holder h.stage (sym h.role ∙ waits.0) in
-          let known = holder_from_role course s holder h waits.0 (rw h.many_callers place.0) in
-          let flipped : is_flipped course.stage p ≡ true = rw (← (known.grace)) waits.1 in
-          let passed : is_passed course.stage p ≡ false = rw (← (known.grace)) waits.2 in
-          let in_step : (proc_at s p).generation ≡ course.base + 1 = rw flipped at (h.generations_in_step p (proc_at s p) at_p) in
-          let former : generation ≡ course.base = omega (arith, before, in_step) in
-          rw (known.waits, former) ((h.counted_generations p (proc_at s p) at_p).former flipped passed);
-    }
+counts_agree s sound = record {
+  present = λ p there. (sound.in_course.counted_generations p (proc_at s p) (slice_get-get_or s.procs p _ there)).present;
+  former = λ p holder generation there waits before.
+      let ahead = one_ahead s sound p holder there waits in
+      let former : generation ≡ sound.course.base = omega (arith, before, ahead) in
+      rw former (waits_agree s sound p holder there waits);
+}

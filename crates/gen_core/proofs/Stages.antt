@@ -1,12 +1,12 @@
 -- Parities, exits by parity, and which processors a grace has flipped and passed.
-use Rattle.std.proofs.Common.{◌≡◌, ℕ, ◌+◌, ◌^◌, ◌<◌, ◌≢◌, Bool, true, false, not, cond, ltb, Option, Some, None, refl, arith}
+use Rattle.std.proofs.Common.{◌≡◌, ℕ, ◌+◌, ◌<◌, ◌≢◌, Bool, true, false, not, cond, ltb, Option, Some, None, refl, arith}
 use Rattle.std.specs.Option.{is_some, is_none}
 use Rattle.std.proofs.lemmas.Bool.Decides.{nat_tests}
 use Rattle.gen_core.specs.declared.state.GenProc.{GenProc}
 use Rattle.gen_core.specs.declared.state.GraceAt.{GraceAt}
 use Rattle.gen_core.specs.declared.state.GraceAt.TheVariants.{Idle, Flipping, Looking, Quiet}
 use Rattle.gen_core.specs.Events.{is_even, exits_of, exit_counted, is_idle, is_flipping, is_looking, is_quiet, place_of, after_flip, after_look}
-use Rattle.gen_core.specs.Sound.{is_flipped, is_passed, FitsFields}
+use Rattle.gen_core.specs.Sound.{is_flipped, is_passed}
 
 pub is_even-next : (n : ℕ) → is_even (n + 1) ≡ not (is_even n)
 is_even-next n = grind (arith, nat_tests)
@@ -86,13 +86,3 @@ pub record CountsExit (even : Bool) (k l : GenProc) : Type 0 where
 pub exit_is_counted : (k : GenProc) (even : Bool) → CountsExit even k (exit_counted k even)
 exit_is_counted k true = record { generation = refl; entered = refl; own = refl; other = refl }
 exit_is_counted k false = record { generation = refl; entered = refl; own = refl; other = refl }
-
-pub exits_fit : (p : ℕ) (k : GenProc) (even : Bool) → FitsFields p k → exits_of k even < 2 ^ 32
-exits_fit p k true fits = fits.exits_even
-exits_fit p k false fits = fits.exits_odd
-
--- both exits fit where those of each parity do
-pub exits_fit_both : (k : GenProc) (even : Bool) → exits_of k even < 2 ^ 32 → exits_of k (not even) < 2 ^ 32
-    → (k.exits_even < 2 ^ 32) × (k.exits_odd < 2 ^ 32)
-exits_fit_both k true own other = (own, other)
-exits_fit_both k false own other = (other, own)

@@ -1,5 +1,5 @@
 -- What follows in every sound state.
-use Rattle.std.specs.Prelude.{ℕ, ◌≡◌, ◌≢◌, ◌+◌, ◌<◌, Bool, ◌&&◌, ◌==◌, if◌then◌else◌, Some, None, Option, is_some, length, slice_index, count_by, IsTrue, IsFalse}
+use Rattle.std.specs.Prelude.{ℕ, ◌≡◌, ◌≢◌, ◌+◌, ◌^◌, ◌%◌, ◌<◌, ◌↔◌, Bool, ◌&&◌, ◌==◌, if◌then◌else◌, Some, None, Option, is_some, length, slice_index, count_by, IsTrue, IsFalse}
 use Rattle.gen_core.specs.declared.event.GenEvent.{GenEvent}
 use Rattle.gen_core.specs.declared.event.GenEvent.TheVariants.{Enter, TakeRole}
 use Rattle.gen_core.specs.declared.state.GenProc.{GenProc}
@@ -32,6 +32,10 @@ pub record CountsAgree (s : Generations) : Type 0 where
   pub former : (p holder generation : ℕ) → p < length s.procs → WaitsFor s holder p
       → generation + 1 ≡ (proc_at s p).generation
       → EntriesAre s p generation (slice_index (caller_at s holder).waits p)
+
+-- the lower 32 bits of two counts tell whether they are the same
+abbrev pub AreToldModulo : ℕ → ℕ → Type 0
+AreToldModulo m n = (m % 2 ^ 32 ≡ n % 2 ^ 32) ↔ (m ≡ n)
 
 -- every activity is in the present generation of its processor
 abbrev pub AreAllPresent : Generations → Type 0

@@ -47,13 +47,6 @@ place_of _ = 0
 abbrev pub is_free : Caller → Bool
 is_free x = is_idle x.grace && is_none x.active
 
-abbrev pub can_enter : Caller → GenProc → Bool
-can_enter x k = is_free x && nat_lt k.entered (2 ^ 32 - 1)
-
-abbrev pub can_leave : Option ℕ → GenProc → Bool
-can_leave None k = false
-can_leave (Some generation) k = nat_lt (exits_of k (is_even generation)) (2 ^ 64 - 1)
-
 abbrev pub can_take_role : Caller → List GenProc → Bool
 can_take_role x procs = is_free x && list_all (λ k. nat_lt k.generation (2 ^ 32 - 1)) procs
 
@@ -153,8 +146,8 @@ given s c = record (put_caller s c (role_given (caller_at s c))) { role = None }
 
 -- whether an event is possible
 abbrev pub is_possible : Generations → GenEvent → Bool
-is_possible s (Enter c) = can_enter (caller_at s c) (home_of s c)
-is_possible s (Leave c) = can_leave (caller_at s c).active (home_of s c)
+is_possible s (Enter c) = is_free (caller_at s c)
+is_possible s (Leave c) = is_some (caller_at s c).active
 is_possible s (TakeRole c) = can_take_role (caller_at s c) s.procs
 is_possible s (LookAhead c) = is_flipping (caller_at s c).grace && is_none (caller_at s c).coming
 is_possible s (Flip c) = is_flipping (caller_at s c).grace && is_some (caller_at s c).coming

@@ -117,15 +117,10 @@ pub record IsCounted (course : Course) (callers : List Caller) (p : ℕ) (k : Ge
   pub present : k.entered ≡ exits_of k (is_even k.generation) + active_in callers p k.generation
   pub former : is_flipped course.stage p ≡ true → is_passed course.stage p ≡ false
       → slice_index course.waits p ≡ exits_of k (is_even course.base) + active_in callers p course.base
-  pub noted : is_flipped course.stage p ≡ true → is_passed course.stage p ≡ false
-      → slice_index course.waits p < 2 ^ 32
 
--- the counts of exits pass 32 bits as little as those of entries
-pub record FitsFields (p : ℕ) (k : GenProc) : Type 0 where
-  pub generation : k.generation < 2 ^ 32
-  pub entered : k.entered < 2 ^ 32
-  pub exits_even : k.exits_even < 2 ^ 32
-  pub exits_odd : k.exits_odd < 2 ^ 32
+-- a generation has 32 bits; entries and exits have no bound
+abbrev pub FitsField : ℕ → GenProc → Type 0
+FitsField p k = k.generation < 2 ^ 32
 
 -- every fact, of the lists place by place
 pub record IsInCourse (course : Course) (s : Generations) : Type 0 where
@@ -140,7 +135,7 @@ pub record IsInCourse (course : Course) (s : Generations) : Type 0 where
   pub generations_in_step : EachPlace (IsInStep course) s.procs
   pub activities_in_step : EachPlace (IsActiveInStep course) s.callers
   pub counted_generations : EachPlace (IsCounted course s.callers) s.procs
-  pub no_count_passes_its_field : EachPlace FitsFields s.procs
+  pub no_generation_passes_its_field : EachPlace FitsField s.procs
 
 -- a state that meets every fact, with the course that shows it
 pub record IsSound (s : Generations) : Type 0 where

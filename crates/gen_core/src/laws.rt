@@ -1,12 +1,12 @@
 //! What holds of activities and graces, whatever events come.
-ghost use Rattle.std.specs.Prelude.{◌≡◌, ℕ, ◌+◌, ◌<◌, ◌≤◌, List, length};
+ghost use Rattle.std.specs.Prelude.{◌≡◌, ℕ, ◌+◌, ◌<◌, ◌≤◌, List, length, slice_index};
 ghost use Rattle.gen_core.specs.declared.event.GenEvent.{GenEvent};
 ghost use Rattle.gen_core.specs.Plain.{Generations};
-ghost use Rattle.gen_core.specs.State.{proc_at};
-ghost use Rattle.gen_core.specs.Events.{caller_of, happens};
+ghost use Rattle.gen_core.specs.State.{proc_at, caller_at};
+ghost use Rattle.gen_core.specs.Events.{other_exits, caller_of, happens};
 ghost use Rattle.gen_core.specs.Sound.{IsSound};
 ghost use Rattle.gen_core.specs.Runs.{run, IsReached, AreInRange, IsActive, IsQuiet, IsQuietGrace, HasLeft};
-ghost use Rattle.gen_core.specs.Consequences.{HasOneHolder, CountsAgree, AreAllPresent, IsOfNoHolder, KeepsGraces, entries_so_far, entries_by};
+ghost use Rattle.gen_core.specs.Consequences.{HasOneHolder, CountsAgree, WaitsFor, AreToldModulo, AreAllPresent, IsOfNoHolder, KeepsGraces, entries_so_far, entries_by};
 
 /// Whatever events come, every fact of the invariant holds.
 pub fn stays_sound()
@@ -21,6 +21,12 @@ pub fn one_holder()
 /// The entries of a generation are its exits and the callers active in it.
 pub fn counts_agree()
     ensures { (s : Generations) → IsSound s → CountsAgree s }
+{}
+
+/// Where the holder waits for a processor, 32 bits tell whether its former generation has all its exits.
+pub fn waits_are_told_modulo()
+    ensures { (s : Generations) (holder p : ℕ) → IsSound s → p < length s.procs → WaitsFor s holder p
+        → AreToldModulo (other_exits (proc_at s p)) (slice_index (caller_at s holder).waits p) }
 {}
 
 /// A caller that was active when the role was taken has left before that grace is quiet.

@@ -1,6 +1,7 @@
 //! Every event of the machine, tested and then carried out.
-ghost use Rattle.std.specs.Prelude.{◌≡◌, ◌<◌, length};
+ghost use Rattle.std.specs.Prelude.{◌≡◌, ◌<◌, ◌↔◌, length, IsTrue};
 ghost use Rattle.gen_core.specs.Events.{caller_of, Applies};
+ghost use Rattle.gen_core.specs.Room.{HasRoomFor};
 ghost use Rattle.gen_core.specs.Sound.{IsSound};
 
 use crate::event::GenEvent;
@@ -10,15 +11,15 @@ use crate::state::{GenProc, GenState, GraceAt};
 fn enter(state: &mut GenState, c: usize) -> bool
     requires sound { IsSound state.old }
     requires in_range { c < length state.old.callers }
+    requires room { HasRoomFor state.old (GenEvent.Enter c) }
     ensures { Applies result state.old state.new (GenEvent.Enter c) }
 {
     let caller = state.caller(c);
     let p = caller.proc as usize;
-    let free = caller.is_free();
-    let proc = state.processor(p);
-    if !free || proc.entered == u32::MAX {
+    if !caller.is_free() {
         return false;
     }
+    let proc = state.processor(p);
     state.set_active(c, Some(proc.generation));
     state.set_processor(
         p,
@@ -34,6 +35,7 @@ fn enter(state: &mut GenState, c: usize) -> bool
 fn leave(state: &mut GenState, c: usize) -> bool
     requires sound { IsSound state.old }
     requires in_range { c < length state.old.callers }
+    requires room { HasRoomFor state.old (GenEvent.Leave c) }
     ensures { Applies result state.old state.new (GenEvent.Leave c) }
 {
     let caller = state.caller(c);
@@ -43,9 +45,6 @@ fn leave(state: &mut GenState, c: usize) -> bool
     };
     let even = generation % 2 == 0;
     let proc = state.processor(p);
-    if proc.exits(even) == u64::MAX {
-        return false;
-    }
     state.set_active(c, None);
     state.set_processor(p, proc.with_exit(even));
     true
@@ -102,7 +101,7 @@ fn flip(state: &mut GenState, c: usize) -> bool
     state.set_flipped(c, p as usize, proc.entered, grace);
     let flipped = GenProc {
         generation: proc.generation + 1,
-        entered: coming as u32,
+        entered: coming,
         ..proc
     };
     state.set_processor(p as usize, flipped);
@@ -120,7 +119,7 @@ fn look(state: &mut GenState, c: usize) -> bool
         return false;
     };
     let wait = caller.waits[p as usize];
-    if state.processor(p as usize).other_exits() == wait as u64 {
+    if state.processor(p as usize).other_exits() == wait {
         let grace = GraceAt::after_look(p, state.processors());
         state.set_grace(c, grace);
     }
@@ -143,6 +142,7 @@ fn give_role(state: &mut GenState, c: usize) -> bool
 fn step(state: &mut GenState, event: &GenEvent) -> bool
     requires sound { IsSound state.old }
     requires in_range { caller_of event.now < length state.old.callers }
+    requires room { HasRoomFor state.old event.now }
     ensures { Applies result state.old state.new event.now }
 {
     match *event {
@@ -156,10 +156,48 @@ fn step(state: &mut GenState, event: &GenEvent) -> bool
     }
 }
 
+#[tactic(auto, using(crate::proofs::Ranges::home_there))]
+fn has_room_for_entry(state: &GenState, c: usize) -> bool
+    requires sound { IsSound state.now }
+    requires in_range { c < length state.now.callers }
+    ensures { IsTrue result ↔ HasRoomFor state.now (GenEvent.Enter c) }
+{
+    let p = state.caller(c).proc as usize;
+    state.processor(p).entered < u64::MAX
+}
+
+#[tactic(auto, using(crate::proofs::Ranges::home_there))]
+fn has_room_for_exit(state: &GenState, c: usize) -> bool
+    requires sound { IsSound state.now }
+    requires in_range { c < length state.now.callers }
+    ensures { IsTrue result ↔ HasRoomFor state.now (GenEvent.Leave c) }
+{
+    let caller = state.caller(c);
+    let Some(generation) = caller.active else {
+        return true;
+    };
+    let p = caller.proc as usize;
+    state.processor(p).exits(generation % 2 == 0) < u64::MAX
+}
+
+/// Whether the count that an event raises, where it raises one, can rise.
+pub fn has_room(state: &GenState, event: &GenEvent) -> bool
+    requires sound { IsSound state.now }
+    requires in_range { caller_of event.now < length state.now.callers }
+    ensures { IsTrue result ↔ HasRoomFor state.now event.now }
+{
+    match *event {
+        GenEvent::Enter(c) => has_room_for_entry(state, c as usize),
+        GenEvent::Leave(c) => has_room_for_exit(state, c as usize),
+        _ => true,
+    }
+}
+
 /// One event. An event that is not possible answers false.
 pub fn apply(state: &mut GenState, event: &GenEvent) -> bool
     requires sound { IsSound state.old }
     requires in_range { caller_of event.now < length state.old.callers }
+    requires room { HasRoomFor state.old event.now }
     ensures applies { Applies result state.old state.new event.now }
     ensures sound { IsSound state.new }
     ensures callers { length state.new.callers ≡ length state.old.callers }

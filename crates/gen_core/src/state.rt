@@ -15,7 +15,7 @@ use std::marker::Model;
 pub struct GenProc {
     pub generation: u32,
     /// The entries of the present generation, counted on from the exits of its parity.
-    pub entered: u32,
+    pub entered: u64,
     /// The exits of all activities of an even generation.
     pub exits_even: u64,
     pub exits_odd: u64,
@@ -41,7 +41,7 @@ pub struct GenCaller {
     /// The exits from which the next generation of the processor to be flipped will count on.
     pub coming: Option<u64>,
     /// For each processor the entries that its former generation had when it was flipped.
-    pub waits: Vec<u32>,
+    pub waits: Vec<u64>,
 }
 
 impl Model for GenCaller {
@@ -239,7 +239,7 @@ impl GenState {
     }
 
     /// Notes the entries to wait for at the processor that the caller has flipped.
-    pub(crate) fn set_flipped(&mut self, c: usize, p: usize, entered: u32, grace: GraceAt)
+    pub(crate) fn set_flipped(&mut self, c: usize, p: usize, entered: u64, grace: GraceAt)
         requires there { c < length self.old.callers }
         requires noted { p < length (caller_at self.old c).waits }
         ensures { self.new ≡ change_caller self.old c (λ x. record x {

@@ -16,11 +16,11 @@ fn does(state: &mut GenState, event: GenEvent) -> bool
     ensures one { length state.new.procs ≡ 1 }
     ensures two { length state.new.callers ≡ 2 }
 {
-    apply(state, &event)
+    has_room(state, &event) && apply(state, &event)
 }
 
 // Whether the caller of the one processor has nothing coming, and is so.
-fn is_at(caller: &GenCaller, active: Option<u32>, grace: GraceAt, wait: u32) -> bool {
+fn is_at(caller: &GenCaller, active: Option<u32>, grace: GraceAt, wait: u64) -> bool {
     let waits = caller.waits.as_slice() == [wait].as_slice();
     caller.proc == 0
         && caller.active == active
@@ -74,7 +74,7 @@ fn does_of_many(state: &mut GenState, event: GenEvent) -> bool
     ensures eight { length state.new.procs ≡ 8 }
     ensures sixteen { length state.new.callers ≡ 16 }
 {
-    apply(state, &event)
+    has_room(state, &event) && apply(state, &event)
 }
 
 // Two processors more are flipped by the last caller.
@@ -217,7 +217,7 @@ fn answers(state: &mut GenState, events: &[(GenEvent, bool)]) -> bool
     ensures two { length state.new.procs ≡ 2 }
 {
     for (event, possible) in events {
-        if number_of(event) >= 3 || apply(state, event) != *possible {
+        if number_of(event) >= 3 || !has_room(state, event) || apply(state, event) != *possible {
             return false;
         }
     }

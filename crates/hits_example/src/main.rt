@@ -23,10 +23,11 @@ impl Work for Hits {
         pass: &mut Pass,
     ) -> Result<(), Memory> {
         if pass.caller() == 0 {
-            swap_once(rt, alloc, system, pass, HITS, LayoutName::Shared)?;
+            swap_once(rt, alloc, system, pass, HITS, LayoutName::Shared).map_err(|_| Memory)?;
         } else {
-            call_once(rt, alloc, system, pass, HITS, Op::Add(1))?;
-            call_once(rt, alloc, system, pass, HITS, Op::Add(1))?;
+            // No pass is worn so soon.
+            call_once(rt, alloc, system, pass, HITS, Op::Add(1)).map_err(|_| Memory)?;
+            call_once(rt, alloc, system, pass, HITS, Op::Add(1)).map_err(|_| Memory)?;
         }
         Ok(())
     }

@@ -4,10 +4,11 @@ ghost use Rattle.k42_board.specs.declared.keep.Keep.TheVariants.{All};
 ghost use Rattle.k42_crews.specs.Ready.{IsFree, AreFree, StaysFree};
 
 use crate::load::{Load, op_of, size_due, size_of};
-use k42_crews::{LIMIT, Work, call_once, close, end, may_call, may_swap, start, work_all};
+use k42_crews::{Work, call_once, close, end, start, work_all};
 use k42_kinds::{Answer, KindName, LayoutName, Reply};
+use k42_limits::LAST_INCARNATION;
 use k42_memory::Memory;
-use k42_runtime::{History, Keep, ObjectPlan, Pass, Plan, System};
+use k42_runtime::{History, Keep, NoCall, NoSwap, ObjectPlan, Pass, Plan, System};
 use std::alloc::Global;
 use std::sync::Wait;
 use std::thread::Threads;
@@ -28,10 +29,10 @@ fn is_done(pass: &Pass, load: &Load, calls: u32) -> bool {
         (Keep::All, None) => 0,
         (Keep::Nothing, _) => load.swaps,
     };
-    calls >= load.calls && seen >= load.swaps
+    calls >= load.calls && seen >= load.swaps.min(LAST_INCARNATION)
 }
 
-/// Calls so often, and until all swaps are done where entries are kept.
+/// Calls so often, and until all swaps are done where entries are kept. A pass that is worn calls no more.
 fn call_often<R: Wait>(
     rt: &R,
     alloc: Global,
@@ -42,22 +43,26 @@ fn call_often<R: Wait>(
     requires { IsFree system.now pass.old }
     ensures { StaysFree system.now pass.old pass.new }
 {
-    for number in 0..LIMIT - 1 {
+    for number in 0..u32::MAX {
         let Some(op) = op_of(load, pass.caller(), number) else {
             return Ok(());
         };
-        if !may_call(pass) || !system.takes(0, &op) || is_done(pass, load, number) {
+        if !system.takes(0, &op) || is_done(pass, load, number) {
             return Ok(());
         }
         system.enter(pass);
         let reply = system.call(rt, alloc, pass, 0, op);
         system.leave(pass);
-        reply?;
+        match reply {
+            Ok(_) => (),
+            Err(NoCall::Memory) => return Err(Memory),
+            Err(NoCall::Worn) => return Ok(()),
+        }
     }
     Ok(())
 }
 
-/// Swaps so often, to the other layout and back.
+/// Swaps so often, to the other layout and back. A pass that is worn swaps no more.
 fn swap_often<R: Wait>(
     rt: &R,
     alloc: Global,
@@ -69,14 +74,18 @@ fn swap_often<R: Wait>(
     ensures { StaysFree system.now pass.old pass.new }
 {
     for number in 0..load.swaps {
-        if !may_swap(pass) || system.objects() == 0 {
+        if system.objects() == 0 {
             return Ok(());
         }
         let to = match (load.layout, number % 2) {
             (LayoutName::Shared, 0) | (LayoutName::Spread, 1) => LayoutName::Spread,
             _ => LayoutName::Shared,
         };
-        system.swap(rt, alloc, pass, 0, to)?;
+        match system.swap(rt, alloc, pass, 0, to) {
+            Ok(_) => (),
+            Err(NoSwap::Memory) => return Err(Memory),
+            Err(NoSwap::Worn) => return Ok(()),
+        }
     }
     Ok(())
 }
@@ -182,8 +191,11 @@ fn has_size<R: Wait>(
     requires { IsFree system.now pass.old }
     ensures { StaysFree system.now pass.old pass.new }
 {
-    let reply = call_once(rt, alloc, system, pass, 0, size_of(kind))?;
-    Ok(reply == Some(Reply::Number(due)))
+    match call_once(rt, alloc, system, pass, 0, size_of(kind)) {
+        Ok(reply) => Ok(reply == Some(Reply::Number(due))),
+        Err(NoCall::Memory) => Err(Memory),
+        Err(NoCall::Worn) => Ok(false),
+    }
 }
 
 /// Whether the object tells the first pass that what the calls have left is in it.

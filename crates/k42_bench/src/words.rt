@@ -1,6 +1,5 @@
 //! The words of the command line.
 use crate::load::{Load, Ops};
-use k42_crews::LIMIT;
 use k42_kinds::{KindName, LayoutName};
 use k42_runtime::Keep;
 
@@ -59,12 +58,12 @@ fn begins_as_number(word: &str) -> bool {
     }
 }
 
-/// A number below the limit, in decimal, without a sign and without a leading zero.
+/// A number of 32 bits, in decimal, without a sign and without a leading zero.
 fn number_of(word: &str) -> Option<u32> {
     if !begins_as_number(word) {
         return None;
     }
-    word.parse::<u32>().ok().filter(|number| *number < LIMIT)
+    word.parse::<u32>().ok()
 }
 
 /// The load that the words ask for.

@@ -44,7 +44,7 @@ module _ {S L P : Type 0} (F : Layouts S L P) (declared : List L)
   asked : generation_in found ≡ k.generation
   asked =
       let is = (r.shows.generations.procs 0 k at_first).generation in
-      let fits = (r.sound.phases.in_scene.in_course.no_count_passes_its_field 0 k at_first).entered in
+      let fits = r.sound.phases.in_scene.in_course.no_generation_passes_its_field 0 k at_first in
       omega (arith, is, fits)
 
   asked_base : (b : ℕ) → Some (generation_in found) ≡ Some b → (p : ℕ) (l : GenProc) → slice_get (s F declared table r id v at).procs p ≡ Some l
@@ -64,14 +64,13 @@ module _ {S L P : Type 0} (F : Layouts S L P) (declared : List L)
   asks =
       let old = knows F declared table r id v at in
       stayed F declared table r id v at (generation_word 0) (asked_view found v)
-      (own_goes r.state r.state.phases.turns r.state.phases.callers v v.turn v.visitor v.activities v.graces (Some (generation_in found)) v.rows v.granted
+      (own_goes r.state r.state.phases.turns r.state.phases.callers v v.turn v.visitor v.graces (Some (generation_in found)) v.rows v.granted
       F.tag_of r.beside r.beside.counts id old
       (record {
         many = refl;
         rises = λ p. le_refl (proc_at r.state.phases.turns p).generation;
         generations = record {
           turn = old.generations.turn;
-          activities = old.generations.activities;
           graces = old.generations.graces;
           base = λ b e busy p l here. asked_base b e p l here;
         };
@@ -81,7 +80,7 @@ module _ {S L P : Type 0} (F : Layouts S L P) (declared : List L)
         proc = refl;
         names = old.names;
         rows_known =
-            rows_kept r.state r.state.phases.turns [] v v.turn v.visitor v.activities v.graces (Some (generation_in found)) v.rows v.granted
+            rows_kept r.state r.state.phases.turns [] v v.turn v.visitor v.graces (Some (generation_in found)) v.rows v.granted
             refl refl refl refl old.phases.rows;
       }))
 

@@ -241,7 +241,6 @@ module _ {L P : Type 0} (tag_of : L → ℕ) (s : Joined L) (objects : List Obje
     names = names;
     generations = record {
       turn = knows.generations.turn;
-      activities = knows.generations.activities;
       graces = knows.generations.graces;
       base = knows.generations.base;
     };
@@ -410,7 +409,6 @@ generations_as_before words i new g counts apart few shown = record {
       let lt : q < 8 = let there = slice_get_within g.procs q k e in omega (arith, there, few) in
       processor_stays words i new q k (apart.generations q lt) (apart.even q lt) (apart.odd q lt) (shown.procs q k e);
   role = get_or-set_other words i role_word new 0 apart.role ∙ shown.role;
-  activities = shown.activities;
   graces = shown.graces;
   begun = shown.begun;
 }

@@ -38,7 +38,6 @@ generations_apart words n new g counts few procs is = record {
       processor_stays words (lock_word n) new p k (λ h. omega (arith, there, procs, few)) (λ h. omega (arith, there, procs, few)) (λ h. omega (arith, there, procs, few))
       (is.procs p k e);
   role = get_or-set_other words (lock_word n) role_word new 0 (λ h. omega (arith, few)) ∙ is.role;
-  activities = is.activities;
   graces = is.graces;
   begun = is.begun;
 }

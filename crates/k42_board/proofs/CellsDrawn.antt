@@ -7,6 +7,7 @@ use mathlib.Core.Option.{some}
 use mathlib.Core.Option as maybe
 use lib.ListN.{get_elem?}
 use Rattle.atomic_table.specs.Table.{State}
+use Rattle.k42_limits.specs.declared.TheConstants.{PASS_ENTRIES}
 use Rattle.k42_kinds.specs.declared.entry.Entry.{Entry}
 use Rattle.k42_places.specs.Places.{EachPlace}
 use Rattle.k42_places.proofs.EachPlaces.{EachPlace-set}
@@ -28,7 +29,6 @@ use Rattle.k42_joined.proofs.CellChanges.{cell_at-else, cell_at-named}
 use Rattle.k42_joined.proofs.Kept.{joined_keeps}
 use Rattle.k42_board.specs.Cells.{Slot, Contents, IsCellShown, IsSlot, IsNoted, KnowsCells, cells_noted}
 use Rattle.k42_board.specs.Drawing.{told_notes, told_note, drawn_view, untold_view}
-use Rattle.k42_board.specs.Generations.{MOST}
 use Rattle.k42_board.specs.Parts.{IsPart}
 use Rattle.k42_board.specs.Trace.{IsOfTime}
 use Rattle.k42_board.specs.Rule.{KnowsPass, Rule}
@@ -100,7 +100,7 @@ module _ {S L P : Type 0} (F : Layouts S L P) (laws : AreLaws F) (declared : Lis
     pub once : names_once cells ≡ true
     pub there : (n : ℕ) → names cells n ≡ true → n < length s.turns.cells
     pub noted : (n : ℕ) → names cells n ≡ true → names (cells_noted v.notes) n ≡ true
-    pub few : length v.taker.mine < MOST
+    pub few : length v.taker.mine < PASS_ENTRIES
     pub timely : IsOfTime s.phases.turns v.turn.proc entry
     pub parts : (n : ℕ) → n < length t.cells → IsPart F declared (effect s (AtCells (Draw c cells entry))) n (told_contents.part n)
 
@@ -213,10 +213,10 @@ module _ {S L P : Type 0} (F : Layouts S L P) (laws : AreLaws F) (declared : Lis
           unhanded = k.trace.unhanded;
         })
 
-    few_after : EachPlace (λ d (x : Caller). length x.mine ≤ MOST) t.callers
+    few_after : EachPlace (λ d (x : Caller). length x.mine ≤ PASS_ENTRIES) t.callers
     few_after =
-        subst (λ (xs : List Caller). EachPlace (λ d (x : Caller). length x.mine ≤ MOST) xs) (sym (callers-change_cells (cell_told entry) base cells))
-        (EachPlace-set (λ d (x : Caller). length x.mine ≤ MOST) s.turns.callers c (caller_drawn entry (caller_at s.turns c)) r.shows.few_entries
+        subst (λ (xs : List Caller). EachPlace (λ d (x : Caller). length x.mine ≤ PASS_ENTRIES) xs) (sym (callers-change_cells (cell_told entry) base cells))
+        (EachPlace-set (λ d (x : Caller). length x.mine ≤ PASS_ENTRIES) s.turns.callers c (caller_drawn entry (caller_at s.turns c)) r.shows.few_entries
         (let less = is.few in let more = length_push (caller_at s.turns c).mine entry in let same = ap (λ (x : Caller). length x.mine) k.cells.taker in omega (arith, less, more, same)))
 
     cell_after : (n : ℕ) (y : Cell) → slice_get t.cells n ≡ Some y → IsCellShown (many_procs s) table.words table.homes told_contents n y

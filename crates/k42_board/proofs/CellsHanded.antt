@@ -8,6 +8,7 @@ use mathlib.Core.Option.{some}
 use mathlib.Core.Option as maybe
 use lib.ListN.{get_elem?}
 use Rattle.atomic_table.specs.Table.{State}
+use Rattle.k42_limits.specs.declared.TheConstants.{PASS_ENTRIES}
 use Rattle.k42_kinds.specs.declared.entry.Entry.{Entry}
 use Rattle.k42_places.specs.Places.{EachPlace}
 use Rattle.k42_places.proofs.EachPlaces.{EachPlace-set}
@@ -36,7 +37,6 @@ use Rattle.k42_joined.proofs.CellChanges.{cell_at-else, cell_at-named}
 use Rattle.k42_joined.proofs.Kept.{joined_keeps}
 use Rattle.k42_board.specs.Cells.{Slot, Contents, IsCellShown, IsSlot, IsNoted, KnowsCells, cells_noted}
 use Rattle.k42_board.specs.Drawing.{handed_note, handed_view, untold_view}
-use Rattle.k42_board.specs.Generations.{MOST}
 use Rattle.k42_board.specs.Parts.{IsPart}
 use Rattle.k42_board.specs.Values.{holder_value}
 use Rattle.k42_board.specs.Rule.{KnowsPass, Rule}
@@ -157,7 +157,7 @@ module _ {S L P : Type 0} (F : Layouts S L P) (laws : AreLaws F) (declared : Lis
     pub noted_from : (n : ℕ) → names from n ≡ true → names (cells_noted v.notes) n ≡ true
     pub noted_onto : (n : ℕ) → names onto n ≡ true → names (cells_noted v.notes) n ≡ true
     pub begins : (n : ℕ) → names onto n ≡ true → may_begin (cell_at s.turns n) ≡ true
-    pub few : length v.taker.mine < MOST
+    pub few : length v.taker.mine < PASS_ENTRIES
     pub moves : v.visitor.swap ≡ Moved entry.object
     pub named : entry.object < many_objects s
     pub untimed : entry.generation ≡ None
@@ -366,10 +366,10 @@ module _ {S L P : Type 0} (F : Layouts S L P) (laws : AreLaws F) (declared : Lis
           unhanded = λ e moved'. absurd (cc);
         })
 
-    few_after : EachPlace (λ d (x : Caller). length x.mine ≤ MOST) t.callers
+    few_after : EachPlace (λ d (x : Caller). length x.mine ≤ PASS_ENTRIES) t.callers
     few_after =
-        subst (λ (xs : List Caller). EachPlace (λ d (x : Caller). length x.mine ≤ MOST) xs) (sym callers_are)
-        (EachPlace-set (λ d (x : Caller). length x.mine ≤ MOST) s.turns.callers c (caller_drawn entry (caller_at s.turns c)) r.shows.few_entries
+        subst (λ (xs : List Caller). EachPlace (λ d (x : Caller). length x.mine ≤ PASS_ENTRIES) xs) (sym callers_are)
+        (EachPlace-set (λ d (x : Caller). length x.mine ≤ PASS_ENTRIES) s.turns.callers c (caller_drawn entry (caller_at s.turns c)) r.shows.few_entries
         (let less = is.few in let more = length_push (caller_at s.turns c).mine entry in let same = ap (λ (x : Caller). length x.mine) k.cells.taker in omega (arith, less, more, same)))
 
     -- the cells that are shown

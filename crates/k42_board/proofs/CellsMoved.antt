@@ -17,7 +17,8 @@ use Rattle.k42_stamp.specs.Fits.{Fits}
 use Rattle.k42_joined.specs.Numbers.{cell_of, object_of}
 use Rattle.k42_joined.specs.Rows.{history_in}
 use Rattle.k42_joined.proofs.LocksCells.{IsSameTold}
-use Rattle.k42_board.specs.Generations.{Counts, MOST, KnowsGenerations}
+use Rattle.k42_limits.specs.declared.TheConstants.{PASS_ENTRIES}
+use Rattle.k42_board.specs.Generations.{Counts, KnowsGenerations}
 use Rattle.k42_places.proofs.EachPlaces.{EachPlace-set_else}
 use Rattle.phase_core.specs.Plain.{Object, Phases}
 use Rattle.turn_core.specs.Names.{names}
@@ -95,7 +96,7 @@ module _ {P : Type 0} (v : PassView P) (taker : Caller) (found : Option Answer) 
     (untold : List ℕ) where
   pub generations_stay : (g : Generations) (counts : Counts) → KnowsGenerations g counts v
       → KnowsGenerations g counts (re_noted v taker found abandoned handed notes out untold)
-  generations_stay g counts k = record { turn = k.turn; activities = k.activities; graces = k.graces; base = k.base }
+  generations_stay g counts k = record { turn = k.turn; graces = k.graces; base = k.base }
 
   pub phases_stay : (p : Phases) → KnowsPhases p v → KnowsPhases p (re_noted v taker found abandoned handed notes out untold)
   phases_stay p k = record {
@@ -121,7 +122,7 @@ shows_again s beside table words id w shows same =
     })
 
 -- no caller has drawn more entries than are counted
-pub few_drawn : (callers : List Caller) → EachPlace (λ c x. length x.mine ≤ MOST) callers → (d : ℕ) → length (get_or callers d fresh_caller).mine ≤ MOST
+pub few_drawn : (callers : List Caller) → EachPlace (λ c x. length x.mine ≤ PASS_ENTRIES) callers → (d : ℕ) → length (get_or callers d fresh_caller).mine ≤ PASS_ENTRIES
 few_drawn [] few d = omega arith
 few_drawn (x ∷ callers) few zero = few 0 x refl
 few_drawn (x ∷ callers) few (suc d) = few_drawn callers (λ c y e. few (suc c) y e) d
@@ -224,7 +225,7 @@ module _ {S L P : Type 0} (F : Layouts S L P) (declared : List L)
     pub shown : IsCellShown (many_procs s) (set table.words (lock_word n) new) homes contents n y
 
   pub one_cell_shows : (n new : ℕ) (homes : List (maybe.Option (Slot P))) (contents : Contents P) (y : Cell) (t : Turns) (kept : List Kept) (w : PassView P)
-      → t.cells ≡ set s.turns.cells n y → EachPlace (λ c x. length x.mine ≤ MOST) t.callers → OneCell n new homes contents y
+      → t.cells ≡ set s.turns.cells n y → EachPlace (λ c x. length x.mine ≤ PASS_ENTRIES) t.callers → OneCell n new homes contents y
       → Shows (moved_to s t kept) (with_contents r.beside contents) (with_pass table (set table.words (lock_word n) new) homes id w)
   one_cell_shows n new homes contents y t kept w cells few_mine one = record {
     many_words = length-set table.words (lock_word n) new ∙ r.shows.many_words;
@@ -368,15 +369,15 @@ module _ {S L P : Type 0} (F : Layouts S L P) (declared : List L)
             };
           }
 
-      few_after : EachPlace (λ c x. length x.mine ≤ MOST) callers
+      few_after : EachPlace (λ c x. length x.mine ≤ PASS_ENTRIES) callers
       few_after d x e =
           let here = get_or_from_slice_get callers d x fresh_caller e in
-          subst (λ (z : Caller). length z.mine ≤ MOST) here
+          subst (λ (z : Caller). length z.mine ≤ PASS_ENTRIES) here
           (dite (ℕ_discrete d v.number)
           (λ same.
           let own : (get_or callers d fresh_caller).mine ≡ (caller_at s.turns v.number).mine = ap (λ k. (get_or callers k fresh_caller).mine) same ∙ ap (λ (z : Caller). z.mine) is.own ∙ is.mine ∙ sym (ap (λ (z : Caller). z.mine) knows.taker) in
-          subst (λ (mine : List Entry). length mine ≤ MOST) (sym own) (few_drawn s.turns.callers r.shows.few_entries v.number))
-          (λ not. subst (λ (z : Caller). length z.mine ≤ MOST) (sym (is.others d not)) (few_drawn s.turns.callers r.shows.few_entries d)))
+          subst (λ (mine : List Entry). length mine ≤ PASS_ENTRIES) (sym own) (few_drawn s.turns.callers r.shows.few_entries v.number))
+          (λ not. subst (λ (z : Caller). length z.mine ≤ PASS_ENTRIES) (sym (is.others d not)) (few_drawn s.turns.callers r.shows.few_entries d)))
 
       told : (m : ℕ) → IsSameTold (cell_at s.turns m) (cell_at t m)
       told m = get_or-set_related IsSameTold same_told' s.turns.cells n m y (fresh_cell 0) is.told

@@ -8,6 +8,7 @@ use mathlib.Core.Option.{some}
 use lib.ListN.{get_elem?}
 use Rattle.atomic_table.specs.Table.{State, Step, Allows}
 use Rattle.atomic_table.proofs.Lists.{set_here}
+use Rattle.k42_limits.specs.declared.TheConstants.{LAST_STAMP}
 use Rattle.k42_kinds.specs.declared.entry.Entry.{Entry}
 use Rattle.k42_places.specs.Places.{EachPlace}
 use Rattle.k42_places.proofs.Appended.{at_push}
@@ -27,7 +28,6 @@ use Rattle.k42_board.specs.Drawing.{HasSmallStamp, untold_view}
 use Rattle.k42_board.specs.Log.{took}
 use Rattle.k42_board.specs.Phases.{KnowsPhases}
 use Rattle.k42_board.specs.Rule.{Beside, KnowsPass, Rule, Ruled}
-use Rattle.k42_board.specs.Seats.{LAST_STAMP}
 use Rattle.k42_board.specs.Seen.{IsSeatOf}
 use Rattle.k42_board.specs.Steps.{Seated, Tells, TellsWith, StepIs}
 use Rattle.k42_board.specs.Trace.{IsOfTime}
@@ -95,7 +95,7 @@ module _ {L P : Type 0} (tag_of : L → ℕ) (s : Joined L) (turns : Turns) (han
     there = k.there;
     seat = k.seat;
     names = record { named = k.names.named; once = k.names.once };
-    generations = record { turn = k.generations.turn; activities = k.generations.activities; graces = k.generations.graces; base = k.generations.base };
+    generations = record { turn = k.generations.turn; graces = k.generations.graces; base = k.generations.base };
     phases = phases_known;
     cells = draws.cells;
     trace = record {
@@ -116,7 +116,7 @@ untold_known tag_of s beside id v k cells = record {
   there = k.there;
   seat = k.seat;
   names = k.names;
-  generations = record { turn = k.generations.turn; activities = k.generations.activities; graces = k.generations.graces; base = k.generations.base };
+  generations = record { turn = k.generations.turn; graces = k.generations.graces; base = k.generations.base };
   phases = record {
     visitor = k.phases.visitor;
     layout = k.phases.layout;
@@ -170,7 +170,7 @@ small_stamps F declared table r id v at =
     let there : v.number < length s.callers = let many = r.sound.cells.locks.many.callers in let lt = k.there in omega (arith, many, lt) in
     let own = r.sound.cells.turns.callers v.number (caller_at s v.number) (slice_get-get_or s.callers v.number fresh_caller there) in
     let bounded : last_stamp (caller_at s v.number).mine ≤ entries_drawn s.callers = last_most (entries_drawn s.callers) (caller_at s v.number).mine own.bounded in
-    let most = sum_by-le (λ (x : Caller). length x.mine) (2 ^ 20) s.callers (λ i d lt. r.shows.few_entries i (get_or s.callers i d) (slice_get-get_or s.callers i d lt)) in
+    let most = sum_by-le (λ (x : Caller). length x.mine) (2 ^ 58) s.callers (λ i d lt. r.shows.few_entries i (get_or s.callers i d) (slice_get-get_or s.callers i d lt)) in
     let few = r.sound.phases.in_scene.in_course.limits.few_callers in
     let long = r.sound.phases.in_scene.in_course.many_callers in
     let many = r.sound.cells.locks.many.callers in

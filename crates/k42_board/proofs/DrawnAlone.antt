@@ -6,6 +6,7 @@ use Rattle.std.proofs.lemmas.List.{length_push, set-get_or}
 use mathlib.Core.Option.{some}
 use lib.ListN.{get_elem?}
 use Rattle.atomic_table.specs.Table.{State}
+use Rattle.k42_limits.specs.declared.TheConstants.{PASS_ENTRIES}
 use Rattle.k42_kinds.specs.declared.entry.Act.{Act}
 use Rattle.k42_kinds.specs.declared.entry.Answer.{Answer}
 use Rattle.k42_kinds.specs.declared.entry.Answer.TheVariants.{Replied, Swapped, Busy, Spent, Gone, Abandoned}
@@ -33,7 +34,6 @@ use Rattle.k42_joined.specs.State.{object, incarnation, swap_of, kept_of, nothin
 use Rattle.k42_joined.proofs.Kept.{joined_keeps}
 use Rattle.k42_board.specs.Cells.{Slot, KnowsCells}
 use Rattle.k42_board.specs.Drawing.{MayDrawAlone, IsAnswerAlone, gives_up, entry_alone, alone_view}
-use Rattle.k42_board.specs.Generations.{MOST}
 use Rattle.k42_board.specs.Rule.{KnowsPass, Rule}
 use Rattle.k42_board.specs.Values.{incarnation_in, answer_in}
 use Rattle.k42_board.specs.Views.{begun_of, object_begun, word_begun}
@@ -221,7 +221,7 @@ module _ {S L P : Type 0} (F : Layouts S L P) (laws : AreLaws F) (declared : Lis
         many_words = r.shows.many_words;
         many_slots = r.shows.many_slots;
         few_objects = r.shows.few_objects;
-        few_entries = EachPlace-set (λ d (x : Caller). length x.mine ≤ MOST) s.turns.callers c (caller_drawn entry (caller_at s.turns c)) r.shows.few_entries
+        few_entries = EachPlace-set (λ d (x : Caller). length x.mine ≤ PASS_ENTRIES) s.turns.callers c (caller_drawn entry (caller_at s.turns c)) r.shows.few_entries
             (let less = may.few in let more = length_push (caller_at s.turns c).mine entry in let same = ap length mine_is in omega (arith, less, more, same));
         generations = r.shows.generations;
         objects = r.shows.objects;

@@ -1,15 +1,14 @@
 -- Entering is allowed to an idle pass.
-use Rattle.std.proofs.Common.{◌≡◌, ℕ, ◌+◌, ◌-◌, ◌*◌, ◌%◌, ◌^◌, ◌<◌, ◌≤◌, Bool, true, false, cond, ltb, List, [], ◌∷◌, Some, None, length, get_or, set, sym, refl, ap, ◌∙◌, subst, ⊎_elim, arith, le_refl, length-set, get_or-set_same, get_or-set_other}
+use Rattle.std.proofs.Common.{◌≡◌, ℕ, ◌+◌, ◌%◌, ◌^◌, ◌<◌, true, List, [], ◌∷◌, Some, None, length, get_or, set, sym, refl, ap, ◌∙◌, subst, ⊎_elim, arith, length-set, get_or-set_same, get_or-set_other}
 use Rattle.std.specs.List.{slice_get}
-use Rattle.std.specs.Prelude.{sum}
-use Rattle.std.proofs.lemmas.Bool.{and_parts, lt-ltb}
+use Rattle.std.proofs.lemmas.Bool.{and_parts}
 use Rattle.std.proofs.lemmas.Option.{slice_get-get_or}
 use mathlib.Core.Option.{some}
 use lib.ListN.{get_elem?}
 use Rattle.atomic_table.specs.Table.{State}
 use Rattle.k42_places.specs.Places.{EachPlace}
 use Rattle.k42_places.proofs.Written.{at_set, get_or-set_related}
-use Rattle.k42_places.proofs.EachPlaces.{EachPlace-set_else, EachPlace-set}
+use Rattle.k42_places.proofs.EachPlaces.{EachPlace-set_else}
 use Rattle.gen_core.specs.Events.{is_idle, is_free, home_of, caller_entered, proc_entered}
 use Rattle.gen_core.specs.Plain.{Generations, Caller}
 use Rattle.gen_core.specs.State.{caller_at, proc_at, fresh_proc}
@@ -22,7 +21,6 @@ use Rattle.phase_core.specs.Plain.{Visitor}
 use Rattle.phase_core.specs.State.{visitor_at}
 use Rattle.phase_core.proofs.InSound.{visitor_known}
 use Rattle.phase_core.proofs.Reached.{turn_there}
-use Rattle.std.specs.Prelude.{◌&&◌, ◌==◌}
 use Rattle.gen_core.proofs.Ranges.{home_there, few_procs}
 use Rattle.phase_core.specs.Event.{Turn}
 use Rattle.phase_core.specs.Stages as swaps
@@ -34,7 +32,7 @@ use Rattle.k42_joined.specs.Event.{AtPhases}
 use Rattle.k42_joined.specs.Possible.{IsPossible}
 use Rattle.k42_board.specs.Cells.{Slot}
 use Rattle.k42_board.specs.Generating.{MayEnter, entered_view, EnteredFound}
-use Rattle.k42_board.specs.Generations.{Counts, MOST, IsProcessorShown, AreGenerations}
+use Rattle.k42_board.specs.Generations.{IsProcessorShown, AreGenerations, in_words}
 use Rattle.k42_board.specs.Log.{took}
 use Rattle.k42_board.specs.Rule.{KnowsPass, Rule}
 use Rattle.k42_board.specs.Values.{generation_value, generation_in}
@@ -44,7 +42,7 @@ use Rattle.k42_board.specs.declared.view.StepName.TheVariants as steps
 use Rattle.k42_board.specs.declared.view.View.{View}
 use Rattle.k42_board.specs.declared.view.View.TheVariants.{Crew}
 use Rattle.k42_board.proofs.Apart.{IsOfGenerations, of_processor}
-use Rattle.k42_board.proofs.Begun.{few_begun, one_more, processor_stays, begun_goes, flips_same, entered_so_far, rises_by}
+use Rattle.k42_board.proofs.Begun.{processor_stays, begun_goes, flips_same, rises_by}
 use Rattle.k42_board.proofs.Logged.{logged_moves}
 use Rattle.k42_board.proofs.Moves.{Moves, Finds}
 use Rattle.k42_board.proofs.OnePass.{with_pass, known}
@@ -83,6 +81,9 @@ module _ {S L P : Type 0} (F : Layouts S L P) (laws : AreLaws F) (declared : Lis
   at_p : slice_get s.procs x.proc ≡ Some k
   at_p = slice_get-get_or s.procs x.proc fresh_proc p_there
 
+  fits : k.generation < 2 ^ 32
+  fits = r.sound.phases.in_scene.in_course.no_generation_passes_its_field x.proc k at_p
+
   shown : IsProcessorShown table.words x.proc k
   shown = r.shows.generations.procs x.proc k at_p
 
@@ -93,38 +94,16 @@ module _ {S L P : Type 0} (F : Layouts S L P) (laws : AreLaws F) (declared : Lis
   found = get_or table.words i 0
 
   abbrev new : ℕ
-  new = (found + 1) % 2 ^ 64
-
-  abbrev counts : Counts
-  counts = record r.beside.counts { activities = set r.beside.counts.activities c (v.activities + 1) }
+  new = (found + 2 ^ 32) % 2 ^ 64
 
   abbrev g : Generations
   g = gens.effect s (Enter c)
 
-  begun : sum r.beside.counts.activities ≤ 16 * 2 ^ 20
-  begun =
-      few_begun (length s.callers) r.beside.counts.activities
-      (let long = r.sound.phases.in_scene.in_course.many_callers in let few = r.sound.phases.in_scene.in_course.limits.few_callers in omega (arith, long, few)) r.shows.generations.activities
-
-  entered_few : k.entered ≤ 16 * 2 ^ 20
-  entered_few =
-      let is = (r.shows.generations.begun x.proc k at_p).entered in let most = begun in
-      let among = entered_so_far s x.proc sound p_there in omega (arith, is, most, among)
-
-  turn : x ≡ v.turn
+  turn : in_words x ≡ v.turn
   turn = knows.generations.turn
 
-  c_begun : c < length r.beside.counts.activities
-  c_begun = let many = r.shows.generations.activities.many in let lt = there in omega (arith, many, lt)
-
-  more : sum counts.activities ≡ sum r.beside.counts.activities + 1
-  more = one_more r.beside.counts.activities c v.activities c_begun knows.generations.activities
-
   can : gens.is_possible s (Enter c) ≡ true
-  can =
-      let free : is_free x ≡ true = ap is_free turn ∙ may.free in
-      let room : ltb k.entered (2 ^ 32 - 1) ≡ true = lt-ltb k.entered (2 ^ 32 - 1) (let few = entered_few in omega (arith, few)) in
-      rw (free, room) refl
+  can = ap is_free turn ∙ may.free
 
   may_enter : IsPossible F declared r.state (AtPhases (Turn (Enter c)))
   may_enter = record {
@@ -149,20 +128,19 @@ module _ {S L P : Type 0} (F : Layouts S L P) (laws : AreLaws F) (declared : Lis
       (λ old. (l, old.1, refl))
       (at_set s.procs x.proc p (proc_entered k) l e)
 
-  turn_is : IsTurn F laws declared table r id v at (Turn (Enter c)) g (visitor_at r.state.phases c) counts
+  turn_is : IsTurn F laws declared table r id v at (Turn (Enter c)) g (visitor_at r.state.phases c) r.beside.counts
   turn_is = record {
     possible = may_enter;
     effect_is = refl;
     many_procs_same = length-set s.procs x.proc (proc_entered k);
     turns = λ d not. get_or-set_other s.callers c d (caller_entered x k) _ not;
-    activities = λ d not. get_or-set_other r.beside.counts.activities c d (v.activities + 1) 0 not;
     graces = λ d not. refl;
     base = λ d p l not busy e. generations_same p l e;
     rises = rises_by s (Enter c) can;
   }
 
   word : new ≡ generation_value (proc_entered k)
-  word = let is = shown.generation in let few = entered_few in let fits = (r.sound.phases.in_scene.in_course.no_count_passes_its_field x.proc k at_p).generation in omega (arith, is, few, fits)
+  word = omega (arith, shown.generation, fits)
 
   words_after : EachPlace (IsProcessorShown (set table.words i new)) g.procs
   words_after =
@@ -175,29 +153,19 @@ module _ {S L P : Type 0} (F : Layouts S L P) (laws : AreLaws F) (declared : Lis
       })
       (λ q l not e is. processor_stays table.words i new q l (λ h. not (omega arith)) (λ h. omega arith) (λ h. omega arith) is)
 
-  generations_after : AreGenerations (set table.words i new) g counts
+  generations_after : AreGenerations (set table.words i new) g r.beside.counts
   generations_after = record {
     procs = words_after;
     role = get_or-set_other table.words i role_word new 0 (λ e. let few = p_few in omega (arith, few)) ∙ r.shows.generations.role;
-    activities = record {
-      many = length-set r.beside.counts.activities c (v.activities + 1) ∙ r.shows.generations.activities.many ∙ sym (length-set s.callers c (caller_entered x k));
-      few = EachPlace-set (λ d n. n ≤ MOST) r.beside.counts.activities c (v.activities + 1) r.shows.generations.activities.few (let less = may.few in omega (arith, less));
-    };
     graces = record {
       many = r.shows.generations.graces.many ∙ sym (length-set s.callers c (caller_entered x k));
       few = r.shows.generations.graces.few;
     };
-    begun =
-        begun_goes s (Enter c) g r.beside.counts counts sound there can refl
-        (λ p. let most = by_one (gens.is_possible s (Enter c) && (x.proc == p)) in let is = more in omega (arith, most, is))
-        0 (omega arith) (flips_same s g refl graces generations_same) r.shows.generations.begun;
-  } where
-    by_one : (b : Bool) → cond b 1 0 ≤ 1
-    by_one true = le_refl 1
-    by_one false = omega arith
+    begun = begun_goes s g r.beside.counts r.beside.counts 0 (omega arith) (flips_same s g refl graces generations_same) r.shows.generations.begun;
+  }
 
   active : k.generation ≡ generation_in found
-  active = let is = shown.generation in let few = entered_few in omega (arith, is, few)
+  active = omega (arith, shown.generation, fits)
 
   pub entered_found : EnteredFound v found
   entered_found = record {
@@ -211,19 +179,20 @@ module _ {S L P : Type 0} (F : Layouts S L P) (laws : AreLaws F) (declared : Lis
         ap (λ (z : Visitor). swaps.is_out z.place) (sym knows.phases.visitor) ∙ ap swaps.is_out rest.0;
   }
 
-  pass_after : KnowsPass F.tag_of (state_after F laws declared table r id v at (Turn (Enter c)) g (visitor_at r.state.phases c) counts) (with_counts r.beside counts) id (entered_view found v)
+  pass_after :
+      KnowsPass F.tag_of (state_after F laws declared table r id v at (Turn (Enter c)) g (visitor_at r.state.phases c) r.beside.counts)
+      (with_counts r.beside r.beside.counts) id (entered_view found v)
   pass_after =
-      own_goes r.state g (visitors_after F laws declared table r id v at (Turn (Enter c)) g (visitor_at r.state.phases c) counts) v
-      (record v.turn { active = Some (generation_in found) }) v.visitor (v.activities + 1) v.graces v.base v.rows v.granted
-      F.tag_of r.beside counts id knows
+      own_goes r.state g (visitors_after F laws declared table r id v at (Turn (Enter c)) g (visitor_at r.state.phases c) r.beside.counts) v
+      (record v.turn { active = Some (generation_in found) }) v.visitor v.graces v.base v.rows v.granted
+      F.tag_of r.beside r.beside.counts id knows
       (record {
         many = length-set r.state.phases.callers c _;
         rises = turn_is.rises;
         generations = record {
           turn =
-              get_or-set_same s.callers c (caller_entered x k) _ there
+              ap in_words (get_or-set_same s.callers c (caller_entered x k) _ there)
               ∙ (λ j. record (turn j) { active = Some (active j) });
-          activities = get_or-set_same r.beside.counts.activities c (v.activities + 1) 0 c_begun;
           graces = knows.generations.graces;
           base = λ b e busy. absurd (let idle = (and_parts (is_idle v.turn.grace) _ may.free).0 in cc);
         };
@@ -233,7 +202,7 @@ module _ {S L P : Type 0} (F : Layouts S L P) (laws : AreLaws F) (declared : Lis
         proc = refl;
         names = knows.names;
         rows_known =
-            rows_kept r.state g [] v (record v.turn { active = Some (generation_in found) }) v.visitor (v.activities + 1) v.graces v.base v.rows v.granted
+            rows_kept r.state g [] v (record v.turn { active = Some (generation_in found) }) v.visitor v.graces v.base v.rows v.granted
             refl refl refl refl knows.phases.rows;
       })
 
@@ -241,21 +210,21 @@ module _ {S L P : Type 0} (F : Layouts S L P) (laws : AreLaws F) (declared : Lis
   pub enters : (after : Rule F declared (with_pass table (set table.words i new) table.homes id (entered_view found v)))
       × (after.state ≡ effect r.state (AtPhases (Turn (Enter c)))) × IsPossible F declared r.state (AtPhases (Turn (Enter c)))
   enters =
-      turned F laws declared table r id v at (Turn (Enter c)) g (visitor_at r.state.phases c) counts turn_is i new (entered_view found v)
+      turned F laws declared table r id v at (Turn (Enter c)) g (visitor_at r.state.phases c) r.beside.counts turn_is i new (entered_view found v)
       (subst (λ z. IsOfGenerations z) (omega arith) (of_processor x.proc 0 p_few (omega arith))) generations_after pass_after
 
 enter_goes : {S L P : Type 0} (F : Layouts S L P) → AreLaws F → (declared : List L) (id i : ℕ) (v : PassView P) → MayEnter v → i ≡ generation_word v.turn.proc
-    → Moves F declared (AtPhases (Turn (Enter v.number))) i (λ n. (n + 1) % 2 ^ 64) entered_view id v
+    → Moves F declared (AtPhases (Turn (Enter v.number))) i (λ n. (n + 2 ^ 32) % 2 ^ 64) entered_view id v
 enter_goes {S} {L} {P} F laws declared id i v may same = record {
   from = λ table r at.
-      subst (λ j. (after : Rule F declared (with_pass table (set table.words j ((get_or table.words j 0 + 1) % 2 ^ 64)) table.homes id (entered_view (get_or table.words j 0) v)))
+      subst (λ j. (after : Rule F declared (with_pass table (set table.words j ((get_or table.words j 0 + 2 ^ 32) % 2 ^ 64)) table.homes id (entered_view (get_or table.words j 0) v)))
       × (after.state ≡ effect r.state (AtPhases (Turn (Enter v.number)))) × IsPossible F declared r.state (AtPhases (Turn (Enter v.number))))
       (ap (λ (z : Caller). generation_word z.proc) (known F declared table r id v at).generations.turn ∙ sym same)
       (enters F laws declared table r id v at may);
 }
 
 pub enter_moves : {S L P : Type 0} (F : Layouts S L P) → AreLaws F → (declared : List L) (id i : ℕ) (v : PassView P) → MayEnter v → i ≡ generation_word v.turn.proc
-    → Moves F declared (AtPhases (Turn (Enter v.number))) i (λ n. (n + 1) % 2 ^ 64) (λ found v. took steps.Enter i found (entered_view found v)) id v
+    → Moves F declared (AtPhases (Turn (Enter v.number))) i (λ n. (n + 2 ^ 32) % 2 ^ 64) (λ found v. took steps.Enter i found (entered_view found v)) id v
 enter_moves F laws declared id i v may same =
     logged_moves steps.Enter (λ n. n) (λ found o before is. is) (enter_goes F laws declared id i v may same)
 

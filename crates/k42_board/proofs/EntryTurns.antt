@@ -1,9 +1,11 @@
 -- Changing the next entry of the object that is swapped: to a mediator, or to an empty one.
 use Rattle.std.proofs.Common.{◌≡◌, ℕ, ◌+◌, ◌<◌, Bool, true, false, cond, ltb, List, [], ◌∷◌, Some, length, set, sym, refl, ap, ◌∙◌, subst, arith, length-set}
+use Rattle.std.proofs.lemmas.List.{length-map}
 use Rattle.std.proofs.lemmas.Option.{slice_get-get_or, same_Some}
 use mathlib.Core.Option.{some}
 use lib.ListN.{get_elem?}
 use Rattle.atomic_table.specs.Table.{State, Step, Allows}
+use Rattle.gen_core.specs.State.{caller_at}
 use Rattle.gen_core.proofs.Ranges.{length-waits}
 use Rattle.phase_core.specs.Effects.{at_stage}
 use Rattle.phase_core.specs.Events as phase_events
@@ -165,6 +167,7 @@ module _ {S L P : Type 0} (F : Layouts S L P) (laws : AreLaws F) (declared : Lis
   waits_are : length v.turn.waits ≡ procs
   waits_are =
       ap (λ z. length z.waits) (sym knows.generations.turn)
+      ∙ length-map (caller_at s.turns c).waits _
       ∙ length-waits s.turns c (turns_sound s r.sound.phases) (gen_there F laws declared table r id v at)
 
   next : IsNext (length v.turn.waits) v.visitor.swap

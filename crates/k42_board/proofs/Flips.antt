@@ -1,6 +1,8 @@
 -- Flipping a processor is allowed to a pass that knows what its next generation counts on from.
-use Rattle.std.proofs.Common.{◌≡◌, ◌≢◌, ℕ, ◌+◌, ◌<◌, ◌≤◌, Bool, true, false, cond, ltb, List, [], ◌∷◌, Option, Some, None, length, get_or, set, sym, refl, ap, ◌∙◌, subst, ⊎_elim, arith, length-set, get_or-set_same, get_or-set_other}
+use Rattle.std.proofs.Common.{◌≡◌, ◌≢◌, ℕ, ◌+◌, ◌%◌, ◌^◌, ◌<◌, ◌≤◌, Bool, true, false, cond, ltb, List, [], ◌∷◌, Option, Some, None, length, get_or, set, sym, refl, ap, ◌∙◌, subst, ⊎_elim, arith, length-set, get_or-set_same, get_or-set_other}
 use Rattle.std.specs.List.{slice_get}
+use Rattle.std.specs.Option.{is_some, option_map, unwrap_or}
+use Rattle.std.proofs.lemmas.List.{map-set}
 use Rattle.std.proofs.lemmas.Option.{slice_get_within, slice_get-get_or, same_Some}
 use mathlib.Core.Option.{some}
 use lib.ListN.{get_elem?}
@@ -28,7 +30,7 @@ use Rattle.k42_joined.specs.Effects.{effect}
 use Rattle.k42_joined.specs.Event.{AtPhases}
 use Rattle.k42_joined.specs.Possible.{IsPossible}
 use Rattle.k42_board.specs.Cells.{Slot}
-use Rattle.k42_board.specs.Generations.{IsProcessorShown, AreGenerations, will_flip, grace_of}
+use Rattle.k42_board.specs.Generations.{IsProcessorShown, AreGenerations, will_flip, grace_of, in_words}
 use Rattle.k42_board.specs.Gracing.{MayFlip, flip_word, flipped_view, turn_flipped, entries_in}
 use Rattle.k42_board.specs.Log.{took}
 use Rattle.k42_board.specs.Rule.{KnowsPass, Rule, Ruled}
@@ -47,6 +49,12 @@ use Rattle.k42_board.proofs.Logged.{logged_moves_at}
 use Rattle.k42_board.proofs.Moves.{Moves, seat_allowed}
 use Rattle.k42_board.proofs.OnePass.{with_pass}
 use Rattle.k42_board.proofs.Turning.{IsTurn, turned, visitors_after, state_after, with_counts, own_goes, rows_kept, same_swap}
+
+-- exits to come are there where their lower half is told
+some_told : (coming : Option ℕ) (low : ℕ) → option_map (λ exits. exits % 2 ^ 32) coming ≡ Some low
+    → (is_some coming ≡ true) × (unwrap_or coming 0 % 2 ^ 32 ≡ low)
+some_told None low e = absurd (cc)
+some_told (Some exits) low e = (refl, same_Some (exits % 2 ^ 32) low e)
 
 module _ {S L P : Type 0} (F : Layouts S L P) (laws : AreLaws F) (declared : List L)
     (table : State (Slot P) (View P)) (r : Rule F declared table) (id : ℕ) (v : PassView P)
@@ -72,7 +80,7 @@ module _ {S L P : Type 0} (F : Layouts S L P) (laws : AreLaws F) (declared : Lis
   abbrev found : ℕ
   found = get_or table.words i 0
 
-  turn_x : x ≡ v.turn
+  turn_x : in_words x ≡ v.turn
   turn_x = turn F declared table r id v at
 
   grace : x.grace ≡ Flipping p
@@ -101,11 +109,15 @@ module _ {S L P : Type 0} (F : Layouts S L P) (laws : AreLaws F) (declared : Lis
       let whole : ℕ = (sound F declared table r id v at).course.base in
       step ∙ ap (λ (z : GraceAt). generation_of whole (is_flipped z p)) may.grace ∙ ap (generation_of whole) (ltb_same p) ∙ sym from
 
-  coming : x.coming ≡ Some may.exits
-  coming = ap (λ (z : Caller). z.coming) turn_x ∙ may.coming
+  -- the exits of the generation to come, of which the pass knows the lower half
+  abbrev exits : ℕ
+  exits = unwrap_or x.coming 0
+
+  coming : (is_some x.coming ≡ true) × (exits % 2 ^ 32 ≡ may.exits)
+  coming = some_told x.coming may.exits (ap (λ (z : Caller). z.coming) turn_x ∙ may.coming)
 
   abbrev k' : GenProc
-  k' = record k { generation = k.generation + 1; entered = may.exits }
+  k' = record k { generation = k.generation + 1; entered = exits }
 
   abbrev x' : Caller
   x' = record x { waits = set x.waits p k.entered; coming = None; grace = after_flip p n }
@@ -115,21 +127,22 @@ module _ {S L P : Type 0} (F : Layouts S L P) (laws : AreLaws F) (declared : Lis
 
   -- the generations after it
   effect_is : g ≡ gens.effect s (Flip c)
-  effect_is = rw (grace, coming) refl
+  effect_is = rw grace refl
 
   can : gens.is_possible s (Flip c) ≡ true
-  can = rw (grace, coming) refl
+  can = rw grace coming.0
 
-  entered : entries_in found ≡ k.entered
+  entered : entries_in found ≡ k.entered % 2 ^ 32
   entered =
       let is = shown.generation in
-      let fits = ((sound F declared table r id v at).in_course.no_count_passes_its_field p k at_p).entered in omega (arith, is, fits)
+      let fits = (sound F declared table r id v at).in_course.no_generation_passes_its_field p k at_p in omega (arith, is, fits)
 
-  turn_after : x' ≡ turn_flipped v.turn (entries_in found)
+  turn_after : in_words x' ≡ turn_flipped v.turn (entries_in found)
   turn_after =
       let many : n ≡ length v.turn.waits = sym (waits_many F declared table r id v at) in
       let at_place : p ≡ place_of v.turn.grace = ap place_of (sym may.grace) in
-      ap (λ (z : Caller). record z { waits = set z.waits p k.entered; coming = None; grace = after_flip p n }) turn_x
+      ap (λ (waits : List ℕ). record x { waits = waits; coming = None; grace = after_flip p n }) (map-set (λ (entries : ℕ). entries % 2 ^ 32) x.waits p k.entered)
+      ∙ ap (λ (z : Caller). record z { waits = set z.waits p (k.entered % 2 ^ 32); coming = None; grace = after_flip p n }) turn_x
       ∙ (λ j. record v.turn { waits = set v.turn.waits (at_place j) (sym entered j); coming = None; grace = after_flip (at_place j) (many j) })
 
   here : caller_at g c ≡ x'
@@ -145,14 +158,13 @@ module _ {S L P : Type 0} (F : Layouts S L P) (laws : AreLaws F) (declared : Lis
         ap (λ (z : Generations). record r.state { phases = record r.state.phases { turns = z; callers = set r.state.phases.callers c (visitor_at r.state.phases c) } }) effect_is;
     many_procs_same = length-set s.procs p k';
     turns = λ d not_c. get_or-set_other s.callers c d x' _ not_c;
-    activities = λ d not_c. refl;
     graces = λ d not_c. refl;
     base = λ d q l not_c not_idle e. absurd (let idle = alone F declared table r id v at busy d not_c in cc);
     rises = λ q. subst (λ (z : Generations). (proc_at s q).generation ≤ (proc_at z q).generation) (sym effect_is) (rises_by s (Flip c) can q);
   }
 
   word : flip_word v ≡ generation_value k'
-  word = rw (may.asked, may.coming) (let same = in_base in omega (arith, same))
+  word = rw (may.asked, may.coming) (let same = in_base in let low = coming.1 in omega (arith, same, low))
 
   words_after : EachPlace (IsProcessorShown (set table.words i (flip_word v))) g.procs
   words_after =
@@ -208,17 +220,11 @@ module _ {S L P : Type 0} (F : Layouts S L P) (laws : AreLaws F) (declared : Lis
   generations_after = record {
     procs = words_after;
     role = get_or-set_other table.words i role_word (flip_word v) 0 (λ e. let few = p_few in omega (arith, few, e)) ∙ r.shows.generations.role;
-    activities = record {
-      many = r.shows.generations.activities.many ∙ sym (length-set s.callers c x');
-      few = r.shows.generations.activities.few;
-    };
     graces = record {
       many = r.shows.generations.graces.many ∙ sym (length-set s.callers c x');
       few = r.shows.generations.graces.few;
     };
-    begun =
-        begun_goes s (Flip c) g r.beside.counts r.beside.counts (sound F declared table r id v at) (there F declared table r id v at) can effect_is
-        (λ q. omega arith) 0 (omega arith) flips r.shows.generations.begun;
+    begun = begun_goes s g r.beside.counts r.beside.counts 0 (omega arith) flips r.shows.generations.begun;
   }
 
   base_after : (b : ℕ) → v.base ≡ Some b → (q : ℕ) (l : GenProc) → slice_get g.procs q ≡ Some l
@@ -240,14 +246,13 @@ module _ {S L P : Type 0} (F : Layouts S L P) (laws : AreLaws F) (declared : Lis
   pass_after =
       let old = knows F declared table r id v at in
       own_goes r.state g (visitors_after F laws declared table r id v at (Turn (Flip c)) g (visitor_at r.state.phases c) r.beside.counts) v
-      (turn_flipped v.turn (entries_in found)) v.visitor v.activities v.graces v.base v.rows v.granted
+      (turn_flipped v.turn (entries_in found)) v.visitor v.graces v.base v.rows v.granted
       F.tag_of r.beside r.beside.counts id old
       (record {
         many = length-set r.state.phases.callers c _;
         rises = turn_is.rises;
         generations = record {
-          turn = here ∙ turn_after;
-          activities = old.generations.activities;
+          turn = ap in_words here ∙ turn_after;
           graces = old.generations.graces;
           base = λ b asked not_idle q l e.
               base_after b asked q l e ∙ ap (λ (z : Caller). generation_of b (is_flipped z.grace q)) turn_after;
@@ -258,7 +263,7 @@ module _ {S L P : Type 0} (F : Layouts S L P) (laws : AreLaws F) (declared : Lis
         proc = refl;
         names = old.names;
         rows_known =
-            rows_kept r.state g [] v (turn_flipped v.turn (entries_in found)) v.visitor v.activities v.graces v.base v.rows v.granted
+            rows_kept r.state g [] v (turn_flipped v.turn (entries_in found)) v.visitor v.graces v.base v.rows v.granted
             refl refl refl refl old.phases.rows;
       })
 

@@ -255,7 +255,7 @@ module _ {S L P : Type 0} (F : Layouts S L P) (laws : AreLaws F) (declared : Lis
           there = rw (length-set s.callers c x) mine.there;
           seat = mine.seat;
           names = mine.names;
-          generations = record { turn = mine.generations.turn; activities = mine.generations.activities; graces = mine.generations.graces; base = mine.generations.base };
+          generations = record { turn = mine.generations.turn; graces = mine.generations.graces; base = mine.generations.base };
           phases = record {
             visitor = get_or-set_same s.callers c x _ mine.there ∙ x_is;
             layout = λ l q i e inside. left.place q i inside ∙ mine.phases.layout l q i e inside;

@@ -32,7 +32,7 @@ use Rattle.k42_joined.specs.Event.{AtPhases}
 use Rattle.k42_joined.specs.Possible.{IsPossible}
 use Rattle.k42_joined.specs.Swapping.{holds_none}
 use Rattle.k42_board.specs.Cells.{Slot}
-use Rattle.k42_board.specs.Generations.{AreGenerations}
+use Rattle.k42_board.specs.Generations.{AreGenerations, in_words}
 use Rattle.k42_board.specs.Gracing.{MayGiveRole, given_view, RowsGiven}
 use Rattle.k42_board.specs.Log.{took}
 use Rattle.k42_board.specs.Phases.{IsOld}
@@ -47,7 +47,7 @@ use Rattle.k42_board.specs.declared.view.View.{View}
 use Rattle.k42_board.specs.declared.view.View.TheVariants.{Crew}
 use Rattle.k42_board.proofs.Apart.{of_role}
 use Rattle.k42_board.proofs.Begun.{processor_stays, begun_goes}
-use Rattle.k42_board.proofs.Holding.{knows, sound, there, turn, procs_few, role}
+use Rattle.k42_board.proofs.Holding.{knows, there, turn, procs_few, role}
 use Rattle.k42_board.proofs.Logged.{logged_moves}
 use Rattle.k42_board.proofs.Moves.{Moves, Finds, seat_allowed_with}
 use Rattle.k42_board.proofs.OnePass.{with_pass}
@@ -91,7 +91,7 @@ module _ {S L P : Type 0} (F : Layouts S L P) (laws : AreLaws F) (declared : Lis
   mine : KnowsPass F.tag_of r.state r.beside id v
   mine = knows F declared table r id v at
 
-  turn_x : x ≡ v.turn
+  turn_x : in_words x ≡ v.turn
   turn_x = turn F declared table r id v at
 
   grace : x.grace ≡ Quiet
@@ -148,7 +148,6 @@ module _ {S L P : Type 0} (F : Layouts S L P) (laws : AreLaws F) (declared : Lis
     effect_is = refl;
     many_procs_same = refl;
     turns = λ d not_c. get_or-set_other s.callers c d (role_given x) _ not_c;
-    activities = λ d not_c. refl;
     graces = λ d not_c. refl;
     base = λ d p k not_c not_idle e. (k, e, refl);
     rises = λ p. le_refl (proc_at s p).generation;
@@ -161,30 +160,23 @@ module _ {S L P : Type 0} (F : Layouts S L P) (laws : AreLaws F) (declared : Lis
         processor_stays table.words role_word 0 p k (λ h. omega (arith, h, lt)) (λ h. omega (arith, h, lt)) (λ h. omega (arith, h, lt))
         (r.shows.generations.procs p k e);
     role = get_or-set_same table.words role_word 0 0 (let wide = r.shows.many_words in omega (arith, wide));
-    activities = record {
-      many = r.shows.generations.activities.many ∙ sym (length-set s.callers c (role_given x));
-      few = r.shows.generations.activities.few;
-    };
     graces = record {
       many = r.shows.generations.graces.many ∙ sym (length-set s.callers c (role_given x));
       few = r.shows.generations.graces.few;
     };
-    begun =
-        begun_goes s (GiveRole c) g r.beside.counts r.beside.counts (sound F declared table r id v at) (there F declared table r id v at) can refl
-        (λ p. omega arith) 0 (omega arith) (λ p k e. (k, e, omega arith)) r.shows.generations.begun;
+    begun = begun_goes s g r.beside.counts r.beside.counts 0 (omega arith) (λ p k e. (k, e, omega arith)) r.shows.generations.begun;
   }
 
   pass_after : KnowsPass F.tag_of (state_after F laws declared table r id v at (Turn (GiveRole c)) g y r.beside.counts) (with_counts r.beside r.beside.counts) id w
   pass_after =
       own_goes r.state g (visitors_after F laws declared table r id v at (Turn (GiveRole c)) g y r.beside.counts) v
-      (role_given v.turn) (record v.visitor { freeing = replicate (length v.visitor.freeing) (0, 0) }) v.activities v.graces v.base (drop v.granted v.rows) 0
+      (role_given v.turn) (record v.visitor { freeing = replicate (length v.visitor.freeing) (0, 0) }) v.graces v.base (drop v.granted v.rows) 0
       F.tag_of r.beside r.beside.counts id mine
       (record {
         many = length-set r.state.phases.callers c y;
         rises = turn_is.rises;
         generations = record {
-          turn = get_or-set_same s.callers c (role_given x) _ (there F declared table r id v at) ∙ ap role_given turn_x;
-          activities = mine.generations.activities;
+          turn = ap in_words (get_or-set_same s.callers c (role_given x) _ (there F declared table r id v at)) ∙ ap role_given turn_x;
           graces = mine.generations.graces;
           base = λ b asked not_idle. absurd (cc);
         };

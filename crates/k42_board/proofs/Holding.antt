@@ -1,7 +1,7 @@
 -- What is so while a pass has a grace under way.
 use Rattle.std.proofs.Common.{◌≡◌, ◌≢◌, ℕ, ◌<◌, ◌≤◌, Bool, true, false, List, [], ◌∷◌, Some, length, sym, refl, ap, subst, ◌∙◌, arith, le_refl}
 use Rattle.std.proofs.lemmas.Bool.{ltb-true, ltb-false, le-ltb}
-use Rattle.std.proofs.lemmas.List.{get_or_past}
+use Rattle.std.proofs.lemmas.List.{get_or_past, length-map}
 use Rattle.std.proofs.lemmas.Option.{slice_get-get_or, same_Some}
 use mathlib.Core.Option.{some}
 use lib.ListN.{get_elem?}
@@ -23,6 +23,7 @@ use Rattle.phase_core.proofs.Ranges.{turns_sound, some_procs}
 use Rattle.phase_core.proofs.Reached.{turn_there}
 use Rattle.k42_stamp.specs.Layouts.{Layouts}
 use Rattle.k42_board.specs.Cells.{Slot}
+use Rattle.k42_board.specs.Generations.{in_words}
 use Rattle.k42_board.specs.Rule.{KnowsPass, Rule}
 use Rattle.k42_board.specs.declared.view.PassView.{PassView}
 use Rattle.k42_board.specs.declared.view.View.{View}
@@ -56,7 +57,7 @@ module _ {S L P : Type 0} (F : Layouts S L P) (declared : List L)
   pub there : v.number < length s.callers
   there = turn_there r.state.phases r.sound.phases v.number knows.there
 
-  pub turn : caller_at s v.number ≡ v.turn
+  pub turn : in_words (caller_at s v.number) ≡ v.turn
   turn = knows.generations.turn
 
   pub procs_few : length s.procs ≤ 8
@@ -66,7 +67,7 @@ module _ {S L P : Type 0} (F : Layouts S L P) (declared : List L)
   procs_some = some_procs r.state.phases r.sound.phases
 
   pub waits_many : length v.turn.waits ≡ length s.procs
-  waits_many = ap (λ (z : Caller). length z.waits) (sym turn) ∙ length-waits s v.number sound there
+  waits_many = ap (λ (z : Caller). length z.waits) (sym turn) ∙ length-map (caller_at s v.number).waits _ ∙ length-waits s v.number sound there
 
   module _ (busy : v.turn.grace ≢ graces.Idle) where
     busy' : (caller_at s v.number).grace ≢ graces.Idle

@@ -1,7 +1,8 @@
 -- Leaving is allowed to a pass in an activity and inside no call.
-use Rattle.std.proofs.Common.{◌≡◌, ◌≢◌, ℕ, ◌+◌, ◌-◌, ◌%◌, ◌^◌, ◌<◌, Bool, true, false, cond, eqb, ltb, List, [], ◌∷◌, Some, None, length, get_or, set, sym, refl, ap, ◌∙◌, subst, ⊎_elim, arith, length-set, get_or-set_same, get_or-set_other}
+use Rattle.std.proofs.Common.{◌≡◌, ◌≢◌, ℕ, ◌+◌, ◌%◌, ◌^◌, ◌<◌, Bool, true, false, cond, eqb, List, [], ◌∷◌, Some, None, length, get_or, set, sym, refl, ap, ◌∙◌, subst, ⊎_elim, arith, length-set, get_or-set_same, get_or-set_other}
 use Rattle.std.specs.List.{slice_get}
-use Rattle.std.proofs.lemmas.Bool.{lt-ltb, eqb-true, eqb-false}
+use Rattle.std.specs.Option.{is_some}
+use Rattle.std.proofs.lemmas.Bool.{eqb-true, eqb-false}
 use Rattle.std.proofs.lemmas.Option.{slice_get-get_or}
 use mathlib.Core.Option.{some}
 use lib.ListN.{get_elem?}
@@ -9,8 +10,7 @@ use Rattle.atomic_table.specs.Table.{State}
 use Rattle.k42_places.specs.Places.{EachPlace}
 use Rattle.k42_places.proofs.Written.{at_set, get_or-set_related}
 use Rattle.k42_places.proofs.EachPlaces.{EachPlace-set_else}
-use Rattle.gen_core.specs.Events.{is_even, exits_of, can_leave, home_of, caller_left, proc_left, exit_counted}
-use Rattle.gen_core.specs.Sound.{FitsFields}
+use Rattle.gen_core.specs.Events.{is_even, exits_of, home_of, caller_left, proc_left, exit_counted}
 use Rattle.gen_core.specs.Plain.{Generations, Caller}
 use Rattle.gen_core.specs.State.{caller_at, fresh_proc}
 use Rattle.gen_core.specs.declared.event.GenEvent.TheVariants.{Leave}
@@ -31,7 +31,7 @@ use Rattle.k42_joined.specs.Event.{AtPhases}
 use Rattle.k42_joined.specs.Possible.{IsPossible}
 use Rattle.k42_board.specs.Cells.{Slot}
 use Rattle.k42_board.specs.Generating.{MayLeave, left_view}
-use Rattle.k42_board.specs.Generations.{IsProcessorShown, AreGenerations}
+use Rattle.k42_board.specs.Generations.{IsProcessorShown, AreGenerations, in_words}
 use Rattle.k42_board.specs.Log.{took}
 use Rattle.k42_board.specs.Rule.{KnowsPass, Rule}
 use Rattle.k42_board.specs.Words.{generation_word, exits_word, role_word, many_words}
@@ -50,15 +50,11 @@ use Rattle.k42_board.proofs.Turning.{IsTurn, turned, visitors_after, state_after
 abbrev exits_at : ℕ → Bool → ℕ
 exits_at p even = exits_word p (cond even 0 1)
 
-exits_shown : (words : List ℕ) (p : ℕ) (k : GenProc) (even : Bool) → IsProcessorShown words p k → get_or words (exits_at p even) 0 ≡ exits_of k even
+exits_shown : (words : List ℕ) (p : ℕ) (k : GenProc) (even : Bool) → IsProcessorShown words p k → get_or words (exits_at p even) 0 ≡ exits_of k even % 2 ^ 64
 exits_shown words p k true shown = shown.even
 exits_shown words p k false shown = shown.odd
 
-exits_few : (p : ℕ) (k : GenProc) (even : Bool) → FitsFields p k → exits_of k even < 2 ^ 32
-exits_few p k true fits = fits.exits_even
-exits_few p k false fits = fits.exits_odd
-
-exit_shown : (words : List ℕ) (p new : ℕ) (k : GenProc) (even : Bool) → length words ≡ many_words → p < 8 → new ≡ exits_of k even + 1 → IsProcessorShown words p k
+exit_shown : (words : List ℕ) (p new : ℕ) (k : GenProc) (even : Bool) → length words ≡ many_words → p < 8 → new ≡ (exits_of k even + 1) % 2 ^ 64 → IsProcessorShown words p k
     → IsProcessorShown (set words (exits_at p even) new) p (exit_counted k even)
 exit_shown words p new k true wide few more shown = record {
   generation = get_or-set_other words (exits_word p 0) (generation_word p) new 0 (λ e. omega arith) ∙ shown.generation;
@@ -142,7 +138,7 @@ module _ {S L P : Type 0} (F : Layouts S L P) (laws : AreLaws F) (declared : Lis
   abbrev k' : GenProc
   k' = exit_counted k even
 
-  turn : x ≡ v.turn
+  turn : in_words x ≡ v.turn
   turn = knows.generations.turn
 
   active : x.active ≡ Some a
@@ -161,19 +157,14 @@ module _ {S L P : Type 0} (F : Layouts S L P) (laws : AreLaws F) (declared : Lis
   procs_are : g.procs ≡ set s.procs x.proc k'
   procs_are = ap (set s.procs x.proc) left_is
 
-  exits_room : exits_of k even < 2 ^ 32
-  exits_room = exits_few x.proc k even (r.sound.phases.in_scene.in_course.no_count_passes_its_field x.proc k at_p)
-
-  found_is : found ≡ exits_of k even
+  found_is : found ≡ exits_of k even % 2 ^ 64
   found_is = exits_shown table.words x.proc k even shown
 
-  more : new ≡ exits_of k even + 1
-  more = let room = exits_room in let is = found_is in omega (arith, room, is)
+  more : new ≡ (exits_of k even + 1) % 2 ^ 64
+  more = omega (arith, found_is)
 
   can : gens.is_possible s (Leave c) ≡ true
-  can =
-      let room : ltb (exits_of k even) (2 ^ 64 - 1) ≡ true = lt-ltb (exits_of k even) (2 ^ 64 - 1) (let less = exits_room in omega (arith, less)) in
-      ap (λ z. can_leave z k) active ∙ room
+  can = ap is_some active
 
   may_leave : IsPossible F declared r.state (AtPhases (Turn (Leave c)))
   may_leave = record {
@@ -204,7 +195,6 @@ module _ {S L P : Type 0} (F : Layouts S L P) (laws : AreLaws F) (declared : Lis
     effect_is = refl;
     many_procs_same = length-set s.procs x.proc _;
     turns = λ d not. get_or-set_other s.callers c d (caller_left x) _ not;
-    activities = λ d not. refl;
     graces = λ d not. refl;
     base = λ d p l not busy e. generations_same p l e;
     rises = rises_by s (Leave c) can;
@@ -222,30 +212,23 @@ module _ {S L P : Type 0} (F : Layouts S L P) (laws : AreLaws F) (declared : Lis
   generations_after = record {
     procs = words_after;
     role = get_or-set_other table.words i role_word new 0 (role_apart x.proc even p_few) ∙ r.shows.generations.role;
-    activities = record {
-      many = r.shows.generations.activities.many ∙ sym (length-set s.callers c (caller_left x));
-      few = r.shows.generations.activities.few;
-    };
     graces = record {
       many = r.shows.generations.graces.many ∙ sym (length-set s.callers c (caller_left x));
       few = r.shows.generations.graces.few;
     };
-    begun =
-        begun_goes s (Leave c) g r.beside.counts r.beside.counts sound there can refl (λ p. omega arith)
-        0 (omega arith) (flips_same s g refl graces generations_same) r.shows.generations.begun;
+    begun = begun_goes s g r.beside.counts r.beside.counts 0 (omega arith) (flips_same s g refl graces generations_same) r.shows.generations.begun;
   }
 
   pass_after : KnowsPass F.tag_of (state_after F laws declared table r id v at (Turn (Leave c)) g y r.beside.counts) (with_counts r.beside r.beside.counts) id (left_view v)
   pass_after =
       own_goes r.state g (visitors_after F laws declared table r id v at (Turn (Leave c)) g y r.beside.counts) v
-      (record v.turn { active = None }) (record v.visitor { read = [] }) v.activities v.graces v.base v.rows v.granted
+      (record v.turn { active = None }) (record v.visitor { read = [] }) v.graces v.base v.rows v.granted
       F.tag_of r.beside r.beside.counts id knows
       (record {
         many = length-set r.state.phases.callers c _;
         rises = turn_is.rises;
         generations = record {
-          turn = get_or-set_same s.callers c (caller_left x) _ there ∙ ap caller_left turn;
-          activities = knows.generations.activities;
+          turn = ap in_words (get_or-set_same s.callers c (caller_left x) _ there) ∙ ap caller_left turn;
           graces = knows.generations.graces;
           base = λ b e busy p l here.
               let old = generations_same p l here in
@@ -257,7 +240,7 @@ module _ {S L P : Type 0} (F : Layouts S L P) (laws : AreLaws F) (declared : Lis
         proc = refl;
         names = knows.names;
         rows_known =
-            rows_kept r.state g [] v (record v.turn { active = None }) (record v.visitor { read = [] }) v.activities v.graces v.base v.rows v.granted
+            rows_kept r.state g [] v (record v.turn { active = None }) (record v.visitor { read = [] }) v.graces v.base v.rows v.granted
             refl refl refl refl knows.phases.rows;
       })
 

@@ -37,7 +37,7 @@ known_relogged tag_of s beside id v log swept k = record {
   there = k.there;
   seat = k.seat;
   names = k.names;
-  generations = record { turn = k.generations.turn; activities = k.generations.activities; graces = k.generations.graces; base = k.generations.base };
+  generations = record { turn = k.generations.turn; graces = k.generations.graces; base = k.generations.base };
   phases = record {
     visitor = k.phases.visitor;
     layout = k.phases.layout;

@@ -1,12 +1,16 @@
 -- Reading the exits of a processor is allowed to a pass whose grace is there.
-use Rattle.std.proofs.Common.{◌≡◌, ◌≢◌, ℕ, zero, suc, ◌+◌, ◌%◌, ◌<◌, ◌≤◌, Bool, true, false, not, cond, eqb, List, [], ◌∷◌, Option, Some, length, get_or, set, sym, refl, ap, ◌∙◌, subst, ⊎_elim, arith, le_refl, length-set, get_or-set_same, get_or-set_other}
+use Rattle.std.proofs.Common.{◌≡◌, ◌≢◌, ℕ, zero, suc, ◌+◌, ◌%◌, ◌^◌, ◌<◌, ◌≤◌, Bool, true, false, not, cond, eqb, List, [], ◌∷◌, Option, Some, None, length, get_or, set, sym, refl, ap, ◌∙◌, subst, ⊎_elim, arith, le_refl, length-set, get_or-set_same, get_or-set_other}
 use Rattle.std.specs.List.{slice_get, slice_index}
+use Rattle.std.specs.Option.{option_map}
+use Rattle.std.proofs.Math.ListN.{get_or-map}
 use Rattle.std.proofs.lemmas.Bool.{eqb-true, eqb-false}
+use Rattle.std.proofs.lemmas.Bool.Decides.{Decides-eqb, Decides-like, same_from_decides}
 use Rattle.std.proofs.lemmas.List.{set-get_or}
 use Rattle.std.proofs.lemmas.Option.{slice_get_within, slice_get-get_or}
 use mathlib.Core.Option.{some}
 use lib.ListN.{get_elem?}
 use Rattle.atomic_table.specs.Table.{State}
+use Rattle.k42_limits.specs.declared.TheConstants.{CALLERS}
 use Rattle.k42_places.specs.Places.{EachPlace}
 use Rattle.gen_core.specs.Events as gens
 use Rattle.gen_core.specs.Events.{is_even, exits_of, other_exits, turn_of, looked_ahead, caller_passed, is_drained, place_of}
@@ -19,9 +23,10 @@ use Rattle.gen_core.specs.declared.state.GenProc.{GenProc}
 use Rattle.gen_core.specs.declared.state.GraceAt.{GraceAt}
 use Rattle.gen_core.specs.declared.state.GraceAt.TheVariants.{Flipping, Looking}
 use Rattle.gen_core.specs.declared.state.GraceAt.TheVariants as graces
-use Rattle.gen_core.specs.Consequences.{entries_by}
+use Rattle.gen_core.specs.Consequences.{WaitsFor, AreToldModulo}
+use Rattle.gen_core.proofs.Modulo.{left_modulo, waits_near, waits_are_told_modulo}
 use Rattle.gen_core.proofs.Ranges.{flipping_there, looking_there}
-use Rattle.gen_core.proofs.Stages.{is_even-next, flipped-after_look, exits_fit}
+use Rattle.gen_core.proofs.Stages.{is_even-next, flipped-after_look}
 use Rattle.phase_core.specs.Effects.{drained_at}
 use Rattle.phase_core.specs.Event.{Turn}
 use Rattle.phase_core.specs.Plain.{Visitor}
@@ -33,8 +38,8 @@ use Rattle.k42_joined.specs.Effects.{effect}
 use Rattle.k42_joined.specs.Event.{AtPhases}
 use Rattle.k42_joined.specs.Possible.{IsPossible}
 use Rattle.k42_board.specs.Cells.{Slot}
-use Rattle.k42_board.specs.Generations.{IsProcessorShown, AreGenerations, will_flip, grace_of}
-use Rattle.k42_board.specs.Gracing.{LooksAhead, LooksBack, MayLook, look_event, looked_at, looked_view, passed_view, ExitsFound}
+use Rattle.k42_board.specs.Generations.{IsProcessorShown, AreGenerations, will_flip, grace_of, in_words}
+use Rattle.k42_board.specs.Gracing.{LooksAhead, LooksBack, MayLook, look_event, looked_at, looked_view, passed_view, exits_in, short_of, ExitsFound}
 use Rattle.k42_board.specs.Log.{took}
 use Rattle.k42_board.specs.Rule.{Rule}
 use Rattle.k42_board.specs.Words.{exits_word}
@@ -44,7 +49,7 @@ use Rattle.k42_board.specs.declared.view.View.{View}
 use Rattle.k42_board.specs.declared.view.View.TheVariants.{Crew}
 use Rattle.k42_board.proofs.Apart.{IsOfGenerations, of_processor}
 use Rattle.k42_board.proofs.Begun.{begun_goes, flips_of}
-use Rattle.k42_board.proofs.Holding.{knows, sound, there, turn, procs_few, waits_many, in_step, base_is, role, stage, holder, busy_test, ltb_same}
+use Rattle.k42_board.proofs.Holding.{knows, sound, there, turn, procs_few, waits_many, in_step, base_is, role, busy_test, ltb_same}
 use Rattle.k42_board.proofs.Logged.{logged_moves_at}
 use Rattle.k42_board.proofs.Moves.{Moves, Finds}
 use Rattle.k42_board.proofs.OnePass.{with_pass}
@@ -59,14 +64,35 @@ odd_is generation parity is odd = by_bound parity is (λ none. odd (sym is ∙ n
 
 -- the exits of the generations of this parity
 exits_shown : (words : List ℕ) (p parity generation : ℕ) (k : GenProc) → parity ≡ generation % 2 → IsProcessorShown words p k
-    → get_or words (exits_word p parity) 0 ≡ exits_of k (is_even generation)
+    → get_or words (exits_word p parity) 0 ≡ exits_of k (is_even generation) % 2 ^ 64
 exits_shown words p parity generation k is shown = by_test (eqb (generation % 2) 0) refl where
-  by_test : (b : Bool) → eqb (generation % 2) 0 ≡ b → get_or words (exits_word p parity) 0 ≡ exits_of k b
+  by_test : (b : Bool) → eqb (generation % 2) 0 ≡ b → get_or words (exits_word p parity) 0 ≡ exits_of k b % 2 ^ 64
   by_test true e =
       let none : parity ≡ 0 = is ∙ eqb-true (generation % 2) 0 e in ap (λ (b : ℕ). get_or words (exits_word p b) 0) none ∙ shown.even
   by_test false e =
       let one : parity ≡ 1 = odd_is generation parity is (eqb-false (generation % 2) 0 e) in
       ap (λ (b : ℕ). get_or words (exits_word p b) 0) one ∙ shown.odd
+
+-- a word tells the lower half of exits
+half_told : (found exits : ℕ) → found ≡ exits % 2 ^ 64 → exits_in found ≡ exits % 2 ^ 32
+half_told found exits is = omega (arith, is)
+
+-- the lower halves of two counts tell whether they are the same
+same_told : (m n : ℕ) → AreToldModulo m n → eqb m n ≡ eqb (m % 2 ^ 32) (n % 2 ^ 32)
+same_told m n told =
+    same_from_decides (eqb m n) (eqb (m % 2 ^ 32) (n % 2 ^ 32)) (Decides-eqb m n)
+    (Decides-like (eqb (m % 2 ^ 32) (n % 2 ^ 32)) told.0 told.1 (Decides-eqb (m % 2 ^ 32) (n % 2 ^ 32)))
+
+-- and how far they are apart
+short_told : (m n told found : ℕ) → (m ≤ n) × (n ≤ m + CALLERS) → told ≡ n % 2 ^ 32 → exits_in found ≡ m % 2 ^ 32
+    → short_of told found ≤ CALLERS
+short_told m n told found near waits exits =
+    let apart = left_modulo m n near.0 (omega (arith, near.1)) in rw (waits, exits) (omega (arith, apart, near.1))
+
+-- no exits to come are none, whatever their lower half is
+none_told : (coming : Option ℕ) → option_map (λ exits. exits % 2 ^ 32) coming ≡ None → coming ≡ None
+none_told None e = refl
+none_told (Some exits) e = absurd (cc)
 
 exits_apart_of : (p parity : ℕ) → p < 8 → parity < 2 → IsOfGenerations (exits_word p parity)
 exits_apart_of p parity few two = subst (λ i. IsOfGenerations i) (omega arith) (of_processor p (1 + parity) few (omega (arith, two)))
@@ -92,12 +118,8 @@ module _ {S L P : Type 0} (F : Layouts S L P) (laws : AreLaws F) (declared : Lis
     pub possible : IsPossible F declared r.state (AtPhases (Turn e))
     pub effect_is : state_after F laws declared table r id v at (Turn e) (put_caller g0 c x') y r.beside.counts ≡ effect r.state (AtPhases (Turn e))
     pub busy : v.turn.grace ≢ graces.Idle
-    pub caller : gens.caller_of e ≡ c
-    pub can : gens.is_possible g0 e ≡ true
-    pub is : put_caller g0 c x' ≡ gens.effect g0 e
-    pub entries : (p : ℕ) → entries_by g0 e p ≡ 0
     pub flips : (p : ℕ) → p < length g0.procs → is_flipped x'.grace p ≡ is_flipped x.grace p
-    pub turn_is : x' ≡ turn'
+    pub turn_is : in_words x' ≡ turn'
     pub proc : turn'.proc ≡ v.turn.proc
     pub visitor_is : y ≡ record v.visitor { swap = swap' }
     pub swap : IsSameSwap v.visitor.swap swap'
@@ -115,7 +137,6 @@ module _ {S L P : Type 0} (F : Layouts S L P) (laws : AreLaws F) (declared : Lis
       effect_is = on.effect_is;
       many_procs_same = refl;
       turns = λ d not. get_or-set_other g0.callers c d x' _ not;
-      activities = λ d not. refl;
       graces = λ d not. refl;
       base = λ d p k not busy at_p. (k, at_p, refl);
       rises = λ p. le_refl (proc_at g0 p).generation;
@@ -136,17 +157,11 @@ module _ {S L P : Type 0} (F : Layouts S L P) (laws : AreLaws F) (declared : Lis
         rw (set-get_or table.words i 0) (record {
           procs = r.shows.generations.procs;
           role = r.shows.generations.role;
-          activities = record {
-            many = r.shows.generations.activities.many ∙ sym (length-set g0.callers c x');
-            few = r.shows.generations.activities.few;
-          };
           graces = record {
             many = r.shows.generations.graces.many ∙ sym (length-set g0.callers c x');
             few = r.shows.generations.graces.few;
           };
-          begun =
-              begun_goes g0 e g r.beside.counts r.beside.counts (sound F declared table r id v at) (rw on.caller (there F declared table r id v at)) on.can on.is
-              (λ p. let none = on.entries p in omega (arith, none)) 0 (omega arith) flips_stay r.shows.generations.begun;
+          begun = begun_goes g0 g r.beside.counts r.beside.counts 0 (omega arith) flips_stay r.shows.generations.begun;
         })
 
     pub goes_on : (i : ℕ) → IsOfGenerations i
@@ -159,14 +174,13 @@ module _ {S L P : Type 0} (F : Layouts S L P) (laws : AreLaws F) (declared : Lis
         turned F laws declared table r id v at (Turn e) g y r.beside.counts turn_goes i found
         (record v { turn = turn'; visitor = record v.visitor { swap = swap' } }) apart (generations_go i)
         (own_goes r.state g (visitors_after F laws declared table r id v at (Turn e) g y r.beside.counts) v
-        turn' (record v.visitor { swap = swap' }) v.activities v.graces v.base v.rows v.granted
+        turn' (record v.visitor { swap = swap' }) v.graces v.base v.rows v.granted
         F.tag_of r.beside r.beside.counts id k
         (record {
           many = length-set r.state.phases.callers c y;
           rises = turn_goes.rises;
           generations = record {
-            turn = here ∙ on.turn_is;
-            activities = k.generations.activities;
+            turn = ap in_words here ∙ on.turn_is;
             graces = k.generations.graces;
             base = λ b asked not_idle p l at_p.
                 let same : is_flipped turn'.grace p ≡ is_flipped v.turn.grace p =
@@ -180,7 +194,7 @@ module _ {S L P : Type 0} (F : Layouts S L P) (laws : AreLaws F) (declared : Lis
           proc = on.proc;
           names = k.names;
           rows_known =
-              rows_kept r.state g [] v turn' (record v.visitor { swap = swap' }) v.activities v.graces v.base v.rows v.granted
+              rows_kept r.state g [] v turn' (record v.visitor { swap = swap' }) v.graces v.base v.rows v.granted
               refl refl refl refl k.phases.rows;
         }))
 
@@ -215,22 +229,26 @@ module _ {S L P : Type 0} (F : Layouts S L P) (laws : AreLaws F) (declared : Lis
         let base : ℕ = (sound F declared table r id v at).course.base in
         step ∙ ap (λ (grace : GraceAt). generation_of base (is_flipped grace p)) looks.grace ∙ ap (generation_of base) (ltb_same p) ∙ sym from
 
-    found_ahead : found ≡ other_exits (turn_of g0 c)
+    found_ahead : exits_in found ≡ other_exits (turn_of g0 c) % 2 ^ 32
     found_ahead =
         let next : parity ≡ (looks.base + 1) % 2 = looks.next in
         rw at_grace
-        (exits_shown table.words p parity (looks.base + 1) (proc_at g0 p) next (r.shows.generations.procs p (proc_at g0 p) at_p)
-        ∙ ap (exits_of (proc_at g0 p)) (is_even-next looks.base ∙ ap (λ (n : ℕ). not (is_even n)) (sym base_here)))
+        (half_told found (exits_of (proc_at g0 p) (is_even (looks.base + 1)))
+        (exits_shown table.words p parity (looks.base + 1) (proc_at g0 p) next (r.shows.generations.procs p (proc_at g0 p) at_p))
+        ∙ ap (λ (b : Bool). exits_of (proc_at g0 p) b % 2 ^ 32) (is_even-next looks.base ∙ ap (λ (n : ℕ). not (is_even n)) (sym base_here)))
+
+    unknown : x.coming ≡ None
+    unknown = none_told x.coming (ap (λ (z : Caller). z.coming) (turn F declared table r id v at) ∙ looks.unknown)
 
     can_ahead : gens.is_possible g0 (LookAhead c) ≡ true
-    can_ahead = rw (at_grace, ap (λ (z : Caller). z.coming) (turn F declared table r id v at) ∙ looks.unknown) refl
+    can_ahead = rw (at_grace, unknown) refl
 
     looks_ahead : (after : Rule F declared (with_pass table (set table.words i found) table.homes id (looked_view found v)))
         × (after.state ≡ effect r.state (AtPhases (Turn (look_event c v.turn.grace)))) × IsPossible F declared r.state (AtPhases (Turn (look_event c v.turn.grace)))
     looks_ahead =
         subst (λ (grace : GraceAt). (after : Rule F declared (with_pass table (set table.words i found) table.homes id (looked_at grace found v)))
         × (after.state ≡ effect r.state (AtPhases (Turn (look_event c grace)))) × IsPossible F declared r.state (AtPhases (Turn (look_event c grace)))) (sym looks.grace)
-        (goes_on (LookAhead c) (looked_ahead x (turn_of g0 c)) (visitor_at r.state.phases c) (record v.turn { coming = Some found }) v.visitor.swap
+        (goes_on (LookAhead c) (looked_ahead x (turn_of g0 c)) (visitor_at r.state.phases c) (record v.turn { coming = Some (exits_in found) }) v.visitor.swap
         (record {
           possible = record {
             caller = (knows F declared table r id v at).there;
@@ -238,12 +256,10 @@ module _ {S L P : Type 0} (F : Layouts S L P) (laws : AreLaws F) (declared : Lis
           };
           effect_is = refl;
           busy = busy;
-          caller = refl;
-          can = can_ahead;
-          is = refl;
-          entries = λ q. refl;
           flips = λ q lt. refl;
-          turn_is = ap (λ (n : ℕ). record x { coming = Some n }) (sym found_ahead) ∙ ap (λ (z : Caller). record z { coming = Some found }) (turn F declared table r id v at);
+          turn_is =
+              ap (λ (n : ℕ). record (in_words x) { coming = Some n }) (sym found_ahead)
+              ∙ ap (λ (z : Caller). record z { coming = Some (exits_in found) }) (turn F declared table r id v at);
           proc = refl;
           visitor_is = (knows F declared table r id v at).phases.visitor;
           swap = same_swap v.visitor.swap;
@@ -251,14 +267,7 @@ module _ {S L P : Type 0} (F : Layouts S L P) (laws : AreLaws F) (declared : Lis
         i (exits_apart_of p parity p_few (let next = looks.next in omega (arith, next))))
 
     found_ahead_is : ExitsFound v found
-    found_ahead_is = record {
-      few = λ looking. absurd (let grace = looks.grace in cc);
-      small =
-          let next : parity ≡ (looks.base + 1) % 2 = looks.next in
-          let is = exits_shown table.words p parity (looks.base + 1) (proc_at g0 p) next (r.shows.generations.procs p (proc_at g0 p) at_p) in
-          let fits = exits_fit p (proc_at g0 p) (is_even (looks.base + 1)) ((sound F declared table r id v at).in_course.no_count_passes_its_field p (proc_at g0 p) at_p) in
-          omega (arith, is, fits);
-    }
+    found_ahead_is = record { few = λ looking. absurd (let grace = looks.grace in cc) }
 
   -- and after it
 
@@ -292,19 +301,32 @@ module _ {S L P : Type 0} (F : Layouts S L P) (laws : AreLaws F) (declared : Lis
         let base : ℕ = (sound F declared table r id v at).course.base in
         step ∙ ap (λ (grace : GraceAt). generation_of base (is_flipped grace p)) looks.grace ∙ ap (λ (b : ℕ). b + 1) (sym from)
 
-    former : found' ≡ exits_of (proc_at g0 p) (is_even looks.base)
-    former = exits_shown table.words p parity looks.base (proc_at g0 p) looks.former (r.shows.generations.procs p (proc_at g0 p) at_p')
-
-    found_back : found' ≡ other_exits (turn_of g0 c)
+    found_back : exits_in found' ≡ other_exits (proc_at g0 p) % 2 ^ 32
     found_back =
-        rw at_grace'
-        (former ∙ ap (exits_of (proc_at g0 p)) (sym (not_not (is_even looks.base)) ∙ ap not (sym (is_even-next looks.base)) ∙ ap (λ (n : ℕ). not (is_even n)) (sym base_next)))
+        half_told found' (exits_of (proc_at g0 p) (is_even looks.base))
+        (exits_shown table.words p parity looks.base (proc_at g0 p) looks.former (r.shows.generations.procs p (proc_at g0 p) at_p'))
+        ∙ ap (λ (b : Bool). exits_of (proc_at g0 p) b % 2 ^ 32)
+        (sym (not_not (is_even looks.base)) ∙ ap not (sym (is_even-next looks.base)) ∙ ap (λ (n : ℕ). not (is_even n)) (sym base_next))
 
-    drained_is : is_drained x (turn_of g0 c) ≡ eqb found' (slice_index v.turn.waits p)
+    -- the pass is the holder, which waits for the processor
+    waits_for : WaitsFor g0 c p
+    waits_for = (role F declared table r id v at busy', rw at_grace' refl, rw at_grace' (ltb_same p))
+
+    abbrev waits : ℕ
+    waits = slice_index x.waits p
+
+    -- of what it waits for it has the lower half
+    waits_told : slice_index v.turn.waits p ≡ waits % 2 ^ 32
+    waits_told =
+        ap (λ (z : Caller). slice_index z.waits p) (sym (turn F declared table r id v at))
+        ∙ get_or-map (λ (entries : ℕ). entries % 2 ^ 32) x.waits p 0
+
+    drained_is : is_drained x (turn_of g0 c) ≡ eqb (exits_in found') (slice_index v.turn.waits p)
     drained_is =
-        ap (λ (n : ℕ). eqb n (slice_index x.waits (place_of x.grace))) (sym found_back)
-        ∙ ap (λ (z : Caller). eqb found' (slice_index z.waits (place_of z.grace))) (turn F declared table r id v at)
-        ∙ ap (λ (grace : GraceAt). eqb found' (slice_index v.turn.waits (place_of grace))) looks.grace
+        ap (λ (grace : GraceAt). eqb (other_exits (proc_at g0 (place_of grace))) (slice_index x.waits (place_of grace))) at_grace'
+        ∙ same_told (other_exits (proc_at g0 p)) waits (waits_are_told_modulo g0 c p (sound F declared table r id v at) p_there' waits_for)
+        ∙ ap (λ (n : ℕ). eqb n (waits % 2 ^ 32)) (sym found_back)
+        ∙ ap (eqb (exits_in found')) (sym waits_told)
 
     can_look : gens.is_possible g0 (Look c) ≡ true
     can_look = rw at_grace' refl
@@ -341,22 +363,19 @@ module _ {S L P : Type 0} (F : Layouts S L P) (laws : AreLaws F) (declared : Lis
         let x' : Caller = caller_passed x (length g0.procs) in
         let g' : Generations = put_caller g0 c x' in
         let is : g' ≡ gens.effect g0 (Look c) = rw drained refl in
-        let same : x' ≡ caller_passed v.turn n = ap (λ (z : Caller). caller_passed z (length g0.procs)) (turn F declared table r id v at) ∙ ap (caller_passed v.turn) many in
+        let same : in_words x' ≡ caller_passed v.turn n =
+        ap (λ (z : Caller). caller_passed z (length g0.procs)) (turn F declared table r id v at) ∙ ap (caller_passed v.turn) many in
         goes_on (Look c) x' (y_of g') (caller_passed v.turn n) (drained_at (caller_passed v.turn n).grace v.visitor.swap)
         (record {
           possible = possible_look;
           effect_is = looked_is g' is;
           busy = busy';
-          caller = refl;
-          can = can_look;
-          is = is;
-          entries = λ q. refl;
           flips = λ q lt. rw at_grace' (flipped-after_look p (length g0.procs) p_there' q lt);
           turn_is = same;
           proc = refl;
           visitor_is =
-              ap (λ (z : Caller). record (visitor_at r.state.phases c) { swap = drained_at z.grace (visitor_at r.state.phases c).swap })
-              (get_or-set_same g0.callers c x' _ (there F declared table r id v at) ∙ same)
+              ap (λ (grace : GraceAt). record (visitor_at r.state.phases c) { swap = drained_at grace (visitor_at r.state.phases c).swap })
+              (ap (λ (z : Caller). z.grace) (get_or-set_same g0.callers c x' _ (there F declared table r id v at)) ∙ ap (λ (z : Caller). z.grace) same)
               ∙ ap (λ (z : Visitor). record z { swap = drained_at (caller_passed v.turn n).grace z.swap }) (knows F declared table r id v at).phases.visitor;
           swap = drained_swap (caller_passed v.turn n).grace v.visitor.swap;
         })
@@ -371,10 +390,6 @@ module _ {S L P : Type 0} (F : Layouts S L P) (laws : AreLaws F) (declared : Lis
           possible = possible_look;
           effect_is = looked_is (put_caller g0 c x) is;
           busy = busy';
-          caller = refl;
-          can = can_look;
-          is = is;
-          entries = λ q. refl;
           flips = λ q lt. refl;
           turn_is = turn F declared table r id v at;
           proc = refl;
@@ -391,27 +406,18 @@ module _ {S L P : Type 0} (F : Layouts S L P) (laws : AreLaws F) (declared : Lis
     looks_back =
         subst (λ (grace : GraceAt). (after : Rule F declared (with_pass table (set table.words i' found') table.homes id (looked_at grace found' v)))
         × (after.state ≡ effect r.state (AtPhases (Turn (look_event c grace)))) × IsPossible F declared r.state (AtPhases (Turn (look_event c grace)))) (sym looks.grace)
-        (by_test (eqb found' (slice_index v.turn.waits p)) drained_is)
+        (by_test (eqb (exits_in found') (slice_index v.turn.waits p)) drained_is)
       where
         by_test : (b : Bool) → is_drained x (turn_of g0 c) ≡ b → Goal (cond b (passed_view v) v)
         by_test true e = passes e
         by_test false e = stays e
 
-    -- no more have left than had entered
+    -- no more have not left than there are callers
     found_back_is : ExitsFound v found'
     found_back_is = record {
       few = λ looking.
-          let whole = sound F declared table r id v at in
-          let at_stage : whole.course.stage ≡ Looking p = stage F declared table r id v at busy' ∙ looks.grace in
-          let waits : slice_index whole.course.waits p ≡ slice_index v.turn.waits p =
-          ap (λ (ws : List ℕ). slice_index ws p) (sym (holder F declared table r id v at busy').waits ∙ ap (λ (z : Caller). z.waits) (turn F declared table r id v at)) in
-          let from : looks.base ≡ whole.course.base = base_is F declared table r id v at busy' looks.base looks.asked (busy_test v.turn.grace busy') in
-          let counted = (whole.in_course.counted_generations p (proc_at g0 p) at_p').former (rw at_stage refl) (rw at_stage (ltb_same p)) in
-          let own : found' ≡ exits_of (proc_at g0 p) (is_even whole.course.base) = former ∙ ap (λ (b : ℕ). exits_of (proc_at g0 p) (is_even b)) from in
-          rw looks.grace (omega (arith, counted, own, waits));
-      small =
-          let fits = exits_fit p (proc_at g0 p) (is_even looks.base) ((sound F declared table r id v at).in_course.no_count_passes_its_field p (proc_at g0 p) at_p') in
-          let is = former in omega (arith, fits, is);
+          let near = waits_near g0 c p (sound F declared table r id v at) p_there' waits_for in
+          rw looks.grace (short_told (other_exits (proc_at g0 p)) waits (slice_index v.turn.waits p) found' near waits_told found_back);
     }
 
   pub looks_on : (p parity : ℕ) → MayLook p parity v

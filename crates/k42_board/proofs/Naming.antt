@@ -70,7 +70,6 @@ module _ {L P : Type 0} (tag_of : L → ℕ) (s : Joined L) (beside : Beside P) 
     names = named;
     generations = record {
       turn = k.generations.turn;
-      activities = k.generations.activities;
       graces = k.generations.graces;
       base = k.generations.base;
     };

@@ -53,7 +53,7 @@ abbrev asked : PassView ℕ
 asked = record (new_pass 3 1 0 0) { turn = flipping; base = Some 9 }
 
 -- generation 10, with the exits to come as its entries
-word : flip_word asked ≡ 10 * 2 ^ 32 + 6
+word : flip_word asked ≡ 10 + 2 ^ 32 * 6
 word = refl
 
 -- it waits for the entries that it found there, and goes on with the third processor

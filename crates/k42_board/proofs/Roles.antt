@@ -9,8 +9,8 @@ use lib.ListN.{get_elem?}
 use prog.Atomic.{either}
 use Rattle.atomic_table.specs.Table.{State, Step, Allows}
 use Rattle.std.proofs.Math.Seq.{take-length}
-use Rattle.std.proofs.lemmas.List.{get_or_past}
-use Rattle.k42_limits.specs.declared.TheConstants.{LAST_INCARNATION}
+use Rattle.std.proofs.lemmas.List.{get_or_past, length-map}
+use Rattle.k42_limits.specs.declared.TheConstants.{LAST_INCARNATION, PASS_GRACES}
 use Rattle.k42_places.proofs.EachPlaces.{EachPlace-set}
 use Rattle.gen_core.specs.Events as gens
 use Rattle.gen_core.specs.Events.{is_free, is_idle, role_taken}
@@ -41,7 +41,7 @@ use Rattle.k42_joined.specs.Effects.{effect}
 use Rattle.k42_joined.specs.Event.{AtPhases}
 use Rattle.k42_joined.specs.Possible.{IsPossible}
 use Rattle.k42_board.specs.Cells.{Slot}
-use Rattle.k42_board.specs.Generations.{Counts, MOST, AreGenerations, grace_of}
+use Rattle.k42_board.specs.Generations.{Counts, AreGenerations, grace_of, in_words}
 use Rattle.k42_board.specs.Gracing.{MayTakeRole, role_view, RoleFound}
 use Rattle.k42_board.specs.Log.{took, step_at}
 use Rattle.k42_board.specs.Noting.{after_rows, is_of, due_note, notes_due, pairs_from}
@@ -128,7 +128,7 @@ module _ {S L P : Type 0} (F : Layouts S L P) (laws : AreLaws F) (declared : Lis
   there : c < length s.callers
   there = turn_there r.state.phases r.sound.phases c knows.there
 
-  turn : x ≡ v.turn
+  turn : in_words x ≡ v.turn
   turn = knows.generations.turn
 
   free : is_free x ≡ true
@@ -147,7 +147,7 @@ module _ {S L P : Type 0} (F : Layouts S L P) (laws : AreLaws F) (declared : Lis
   procs_few : length s.procs ≤ 8
   procs_few = few_procs s c sound there
 
-  begun : sum r.beside.counts.graces ≤ 16 * 2 ^ 20
+  begun : sum r.beside.counts.graces ≤ 16 * 2 ^ 27
   begun = few_begun (length s.callers) r.beside.counts.graces few_callers r.shows.generations.graces
 
   can : gens.is_possible s (TakeRole c) ≡ true
@@ -297,7 +297,6 @@ module _ {S L P : Type 0} (F : Layouts S L P) (laws : AreLaws F) (declared : Lis
       effect_is = ap (λ (role : Option ℕ). record r.state { phases = taken_with r.state.phases c notes role }) (sym nobody);
       many_procs_same = refl;
       turns = λ d not. get_or-set_other s.callers c d (role_taken x) _ not;
-      activities = λ d not. refl;
       graces = λ d not. get_or-set_other r.beside.counts.graces c d (v.graces + 1) 0 not;
       base = λ d p k not busy here. (k, here, refl);
       rises = λ p. le_refl (proc_at s p).generation;
@@ -310,17 +309,12 @@ module _ {S L P : Type 0} (F : Layouts S L P) (laws : AreLaws F) (declared : Lis
           processor_stays table.words role_word (c + 1) p k (λ h. omega (arith, h, lt)) (λ h. omega (arith, h, lt)) (λ h. omega (arith, h, lt))
           (r.shows.generations.procs p k e);
       role = get_or-set_same table.words role_word (c + 1) 0 (let wide = r.shows.many_words in omega (arith, wide));
-      activities = record {
-        many = r.shows.generations.activities.many ∙ sym (length-set s.callers c (role_taken x));
-        few = r.shows.generations.activities.few;
-      };
       graces = record {
         many = length-set r.beside.counts.graces c (v.graces + 1) ∙ r.shows.generations.graces.many ∙ sym (length-set s.callers c (role_taken x));
-        few = EachPlace-set (λ d n. n ≤ MOST) r.beside.counts.graces c (v.graces + 1) r.shows.generations.graces.few (let less = may.few in omega (arith, less));
+        few = EachPlace-set (λ d n. n ≤ PASS_GRACES) r.beside.counts.graces c (v.graces + 1) r.shows.generations.graces.few (let less = may.few in omega (arith, less));
       };
       begun =
-          begun_goes s (TakeRole c) g r.beside.counts counts sound there can (ap (gens.taken s c) (sym nobody)) (λ p. omega arith)
-          1 (let one = more in omega (arith, one))
+          begun_goes s g r.beside.counts counts 1 (let one = more in omega (arith, one))
           (λ p k e. (k, e, let most = will_flip_once g.role (grace_of g g.role) p in omega (arith, most)))
           r.shows.generations.begun;
     }
@@ -328,14 +322,13 @@ module _ {S L P : Type 0} (F : Layouts S L P) (laws : AreLaws F) (declared : Lis
     pass_after : KnowsPass F.tag_of (state_after F laws declared table r id v at (TakeRoleWith c notes) g y counts) (with_counts r.beside counts) id w
     pass_after =
         own_goes r.state g (visitors_after F laws declared table r id v at (TakeRoleWith c notes) g y counts) (relogged v log)
-        (role_taken v.turn) (role_taken_with v.visitor (notes_due v)) v.activities (v.graces + 1) None v.rows (length v.rows)
+        (role_taken v.turn) (role_taken_with v.visitor (notes_due v)) (v.graces + 1) None v.rows (length v.rows)
         F.tag_of r.beside counts id (known_relogged F.tag_of r.state r.beside id v log (none_swept is_free_role) knows)
         (record {
           many = length-set r.state.phases.callers c y;
           rises = turn_is.rises;
           generations = record {
-            turn = get_or-set_same s.callers c (role_taken x) _ there ∙ ap role_taken turn;
-            activities = knows.generations.activities;
+            turn = ap in_words (get_or-set_same s.callers c (role_taken x) _ there) ∙ ap role_taken turn;
             graces = get_or-set_same r.beside.counts.graces c (v.graces + 1) 0 c_begun;
             base = λ b e. absurd (cc);
           };
@@ -398,7 +391,7 @@ module _ {S L P : Type 0} (F : Layouts S L P) (laws : AreLaws F) (declared : Lis
     granted = granted_row;
   } where
     waits_many : length v.turn.waits ≡ length s.procs
-    waits_many = ap (λ (z : Caller). length z.waits) (sym turn) ∙ length-waits s c sound there
+    waits_many = ap (λ (z : Caller). length z.waits) (sym turn) ∙ length-map x.waits _ ∙ length-waits s c sound there
 
     by_role : (role : Option ℕ) → s.role ≡ role → found ≡ c + 1 → s.role ≡ Some c
     by_role None e is = absurd (let none : found ≡ 0 = found_is ∙ ap holder_value e in omega (arith, none, is))

@@ -33,7 +33,7 @@ use Rattle.k42_joined.specs.State.{many_procs, is_handed}
 use Rattle.k42_joined.specs.Swapping.{may_turn_over}
 use Rattle.k42_joined.proofs.Kept.{joined_keeps}
 use Rattle.k42_board.specs.Cells.{Slot}
-use Rattle.k42_board.specs.Generations.{Counts, AreGenerations, KnowsGenerations}
+use Rattle.k42_board.specs.Generations.{Counts, AreGenerations, KnowsGenerations, in_words}
 use Rattle.k42_board.specs.Parts.{IsPart}
 use Rattle.k42_board.specs.Phases.{KnowsSwap, KnowsRows}
 use Rattle.k42_board.specs.Trace.{KnowsTrace}
@@ -55,11 +55,10 @@ with_counts beside counts = record beside { counts = counts }
 
 -- what a step of generations makes of a pass
 abbrev pub turned_pass :
-    {P : Type 0} → PassView P → Caller → Visitor → ℕ → ℕ → Option ℕ → List Row → ℕ → PassView P
-turned_pass x turn visitor activities graces base rows granted = record x {
+    {P : Type 0} → PassView P → Caller → Visitor → ℕ → Option ℕ → List Row → ℕ → PassView P
+turned_pass x turn visitor graces base rows granted = record x {
   turn = turn;
   visitor = visitor;
-  activities = activities;
   graces = graces;
   base = base;
   rows = rows;
@@ -91,7 +90,6 @@ module _ {L : Type 0} (s : Joined L) (g : Generations) (visitors : List Visitor)
   pub record IsOther (counts counts' : Counts) (c : ℕ) : Type 0 where
     pub turn : caller_at g c ≡ caller_at s.phases.turns c
     pub visitor : visitor_at t.phases c ≡ visitor_at s.phases c
-    pub activities : slice_index counts'.activities c ≡ slice_index counts.activities c
     pub graces : slice_index counts'.graces c ≡ slice_index counts.graces c
     -- while it has a grace, no generation moves
     pub base :
@@ -105,18 +103,17 @@ module _ {L : Type 0} (s : Joined L) (g : Generations) (visitors : List Visitor)
   pub generations_stay : {P : Type 0} (counts counts' : Counts) (x : PassView P) → IsOther counts counts' x.number
       → KnowsGenerations s.phases.turns counts x → KnowsGenerations g counts' x
   generations_stay counts counts' x other knows = record {
-    turn = other.turn ∙ knows.turn;
-    activities = other.activities ∙ knows.activities;
+    turn = ap in_words other.turn ∙ knows.turn;
     graces = other.graces ∙ knows.graces;
     base = λ b e busy p k here.
         let old = other.base (ap (λ z. is_idle z.grace) knows.turn ∙ busy) p k here in
         old.2 ∙ knows.base b e busy p old.0 old.1;
   }
 
-  module _ {P : Type 0} (x : PassView P) (turn : Caller) (visitor : Visitor) (activities graces : ℕ) (base : Option ℕ)
+  module _ {P : Type 0} (x : PassView P) (turn : Caller) (visitor : Visitor) (graces : ℕ) (base : Option ℕ)
       (rows : List Row) (granted : ℕ) where
     abbrev y : PassView P
-    y = turned_pass x turn visitor activities graces base rows granted
+    y = turned_pass x turn visitor graces base rows granted
 
     swap_goes : IsSameSwap x.visitor.swap visitor.swap → KnowsSwap s.phases x → KnowsSwap t.phases y
     swap_goes same knows = record {
@@ -192,7 +189,7 @@ module _ {L : Type 0} (s : Joined L) (g : Generations) (visitors : List Visitor)
       → Rises → IsOther beside.counts counts' x.number → KnowsPass tag_of s beside j x
       → KnowsPass tag_of t (with_counts beside counts') j x
   pass_stays tag_of beside counts' j x many rises other knows =
-      own_goes x x.turn x.visitor x.activities x.graces x.base x.rows x.granted tag_of beside counts' j knows
+      own_goes x x.turn x.visitor x.graces x.base x.rows x.granted tag_of beside counts' j knows
       (record {
         many = many;
         rises = rises;
@@ -266,7 +263,6 @@ module _ {S L P : Type 0} (F : Layouts S L P) (laws : AreLaws F) (declared : Lis
       pub effect_is : state_after ≡ effect r.state (AtPhases event)
       pub many_procs_same : length g.procs ≡ length r.state.phases.turns.procs
       pub turns : (d : ℕ) → d ≢ v.number → caller_at g d ≡ caller_at r.state.phases.turns d
-      pub activities : (d : ℕ) → d ≢ v.number → slice_index counts.activities d ≡ slice_index r.beside.counts.activities d
       pub graces : (d : ℕ) → d ≢ v.number → slice_index counts.graces d ≡ slice_index r.beside.counts.graces d
       pub base :
           (d p : ℕ) (k : GenProc) → d ≢ v.number → is_idle (caller_at r.state.phases.turns d).grace ≡ false
@@ -279,7 +275,6 @@ module _ {S L P : Type 0} (F : Layouts S L P) (laws : AreLaws F) (declared : Lis
       others d not = record {
         turn = turn.turns d not;
         visitor = get_or-set_other r.state.phases.callers v.number d x _ not;
-        activities = turn.activities d not;
         graces = turn.graces d not;
         base = λ busy p k here. turn.base d p k not busy here;
       }

@@ -161,8 +161,15 @@ first_is_another = refl
 
 -- generations
 
-generation_is : generation_value (record { generation = 2; entered = 7; exits_even = 3; exits_odd = 1 }) ≡ 8589934599
+generation_is : generation_value (record { generation = 2; entered = 7; exits_even = 3; exits_odd = 1 }) ≡ 30064771074
 generation_is = refl
 
-generation_read : generation_in 8589934599 ≡ 2
+generation_read : generation_in 30064771074 ≡ 2
 generation_read = refl
+
+-- the carry of the last entry that the word counts drops off, and leaves the generation
+many_entries : generation_value (record { generation = 2; entered = 2 ^ 32; exits_even = 3; exits_odd = 1 }) ≡ 2
+many_entries = refl
+
+entry_added : (generation_value (record { generation = 2; entered = 2 ^ 32 - 1; exits_even = 3; exits_odd = 1 }) + 2 ^ 32) % 2 ^ 64 ≡ 2
+entry_added = refl

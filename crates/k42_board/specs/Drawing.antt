@@ -1,5 +1,6 @@
 -- Drawing entries, for one pass: the entry, where it may be drawn, and what the pass and its cells tell after it.
 use Rattle.std.specs.Prelude.{◌≡◌, ◌⊎◌, ℕ, ◌+◌, ◌-◌, ◌<◌, ◌≤◌, ◌==◌, ◌||◌, Bool, true, false, not, IsTrue, if◌then◌else◌, List, [], ◌∷◌, ◌++◌, length, map, max, Option, Some, None, slice_get, unwrap_or}
+use Rattle.k42_limits.specs.declared.TheConstants.{LAST_STAMP, PASS_ENTRIES}
 use Rattle.k42_places.specs.Places.{EachPlace, EachPair}
 use Rattle.k42_kinds.specs.Histories.{is_call}
 use Rattle.k42_kinds.specs.Rows.{Ways, cells_of, made_from, part_at}
@@ -25,8 +26,7 @@ use Rattle.k42_joined.specs.Numbers.{cell_of, row_cells}
 use Rattle.k42_joined.specs.Refusals.{tells_abandoned}
 use Rattle.k42_joined.specs.Rows.{cells_reached}
 use Rattle.k42_board.specs.Cells.{cells_noted}
-use Rattle.k42_board.specs.Generations.{MOST}
-use Rattle.k42_board.specs.Seats.{LAST_STAMP, told_by}
+use Rattle.k42_board.specs.Seats.{told_by}
 use Rattle.k42_board.specs.Seen.{PassSeen, room_due}
 use Rattle.k42_board.specs.Values.{layout_in, incarnation_in}
 use Rattle.k42_board.specs.Views.{word_begun, object_begun}
@@ -216,7 +216,7 @@ pub record MayDrawMark {P : Type 0} (content : Content P) (act : Act) (answer : 
   pub named : content.number ≡ cell_of (object_begun v.last) (incarnation_in (word_begun v.last)) 0
   pub held : IsHeld v.notes content
   pub part : content.part ≡ part_noted v.notes content.number
-  pub few : length v.taker.mine < MOST
+  pub few : length v.taker.mine < PASS_ENTRIES
 
 -- its swap opens its object again, or has, without having turned it over
 abbrev pub gives_up : SwapAt → Bool → Bool
@@ -235,7 +235,7 @@ IsAnswerAlone v _ = ⊥
 pub record MayDrawAlone {P : Type 0} (act : Act) (answer : Answer) (v : PassView P) : Type 0 where
   pub act_is : is_call act ≡ false
   pub answer_is : IsAnswerAlone v answer
-  pub few : length v.taker.mine < MOST
+  pub few : length v.taker.mine < PASS_ENTRIES
 
 -- layouts of one object with one tag keep it in one way
 abbrev pub AgreeOn : {S L P : Type 0} → Layouts S L P → Type 0
@@ -272,7 +272,7 @@ module _ {S L P : Type 0} (F : Layouts S L P) (declared : List L) where
     pub held : AreHeld v.notes contents
     pub stepped :
         IsStepped layout v.notes object row contents op ((F.ways_of layout).reach F.procs op v.turn.proc) reply
-    pub few : length v.taker.mine < MOST
+    pub few : length v.taker.mine < PASS_ENTRIES
 
   abbrev pub MayDrawAs : List (Content P) → Act → Answer → PassView P → Type 0
   MayDrawAs contents (Call op) (Replied reply) v = MayDrawCall contents op reply v
@@ -311,4 +311,4 @@ module _ {S L P : Type 0} (F : Layouts S L P) (declared : List L) where
         HaveParts
         ((F.ways_of to).imported F.procs (F.admitted to ((F.ways_of layout).combine (parts_moved layout v object))))
         onto
-    pub few : length v.taker.mine < MOST
+    pub few : length v.taker.mine < PASS_ENTRIES

@@ -1,22 +1,19 @@
 -- The steps of generations, for one pass: where each may be taken, and what the pass knows after it.
-use Rattle.std.specs.Prelude.{◌≡◌, ℕ, ◌+◌, ◌<◌, ◌≤◌, true, [], Some, None}
+use Rattle.std.specs.Prelude.{◌≡◌, ℕ, ◌≤◌, true, [], Some, None}
 use Rattle.std.specs.Option.{unwrap_or}
 use Rattle.k42_places.specs.Places.{EachPlace}
 use Rattle.gen_core.specs.Events.{is_free}
 use Rattle.phase_core.specs.Stages.{is_idle, is_out}
-use Rattle.k42_board.specs.Generations.{MOST}
 use Rattle.k42_board.specs.Values.{generation_in}
 use Rattle.k42_board.specs.declared.view.PassView.{PassView}
 
--- it has no activity, no grace and no swap under way, and has begun few activities
+-- it has no activity, no grace and no swap under way
 pub record MayEnter {P : Type 0} (v : PassView P) : Type 0 where
   pub free : is_free v.turn ≡ true
   pub no_swap : is_idle v.visitor.swap ≡ true
-  pub few : v.activities < MOST
 
 abbrev pub entered_view : {P : Type 0} → ℕ → PassView P → PassView P
-entered_view found v =
-    record v { turn = record v.turn { active = Some (generation_in found) }; activities = v.activities + 1 }
+entered_view found v = record v { turn = record v.turn { active = Some (generation_in found) } }
 
 -- no entry of it is of a later generation than the one found; and it is inside no call
 pub record EnteredFound {P : Type 0} (v : PassView P) (found : ℕ) : Type 0 where

@@ -1,6 +1,6 @@
 -- The steps of a grace, for one pass: where each may be taken, and what the pass knows after it.
-use Rattle.std.specs.Prelude.{◌≡◌, ◌≢◌, ◌⊎◌, ℕ, ◌+◌, ◌*◌, ◌%◌, ◌<◌, ◌≤◌, ◌^◌, ◌==◌, if◌then◌else◌, true, ⊤, Option, Some, None, drop, is_some, length, replicate, take, slice_index, slice_set, unwrap_or}
-use Rattle.k42_limits.specs.declared.TheConstants.{CALLERS, OBJECTS, LAST_INCARNATION}
+use Rattle.std.specs.Prelude.{◌≡◌, ◌≢◌, ◌⊎◌, ℕ, ◌+◌, ◌-◌, ◌*◌, ◌/◌, ◌%◌, ◌<◌, ◌≤◌, ◌^◌, ◌==◌, if◌then◌else◌, true, ⊤, Option, Some, None, drop, is_some, length, replicate, take, slice_index, slice_set, unwrap_or}
+use Rattle.k42_limits.specs.declared.TheConstants.{CALLERS, OBJECTS, LAST_INCARNATION, PASS_GRACES}
 use Rattle.k42_places.specs.Places.{EachPlace}
 use Rattle.gen_core.specs.Events.{is_free, is_flipping, is_looking, place_of, role_taken, role_given, after_flip, caller_passed}
 use Rattle.gen_core.specs.Plain.{Caller}
@@ -13,7 +13,6 @@ use Rattle.phase_core.specs.Stages.{may_take}
 use Rattle.phase_core.specs.State.{note_at}
 use Rattle.phase_core.specs.declared.caller.SwapAt.TheVariants.{Drained}
 use Rattle.k42_joined.specs.Swapping.{holds_none}
-use Rattle.k42_board.specs.Generations.{MOST}
 use Rattle.k42_board.specs.Log.{has_swept}
 use Rattle.k42_board.specs.Noting.{notes_due}
 use Rattle.k42_board.specs.Phases.{IsGranted}
@@ -25,7 +24,7 @@ use Rattle.k42_board.specs.declared.view.PassView.{PassView}
 pub record MayTakeRole {P : Type 0} (v : PassView P) : Type 0 where
   pub free : is_free v.turn ≡ true
   pub swap : may_take v.visitor.swap ≡ true
-  pub few : v.graces < MOST
+  pub few : v.graces < PASS_GRACES
 
 -- the role of nobody is taken, with what is noted then
 abbrev pub role_view : {P : Type 0} → ℕ → PassView P → PassView P
@@ -94,18 +93,25 @@ passed_view v =
     let turn = caller_passed v.turn (length v.turn.waits) in
     record v { turn = turn; visitor = record v.visitor { swap = drained_at turn.grace v.visitor.swap } }
 
+-- the lower 32 bits of exits
+abbrev pub exits_in : ℕ → ℕ
+exits_in word = word % 2 ^ 32
+
 abbrev pub looked_at : {P : Type 0} → GraceAt → ℕ → PassView P → PassView P
-looked_at (Flipping p) found v = record v { turn = record v.turn { coming = Some found } }
-looked_at (Looking p) found v = if found == slice_index v.turn.waits p then passed_view v else v
+looked_at (Flipping p) found v = record v { turn = record v.turn { coming = Some (exits_in found) } }
+looked_at (Looking p) found v = if exits_in found == slice_index v.turn.waits p then passed_view v else v
 looked_at grace found v = v
 
 abbrev pub looked_view : {P : Type 0} → ℕ → PassView P → PassView P
 looked_view found v = looked_at v.turn.grace found v
 
--- no more have left than had entered
+-- how many have not left, where so many had entered; both are counted modulo 2 ^ 32
+abbrev pub short_of : ℕ → ℕ → ℕ
+short_of entered found = (entered + 2 ^ 32 - exits_in found) % 2 ^ 32
+
+-- no more have not left than there are callers
 pub record ExitsFound {P : Type 0} (v : PassView P) (found : ℕ) : Type 0 where
-  pub few : is_looking v.turn.grace ≡ true → found ≤ slice_index v.turn.waits (place_of v.turn.grace)
-  pub small : found < 2 ^ 32
+  pub few : is_looking v.turn.grace ≡ true → short_of (slice_index v.turn.waits (place_of v.turn.grace)) found ≤ CALLERS
 
 -- it knows what the processor's next generation counts on from
 pub record MayFlip {P : Type 0} (p : ℕ) (v : PassView P) : Type 0 where
@@ -117,10 +123,10 @@ pub record MayFlip {P : Type 0} (p : ℕ) (v : PassView P) : Type 0 where
 
 -- the next generation, with so many entries
 abbrev pub flip_word : {P : Type 0} → PassView P → ℕ
-flip_word v = (unwrap_or v.base 0 + 1) * 2 ^ 32 + unwrap_or v.turn.coming 0
+flip_word v = unwrap_or v.base 0 + 1 + 2 ^ 32 * unwrap_or v.turn.coming 0
 
 abbrev pub entries_in : ℕ → ℕ
-entries_in word = word % 2 ^ 32
+entries_in word = word / 2 ^ 32
 
 abbrev pub turn_flipped : Caller → ℕ → Caller
 turn_flipped x entered = record x {

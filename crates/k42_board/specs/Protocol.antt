@@ -32,7 +32,7 @@ module _ {S L P : Type 0} where
   enter v = record {
     event = Some (AtPhases (phases.Turn (graces.Enter v.number)));
     word = generation_word v.turn.proc;
-    changed = λ word. (word + 1) % 2 ^ 64;
+    changed = λ word. (word + 2 ^ 32) % 2 ^ 64;
     May = λ F declared. MayEnter v;
     Finds = λ found. EnteredFound v found;
     after = λ found. took steps.Enter (generation_word v.turn.proc) found (entered_view found v);

@@ -1,10 +1,10 @@
 -- What the seats of cells are told of the entry that a pass has drawn at them.
 use Rattle.std.specs.Prelude.{◌≡◌, ◌≤◌, ℕ, ◌-◌, ◌&&◌, ◌||◌, if◌then◌else◌, nat_lt, Bool, true, not, ⊤, List, [], ◌∷◌}
+use Rattle.k42_limits.specs.declared.TheConstants.{LAST_STAMP}
 use Rattle.turn_core.specs.Names.{names}
 use Rattle.turn_core.specs.Stamps.{last_stamp}
 use Rattle.k42_board.specs.Cells.{cells_noted}
 use Rattle.k42_board.specs.Drawing.{history_noted, closed_noted, untold_view}
-use Rattle.k42_board.specs.Seats.{LAST_STAMP}
 use Rattle.k42_board.specs.declared.cell.Content.{Content}
 use Rattle.k42_board.specs.declared.view.Note.{Note}
 use Rattle.k42_board.specs.declared.view.View.{View}

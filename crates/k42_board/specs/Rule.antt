@@ -3,14 +3,14 @@ use Rattle.std.specs.Prelude.{◌≡◌, ℕ, ◌<◌, ◌≤◌, List, length, 
 use mathlib.Core.Option.{some}
 use lib.ListN.{get_elem?}
 use Rattle.atomic_table.specs.Table.{State}
-use Rattle.k42_limits.specs.declared.TheConstants.{OBJECTS}
+use Rattle.k42_limits.specs.declared.TheConstants.{OBJECTS, PASS_ENTRIES}
 use Rattle.k42_places.specs.Places.{EachPlace}
 use Rattle.k42_stamp.specs.Layouts.{Layouts}
 use Rattle.k42_joined.specs.Plain.{Joined}
 use Rattle.k42_joined.specs.Sound.{IsSound}
 use Rattle.k42_joined.specs.State.{many_procs, many_callers, many_objects}
 use Rattle.k42_board.specs.Cells.{Slot, Contents, IsCellShown, KnowsCells}
-use Rattle.k42_board.specs.Generations.{Counts, MOST, AreGenerations, KnowsGenerations}
+use Rattle.k42_board.specs.Generations.{Counts, AreGenerations, KnowsGenerations}
 use Rattle.k42_board.specs.Parts.{IsPart}
 use Rattle.k42_board.specs.Phases.{AreObjects, IsOld, KnowsPhases}
 use Rattle.k42_board.specs.Trace.{KnowsTrace}
@@ -20,7 +20,7 @@ use Rattle.k42_board.specs.declared.view.Row.{Row}
 use Rattle.k42_board.specs.declared.view.View.{View}
 use Rattle.k42_board.specs.declared.view.View.TheVariants.{Crew, Kept, Named, Spent}
 
--- what is shown beside the state: which seat each caller and each row has, what callers have begun, and what
+-- what is shown beside the state: which seat each caller and each row has, which graces callers have begun, and what
 -- the cells have
 pub record Beside (P : Type 0) : Type 0 where
   pub seat : ℕ → ℕ
@@ -67,7 +67,7 @@ pub record Shows
   pub many_words : length table.words ≡ many_words
   pub many_slots : length table.homes ≡ many_slots
   pub few_objects : many_objects s ≤ OBJECTS
-  pub few_entries : EachPlace (λ c x. length x.mine ≤ MOST) s.turns.callers
+  pub few_entries : EachPlace (λ c x. length x.mine ≤ PASS_ENTRIES) s.turns.callers
   pub generations : AreGenerations table.words s.phases.turns beside.counts
   pub objects : AreObjects table.words s.phases.objects
   pub cells :

@@ -1,5 +1,6 @@
 -- What the seat of a cell tells.
-use Rattle.std.specs.Prelude.{◌≡◌, ℕ, ◌≤◌, ◌^◌, Bool, false, List, [], ◌∷◌}
+use Rattle.std.specs.Prelude.{◌≡◌, ℕ, ◌≤◌, Bool, false, List, [], ◌∷◌}
+use Rattle.k42_limits.specs.declared.TheConstants.{LAST_STAMP}
 use Rattle.turn_core.specs.Stamps.{last_stamp}
 use Rattle.k42_board.specs.declared.view.CellView.{CellView}
 use Rattle.k42_board.specs.declared.view.View.{View}
@@ -9,10 +10,6 @@ use Rattle.k42_board.specs.declared.view.View.TheVariants.{Kept}
 abbrev pub told_by : {P : Type 0} → List (View P) → CellView
 told_by (Kept told ∷ []) = told
 told_by _ = record { history = []; closed = false }
-
--- sixteen callers draw up to 2 ^ 20 entries each, and no stamp is above their number
-abbrev pub LAST_STAMP : ℕ
-LAST_STAMP = 2 ^ 24
 
 -- what a cell says of itself is what its seat tells
 pub record IsTold {P : Type 0} (is_closed : Bool) (last_drawn : ℕ) (views : List (View P)) : Type 0 where

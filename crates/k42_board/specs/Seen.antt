@@ -73,7 +73,6 @@ pub record Own : Type 0 where
   -- how many entries it has drawn, and the stamp of the last
   pub drawn : ℕ
   pub drew_last : ℕ
-  pub activities : ℕ
   pub graces : ℕ
   pub base : Option ℕ
   pub last : Option LastBegin
@@ -93,7 +92,6 @@ own_in v = record {
   swap = v.visitor.swap;
   drawn = length v.taker.mine;
   drew_last = last_stamp v.taker.mine;
-  activities = v.activities;
   graces = v.graces;
   base = v.base;
   last = v.last;

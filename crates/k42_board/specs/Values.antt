@@ -7,8 +7,9 @@ use Rattle.gen_core.specs.declared.state.GenProc.{GenProc}
 use Rattle.phase_core.specs.Plain.{Object}
 use Rattle.phase_core.specs.declared.object.LocalEntry.{LocalEntry}
 
+-- a generation in the lower half, and in the upper one the entries modulo 2 ^ 32, so that a carry of these drops off
 abbrev pub generation_value : GenProc → ℕ
-generation_value k = k.generation * 2 ^ 32 + k.entered
+generation_value k = k.generation + 2 ^ 32 * (k.entered % 2 ^ 32)
 
 -- a number plus 1, or 0
 abbrev pub holder_value : Option ℕ → ℕ
@@ -30,7 +31,7 @@ local_value e = e.tag + 2 ^ 4 * e.layout + 2 ^ 8 * e.cell + 2 ^ 32 * e.incarnati
 -- what is read of a word
 
 abbrev pub generation_in : ℕ → ℕ
-generation_in word = word / 2 ^ 32
+generation_in word = word % 2 ^ 32
 
 abbrev pub has_bit : ℕ → ℕ → Bool
 has_bit word place = word / 2 ^ place % 2 == 1

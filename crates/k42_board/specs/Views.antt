@@ -34,7 +34,6 @@ new_pass procs objects number home = record {
   turn = fresh_caller procs home;
   visitor = new_visitor objects;
   taker = turns.fresh_caller;
-  activities = 0;
   graces = 0;
   base = None;
   last = None;

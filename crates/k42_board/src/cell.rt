@@ -1,6 +1,7 @@
 //! A cell, with the seat that tells its history.
 ghost use Rattle.std.specs.Prelude.{◌≡◌, ◌<◌, ◌≤◌, None, Some};
-ghost use Rattle.k42_board.specs.Seats.{IsTold, LAST_STAMP};
+ghost use Rattle.k42_limits.specs.declared.TheConstants.{LAST_STAMP};
+ghost use Rattle.k42_board.specs.Seats.{IsTold};
 
 use crate::view::View;
 use atomic_table::Badge;

@@ -3,7 +3,7 @@ ghost use Rattle.std.specs.Prelude.{◌≡◌, ◌<◌, ◌≤◌, ◌+◌, ◌-
 ghost use Rattle.k42_joined.specs.Numbers.{cell_of};
 ghost use Rattle.phase_core.specs.Effects.{direct_entry};
 ghost use Rattle.phase_core.specs.State.{empty_entry, mediator_entry};
-ghost use Rattle.k42_board.specs.Gracing.{entries_in};
+ghost use Rattle.k42_board.specs.Gracing.{entries_in, exits_in};
 ghost use Rattle.k42_board.specs.Tabling.{entry_in, is_over_in};
 ghost use Rattle.k42_board.specs.Values.{generation_in, incarnation_in, layout_in, count_in, has_bit, local_value};
 ghost use Rattle.k42_board.specs.Words.{generation_word, exits_word, local_word, lock_word, object_word, freed_word, slot_of};
@@ -25,6 +25,9 @@ pub const COMPLETE: u64 = 134_217_728;
 const LAYOUT: u64 = 268_435_456;
 
 const INCARNATION: u64 = 4_294_967_296;
+
+/// One entry, in a processor's word.
+pub(crate) const ENTRY: u64 = 4_294_967_296;
 
 /// The word of a processor's generation and entries.
 pub(crate) fn generation_word(proc: usize) -> usize
@@ -94,22 +97,28 @@ pub fn cell_number(object: u32, row: u32, place: u32) -> u32
 pub fn generation_in(word: u64) -> u32
     ensures { result ≡ generation_in word }
 {
-    (word >> 32) as u32
+    (word % ENTRY) as u32
 }
 
-/// A processor's entries, in the same word.
+/// The lower 32 bits of a processor's entries, in the same word.
 pub fn entries_in(word: u64) -> u32
     ensures { result ≡ entries_in word }
 {
-    (word % INCARNATION) as u32
+    (word / ENTRY) as u32
+}
+
+/// And of its exits, in the word of these.
+pub fn exits_in(word: u64) -> u32
+    ensures { result ≡ exits_in word }
+{
+    (word % ENTRY) as u32
 }
 
 /// The word of a processor in a generation, with so many entries.
-pub fn generation_with(generation: u64, entries: u64) -> u64
-    requires { (generation < 2 ^ 32) × (entries < 2 ^ 32) }
-    ensures { result ≡ generation * 2 ^ 32 + entries }
+pub fn generation_with(generation: u32, entries: u32) -> u64
+    ensures { result ≡ generation + 2 ^ 32 * entries }
 {
-    generation * INCARNATION + entries
+    u64::from(generation) + ENTRY * u64::from(entries)
 }
 
 /// The incarnation, in an object's word or in that of an entry.

@@ -31,7 +31,7 @@ pub use draw_plays::Said;
 pub use draw_words::{alone_word, call_word, first_of, mark_word, one_word};
 pub use encoding::{
     BLOCK, COMPLETE, MOVE, SWAP, blocked_word, cell_number, count_in, direct_word, empty_word,
-    entries_in, entry_cell, entry_layout, generation_in, generation_with, incarnation_in,
+    entries_in, entry_cell, entry_layout, exits_in, generation_in, generation_with, incarnation_in,
     is_blocked, is_complete, is_moving, is_over, is_swapped, layout_in, mediator_word, tag_in,
     turn_amount,
 };

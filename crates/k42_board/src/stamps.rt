@@ -1,7 +1,7 @@
 //! The stamp that a draw bears.
 ghost use Rattle.std.specs.Prelude.{◌≡◌, ◌≤◌, ◌+◌, max};
 ghost use Rattle.k42_board.specs.Drawing.{last_told};
-ghost use Rattle.k42_board.specs.Seats.{LAST_STAMP};
+ghost use Rattle.k42_limits.specs.declared.TheConstants.{LAST_STAMP};
 
 use crate::cell::Content;
 

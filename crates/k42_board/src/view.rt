@@ -88,8 +88,7 @@ pub struct PassView<P> {
     pub turn: GenCaller,
     pub visitor: PhaseCaller,
     pub taker: TurnCaller,
-    /// How many it has begun.
-    pub activities: u32,
+    /// How many graces it has begun.
     pub graces: u32,
     /// The generation of the processors that its grace has not flipped, once it has asked.
     pub base: Option<u32>,

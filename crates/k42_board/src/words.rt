@@ -5,7 +5,7 @@ ghost use Rattle.k42_board.specs.Stepping.{MayTake, HasTaken};
 ghost use Rattle.k42_board.specs.Views.{pass_in};
 
 use crate::board::{Board, BoardSeat};
-use crate::encoding::{exits_word, generation_word};
+use crate::encoding::{ENTRY, exits_word, generation_word};
 use crate::plays::{Enter, Leave};
 use k42_kinds::Layout;
 
@@ -16,7 +16,7 @@ pub fn enter_word<L: Layout>(board: &Board<L>, seat: &mut BoardSeat<L>, home: us
 {
     board
         .shared
-        .fetch_add::<Enter>(seat, generation_word(home), 1)
+        .fetch_add::<Enter>(seat, generation_word(home), ENTRY)
 }
 
 pub fn leave_word<L: Layout>(

@@ -1,5 +1,5 @@
 -- A call that a free pass has made in an activity of its own.
-use Rattle.std.specs.Prelude.{◌≡◌, ℕ, ◌+◌, ◌<◌, [], ◌∷◌, ◌++◌, length, Some}
+use Rattle.std.specs.Prelude.{◌≡◌, ℕ, ◌<◌, [], ◌∷◌, ◌++◌, length, Some}
 use Rattle.k42_kinds.specs.declared.entry.Act.TheVariants.{Call}
 use Rattle.k42_kinds.specs.declared.entry.Answer.TheVariants.{Replied}
 use Rattle.k42_kinds.specs.declared.entry.Entry.{Entry}
@@ -8,8 +8,7 @@ use Rattle.k42_kinds.specs.declared.operation.Reply.{Reply}
 use Rattle.turn_core.specs.Stamps.{last_stamp}
 use Rattle.k42_board.specs.declared.view.PassView.{PassView}
 
--- It has one entry more, that of the call, which is later than those before it, and has begun one activity more, in whose
--- generation the call was made.
+-- It has one entry more, that of the call, which is later than those before it, in the generation of its activity.
 pub record HasCalledOnce {P : Type 0} (object : ℕ) (op : Op) (reply : Reply) (old new : PassView P) : Type 0 where
   pub entry : Entry
   pub generation : ℕ
@@ -29,5 +28,4 @@ pub record HasCalledOnce {P : Type 0} (object : ℕ) (op : Op) (reply : Reply) (
         proc = old.turn.proc;
         generation = Some generation;
       }
-  pub activities : new.activities ≡ old.activities + 1
   pub graces : new.graces ≡ old.graces

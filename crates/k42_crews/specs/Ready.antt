@@ -1,8 +1,6 @@
 -- Passes between two of their calls.
-use Rattle.std.specs.Prelude.{◌≡◌, ℕ, ◌<◌, ⊤, List, [], ◌∷◌, length, map}
+use Rattle.std.specs.Prelude.{◌≡◌, ℕ, ⊤, List, [], ◌∷◌, length, map}
 use Rattle.std.specs.List.{range_with_len}
-use Rattle.k42_board.specs.Generations.{MOST}
-use Rattle.k42_board.specs.declared.view.PassView.{PassView}
 use Rattle.k42_runtime.specs.Systems.{SystemSeen, IsPassHere, IsAtRest, IsAtWork, SystemPass}
 
 -- the pass is one of the system, and has nothing under way
@@ -32,13 +30,3 @@ callers_of passes = map (λ pass. pass.view.number) passes
 -- they are those of all callers of the system, in order
 abbrev pub AreAll : SystemSeen → List SystemPass → Type 0
 AreAll system passes = callers_of passes ≡ range_with_len 0 (length system.plan.callers)
-
--- it may begin one activity and make one call more
-pub record MayCall {P : Type 0} (v : PassView P) : Type 0 where
-  pub entries : length v.taker.mine < MOST
-  pub activities : v.activities < MOST
-
--- it may swap once more
-pub record MaySwap {P : Type 0} (v : PassView P) : Type 0 where
-  pub entries : length v.taker.mine < MOST
-  pub graces : v.graces < MOST

@@ -3,7 +3,7 @@ ghost use Rattle.std.specs.Prelude.{◌≡◌, ◌+◌, ◌<◌, ◌^◌, ◌++�
 ghost use Rattle.std.specs.List.{range_with_len};
 ghost use Rattle.std.specs.Option.{option_to_list};
 ghost use Rattle.k42_board.specs.declared.keep.Keep.TheVariants.{All};
-ghost use Rattle.k42_crews.specs.Ready.{IsFree, AreFree, AreAll, MayCall, MaySwap, callers_of};
+ghost use Rattle.k42_crews.specs.Ready.{IsFree, AreFree, AreAll, callers_of};
 ghost use Rattle.k42_rule.specs.Finishing.{lists_in};
 ghost use Rattle.k42_runtime.specs.Histories.{IsClosed, HasHistory};
 ghost use Rattle.k42_runtime.specs.Systems.{HasStarted};
@@ -11,9 +11,6 @@ ghost use Rattle.k42_runtime.specs.Systems.{HasStarted};
 use k42_memory::Memory;
 use k42_runtime::{History, Pass, Plan, System};
 use std::alloc::Global;
-
-/// A pass has fewer entries, activities and graces.
-pub const LIMIT: u32 = 1_048_576;
 
 /// The system of the plan, and its passes in the order of the plan's callers.
 pub fn start(alloc: Global, plan: Plan) -> Result<(System, Vec<Pass>), Memory>
@@ -34,20 +31,6 @@ pub fn last(system: &System, passes: &mut Vec<Pass>) -> Option<Pass>
     ensures others { AreFree system.now passes.new.items }
 {
     passes.pop()
-}
-
-/// Whether the pass may begin one activity and make one call more.
-pub fn may_call(pass: &Pass) -> bool
-    ensures { (result ≡ true) ↔ MayCall pass.now.view }
-{
-    pass.drawn() < LIMIT && pass.activities() < LIMIT
-}
-
-/// Whether the pass may swap once more.
-pub fn may_swap(pass: &Pass) -> bool
-    ensures { (result ≡ true) ↔ MaySwap pass.now.view }
-{
-    pass.drawn() < LIMIT && pass.graces() < LIMIT
 }
 
 /// Whether the passes are those of the next callers.

@@ -5,6 +5,6 @@ mod crews;
 mod once;
 mod threads;
 
-pub use crews::{LIMIT, close, end, last, may_call, may_swap, start};
+pub use crews::{close, end, last, start};
 pub use once::{call_once, swap_once};
 pub use threads::{Work, work_all};

@@ -1,20 +1,20 @@
 //! A call or a swap of a pass that has nothing under way.
-ghost use Rattle.std.specs.Prelude.{◌≡◌, ◌<◌, ◌↔◌, length, IfNone, IfOk, IfSome, IsSome, OnErr};
+ghost use Rattle.std.specs.Prelude.{◌≡◌, ◌<◌, ◌↔◌, length, Err, IfNone, IfOk, IfSome, IsSome, OnErr};
 ghost use Rattle.k42_crews.specs.Once.{HasCalledOnce};
-ghost use Rattle.k42_crews.specs.Ready.{IsFree, MayCall, MaySwap, StaysFree};
-ghost use Rattle.k42_runtime.specs.Calls.{IsAsked};
-ghost use Rattle.k42_runtime.specs.Swaps.{EndsWithoutMemory, HasSwapped};
+ghost use Rattle.k42_crews.specs.Ready.{IsFree, StaysFree};
+ghost use Rattle.k42_runtime.specs.Calls.{IsAsked, IsWorn};
+ghost use Rattle.k42_runtime.specs.Swaps.{EndsWithoutMemory, HasNotBegun, HasSwapped, IsWornOut};
+ghost use Rattle.k42_runtime.specs.declared.calls.NoCall.TheVariants as NoCall;
+ghost use Rattle.k42_runtime.specs.declared.swaps.NoSwap.TheVariants as NoSwap;
 ghost use Rattle.k42_kinds.specs.declared.entry.To.TheVariants as To;
 
-use crate::crews::{may_call, may_swap};
 use k42_kinds::{LayoutName, Op, Reply};
-use k42_memory::Memory;
-use k42_runtime::{Pass, Swapped, System};
+use k42_runtime::{NoCall, NoSwap, Pass, Swapped, System};
 use std::alloc::Global;
 use std::sync::Wait;
 
-/// Makes the call in an activity of its own. There is no reply, and nothing was done, where the pass may make no call
-/// more, or the object does not take the operation.
+/// Makes the call in an activity of its own. There is no reply, and nothing was done, where the object does not take the
+/// operation.
 pub fn call_once<R: Wait>(
     rt: &R,
     alloc: Global,
@@ -22,15 +22,16 @@ pub fn call_once<R: Wait>(
     pass: &mut Pass,
     object: u32,
     op: Op,
-) -> Result<Option<Reply>, Memory>
+) -> Result<Option<Reply>, NoCall>
     requires { IsFree system.now pass.old }
     ensures free { StaysFree system.now pass.old pass.new }
-    ensures made { IfOk result (λ reply. IsSome reply ↔ (MayCall pass.old.view × IsAsked system.now.plan object op)) }
+    ensures made { IfOk result (λ reply. IsSome reply ↔ IsAsked system.now.plan object op) }
     ensures called { IfOk result (λ reply. IfSome reply (λ told. HasCalledOnce object op told pass.old.view pass.new.view)) }
     ensures kept { IfOk result (λ reply. IfNone reply (pass.new ≡ pass.old)) }
-    ensures memory { OnErr result (pass.new.view.taker.mine ≡ pass.old.view.taker.mine) }
+    ensures unmade { OnErr result (pass.new.view.taker.mine ≡ pass.old.view.taker.mine) }
+    ensures worn { (result ≡ Err NoCall.Worn) ↔ (IsAsked system.now.plan object op × IsWorn pass.old.view) }
 {
-    if !may_call(pass) || !system.takes(object, &op) {
+    if !system.takes(object, &op) {
         return Ok(None);
     }
     system.enter(pass);
@@ -39,7 +40,7 @@ pub fn call_once<R: Wait>(
     Ok(Some(reply?))
 }
 
-/// Swaps the object. There is no end, and nothing was done, where the pass may swap no more, or there is no such object.
+/// Swaps the object. There is no end, and nothing was done, where there is no such object.
 pub fn swap_once<R: Wait>(
     rt: &R,
     alloc: Global,
@@ -47,15 +48,17 @@ pub fn swap_once<R: Wait>(
     pass: &mut Pass,
     object: u32,
     to: LayoutName,
-) -> Result<Option<Swapped>, Memory>
+) -> Result<Option<Swapped>, NoSwap>
     requires { IsFree system.now pass.old }
     ensures free { StaysFree system.now pass.old pass.new }
-    ensures made { IfOk result (λ end. IsSome end ↔ (MaySwap pass.old.view × (object < length system.now.plan.objects))) }
+    ensures made { IfOk result (λ end. IsSome end ↔ (object < length system.now.plan.objects)) }
     ensures swapped { IfOk result (λ end. IfSome end (λ told. HasSwapped object (To.Layout to) told pass.old.view pass.new.view)) }
     ensures kept { IfOk result (λ end. IfNone end (pass.new ≡ pass.old)) }
-    ensures memory { OnErr result (EndsWithoutMemory object (To.Layout to) pass.old.view pass.new.view) }
+    ensures memory { result ≡ Err NoSwap.Memory → EndsWithoutMemory object (To.Layout to) pass.old.view pass.new.view }
+    ensures worn { (result ≡ Err NoSwap.Worn) ↔ ((object < length system.now.plan.objects) × IsWornOut pass.old.view) }
+    ensures unbegun { result ≡ Err NoSwap.Worn → HasNotBegun pass.old.view pass.new.view }
 {
-    if !may_swap(pass) || object >= system.objects() {
+    if object >= system.objects() {
         return Ok(None);
     }
     Ok(Some(system.swap(rt, alloc, pass, object, to)?))

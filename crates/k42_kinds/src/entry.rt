@@ -45,10 +45,10 @@ pub enum Answer {
 pub struct Entry {
     /// Where it stands in the order of entries. In a whole history it is its place, from 1.
     pub stamp: u64,
+    /// The number of this entry among its caller's, from 0.
+    pub index: u64,
     /// Who called, counted from 0.
     pub caller: u32,
-    /// The number of this entry among its caller's, from 0.
-    pub index: u32,
     /// Which object, counted from 0.
     pub object: u32,
     /// How many swaps of the object were carried out before it; where another's swap refused it,
@@ -98,8 +98,8 @@ mod tests {
         for stamp in [1, 2, 3] {
             let entry = Entry {
                 stamp,
-                caller: 0,
                 index: 0,
+                caller: 0,
                 object: 0,
                 incarnation: 0,
                 cell: 0,

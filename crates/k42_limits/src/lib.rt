@@ -14,6 +14,15 @@ pub const CALLERS: usize = 16;
 /// through. The next one is answered `spent`.
 pub const LAST_INCARNATION: u32 = 1_048_575;
 
+/// A pass draws at most this many entries.
+pub const PASS_ENTRIES: u64 = 288_230_376_151_711_744;
+
+/// No stamp is above it: there are no more entries than all passes draw.
+pub const LAST_STAMP: u64 = 4_611_686_018_427_387_904;
+
+/// A pass begins at most this many graces, so that a generation, which the graces of all passes raise, stays below 2^32.
+pub const PASS_GRACES: u32 = 134_217_728;
+
 /// The pages of an object are numbered from 0 to below this.
 pub const PAGES: u32 = 1_024;
 

@@ -11,6 +11,14 @@ fn limits_of_a_system(rt: HostRuntime) {
 }
 
 #[test]
+fn limits_of_a_pass(rt: HostRuntime) {
+    assert_eq!(rt; PASS_ENTRIES, 1 << 58);
+    assert_eq!(rt; PASS_GRACES, 1 << 27);
+    // as many as sixteen passes draw
+    assert_eq!(rt; LAST_STAMP, 1 << 62);
+}
+
+#[test]
 fn limits_of_words_and_numbers(rt: HostRuntime) {
     assert_eq!(rt; PAGES, 1_024);
     assert_eq!(rt; AMOUNTS, 1 << 32);

@@ -8,7 +8,7 @@ use Rattle.k42_kinds.specs.Histories.{is_call}
 use Rattle.k42_kinds.specs.declared.entry.Act.{Act}
 use Rattle.k42_kinds.specs.declared.entry.Answer.{Answer}
 use Rattle.k42_kinds.specs.declared.entry.Answer.TheVariants.{Gone, Spent, Busy}
-use Rattle.k42_limits.specs.declared.TheConstants.{LAST_INCARNATION}
+use Rattle.k42_limits.specs.declared.TheConstants.{LAST_INCARNATION, PASS_ENTRIES}
 use Rattle.k42_joined.specs.Found.{tells_over}
 use Rattle.k42_joined.specs.Numbers.{cell_of}
 use Rattle.k42_kinds.specs.declared.entry.Entry.{Entry}
@@ -26,7 +26,6 @@ use Rattle.k42_board.specs.Protocol as protocol
 use Rattle.k42_board.specs.Seen.{SysSeen, PassSeen}
 use Rattle.k42_board.specs.Stepping.{HasStepped}
 use Rattle.k42_board.specs.Taking.{CELLS, locked_view, taken_view}
-use Rattle.k42_board.specs.Generations.{MOST}
 use Rattle.k42_board.specs.Tabling.{is_over_in}
 use Rattle.k42_board.specs.Values.{answer_in, has_bit, incarnation_in, layout_in}
 use Rattle.k42_board.specs.Views.{object_begun, word_begun}
@@ -84,7 +83,7 @@ module _ {P : Type 0} (v0 : PassView P) (n : ℕ) (cell : Content P) (number : c
   w = drawn_at (cell ∷ []) entry v
 
   -- it may draw
-  pub may_mark : (log : List Taken) → v0.found ≡ Some answer → tells_over answer ≡ true → n ≡ cell_marked v0 → length v0.taker.mine < MOST
+  pub may_mark : (log : List Taken) → v0.found ≡ Some answer → tells_over answer ≡ true → n ≡ cell_marked v0 → length v0.taker.mine < PASS_ENTRIES
       → MayDrawMark cell act answer (with_log log v)
   may_mark log found over named few =
       let is = taken_now cell v0.notes in

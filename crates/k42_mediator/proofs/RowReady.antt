@@ -4,6 +4,7 @@ use Rattle.std.specs.List.{slice_get}
 use Rattle.std.specs.Option.{unwrap_or}
 use Rattle.std.proofs.Math.Seq.{take-append_seam, drop-append_seam, drop-length, take-length}
 use Rattle.std.proofs.lemmas.List.{length-map, length-append, take-map, drop-map, take-append-drop, append-nil}
+use Rattle.k42_limits.specs.declared.TheConstants.{PASS_ENTRIES}
 use Rattle.k42_kinds.specs.Rows.{Ways, cells_of, made_from, part_at}
 use Rattle.k42_kinds.specs.declared.entry.Answer.TheVariants.{Swapped}
 use Rattle.phase_core.specs.declared.caller.SwapAt.TheVariants.{Moved}
@@ -15,7 +16,6 @@ use Rattle.k42_joined.specs.Numbers.{cell_of, row_cells}
 use Rattle.k42_joined.proofs.CellNumbers.{named_in_row}
 use Rattle.k42_board.specs.Cells.{cells_noted}
 use Rattle.k42_board.specs.Drawing.{AreHeld, AreTold, HaveParts, KeepsPart, MayHandOn, numbers_of, part_noted, part_due, parts_due}
-use Rattle.k42_board.specs.Generations.{MOST}
 use Rattle.k42_board.specs.Parts.{IsPart}
 use Rattle.k42_board.specs.Steps.{Always}
 use Rattle.k42_board.specs.Taking.{CELLS, IsRowNoted, AreRowsNoted}
@@ -231,7 +231,7 @@ module _ {S L P : Type 0} (F : Layouts S L P) (laws : AreLaws F) (declared : Lis
       (at_split F.procs news k new at)
 
   -- else they may be handed on
-  pub may_hand : (to : L) → F.object_of to ≡ F.object_of has.declaration → F.tag_of to ≤ 2 → length v.taker.mine < MOST
+  pub may_hand : (to : L) → F.object_of to ≡ F.object_of has.declaration → F.tag_of to ≤ 2 → length v.taker.mine < PASS_ENTRIES
       → drop F.procs news
       ≡ filled ((F.ways_of to).imported F.procs (F.admitted to ((F.ways_of layout).combine (parts_from (F.ways_of layout) F.procs 0 (take (cells_of (F.tag_of layout) F.procs) cells)))))
       (drop F.procs cells)

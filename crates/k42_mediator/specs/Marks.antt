@@ -1,5 +1,6 @@
 -- The entry of a swap that found its object over.
 use Rattle.std.specs.Prelude.{◌≡◌, ℕ, ◌+◌, ◌<◌, true, false, Some, None, length}
+use Rattle.k42_limits.specs.declared.TheConstants.{PASS_ENTRIES}
 use Rattle.k42_kinds.specs.Histories.{is_call}
 use Rattle.k42_kinds.specs.declared.entry.Act.{Act}
 use Rattle.k42_kinds.specs.declared.entry.Answer.{Answer}
@@ -8,7 +9,6 @@ use Rattle.turn_core.specs.Events.{caller_drawn}
 use Rattle.k42_joined.specs.Numbers.{cell_of}
 use Rattle.k42_joined.specs.Swapping.{holds_none}
 use Rattle.k42_board.specs.Drawing.{IsDrawer}
-use Rattle.k42_board.specs.Generations.{MOST}
 use Rattle.k42_board.specs.Log.{ComesTo}
 use Rattle.k42_board.specs.Plan.{LayoutWords}
 use Rattle.k42_board.specs.Protocol as protocol
@@ -28,7 +28,7 @@ pub record MayMark {P : Type 0} (act : Act) (v : PassView P) : Type 0 where
   pub found : v.found ≡ answer_in (word_begun v.last)
   pub over : is_over_in (word_begun v.last) ≡ true
   pub free : holds_none v.taker.held ≡ true
-  pub few : length v.taker.mine < MOST
+  pub few : length v.taker.mine < PASS_ENTRIES
 
 -- the first cell of the present row
 abbrev pub cell_marked : {P : Type 0} → PassView P → ℕ

@@ -1,7 +1,7 @@
 //! A swap is given up.
 ghost use Rattle.std.specs.Prelude.{◌≡◌, ◌<◌, ◌≤◌, length};
+ghost use Rattle.k42_limits.specs.declared.TheConstants.{PASS_ENTRIES};
 ghost use Rattle.k42_board.specs.Drawing.{IsDrawer};
-ghost use Rattle.k42_board.specs.Generations.{MOST};
 ghost use Rattle.k42_board.specs.Log.{with_log};
 ghost use Rattle.k42_board.specs.Seen.{HasRoom, IsPassOf};
 ghost use Rattle.k42_board.specs.Stepping.{layouts_in};
@@ -17,7 +17,7 @@ pub fn abandon<L: Layout>(sys: &Sys<L>, pass: &mut Pass<L>, to: &L)
     requires ours { IsPassOf sys.now pass.old }
     requires moved { HasMoved pass.old.view }
     requires room { HasRoom pass.old }
-    requires few { length pass.old.view.taker.mine < MOST }
+    requires few { length pass.old.view.taker.mine < PASS_ENTRIES }
     requires known { L.tag_of to.now ≤ 2 }
     ensures same { IsDrawer pass.old pass.new }
     ensures knows { pass.new.view ≡ with_log pass.new.view.log (abandoned_view (L.act_of to.now) pass.old.view) }

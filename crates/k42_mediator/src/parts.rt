@@ -123,7 +123,10 @@ pub(crate) fn move_state<L: Layout>(
     requires whole { L.whole layout.now procs (parts_from (L.ways layout.now) procs 0 (take (cells_of (L.tag_of layout.now) procs) cells.old)) }
     ensures many { length cells.new ≡ length cells.old }
     ensures kept { AreKept (L.ways layout.now) procs (cells_of (L.tag_of layout.now) procs) 0 (take procs cells.old) (take procs cells.new) }
-    ensures filled { OnOk result (drop procs cells.new ≡ filled ((L.ways to.now).imported procs (L.admitted to.now ((L.ways layout.now).combine (parts_from (L.ways layout.now) procs 0 (take (cells_of (L.tag_of layout.now) procs) cells.old))))) (drop procs cells.old)) }
+    ensures filled { OnOk result (drop procs cells.new ≡ filled
+        ((L.ways to.now).imported procs (L.admitted to.now ((L.ways layout.now).combine
+        (parts_from (L.ways layout.now) procs 0 (take (cells_of (L.tag_of layout.now) procs) cells.old)))))
+        (drop procs cells.old)) }
     ensures memory { OnErr result (drop procs cells.new ≡ drop procs cells.old) }
 {
     let (first, others) = cells.split_at_mut(procs as usize);

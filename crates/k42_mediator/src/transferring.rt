@@ -1,10 +1,9 @@
 //! The state is handed over to a row of the new layout.
 ghost use Rattle.std.specs.Prelude.{◌≡◌, ◌<◌, ◌≤◌, ◌+◌, ◌++◌, None, length, OnOk, OnErr};
-ghost use Rattle.k42_limits.specs.declared.TheConstants.{LAST_INCARNATION};
+ghost use Rattle.k42_limits.specs.declared.TheConstants.{LAST_INCARNATION, PASS_ENTRIES};
 ghost use Rattle.phase_core.specs.declared.caller.SwapAt.TheVariants.{Moved};
 ghost use Rattle.k42_joined.specs.Numbers.{row_cells};
 ghost use Rattle.k42_board.specs.Drawing.{numbers_of};
-ghost use Rattle.k42_board.specs.Generations.{MOST};
 ghost use Rattle.k42_board.specs.Seen.{HasRoom, IsPassOf};
 ghost use Rattle.k42_board.specs.Steps.{Always};
 ghost use Rattle.k42_board.specs.Stepping.{layouts_in};
@@ -43,7 +42,7 @@ fn move_and_draw<L: Layout>(
     requires kind { IsOfKind L.object sys.now.layouts row.object to.now }
     requires known { L.tag_of to.now ≤ 2 }
     requires room { HasRoom pass.old }
-    requires few { length pass.old.view.taker.mine < MOST }
+    requires few { length pass.old.view.taker.mine < PASS_ENTRIES }
     requires numbers { numbers_of cells.old.items ≡ row_cells sys.now.procs row.object row.incarnation ++ row_cells sys.now.procs row.object (row.incarnation + 1) }
     requires held { pass.old.view.taker.held ≡ numbers_of cells.old.items }
     requires taken { AreTaken pass.old.view.notes cells.old.items }
@@ -75,7 +74,7 @@ pub fn transfer<L: Layout>(
     requires kind { IsOfKind L.object sys.now.layouts (object_swapped pass.old.view) to.now }
     requires known { L.tag_of to.now ≤ 2 }
     requires room { HasRoom pass.old }
-    requires few { length pass.old.view.taker.mine < MOST }
+    requires few { length pass.old.view.taker.mine < PASS_ENTRIES }
     ensures left { (v : PassView L.Part) → v.visitor ≡ pass.old.view.visitor → Always (layouts_in L.Layout sys.now) sys.now.layouts pass.old.seat v (IsVacant (object_swapped pass.old.view)) }
     ensures done { OnOk result (HasDone (L.act_of to.now) (L.tag_of to.now) pass.old pass.new) }
     ensures memory { OnErr result (HasKept pass.old pass.new) }

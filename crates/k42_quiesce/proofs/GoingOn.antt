@@ -1,7 +1,8 @@
 -- The steps of a grace, one after the other.
 use Rattle.std.proofs.Common.{◌≡◌, ℕ, ◌+◌, ◌-◌, ◌<◌, ◌≤◌, Bool, true, false, cond, ltb, List, Option, Some, None, length, length-set, refl, sym, ap, ◌∙◌, subst, arith}
-use Rattle.std.specs.Prelude.{is_some, unwrap_or, slice_index, if◌then◌else◌, ◌%◌, ◌==◌}
+use Rattle.std.specs.Prelude.{is_some, unwrap_or, slice_index, if◌then◌else◌, ◌%◌, ◌^◌, ◌==◌}
 use Rattle.std.proofs.lemmas.Bool.{eq-eqb, ne_eqb}
+use Rattle.k42_limits.specs.declared.TheConstants.{CALLERS}
 use Rattle.gen_core.specs.Events.{is_quiet, is_looking, place_of, after_flip, after_look}
 use Rattle.gen_core.specs.Plain.{Caller}
 use Rattle.gen_core.specs.declared.state.GraceAt.{GraceAt}
@@ -11,7 +12,7 @@ use Rattle.phase_core.specs.Effects.{drained_at}
 use Rattle.phase_core.specs.Plain.{Visitor}
 use Rattle.phase_core.specs.declared.caller.SwapAt.{SwapAt}
 use Rattle.k42_stamp.specs.Layouts.{Layouts}
-use Rattle.k42_board.specs.Gracing.{MayFlip, ExitsFound, looked_view, looked_at, passed_view, asked_view, flipped_view, entries_in, role_view}
+use Rattle.k42_board.specs.Gracing.{MayFlip, ExitsFound, looked_view, looked_at, passed_view, asked_view, flipped_view, entries_in, exits_in, short_of, role_view}
 use Rattle.k42_board.specs.Log.{Extends, step_at, took}
 use Rattle.k42_board.specs.Noting.{due_note}
 use Rattle.k42_board.specs.Protocol.{take_role}
@@ -82,7 +83,7 @@ module _ {P : Type 0} where
 
   -- a look ahead, a flip, and a look back
   ahead : (p word found : ℕ) (v w : PassView P) → v.turn.grace ≡ Flipping p → w ≡ took steps.Look word found (looked_view found v)
-      → w ≡ took steps.Look word found (record v { turn = record v.turn { coming = Some found } })
+      → w ≡ took steps.Look word found (record v { turn = record v.turn { coming = Some (exits_in found) } })
   ahead p word found v w grace e = e ∙ ap (λ (g : GraceAt). took steps.Look word found (looked_at g found v)) grace
 
   pub goes_ahead : (p word found : ℕ) (v w : PassView P) → v.turn.grace ≡ Flipping p → w ≡ took steps.Look word found (looked_view found v) → GoesOn v w
@@ -121,11 +122,11 @@ module _ {P : Type 0} where
   )
 
   back : (p word found : ℕ) (v w : PassView P) → v.turn.grace ≡ Looking p → w ≡ took steps.Look word found (looked_view found v)
-      → w ≡ took steps.Look word found (if found == slice_index v.turn.waits p then passed_view v else v)
+      → w ≡ took steps.Look word found (if exits_in found == slice_index v.turn.waits p then passed_view v else v)
   back p word found v w grace e = e ∙ ap (λ (g : GraceAt). took steps.Look word found (looked_at g found v)) grace
 
   pub goes_back : (p word found : ℕ) (v w : PassView P) → v.turn.grace ≡ Looking p → w ≡ took steps.Look word found (looked_view found v) → GoesOn v w
-  goes_back p word found v w grace e = subst (GoesOn v) (sym (back p word found v w grace e)) (by_test (found == slice_index v.turn.waits p)) where
+  goes_back p word found v w grace e = subst (GoesOn v) (sym (back p word found v w grace e)) (by_test (exits_in found == slice_index v.turn.waits p)) where
     by_test : (b : Bool) → GoesOn v (took steps.Look word found (cond b (passed_view v) v))
     by_test true = record {
       turn = refl;
@@ -146,40 +147,45 @@ module _ {P : Type 0} where
       frees_none = grows_one (step_at steps.Look word found) v.log refl;
     }
 
-  few_found : (p found : ℕ) (v : PassView P) → v.turn.grace ≡ Looking p → ExitsFound v found → found ≤ slice_index v.turn.waits p
-  few_found p found v grace is = subst (λ (g : GraceAt). found ≤ slice_index v.turn.waits (place_of g)) grace (is.few (ap is_looking grace))
+  few_found : (p found : ℕ) (v : PassView P) → v.turn.grace ≡ Looking p → ExitsFound v found → short_of (slice_index v.turn.waits p) found ≤ CALLERS
+  few_found p found v grace is =
+      subst (λ (g : GraceAt). short_of (slice_index v.turn.waits (place_of g)) found ≤ CALLERS) grace (is.few (ap is_looking grace))
 
   -- after which all have left the processor, or so many have not
-  module _ (p waits word found : ℕ) (v w : PassView P) (grace : v.turn.grace ≡ Looking p) (entered : waits ≡ slice_index v.turn.waits p)
-      (finds : ExitsFound v found) (e : w ≡ took steps.Look word found (looked_view found v)) where
-    pub passes_back : waits - found ≡ 0 → w.turn.grace ≡ after_look p (length v.turn.waits)
+  module _ (p waits exits word found : ℕ) (v w : PassView P) (grace : v.turn.grace ≡ Looking p) (entered : waits ≡ slice_index v.turn.waits p)
+      (small : waits < 2 ^ 32) (read : exits ≡ exits_in found) (e : w ≡ took steps.Look word found (looked_view found v)) where
+    abbrev left_there : ℕ
+    left_there = (waits + (2 ^ 32 - exits)) % 2 ^ 32
+
+    pub passes_back : left_there ≡ 0 → w.turn.grace ≡ after_look p (length v.turn.waits)
     passes_back none =
-        let few = few_found p found v grace finds in
-        let all : found ≡ slice_index v.turn.waits p = omega (arith, few, none, entered) in
+        let all : exits_in found ≡ slice_index v.turn.waits p = omega (arith, small, read, none, entered) in
         ap (λ (x : PassView P). x.turn.grace) (back p word found v w grace e)
-        ∙ ap (λ b. (cond b (passed_view v) v).turn.grace) (eq-eqb found (slice_index v.turn.waits p) all)
+        ∙ ap (λ b. (cond b (passed_view v) v).turn.grace) (eq-eqb (exits_in found) (slice_index v.turn.waits p) all)
         ∙ ap (λ (g : GraceAt). after_look (place_of g) (length v.turn.waits)) grace
 
-    pub left_back : p < length v.turn.waits → word ≡ exits_word p (unwrap_or v.base 0 % 2) → 0 < waits - found → IsLeft p (waits - found) v w
-    left_back there at some =
+    pub left_back : ExitsFound v found → p < length v.turn.waits → word ≡ exits_word p (unwrap_or v.base 0 % 2) → 0 < left_there → IsLeft p left_there v w
+    left_back finds there at some =
         let few = few_found p found v grace finds in
-        let test : (found == slice_index v.turn.waits p) ≡ false = ne_eqb found (slice_index v.turn.waits p) (λ all. omega (arith, all, entered, some)) in
+        let test : (exits_in found == slice_index v.turn.waits p) ≡ false =
+        ne_eqb (exits_in found) (slice_index v.turn.waits p) (λ all. omega (arith, all, read, entered, some)) in
         let is : w ≡ took steps.Look (exits_word p (unwrap_or v.base 0 % 2)) found v =
         back p word found v w grace e ∙ ap (λ b. took steps.Look word found (cond b (passed_view v) v)) test ∙ ap (λ i. took steps.Look i found v) at in
-        subst (IsLeft p (waits - found) v) (sym is)
+        subst (IsLeft p left_there v) (sym is)
         (record {
           at = grace;
           there = there;
           some = some;
           exits = found;
           looked = ends_one (step_at steps.Look (exits_word p (unwrap_or v.base 0 % 2)) found) v.log;
-          short = omega (arith, few, entered);
+          short = omega (arith, small, read, entered);
+          few = omega (arith, few, read, entered);
         })
 
   -- the last look of more steps
   pub left_later : (held : Held) (v w x : PassView P) → Extends v.log w.log → IsLeftOf held w x → IsLeftOf held v x
   left_later (Left p left) v w x goes is =
-      record { at = is.at; there = is.there; some = is.some; exits = is.exits; looked = ends_on goes is.looked; short = is.short }
+      record { at = is.at; there = is.there; some = is.some; exits = is.exits; looked = ends_on goes is.looked; short = is.short; few = is.few }
   left_later (RoleHeld holder) v w x goes is = is
 
   -- the pass is still one of the system

@@ -1,5 +1,6 @@
 -- How far a grace has gone on, for the pass that steps it.
-use Rattle.std.specs.Prelude.{◌≡◌, ℕ, ◌+◌, ◌<◌, ◌%◌, Bool, true, false, List, [], ◌∷◌, Option, Some, None, is_some, length, slice_index, unwrap_or}
+use Rattle.std.specs.Prelude.{◌≡◌, ℕ, ◌+◌, ◌<◌, ◌≤◌, ◌%◌, ◌^◌, Bool, true, false, List, [], ◌∷◌, Option, Some, None, is_some, length, slice_index, unwrap_or}
+use Rattle.k42_limits.specs.declared.TheConstants.{CALLERS}
 use Rattle.gen_core.specs.Events.{is_looking}
 use Rattle.gen_core.specs.declared.state.GraceAt.TheVariants.{Looking}
 use Rattle.phase_core.specs.Effects.{drained_at}
@@ -43,15 +44,16 @@ pub record GoesOn {P : Type 0} (v w : PassView P) : Type 0 where
   pub log : Extends v.log w.log
   pub frees_none : Grows v.log w.log
 
--- The last of its steps looked at the processor's exits of the generation that its grace has ended. It found fewer than
--- the entries that the grace noted there, by so many.
+-- The last of its steps looked at the processor's exits of the generation that its grace has ended. They are fewer than
+-- the entries that the grace noted there, by so many; of both counts it has seen the lower 32 bits.
 pub record IsLeft {P : Type 0} (proc left : ℕ) (v w : PassView P) : Type 0 where
   pub at : w.turn.grace ≡ Looking proc
   pub there : proc < length w.turn.waits
   pub some : 0 < left
   pub exits : ℕ
   pub looked : EndsWith (step_at steps.Look (exits_word proc (unwrap_or w.base 0 % 2)) exits) v.log w.log
-  pub short : exits + left ≡ slice_index w.turn.waits proc
+  pub short : (exits + left) % 2 ^ 32 ≡ slice_index w.turn.waits proc
+  pub few : left ≤ CALLERS
 
 abbrev pub IsLeftOf : {P : Type 0} → Held → PassView P → PassView P → Type 0
 IsLeftOf (Left proc left) v w = IsLeft proc left v w

@@ -8,6 +8,7 @@ ghost use Rattle.k42_quiesce.specs.declared.steps.Held.{Held};
 
 use crate::steps::Held;
 use gen_core::GraceAt;
+use k42_board::exits_in;
 use k42_kinds::Layout;
 use k42_rule::{Pass, Sys, look};
 
@@ -25,7 +26,7 @@ fn look_back<L: Layout>(sys: &Sys<L>, pass: &mut Pass<L>, proc: u32) -> u32
     let base = pass.base().unwrap_or(0);
     let waits = pass.waits(proc);
     let exits = look(sys, pass, proc, base % 2);
-    waits - exits as u32
+    waits.wrapping_sub(exits_in(exits))
 }
 
 /// Looks at one processor after the other, as far as all have left, and answers who is left then.

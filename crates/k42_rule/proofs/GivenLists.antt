@@ -1,8 +1,9 @@
 -- Passes that have given their lists away.
-use Rattle.std.proofs.Common.{◌≡◌, ℕ, zero, suc, List, [], ◌∷◌, Some, map, refl, ap, ◌∙◌, subst}
+use Rattle.std.proofs.Common.{◌≡◌, ℕ, zero, suc, List, [], ◌∷◌, ◌++◌, Some, drop, length, map, take, refl, sym, ap, ◌∙◌, subst}
 use Rattle.std.specs.List.{slice_get}
 use Rattle.std.proofs.lemmas.List.{length-map}
 use Rattle.std.proofs.lemmas.Option.{same_Some}
+use Rattle.std.proofs.Math.Seq.{take-append_seam}
 use Rattle.k42_places.specs.Places.{EachPlace}
 use Rattle.k42_board.specs.Seen.{SysSeen, PassSeen, kept_by}
 use Rattle.k42_board.specs.declared.keep.Keep.TheVariants as keeps
@@ -22,6 +23,15 @@ given_rest {L} {P} sys passes rest = record {
       let is = rest.each c was.0 was.1 in
       subst (IsPassAtRest sys c) was.2 (record { ours = is.ours; number = is.number; rests = is.rests });
 }
+
+-- so are they where they lie
+pub given_at_rest : {L P : Type 0} (sys : SysSeen L) (count : ℕ) (passes given : List (PassSeen P)) → count ≡ length passes → given ≡ with_none_kept passes
+    → AreAtRest sys passes → AreAtRest sys (take count (given ++ drop (length given) passes))
+given_at_rest sys count passes given many is rest =
+    let same : length given ≡ length passes = ap length is ∙ length-map passes _ in
+    let back : take count (given ++ drop (length given) passes) ≡ with_none_kept passes =
+    ap (λ k. take k (given ++ drop (length given) passes)) (many ∙ sym same) ∙ take-append_seam given (drop (length given) passes) ∙ is in
+    subst (AreAtRest sys) (sym back) (given_rest sys passes rest)
 
 pub given_lists : {P : Type 0} (passes : List (PassSeen P)) → lists_in (with_none_kept passes) ≡ lists_in passes
 given_lists [] = refl

@@ -2,6 +2,7 @@
 use Rattle.std.proofs.Common.{◌≡◌, ℕ, suc, ◌≤◌, ◌||◌, ◌&&◌, Bool, true, false, not, cond, eqb, List, [], ◌∷◌, ◌++◌, Option, length, sym, refl, ap, ◌∙◌, subst, arith}
 use Rattle.std.specs.Prelude.{map}
 use Rattle.std.proofs.lemmas.Bool.{eqb-true, lt-ltb}
+use Rattle.k42_limits.specs.declared.TheConstants.{LAST_STAMP}
 use Rattle.k42_kinds.specs.declared.entry.Entry.{Entry}
 use Rattle.k42_places.specs.Places.{EachPlace}
 use Rattle.turn_core.specs.Names.{names}
@@ -11,7 +12,7 @@ use Rattle.k42_board.specs.Drawing.{history_noted, closed_noted, numbers_of, par
 use Rattle.k42_board.specs.Handing.{hands_at}
 use Rattle.k42_board.specs.Log.{took}
 use Rattle.k42_board.specs.Receipts.{IsDue, AreDue, closed_due, last_due}
-use Rattle.k42_board.specs.Seats.{LAST_STAMP, told_by}
+use Rattle.k42_board.specs.Seats.{told_by}
 use Rattle.k42_board.specs.Seen.{IsSeatOf}
 use Rattle.k42_board.specs.Steps.{Seated}
 use Rattle.k42_board.specs.Views.{pass_in}

@@ -1,5 +1,5 @@
 -- A new table shows the new state.
-use Rattle.std.proofs.Common.{◌≡◌, ◌≢◌, ℕ, zero, suc, ◌+◌, ◌*◌, ◌<◌, ◌≤◌, Bool, true, false, eqb, ◌&&◌, List, [], ◌∷◌, Some, None, map, length, replicate, sym, refl, ap, ◌∙◌, subst, arith}
+use Rattle.std.proofs.Common.{◌≡◌, ◌≢◌, ℕ, zero, suc, ◌+◌, ◌*◌, ◌%◌, ◌^◌, ◌<◌, ◌≤◌, false, List, [], ◌∷◌, Some, None, map, length, replicate, sym, refl, ap, ◌∙◌, subst, arith}
 use Rattle.std.specs.List.{slice_get, slice_index}
 use Rattle.std.specs.Prelude.{option_map}
 use Rattle.std.proofs.lemmas.List.{length-map, length-replicate, get_or-replicate}
@@ -11,8 +11,6 @@ use Rattle.atomic_table.specs.Table.{opening}
 use Rattle.atomic_table.proofs.Lists.{at_map}
 use Rattle.k42_places.specs.Places.{EachPlace}
 use Rattle.k42_places.proofs.EachPlaces.{EachPlace-map}
-use Rattle.k42_places.proofs.Counts.{count_by_none}
-use Rattle.gen_core.specs.Consequences.{entries_so_far, exits_so_far, is_active_on}
 use Rattle.gen_core.specs.State.{fresh_proc, fresh_caller}
 use Rattle.gen_core.specs.declared.state.GenProc.{GenProc}
 use Rattle.phase_core.specs.State.{new_object, new_visitor, empty_entry}
@@ -29,7 +27,7 @@ use Rattle.k42_joined.specs.Plain.{Joined}
 use Rattle.k42_joined.specs.State.{nothing_kept, many_procs}
 use Rattle.k42_joined.proofs.Fresh.{fresh_sound}
 use Rattle.k42_board.specs.Cells.{Slot, IsCell, IsCellShown}
-use Rattle.k42_board.specs.Generations.{AreFew, AreGenerations, IsProcessorShown}
+use Rattle.k42_board.specs.Generations.{AreFew, AreGenerations, IsProcessorShown, in_words}
 use Rattle.k42_board.specs.Phases.{AreObjects, IsObjectShown}
 use Rattle.k42_board.specs.Rule.{Beside, KnowsPass, Knows, Shows, Ruled}
 use Rattle.k42_rule.specs.Opened.{IsOpened}
@@ -56,9 +54,13 @@ there_is [] i lt = absurd (omega arith)
 there_is (x ∷ xs) zero lt = (x, refl)
 there_is (x ∷ xs) (suc i) lt = there_is xs i (omega arith)
 
-and_false : (b : Bool) → (b && false) ≡ false
-and_false true = refl
-and_false false = refl
+-- words tell all of a caller that waits for nothing
+zeros_in_words : (n : ℕ) → map (λ entries. entries % 2 ^ 32) (replicate n 0) ≡ replicate n 0
+zeros_in_words zero = refl
+zeros_in_words (suc n) = ap (λ ws. 0 ∷ ws) (zeros_in_words n)
+
+pub fresh_in_words : (procs home : ℕ) → in_words (fresh_caller procs home) ≡ fresh_caller procs home
+fresh_in_words procs home = ap (λ ws. record (fresh_caller procs home) { waits = ws }) (zeros_in_words procs)
 
 spans_none : {span : ℕ × ℕ} → span ≡ (0, 0) → span.0 < span.1 → ⊥
 spans_none is less = let a = ap (λ (z : ℕ × ℕ). z.0) is in let b = ap (λ (z : ℕ × ℕ). z.1) is in omega (arith, a, b, less)
@@ -83,7 +85,7 @@ module _ {S L P : Type 0} (F : Layouts S L P) (laws : AreLaws F) (declared : Lis
   beside = record {
     seat = λ c. 0;
     row_seat = λ row. 0;
-    counts = record { activities = replicate (length callers) 0; graces = replicate (length callers) 0 };
+    counts = record { graces = replicate (length callers) 0 };
     contents = record { part = λ n. None; out = λ n. false };
   }
 
@@ -102,14 +104,6 @@ module _ {S L P : Type 0} (F : Layouts S L P) (laws : AreLaws F) (declared : Lis
     few = λ c n e. let is = (replicated (length callers) c 0 n e).1 in omega (arith, is);
   }
 
-  no_entries : (p : ℕ) → entries_so_far s.phases.turns p ≡ 0
-  no_entries p =
-      let idle = ap exits_so_far (same_everywhere F.procs p fresh_proc) in
-      let inactive =
-      count_by_none (is_active_on p) s.phases.turns.callers
-      (EachPlace-map (λ c x. is_active_on p x ≡ false) (fresh_caller F.procs) callers (λ c home e. and_false (eqb home p))) in
-      omega (arith, idle, inactive)
-
   generations : AreGenerations words s.phases.turns beside.counts
   generations = record {
     procs = λ p k e.
@@ -122,14 +116,10 @@ module _ {S L P : Type 0} (F : Layouts S L P) (laws : AreLaws F) (declared : Lis
           odd = blank (exits_word p 1) (λ o small h. omega (arith, less));
         });
     role = blank role_word (λ o small h. omega arith);
-    activities = begun_none;
     graces = begun_none;
     begun = λ p k e.
         let is = (replicated F.procs p fresh_proc k e).1 in
-        record {
-          entered = let none = no_entries p in omega (arith, none);
-          flipped = let same = ap (λ (z : GenProc). z.generation) is in omega (arith, same);
-        };
+        record { flipped = let same = ap (λ (z : GenProc). z.generation) is in omega (arith, same) };
   }
 
   objects : AreObjects words s.phases.objects
@@ -191,8 +181,9 @@ module _ {S L P : Type 0} (F : Layouts S L P) (laws : AreLaws F) (declared : Lis
     seat = refl;
     names = record { named = λ place row is. absurd (cc); once = λ i j row is. absurd (cc) };
     generations = record {
-      turn = get_or_from_slice_get s.phases.turns.callers c (fresh_caller F.procs home) _ (slice_get-map (fresh_caller F.procs) callers c ∙ ap (option_map (fresh_caller F.procs)) e);
-      activities = same_everywhere (length callers) c 0;
+      turn =
+          ap in_words (get_or_from_slice_get s.phases.turns.callers c (fresh_caller F.procs home) _ (slice_get-map (fresh_caller F.procs) callers c ∙ ap (option_map (fresh_caller F.procs)) e))
+          ∙ fresh_in_words F.procs home;
       graces = same_everywhere (length callers) c 0;
       base = λ b is. absurd (cc);
     };

@@ -1,6 +1,9 @@
 //! The steps that draw entries.
-ghost use Rattle.std.specs.Prelude.{◌≡◌, ℕ, [], ◌∷◌};
-ghost use Rattle.k42_board.specs.Drawing.{AgreeOn, MayDrawAlone, MayDrawMark, MayDrawAs, IsDrawer, IsTold, AreTold, entry_alone, entry_mark, entry_call, numbers_of, number_told, stamp_next};
+ghost use Rattle.std.specs.Prelude.{◌≡◌, ℕ, ◌≤◌, true, List, [], ◌∷◌};
+ghost use Rattle.k42_limits.specs.declared.TheConstants.{LAST_STAMP};
+ghost use Rattle.k42_kinds.specs.Histories.{is_call};
+ghost use Rattle.k42_joined.specs.Drawing.{first_cell};
+ghost use Rattle.k42_board.specs.Drawing.{AgreeOn, MayDrawAlone, MayDrawMark, MayDrawAs, IsDrawer, IsTold, AreTold, entry_alone, entry_mark, entry_call, last_noted, numbers_of, number_told, stamp_next};
 ghost use Rattle.k42_board.specs.Protocol as protocol;
 ghost use Rattle.k42_board.specs.Seen.{HasRoom, IsOf};
 ghost use Rattle.k42_board.specs.Stepping.{HasDrawn, TakesIn, layouts_in};
@@ -93,6 +96,28 @@ pub fn draw_mark<L: Layout>(
     stamp
 }
 
+/// The entry of a call, at cells of which this is the first, and this the greatest last stamp.
+#[inline(always)]
+fn call_entry<L: Layout>(pass: &Pass<L>, last: u64, cell: u32, act: Act, answer: Answer) -> Entry
+    requires last { last ≤ LAST_STAMP }
+    requires call { is_call act ≡ true }
+    ensures { (cells : List ℕ) → last ≡ last_noted pass.now.view.notes cells → cell ≡ first_cell cells
+        → result ≡ entry_call pass.now.view cells act answer }
+{
+    Entry {
+        stamp: stamp_after(pass.drew_last, last),
+        caller: pass.number,
+        index: pass.drawn,
+        object: object_in(&pass.place),
+        incarnation: row_in(&pass.place),
+        cell,
+        act,
+        answer,
+        proc: pass.home,
+        generation: pass.active,
+    }
+}
+
 /// Draws a call at cells that stand side by side.
 #[inline(always)]
 fn draw_at<L: Layout>(
@@ -110,19 +135,8 @@ fn draw_at<L: Layout>(
     ensures drawn { HasDrawn L.Layout sys.now (protocol.draw_call cells.old (entry_call pass.old.view (numbers_of cells.old) act answer)) (numbers_of cells.old) pass.old pass.new }
     ensures told { AreTold pass.new.view.notes cells.old cells.new }
 {
-    let stamp = stamp_after(pass.drew_last, last_at(cells));
-    let entry = Entry {
-        stamp,
-        caller: pass.number,
-        index: pass.drawn,
-        object: object_in(&pass.place),
-        incarnation: row_in(&pass.place),
-        cell: first_of(cells),
-        act,
-        answer,
-        proc: pass.home,
-        generation: pass.active,
-    };
+    let entry = call_entry::<L>(pass, last_at(cells), first_of(cells), act, answer);
+    let stamp = entry.stamp;
     call_word::<L, Brand>(&sys.board, &mut pass.seat, cells, &entry);
     tell_all(&sys.board, &mut pass.seat, cells, 0, false, stamp);
     pass.drawn += 1;
@@ -147,19 +161,8 @@ pub fn draw_one<L: Layout>(
     ensures drawn { HasDrawn L.Layout sys.now (protocol.draw_call (cell.old ∷ []) (entry_call pass.old.view (cell.old.number ∷ []) act answer)) (cell.old.number ∷ []) pass.old pass.new }
     ensures told { IsTold pass.new.view.notes cell.old cell.new }
 {
-    let stamp = stamp_after(pass.drew_last, cell.last_stamp());
-    let entry = Entry {
-        stamp,
-        caller: pass.number,
-        index: pass.drawn,
-        object: object_in(&pass.place),
-        incarnation: row_in(&pass.place),
-        cell: cell.number(),
-        act,
-        answer,
-        proc: pass.home,
-        generation: pass.active,
-    };
+    let entry = call_entry::<L>(pass, cell.last_stamp(), cell.number(), act, answer);
+    let stamp = entry.stamp;
     one_word::<L, Brand>(&sys.board, &mut pass.seat, cell, &entry);
     let closed = cell.is_closed();
     tell_cell(&sys.board, &mut pass.seat, cell, closed, stamp);

@@ -16,7 +16,6 @@ pub fn enter_step<L: Layout>(sys: &Sys<L>, pass: &mut Pass<L>) -> u64
     let home = pass.home as usize;
     let found = enter_word(&sys.board, &mut pass.seat, home);
     pass.active = Some(generation_in(found));
-    pass.activities += 1;
     found
 }
 

@@ -11,8 +11,8 @@ use crate::pass::Pass;
 use crate::sys::Sys;
 use gen_core::GraceAt;
 use k42_board::{
-    entries_in, flip_swap, generation_in, generation_load, generation_with, give_role_store,
-    look_word, take_role_word,
+    entries_in, exits_in, flip_swap, generation_in, generation_load, generation_with,
+    give_role_store, look_word, take_role_word,
 };
 use k42_kinds::Layout;
 use phase_core::SwapAt;
@@ -62,11 +62,11 @@ fn drained(grace: GraceAt, swap: SwapAt) -> SwapAt
 }
 
 /// The word of a processor in its next generation, with so many entries.
-fn word_flipped(base: Option<u32>, coming: Option<u64>) -> u64
-    requires { (unwrap_or base 0 + 1 < 2 ^ 32) × (unwrap_or coming 0 < 2 ^ 32) }
-    ensures { result ≡ (unwrap_or base 0 + 1) * 2 ^ 32 + unwrap_or coming 0 }
+fn word_flipped(base: Option<u32>, coming: Option<u32>) -> u64
+    requires { unwrap_or base 0 + 1 < 2 ^ 32 }
+    ensures { result ≡ unwrap_or base 0 + 1 + 2 ^ 32 * unwrap_or coming 0 }
 {
-    generation_with(u64::from(base.unwrap_or(0)) + 1, coming.unwrap_or(0))
+    generation_with(base.unwrap_or(0) + 1, coming.unwrap_or(0))
 }
 
 /// Takes the role where nobody has it, and notes then what its grace may free.
@@ -109,9 +109,9 @@ pub fn look<L: Layout>(sys: &Sys<L>, pass: &mut Pass<L>, proc: u32, parity: u32)
 {
     let found = look_word(&sys.board, &mut pass.seat, proc as usize, parity as usize);
     match pass.grace {
-        GraceAt::Flipping(_) => pass.coming = Some(found),
+        GraceAt::Flipping(_) => pass.coming = Some(exits_in(found)),
         GraceAt::Looking(at) => {
-            if found == u64::from(pass.waits[at as usize]) {
+            if exits_in(found) == pass.waits[at as usize] {
                 pass.grace = after_look(at, pass.waits.len());
                 pass.swap = drained(pass.grace, pass.swap);
             }

@@ -31,18 +31,17 @@ pub struct Walker<P: Drop> {
     pub(crate) home: u32,
     pub(crate) active: Option<u32>,
     pub(crate) grace: GraceAt,
-    pub(crate) coming: Option<u64>,
+    pub(crate) coming: Option<u32>,
     pub(crate) waits: Vec<u32>,
     pub(crate) place: Place,
     pub(crate) noted: Vec<Option<u32>>,
     pub(crate) freeing: Vec<(u32, u32)>,
     pub(crate) swap: SwapAt,
     /// How many entries it has drawn, and the stamp of the last.
-    pub(crate) drawn: u32,
+    pub(crate) drawn: u64,
     pub(crate) drew_last: u64,
     pub(crate) keep: Keep,
     pub(crate) kept: Vec<Entry>,
-    pub(crate) activities: u32,
     pub(crate) graces: u32,
     pub(crate) base: Option<u32>,
     pub(crate) last: Option<LastBegin>,
@@ -60,11 +59,10 @@ pub type Pass<L> = Walker<<L as Layout>::Part>;
 impl<P: Drop> Model for Walker<P> {
     ghost use Rattle.std.specs.Prelude.{ℕ, ◌+◌, ◌-◌, ◌^◌, ◌≡◌, ◌<◌, ◌≤◌, None, length, vec_capacity};
     ghost use Rattle.std.specs.Option.{unwrap_or};
-    ghost use Rattle.k42_limits.specs.declared.TheConstants.{LAST_INCARNATION};
+    ghost use Rattle.k42_limits.specs.declared.TheConstants.{LAST_INCARNATION, LAST_STAMP};
     ghost use Rattle.phase_core.specs.Stages.{object_of, row_of, object_named};
     ghost use Rattle.k42_board.specs.Gracing.{FitsGrace};
     ghost use Rattle.k42_board.specs.Queueing.{IsTied};
-    ghost use Rattle.k42_board.specs.Seats.{LAST_STAMP};
     ghost use Rattle.k42_board.specs.Seen.{PassSeen, Mirrors, kept_by};
     ghost use Rattle.k42_board.specs.Swapping.{next_entry, FitsSwap};
     ghost use Rattle.k42_board.specs.Values.{layout_in, incarnation_in};
@@ -93,7 +91,6 @@ impl<P: Drop> Model for Walker<P> {
       swap = p.swap;
       drawn = p.drawn;
       drew_last = p.drew_last;
-      activities = p.activities;
       graces = p.graces;
       base = p.base;
       last = p.last;
@@ -107,7 +104,7 @@ impl<P: Drop> Model for Walker<P> {
         × (incarnation_in (word_begun p.last) ≤ LAST_INCARNATION) × (layout_in (word_begun p.last) ≤ 2)
         × (row_of p.place ≤ LAST_INCARNATION)
         × (p.granted ≤ length p.rows.items)
-        × FitsGrace p.grace p.base (length p.waits.items) × (unwrap_or p.base 0 + 1 < 2 ^ 32) × (unwrap_or p.coming 0 < 2 ^ 32)
+        × FitsGrace p.grace p.base (length p.waits.items) × (unwrap_or p.base 0 + 1 < 2 ^ 32)
         × (p.kept.items ≡ kept_by p.keep (pass_in p.seat.me.0).taker.mine)
         × (p.drew_last ≤ LAST_STAMP)
         × FitsSwap p.swap p.turned p.handed p.last
@@ -167,14 +164,14 @@ impl<P: Drop> Walker<P> {
     }
 
     /// What it has learned of the exits to come on the processor that its grace flips next.
-    pub fn coming(&self) -> Option<u64>
+    pub fn coming(&self) -> Option<u32>
         ensures { result ≡ self.now.view.turn.coming }
     {
         self.coming
     }
 
     /// How many entries it has drawn.
-    pub fn drawn(&self) -> u32
+    pub fn drawn(&self) -> u64
         ensures { result ≡ length self.now.view.taker.mine }
     {
         self.drawn
@@ -202,13 +199,6 @@ impl<P: Drop> Walker<P> {
     {
         self.keep = Keep::Nothing;
         replace(&mut self.kept, Vec::new(alloc))
-    }
-
-    /// How many activities it has begun.
-    pub fn activities(&self) -> u32
-        ensures { result ≡ self.now.view.activities }
-    {
-        self.activities
     }
 
     /// How many graces it has begun.

@@ -61,7 +61,6 @@ fn deal<L: Layout>(
         drew_last: 0,
         keep,
         kept: Vec::new(alloc),
-        activities: 0,
         graces: 0,
         base: None,
         last: None,

@@ -25,7 +25,7 @@ use Rattle.k42_joined.specs.Numbers.{cell_of, row_cells}
 use Rattle.k42_joined.specs.Rows.{cells_reached}
 use Rattle.k42_board.specs.Cells.{cells_noted}
 use Rattle.k42_board.specs.Drawing.{IsHeld, AreHeld, IsTold, AreTold, HaveParts, IsStepped, MayDrawCall, numbers_of, part_noted, part_in, part_due, parts_due, entry_call, drawn_at}
-use Rattle.k42_board.specs.Generations.{MOST}
+use Rattle.k42_limits.specs.declared.TheConstants.{PASS_ENTRIES}
 use Rattle.k42_board.specs.Phases.{is_served}
 use Rattle.k42_board.specs.Taking.{CELLS, IsRowNoted}
 use Rattle.k42_board.specs.Log.{step_at, took, with_log}
@@ -283,7 +283,7 @@ module _ {S L P : Type 0} (F : Layouts S L P) (laws : AreLaws F) (declared : Lis
           subst (λ ps. (reply ≡ ways.row_reply ps op) × HaveParts (ways.row_after ps op) news) are
           (made'.0, subst (HaveParts (ways.row_after parts op)) (sym made'.1) (filled_parts (ways.row_after parts op) cells))
 
-    pub may_draw : length v.taker.mine < MOST → MayDrawCall F declared news op reply v
+    pub may_draw : length v.taker.mine < PASS_ENTRIES → MayDrawCall F declared news op reply v
     may_draw few = record {
       object = o;
       row = i;

@@ -86,6 +86,7 @@ module _ {S L P : Type 0} (F : Layouts S L P) (declared : List L) (old mid : Pas
       served_by (steps.Ended reply) told makes = served_drawn reply told makes
       served_by (steps.Again cause) told makes = absurd makes
       served_by steps.Memory told makes = served_nothing makes
+      served_by steps.Worn told makes = makes
 
 module _ {P : Type 0} where
   pub extends_finished : (tracked : Bool) (v w : PassView P)
@@ -240,6 +241,7 @@ module _ {P : Type 0} (object : ℕ) (op : Op) (p0 p1 : PassView P) (goes : Goes
         }
     tried_inside (steps.Again causes.Blocked) is = absurd is
     tried_inside (steps.Again (causes.Elsewhere word)) is = absurd is
+    tried_inside steps.Worn is = absurd is
     tried_inside steps.Memory is =
         let knows = still is.knows in
         record {

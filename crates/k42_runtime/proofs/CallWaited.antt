@@ -10,7 +10,7 @@ use Rattle.k42_kinds.specs.declared.operation.Reply.{Reply}
 use Rattle.turn_core.specs.Stamps.{last_stamp}
 use Rattle.k42_board.specs.Seen.{Own, PassSeen}
 use Rattle.k42_board.specs.declared.view.PassView.{PassView}
-use Rattle.k42_runtime.specs.Calls.{CallSeen, IsAsked, HasCalled, HasNotCalled}
+use Rattle.k42_runtime.specs.Calls.{CallSeen, IsAsked, IsWorn, HasCalled, HasNotCalled}
 use Rattle.k42_runtime.specs.Serving.{IsAskedOf, IsSameSeat}
 use Rattle.k42_runtime.specs.Systems.{SystemSeen, IsPlanned, IsPassHere, IsAtWork, KeepsElse, layout_of, SystemPass}
 
@@ -30,6 +30,7 @@ pub record IsCalling (system : SystemSeen) (object : ℕ) (op : Op) (first now :
   pub works : IsAtWork now.view
   pub since : HasNotCalled first.view now.view
   pub seat : IsSameSeat first now
+  pub kept : IsWorn first.view → now ≡ first
 
 module _ {P : Type 0} where
   pub same_seat : (pass : PassSeen P) → IsSameSeat pass pass

@@ -1,5 +1,5 @@
 -- A swap that has tried to begin.
-use Rattle.std.proofs.Common.{◌≡◌, ℕ, ◌+◌, ◌≤◌, List, ◌∷◌, None, refl, sym, ap, ◌∙◌, subst, arith}
+use Rattle.std.proofs.Common.{◌≡◌, ◌↔◌, ℕ, ◌+◌, ◌≤◌, Bool, true, false, List, ◌∷◌, None, refl, sym, ap, ◌∙◌, subst, arith}
 use Rattle.k42_kinds.specs.declared.entry.Act.TheVariants.{Swap}
 use Rattle.k42_kinds.specs.declared.entry.Answer.TheVariants as answers
 use Rattle.k42_stamp.specs.Layouts.{Layouts}
@@ -17,12 +17,16 @@ use Rattle.k42_mediator.specs.declared.answers.Begun.{Begun}
 use Rattle.k42_mediator.specs.declared.answers.Begun.TheVariants as begins
 use Rattle.k42_mediator.specs.declared.answers.Phase.{Phase}
 use Rattle.k42_runtime.specs.Phases.{HasGoneOn}
-use Rattle.k42_runtime.specs.Swaps.{SwapSeen, IsSameCaller, HasSwapped, IsEndTo, IsEndBy, graces_due}
+use Rattle.k42_runtime.specs.Swaps.{SwapSeen, IsSameCaller, IsWornOut, HasSwapped, IsEndTo, IsEndBy, graces_due}
 use Rattle.k42_runtime.specs.declared.swaps.Stage.TheVariants.{New, Waiting, Marking}
 use Rattle.k42_runtime.specs.declared.swaps.Swapped.TheVariants as ends
 use Rattle.k42_kinds.specs.declared.entry.To.{To}
 use Rattle.k42_runtime.proofs.SwapEnds.{refused}
 use Rattle.k42_runtime.proofs.SwapSteps.{swapped_before}
+
+-- what a test has found not to be so
+pub is_not : {A : Type 0} (test : Bool) → test ≡ false → (test ≡ true) ↔ A → A → ⊥
+is_not test failed so a = let held = so.1 a in cc
 
 -- a pass whose swap was refused
 pub record IsRefused {P : Type 0} (o number : ℕ) (to : To) (old new : PassSeen P) : Type 0 where
@@ -43,7 +47,6 @@ module _ {S L P : Type 0} (F : Layouts S L P) (declared : List L) (o : ℕ) (old
   begun_caller = record {
     number = ap (λ (u : PassView P). u.number) since;
     proc = ap (λ (u : PassView P). u.turn.proc) since;
-    activities = ap (λ (u : PassView P). u.activities) since;
   }
 
   begun_seat : new.seat ≡ old.seat
@@ -64,8 +67,8 @@ module _ {S L P : Type 0} (F : Layouts S L P) (declared : List L) (o : ℕ) (old
       (extends_one (step_at names.Begin (object_word o) (word_begun new.view.last)) old.view.log refl)) tries.log
 
   -- the object is over
-  pub marks_on : (s m : SwapSeen) → s.stage ≡ New → m.stage ≡ Marking → m.object ≡ s.object → m.to ≡ s.to → HasGoneOn s m old new
-  marks_on s m first next object to = record {
+  pub marks_on : (s m : SwapSeen) → (IsWornOut old.view → ⊥) → s.stage ≡ New → m.stage ≡ Marking → m.object ≡ s.object → m.to ≡ s.to → HasGoneOn s m old new
+  marks_on s m fresh first next object to = record {
     object = object;
     to = to;
     seat = begun_seat;
@@ -77,19 +80,19 @@ module _ {S L P : Type 0} (F : Layouts S L P) (declared : List L) (o : ℕ) (old
         subst (λ (x : ℕ × ℕ). new.view.graces + x.0 ≤ old.view.graces + x.1)
         (λ j. (graces_due (sym next j) m.holder, graces_due (sym first j) s.holder)) (omega (arith, n));
     waits = λ e. absurd (let never = sym next ∙ e in cc);
+    worn = λ e w. absurd (fresh w);
   }
 
   -- it has begun, and leads all entries to the mediator
-  pub waits_on : (s m : SwapSeen) (led : PassSeen P) → s.stage ≡ New → m.stage ≡ Waiting → m.holder ≡ None → m.object ≡ s.object → m.to ≡ s.to
+  pub waits_on : (s m : SwapSeen) (led : PassSeen P) → (IsWornOut old.view → ⊥) → s.stage ≡ New → m.stage ≡ Waiting → m.holder ≡ None → m.object ≡ s.object → m.to ≡ s.to
       → IsSamePass new led → ComesTo new.view (interposed_view new.view) led.view → HasGoneOn s m old led
-  waits_on s m led first next none object to next_same leads = record {
+  waits_on s m led fresh first next none object to next_same leads = record {
     object = object;
     to = to;
     seat = next_same.seat ∙ begun_seat;
     caller = record {
       number = ap (λ (u : PassView P). u.number) leads.knows ∙ begun_caller.number;
       proc = ap (λ (u : PassView P). u.turn.proc) leads.knows ∙ begun_caller.proc;
-      activities = ap (λ (u : PassView P). u.activities) leads.knows ∙ begun_caller.activities;
     };
     drawn = ap (λ (u : PassView P). u.taker.mine) leads.knows ∙ begun_drawn;
     log = extends_on begun_log leads.log;
@@ -98,6 +101,7 @@ module _ {S L P : Type 0} (F : Layouts S L P) (declared : List L) (o : ℕ) (old
         subst (λ (x : ℕ × ℕ). led.view.graces + x.0 ≤ old.view.graces + x.1)
         (λ j. (graces_due (sym next j) (sym none j), graces_due (sym first j) s.holder)) (omega (arith, n));
     waits = λ e. absurd (let never = sym next ∙ e in cc);
+    worn = λ e w. absurd (fresh w);
   }
 
   -- another swap is under way
@@ -110,7 +114,6 @@ module _ {S L P : Type 0} (F : Layouts S L P) (declared : List L) (o : ℕ) (old
       caller = record {
         number = ap (λ (u : PassView P). u.number) is ∙ begun_caller.number;
         proc = ap (λ (u : PassView P). u.turn.proc) is ∙ begun_caller.proc;
-        activities = ap (λ (u : PassView P). u.activities) is ∙ begun_caller.activities;
       };
       graces = ap (λ (u : PassView P). u.graces) is ∙ begun_graces;
       log =

@@ -210,7 +210,6 @@ module _ {P : Type 0} (act : Act) (old new : PassSeen P) (has : HasMarked act ol
   marked_caller = record {
     number = ap (λ (u : PassView _). u.number) has.comes.knows;
     proc = ap (λ (u : PassView _). u.turn.proc) has.comes.knows;
-    activities = ap (λ (u : PassView _). u.activities) has.comes.knows;
   }
 
   pub marked_graces : new.view.graces ≡ old.view.graces
@@ -221,7 +220,6 @@ module _ {P : Type 0} (act : Act) (v w x : PassView P) (kept : w ≡ with_log w.
   abandoned_caller = record {
     number = ap (λ (u : PassView _). u.number) knows ∙ ap (λ (u : PassView _). u.number) kept;
     proc = ap (λ (u : PassView _). u.turn.proc) knows ∙ ap (λ (u : PassView _). u.turn.proc) kept;
-    activities = ap (λ (u : PassView _). u.activities) knows ∙ ap (λ (u : PassView _). u.activities) kept;
   }
 
   pub abandoned_graces : x.graces ≡ v.graces

@@ -8,7 +8,7 @@ use Rattle.phase_core.specs.Plain.{Visitor}
 use Rattle.phase_core.specs.declared.caller.SwapAt.{SwapAt}
 use Rattle.phase_core.specs.declared.caller.SwapAt.TheVariants.{Draining}
 use Rattle.turn_core.specs.Plain as turns
-use Rattle.k42_board.specs.Generations.{MOST}
+use Rattle.k42_limits.specs.declared.TheConstants.{PASS_ENTRIES}
 use Rattle.k42_board.specs.Gracing.{RoleFound, role_view}
 use Rattle.k42_board.specs.Log.{took}
 use Rattle.k42_board.specs.Seen.{PassSeen, IsSamePass, room_due}
@@ -59,7 +59,6 @@ module _ {P : Type 0} (object : ℕ) where
     caller = record {
       number = ap (λ (x : PassView P). x.number) goes.rest;
       proc = ap (λ (t : Caller). t.proc) goes.turn;
-      activities = ap (λ (x : PassView P). x.activities) goes.rest;
     };
     taker = ap (λ (x : PassView P). x.taker) goes.rest;
     last = ap (λ (x : PassView P). x.last) goes.rest;
@@ -73,7 +72,6 @@ module _ {P : Type 0} (object : ℕ) where
     caller = record {
       number = ap (λ (x : PassView P). x.number) goes.rest;
       proc = ap (λ (t : Caller). t.proc) goes.turn;
-      activities = ap (λ (x : PassView P). x.activities) goes.rest;
     };
     taker = ap (λ (x : PassView P). x.taker) goes.rest;
     last = ap (λ (x : PassView P). x.last) goes.rest;
@@ -109,7 +107,7 @@ module _ {P : Type 0} (objects : ℕ) (s t : SwapSeen) (old new : PassSeen P) (s
           there = subst (λ o. o < objects) (sym object) way.there;
           entry = subst (λ (z : Keep × ℕ). room_due z.0 ≤ z.1) (λ j. (sym same.keep j, sym same.room j)) way.entry;
           row = subst (λ n. 0 < n) (sym same.row_room) way.row;
-          few = subst (λ (x : turns.Caller). length x.mine < MOST) (sym taker) way.few;
+          few = subst (λ (x : turns.Caller). length x.mine < PASS_ENTRIES) (sym taker) way.few;
         },
         ap (λ last. begun_in (word_begun last)) last ∙ free,
         is,
@@ -163,7 +161,6 @@ module _ {P : Type 0} (objects : ℕ) (s t : SwapSeen) (old new : PassSeen P) (s
         caller = record {
           number = ap (λ (v : PassView P). v.number) knows;
           proc = ap (λ (v : PassView P). v.turn.proc) knows;
-          activities = ap (λ (v : PassView P). v.activities) knows;
         };
         graces = counted None None is.1 is.2 (let n = ap (λ (v : PassView P). v.graces) knows in omega (arith, n));
         taker = ap (λ (v : PassView P). v.taker) knows;

@@ -66,11 +66,12 @@ moves_on {P} s old new found shut same knows answer counted = record {
   object = refl;
   to = refl;
   seat = same.seat;
-  caller = record { number = stays (λ u. u.number) refl refl; proc = stays (λ u. u.turn.proc) refl refl; activities = stays (λ u. u.activities) refl refl };
+  caller = record { number = stays (λ u. u.number) refl refl; proc = stays (λ u. u.turn.proc) refl refl };
   drawn = stays (λ u. u.taker.mine) refl refl;
   log = extends_as (stays_log ∙ ap (λ log. step ∷ log) (at_log (eqb found (blocked_word old.view)))) (extends_one step old.view.log met);
   graces = let n = stays (λ u. u.graces) refl refl in omega (arith, n);
   waits = λ e. absurd (let never = sym shut ∙ e in cc);
+  worn = λ e w. absurd (let never = sym shut ∙ e in cc);
 } where
   step : Taken
   step = step_at names.Move (object_word (object_swapped old.view)) found

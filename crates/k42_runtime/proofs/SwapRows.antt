@@ -1,5 +1,5 @@
 -- A swap that has ended, between the collecting of rows and their handing over.
-use Rattle.std.proofs.Common.{◌≡◌, ⊎_elim, inl, inr, ℕ, ◌+◌, ◌≤◌, ◌<◌, List, ◌++◌, Result, Ok, Err, length, sym, ap, ◌∙◌, subst}
+use Rattle.std.proofs.Common.{◌≡◌, ⊎_elim, inl, inr, ◌↔◌, ℕ, ◌+◌, ◌≤◌, ◌<◌, List, ◌++◌, Result, Ok, Err, length, sym, ap, ◌∙◌, subst}
 use Rattle.phase_core.specs.Stages.{is_out}
 use Rattle.k42_board.proofs.Gained.{follows_as, follows_same}
 use Rattle.k42_board.specs.Log.{Follows}
@@ -8,8 +8,9 @@ use Rattle.k42_board.specs.Views.{word_begun}
 use Rattle.k42_board.specs.declared.view.PassView.{PassView}
 use Rattle.k42_board.specs.declared.view.Row.{Row}
 use Rattle.k42_quiesce.specs.Collecting.{HasCollected, HasHandedOver}
-use Rattle.k42_runtime.specs.Swaps.{IsSameCaller, IsEndBy, HasSwapped, HasNotBegun, HasAbandoned, HasEnded, EndsWithoutMemory}
+use Rattle.k42_runtime.specs.Swaps.{IsSameCaller, IsEndBy, IsWornOut, HasSwapped, HasNotBegun, HasAbandoned, HasEnded, EndsWithoutMemory}
 use Rattle.k42_runtime.specs.Systems.{SystemSeen, IsPassHere, IsAtRest, SystemPart, SystemPass}
+use Rattle.k42_runtime.specs.declared.swaps.NoSwap.{NoSwap}
 use Rattle.k42_runtime.specs.declared.swaps.Swapped.{Swapped}
 use Rattle.k42_kinds.specs.declared.entry.To.{To}
 use Rattle.k42_runtime.proofs.SwapSteps.{same_caller, swapped_before, abandoned_before}
@@ -50,7 +51,6 @@ module _ {P : Type 0} (p0 p1 p2 p3 : PassSeen P) (first : HasRows p0 p1) (last :
   collected_caller = record {
     number = ap (λ (v : PassView P). v.number) first.knows;
     proc = ap (λ (v : PassView P). v.turn.proc) first.knows;
-    activities = ap (λ (v : PassView P). v.activities) first.knows;
   }
 
   collected_drawn : p1.view.taker.mine ≡ p0.view.taker.mine
@@ -60,7 +60,6 @@ module _ {P : Type 0} (p0 p1 p2 p3 : PassSeen P) (first : HasRows p0 p1) (last :
   still_caller same = same_caller p0.view p1.view p3.view collected_caller (record {
     number = ap (λ (v : PassView P). v.number) last.knows ∙ same.number;
     proc = ap (λ (v : PassView P). v.turn.proc) last.knows ∙ same.proc;
-    activities = ap (λ (v : PassView P). v.activities) last.knows ∙ same.activities;
   })
 
   pub still_rests : IsAtRest p2.view → IsAtRest p3.view
@@ -80,18 +79,25 @@ module _ {P : Type 0} (p0 p1 p2 p3 : PassSeen P) (first : HasRows p0 p1) (last :
   collected_log : Follows p0.view.log p1.view.log
   collected_log = follows_as (ap (λ (v : PassView P). v.log) first.knows) (follows_same p0.view.log)
 
+  pub still_worn : {A : Type 0} → A ↔ IsWornOut p1.view → A ↔ IsWornOut p0.view
+  still_worn {A} is = subst (λ (v : PassView P). A ↔ IsWornOut v) first.knows is
+
+  pub still_unbegun : HasNotBegun p1.view p2.view → HasNotBegun p0.view p3.view
+  still_unbegun is =
+      not_begun p0.view p3.view last.rows last.granted
+      (last.knows ∙ ap (λ (v : PassView P). record v { rows = last.rows; granted = last.granted }) is
+      ∙ ap (λ (v : PassView P). record v { rows = last.rows; granted = last.granted }) first.knows)
+
   pub still_without : (object : ℕ) (to : To) → EndsWithoutMemory object to p1.view p2.view → EndsWithoutMemory object to p0.view p3.view
   still_without object to =
       ⊎_elim
-      (λ (is : HasNotBegun p1.view p2.view). inl (not_begun p0.view p3.view last.rows last.granted
-      (last.knows ∙ ap (λ (v : PassView P). record v { rows = last.rows; granted = last.granted }) is
-      ∙ ap (λ (v : PassView P). record v { rows = last.rows; granted = last.granted }) first.knows)))
+      (λ (is : HasNotBegun p1.view p2.view). inl (still_unbegun is))
       (λ (gave : HasAbandoned object to p1.view p2.view). inr
       (let is = abandoned_before p0.view p1.view p2.view collected_caller collected_drawn object to collected_log gave in
       subst (HasAbandoned object to p0.view) (sym last.knows)
       (record { begun = is.begun; free = is.free; entry = is.entry; next = is.next; drawn = is.drawn; log = is.log; since = is.since; found = is.found; cleared = is.cleared; restored = is.restored })))
 
-pub ended_still : {E : Type 0} (system : SystemSeen) (object : ℕ) (to : To) (result : Result Swapped E) (p0 p1 p2 p3 : SystemPass) → HasRows p0 p1
+pub ended_still : (system : SystemSeen) (object : ℕ) (to : To) (result : Result Swapped NoSwap) (p0 p1 p2 p3 : SystemPass) → HasRows p0 p1
     → HasRows p2 p3 → IsPassHere system p3 → HasEnded system object to result p1 p2 → HasEnded system object to result p0 p3
 ended_still system object to (Ok end) p0 p1 p2 p3 first last here is = record {
   here = here;
@@ -101,7 +107,9 @@ ended_still system object to (Ok end) p0 p1 p2 p3 first last here is = record {
   graces = still_few p0 p1 p2 p3 first last is.graces;
   told = still_told p0 p1 p2 p3 first last end is.told;
   ended = still_swapped p0 p1 p2 p3 first last object to end is.ended;
-  memory = tt;
+  memory = λ e. absurd (cc);
+  worn = still_worn p0 p1 p2 p3 first last is.worn;
+  kept = λ e. absurd (cc);
 }
 ended_still system object to (Err error) p0 p1 p2 p3 first last here is = record {
   here = here;
@@ -111,5 +119,7 @@ ended_still system object to (Err error) p0 p1 p2 p3 first last here is = record
   graces = still_few p0 p1 p2 p3 first last is.graces;
   told = tt;
   ended = tt;
-  memory = still_without p0 p1 p2 p3 first last object to is.memory;
+  memory = λ e. still_without p0 p1 p2 p3 first last object to (is.memory e);
+  worn = still_worn p0 p1 p2 p3 first last is.worn;
+  kept = λ e. still_unbegun p0 p1 p2 p3 first last (is.kept e);
 }

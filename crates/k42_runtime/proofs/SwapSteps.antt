@@ -1,5 +1,5 @@
 -- A swap that is stepped on: what its steps bring, seen from a step before.
-use Rattle.std.proofs.Common.{◌≡◌, ⊎_elim, inl, inr, ℕ, ◌+◌, ◌<◌, ◌≤◌, [], ◌∷◌, ◌++◌, None, length, ap, ◌∙◌, subst, arith}
+use Rattle.std.proofs.Common.{◌≡◌, ⊎_elim, inl, inr, ◌↔◌, ℕ, ◌+◌, ◌<◌, ◌≤◌, [], ◌∷◌, ◌++◌, None, length, refl, sym, ap, ◌∙◌, subst, arith}
 use Rattle.k42_kinds.specs.declared.entry.Act.{Act}
 use Rattle.k42_kinds.specs.declared.entry.Answer.{Answer}
 use Rattle.k42_kinds.specs.declared.entry.Entry.{Entry}
@@ -10,13 +10,13 @@ use Rattle.k42_board.specs.Seen.{PassSeen}
 use Rattle.k42_board.specs.declared.view.PassView.{PassView}
 use Rattle.k42_mediator.specs.Entries.{IsNext}
 use Rattle.k42_runtime.specs.Phases.{HasGoneOn}
-use Rattle.k42_runtime.specs.Swaps.{SwapSeen, IsSameCaller, IsHeldUpBy, HasSwapped, HasAbandoned, HasBrought, HasStepped, graces_due}
+use Rattle.k42_runtime.specs.Swaps.{SwapSeen, IsSameCaller, IsHeldUpBy, IsWornOut, HasSwapped, HasAbandoned, HasBrought, HasStepped, graces_due}
 use Rattle.k42_runtime.specs.Systems.{SystemSeen, SystemPass}
 use Rattle.k42_runtime.specs.declared.swaps.Cause.{Cause}
 use Rattle.k42_runtime.specs.declared.swaps.Cause.TheVariants as causes
 use Rattle.k42_runtime.specs.declared.swaps.Stage.TheVariants.{New}
 use Rattle.k42_runtime.specs.declared.swaps.Step.{Step}
-use Rattle.k42_runtime.specs.declared.swaps.Step.TheVariants.{Again, Ended, Memory}
+use Rattle.k42_runtime.specs.declared.swaps.Step.TheVariants.{Again, Ended, Memory, Worn}
 use Rattle.k42_runtime.specs.declared.swaps.Swapped.{Swapped}
 use Rattle.k42_kinds.specs.declared.entry.To.{To}
 
@@ -24,7 +24,6 @@ pub same_caller : {P : Type 0} (u v w : PassView P) → IsSameCaller u v → IsS
 same_caller u v w first second = record {
   number = second.number ∙ first.number;
   proc = second.proc ∙ first.proc;
-  activities = second.activities ∙ first.activities;
 }
 
 -- of a pass that has drawn nothing in between
@@ -72,7 +71,7 @@ module _ {P : Type 0} (u v w : PassView P) (same : IsSameCaller u v) (drawn : v.
 -- what has held it up, seen from before steps that met nothing
 held_before : {P : Type 0} (cause : Cause) (old mid new : PassView P) → Extends old.log mid.log → IsHeldUpBy cause mid new → IsHeldUpBy cause old new
 held_before (causes.Left proc left) old mid new free is =
-    record { at = is.at; there = is.there; some = is.some; exits = is.exits; looked = ends_on free is.looked; short = is.short }
+    record { at = is.at; there = is.there; some = is.some; exits = is.exits; looked = ends_on free is.looked; short = is.short; few = is.few }
 held_before (causes.RoleHeld holder) old mid new free is = record { tried = ends_on free is.tried; another = is.another; caller = is.caller }
 held_before (causes.InFlight count) old mid new free is = record { found = is.found; moved = ends_on free is.moved; count_is = is.count_is; some = is.some }
 held_before (causes.CellHeld holder) old mid new free is =
@@ -97,7 +96,8 @@ pub record HasComeOn {P : Type 0} (s t : SwapSeen) (old new : PassSeen P) : Type
   pub drawn : new.view.taker.mine ≡ old.view.taker.mine
   pub log : Follows old.view.log new.view.log
   pub graces : new.view.graces + graces_due t.stage t.holder ≤ old.view.graces + graces_due s.stage s.holder
-  pub waits : t.stage ≡ New → (s.stage ≡ New) × (new.view ≡ old.view)
+  pub waits : t.stage ≡ New → (s.stage ≡ New) × (new ≡ old)
+  pub worn : s.stage ≡ New → IsWornOut old.view → t.stage ≡ New
 
 come_on : {P : Type 0} (s t : SwapSeen) (old new : PassSeen P) → HasGoneOn s t old new → HasComeOn s t old new
 come_on s t old new goes = record {
@@ -109,6 +109,7 @@ come_on s t old new goes = record {
   log = extends_follows goes.log;
   graces = goes.graces;
   waits = goes.waits;
+  worn = goes.worn;
 }
 
 module _ (system : SystemSeen) (s m t : SwapSeen) (old mid new : SystemPass) (comes : HasComeOn s m old mid) where
@@ -119,10 +120,17 @@ module _ (system : SystemSeen) (s m t : SwapSeen) (old mid new : SystemPass) (co
 
   pub memory_since : HasBrought system Memory m mid new → HasBrought system Memory s old new
   memory_since =
-      ⊎_elim (λ (is : (m.stage ≡ New) × (new.view ≡ mid.view)). let was = comes.waits is.0 in inl (was.0, is.1 ∙ was.1))
+      ⊎_elim (λ (is : (m.stage ≡ New) × (new.view ≡ mid.view)). let was = comes.waits is.0 in inl (was.0, is.1 ∙ ap (λ (p : SystemPass). p.view) was.1))
       (λ (is : HasAbandoned m.object m.to mid.view new.view). inr (
       subst (λ (x : ℕ × To). HasAbandoned x.0 x.1 old.view new.view) (λ j. (comes.object j, comes.to j))
       (abandoned_before old.view mid.view new.view comes.caller comes.drawn m.object m.to comes.log is)))
+
+  -- it is worn out just where it was
+  pub worn_before : {A : Type 0} → A ↔ ((m.stage ≡ New) × IsWornOut mid.view) → A ↔ ((s.stage ≡ New) × IsWornOut old.view)
+  worn_before is = (
+    λ a. let now = is.0 a in let was = comes.waits now.0 in (was.0, subst (λ (p : SystemPass). IsWornOut p.view) was.1 now.1),
+    λ w. let at = comes.worn w.0 w.1 in is.1 (at, subst (λ (p : SystemPass). IsWornOut p.view) (sym (comes.waits at).1) w.1),
+  )
 
   stepped_since : (result : Step) → HasBrought system result s old new → HasStepped system result m t mid new → HasStepped system result s t old new
   stepped_since result brought is = record {
@@ -139,15 +147,18 @@ module _ (system : SystemSeen) (s m t : SwapSeen) (old mid new : SystemPass) (co
         fewer (old.view.graces + graces_due s.stage s.holder) (mid.view.graces + graces_due m.stage m.holder)
         (new.view.graces + graces_due t.stage t.holder) first second;
     told = is.told;
+    worn = worn_before is.worn;
     brought = brought;
   }
 
 module _ (system : SystemSeen) (s m t : SwapSeen) (old mid new : SystemPass) (goes : HasGoneOn s m old mid) where
-  brought_before : (result : Step) → HasBrought system result m mid new → HasBrought system result s old new
-  brought_before (Ended end) is = (swapped_since system s m t old mid new (come_on s m old mid goes) end is.0, extends_on goes.log is.1)
-  brought_before (Again cause) is = (is.0 ∙ goes.drawn, held_before cause old.view mid.view new.view goes.log is.1)
-  brought_before Memory is = memory_since system s m t old mid new (come_on s m old mid goes) is
+  brought_before : (result : Step) → (result ≡ Worn → mid ≡ old) → HasBrought system result m mid new → HasBrought system result s old new
+  brought_before (Ended end) same is = (swapped_since system s m t old mid new (come_on s m old mid goes) end is.0, extends_on goes.log is.1)
+  brought_before (Again cause) same is = (is.0 ∙ goes.drawn, held_before cause old.view mid.view new.view goes.log is.1)
+  brought_before Memory same is = memory_since system s m t old mid new (come_on s m old mid goes) is
+  brought_before Worn same is = is ∙ same refl
 
   pub stepped_before : (result : Step) → HasStepped system result m t mid new → HasStepped system result s t old new
   stepped_before result is =
-      stepped_since system s m t old mid new (come_on s m old mid goes) result (brought_before result is.brought) is
+      stepped_since system s m t old mid new (come_on s m old mid goes) result
+      (brought_before result (λ e. (goes.waits (is.worn.0 e).0).1) is.brought) is

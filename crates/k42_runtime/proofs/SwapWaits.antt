@@ -1,20 +1,22 @@
 -- A swap that is stepped until it is over.
-use Rattle.std.proofs.Common.{◌≡◌, ⊎_elim, inl, inr, ℕ, ◌+◌, ◌≤◌, true, false, List, Result, Ok, Err, length, refl, sym, ap, ◌∙◌, subst, arith}
+use Rattle.std.proofs.Common.{◌≡◌, ⊎_elim, inl, inr, ◌↔◌, ℕ, ◌+◌, ◌≤◌, true, false, List, Result, Ok, Err, length, refl, sym, ap, ◌∙◌, subst, arith}
 use Rattle.k42_board.proofs.Gained.{follows_on, follows_same}
 use Rattle.k42_board.specs.Seen.{PassSeen}
 use Rattle.k42_board.specs.declared.view.PassView.{PassView}
 use Rattle.k42_board.specs.declared.view.Row.{Row}
 use Rattle.k42_runtime.specs.Phases.{last_step}
-use Rattle.k42_runtime.specs.Swaps.{SwapSeen, IsAtStage, HasNotBegun, HasAbandoned, HasStepped, HasEnded, StepsWithoutMemory, EndsWithoutMemory, is_over, graces_due}
+use Rattle.k42_runtime.specs.Swaps.{SwapSeen, IsAtStage, IsWornOut, HasNotBegun, HasAbandoned, HasStepped, HasEnded, StepsWithoutMemory, EndsWithoutMemory, is_over, graces_due}
 use Rattle.k42_runtime.specs.Systems.{SystemSeen, IsPassHere, IsAtRest, SystemPass}
 use Rattle.k42_runtime.specs.declared.swaps.Cause.{Cause}
+use Rattle.k42_runtime.specs.declared.swaps.NoSwap.{NoSwap}
+use Rattle.k42_runtime.specs.declared.swaps.NoSwap.TheVariants as reasons
 use Rattle.k42_runtime.specs.declared.swaps.Stage.{Stage}
 use Rattle.k42_runtime.specs.declared.swaps.Stage.TheVariants as stages
 use Rattle.k42_runtime.specs.declared.swaps.Step.{Step}
-use Rattle.k42_runtime.specs.declared.swaps.Step.TheVariants.{Again, Ended, Memory}
+use Rattle.k42_runtime.specs.declared.swaps.Step.TheVariants.{Again, Ended, Memory, Worn}
 use Rattle.k42_runtime.specs.declared.swaps.Swapped.{Swapped}
 use Rattle.k42_kinds.specs.declared.entry.To.{To}
-use Rattle.k42_runtime.proofs.SwapSteps.{HasComeOn, held_follows, same_caller, fewer, swapped_since, memory_since}
+use Rattle.k42_runtime.proofs.SwapSteps.{HasComeOn, held_follows, same_caller, fewer, swapped_since, memory_since, worn_before}
 
 -- it has been stepped some times, and is not over
 pub record IsStepped (system : SystemSeen) (s t : SwapSeen) (old new : SystemPass) : Type 0 where
@@ -33,11 +35,12 @@ not_stepped system s new here stage going = record {
     object = refl;
     to = refl;
     seat = refl;
-    caller = record { number = refl; proc = refl; activities = refl };
+    caller = record { number = refl; proc = refl };
     drawn = refl;
     log = follows_same new.view.log;
     graces = omega arith;
     waits = λ e. (e, refl);
+    worn = λ e w. e;
   };
 }
 
@@ -60,6 +63,7 @@ stepped_again system s m t old mid new cause is step =
             fewer (old.view.graces + graces_due s.stage s.holder) (mid.view.graces + graces_due m.stage m.holder)
             (new.view.graces + graces_due t.stage t.holder) first second;
         waits = λ e. absurd (step.begun e);
+        worn = λ e w. absurd (let never : Again cause ≡ Worn = (worn_before system s m t old mid new is.comes step.worn).1 (e, w) in cc);
       };
     }
 
@@ -93,7 +97,11 @@ module _ (system : SystemSeen) (s m t : SwapSeen) (old mid new : SystemPass) (fi
       (fewer (old.view.graces + graces_due s.stage s.holder) (mid.view.graces + graces_due m.stage m.holder)
       (new.view.graces + graces_due t.stage t.holder) before after))
 
-  pub ended_since : {E : Type 0} (result : Result Swapped E) → HasStepped system (last_step result) m t mid new → HasEnded system s.object s.to result old new
+  worn_since : (result : Step) → HasStepped system result m t mid new → (result ≡ Worn) ↔ IsWornOut old.view
+  worn_since result step =
+      let is = worn_before system s m t old mid new is.comes step.worn in (λ e. (is.0 e).1, λ w. is.1 (first, w))
+
+  pub ended_since : (result : Result Swapped NoSwap) → HasStepped system (last_step result) m t mid new → HasEnded system s.object s.to result old new
   ended_since (Ok end) step = record {
     here = step.here;
     rests = rests_over t.stage (length system.plan.objects) t new step.over step.stage;
@@ -102,9 +110,11 @@ module _ (system : SystemSeen) (s m t : SwapSeen) (old mid new : SystemPass) (fi
     graces = few (Ended end) step;
     told = step.told;
     ended = swapped_since system s m t old mid new is.comes end step.brought.0;
-    memory = tt;
+    memory = λ e. absurd (cc);
+    worn = (λ e. absurd (cc), λ w. absurd (let never = (worn_since (Ended end) step).1 w in cc));
+    kept = λ e. absurd (cc);
   }
-  ended_since (Err error) step = record {
+  ended_since (Err reasons.Memory) step = record {
     here = step.here;
     rests = rests_over t.stage (length system.plan.objects) t new step.over step.stage;
     seat = step.seat ∙ is.comes.seat;
@@ -112,5 +122,21 @@ module _ (system : SystemSeen) (s m t : SwapSeen) (old mid new : SystemPass) (fi
     graces = few Memory step;
     told = tt;
     ended = tt;
-    memory = out_of_memory s.stage s.object s.to old.view new.view (memory_since system s m t old mid new is.comes step.brought);
+    memory = λ e. out_of_memory s.stage s.object s.to old.view new.view (memory_since system s m t old mid new is.comes step.brought);
+    worn = (λ e. absurd (cc), λ w. absurd (let never = (worn_since Memory step).1 w in cc));
+    kept = λ e. absurd (cc);
   }
+  ended_since (Err reasons.Worn) step =
+      let same : new ≡ old = step.brought ∙ (is.comes.waits (step.worn.0 refl).0).1 in
+      record {
+        here = step.here;
+        rests = rests_over t.stage (length system.plan.objects) t new step.over step.stage;
+        seat = step.seat ∙ is.comes.seat;
+        caller = same_caller old.view mid.view new.view is.comes.caller step.caller;
+        graces = few Worn step;
+        told = tt;
+        ended = tt;
+        memory = λ e. absurd (cc);
+        worn = (λ e. (worn_since Worn step).0 refl, λ w. refl);
+        kept = λ e. not_begun old.view new.view old.view.rows old.view.granted (ap (λ (p : SystemPass). p.view) same);
+      }

@@ -1,6 +1,6 @@
 -- Calls: what may be asked, what a call leaves, and what holds one up.
 use Rattle.std.specs.Prelude.{◌≡◌, ◌≢◌, ℕ, ◌+◌, ◌<◌, ◌≤◌, Bool, true, false, IsTrue, List, [], ◌∷◌, ◌++◌, length, Some, slice_get}
-use Rattle.k42_limits.specs.declared.TheConstants.{CALLERS, PROCESSORS}
+use Rattle.k42_limits.specs.declared.TheConstants.{CALLERS, PASS_ENTRIES, PROCESSORS}
 use Rattle.k42_kinds.specs.Watched.{watched_object}
 use Rattle.k42_kinds.specs.declared.entry.Act.TheVariants.{Call}
 use Rattle.k42_kinds.specs.declared.entry.Answer.TheVariants.{Replied}
@@ -36,6 +36,10 @@ pub record IsAsked (plan : PlanSeen) (object : ℕ) (op : Op) : Type 0 where
   pub declaration : ObjectPlan
   pub declares : slice_get plan.objects object ≡ Some declaration
   pub takes : IsTrue ((watched_object declaration.kind).takes op)
+
+-- it has drawn all the entries that a pass draws
+abbrev pub IsWorn : {P : Type 0} → PassView P → Type 0
+IsWorn v = PASS_ENTRIES ≤ length v.taker.mine
 
 -- the caller has seen nothing that is later than this stamp
 abbrev pub SeesUpTo : {L : Type 0} → ℕ → ℕ → Joined L → Type 0
@@ -96,3 +100,4 @@ abbrev pub is_last : CallStep → Bool
 is_last (steps.Again cause) = false
 is_last (steps.Ended reply) = true
 is_last steps.Memory = true
+is_last steps.Worn = true

@@ -13,9 +13,11 @@ use Rattle.k42_quiesce.specs.declared.steps.Held.{Held}
 use Rattle.k42_quiesce.specs.declared.steps.Held.TheVariants as graces
 use Rattle.k42_watch.specs.declared.watch.Layer.{Layer}
 use Rattle.k42_watch.specs.declared.watch.Layer.TheVariants.{Keep, Place, Take}
-use Rattle.k42_runtime.specs.Swaps.{SwapSeen, IsSameCaller, graces_due}
+use Rattle.k42_runtime.specs.Swaps.{SwapSeen, IsSameCaller, IsWornOut, graces_due}
 use Rattle.k42_runtime.specs.declared.swaps.Cause.{Cause}
 use Rattle.k42_runtime.specs.declared.swaps.Cause.TheVariants as causes
+use Rattle.k42_runtime.specs.declared.swaps.NoSwap.{NoSwap}
+use Rattle.k42_runtime.specs.declared.swaps.NoSwap.TheVariants as reasons
 use Rattle.k42_runtime.specs.declared.swaps.Stage.TheVariants as stages
 use Rattle.k42_runtime.specs.declared.swaps.Step.{Step}
 use Rattle.k42_runtime.specs.declared.swaps.Step.TheVariants as steps
@@ -53,11 +55,13 @@ cause_in (graces.Left proc left) = causes.Left proc left
 cause_in (graces.RoleHeld holder) = causes.RoleHeld holder
 
 -- the step that brings a swap to this end
-abbrev pub last_step : {E : Type 0} → Result Swapped E → Step
+abbrev pub last_step : Result Swapped NoSwap → Step
 last_step (Ok end) = steps.Ended end
-last_step (Err error) = steps.Memory
+last_step (Err reasons.Memory) = steps.Memory
+last_step (Err reasons.Worn) = steps.Worn
 
--- By steps that draw nothing the swap and its pass have become these, which are the same if it has not begun.
+-- By steps that draw nothing the swap and its pass have become these, which are the same if it has not begun; one of a pass
+-- that is worn out has not.
 pub record HasGoneOn {P : Type 0} (s t : SwapSeen) (old new : PassSeen P) : Type 0 where
   pub object : t.object ≡ s.object
   pub to : t.to ≡ s.to
@@ -67,4 +71,5 @@ pub record HasGoneOn {P : Type 0} (s t : SwapSeen) (old new : PassSeen P) : Type
   pub log : Extends old.view.log new.view.log
   pub graces :
       new.view.graces + graces_due t.stage t.holder ≤ old.view.graces + graces_due s.stage s.holder
-  pub waits : t.stage ≡ stages.New → (s.stage ≡ stages.New) × (new.view ≡ old.view)
+  pub waits : t.stage ≡ stages.New → (s.stage ≡ stages.New) × (new ≡ old)
+  pub worn : s.stage ≡ stages.New → IsWornOut old.view → t.stage ≡ stages.New

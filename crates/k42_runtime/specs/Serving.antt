@@ -97,6 +97,7 @@ abbrev pub Makes : {P : Type 0} → CallStep → List ℕ → Op → PassView P 
 Makes (steps.Ended reply) cells op old new = HasMade cells op reply old new
 Makes (steps.Again cause) cells op old new = ⊥
 Makes steps.Memory cells op old new = new ≡ old
+Makes steps.Worn cells op old new = ⊥
 
 -- it has drawn the call
 pub record HasDrawn {P : Type 0} (op : Op) (reply : Reply) (old new : PassView P) : Type 0 where
@@ -146,6 +147,7 @@ IsServedBy (steps.Again (causes.CellHeld holder)) op old new =
     (new ≡ with_log new.log old) × WasHeld (object_inside old) holder old new
 IsServedBy (steps.Again cause) op old new = ⊥
 IsServedBy steps.Memory op old new = ComesTo old old new
+IsServedBy steps.Worn op old new = ⊥
 
 -- what it has drawn, or what has held it up
 abbrev pub TellsTry : {P : Type 0} → CallStep → ℕ → Op → PassView P → PassView P → Type 0
@@ -153,6 +155,7 @@ TellsTry (steps.Ended reply) object op old new = HasCalled object op reply old n
 TellsTry (steps.Again cause) object op old new =
     (new.taker.mine ≡ old.taker.mine) × HoldsUp cause object old new
 TellsTry steps.Memory object op old new = (new.taker.mine ≡ old.taker.mine) × Extends old.log new.log
+TellsTry steps.Worn object op old new = ⊥
 
 -- how one try of a call has come out: the pass is inside no call, and holds what it held
 pub record HasTried {P : Type 0} (step : CallStep) (object : ℕ) (op : Op) (old new : PassView P) : Type 0 where

@@ -1,6 +1,6 @@
 -- Swaps, to a layout, to the dead one, or to the present one with a layer or without it: their stages, their answers, and what
 -- holds one up.
-use Rattle.std.specs.Prelude.{◌≡◌, ◌≢◌, ◌⊎◌, ℕ, ◌+◌, ◌-◌, ◌<◌, ◌≤◌, Bool, true, false, ⊤, List, [], ◌∷◌, ◌++◌, length, Option, Some, None, Result, IfOk, OnErr}
+use Rattle.std.specs.Prelude.{◌≡◌, ◌≢◌, ◌⊎◌, ◌↔◌, ℕ, ◌+◌, ◌-◌, ◌<◌, ◌≤◌, Bool, true, false, ⊤, List, [], ◌∷◌, ◌++◌, length, Option, Some, None, Result, Err, IfOk}
 use Rattle.gen_core.specs.Events as graces
 use Rattle.k42_kinds.specs.declared.entry.Act.{Act}
 use Rattle.k42_kinds.specs.declared.entry.Act.TheVariants as acts
@@ -10,8 +10,7 @@ use Rattle.k42_kinds.specs.declared.entry.Answer.TheVariants as answers
 use Rattle.k42_kinds.specs.declared.entry.Entry.{Entry}
 use Rattle.phase_core.specs.declared.caller.SwapAt.TheVariants.{Interposed, Draining, Blocking, Opened}
 use Rattle.k42_joined.specs.Numbers.{cell_of}
-use Rattle.k42_limits.specs.declared.TheConstants.{CALLERS}
-use Rattle.k42_board.specs.Generations.{MOST}
+use Rattle.k42_limits.specs.declared.TheConstants.{CALLERS, PASS_ENTRIES, PASS_GRACES}
 use Rattle.k42_board.specs.Log.{Follows, Extends, EndsWith, step_at}
 use Rattle.k42_board.specs.Seen.{HasRoom, PassSeen}
 use Rattle.k42_board.specs.Swapping.{object_swapped, clears, IsRestored}
@@ -28,9 +27,12 @@ use Rattle.k42_mediator.specs.Marks.{MayMark, cell_marked}
 use Rattle.k42_mediator.specs.declared.answers.Begun.{Begun}
 use Rattle.k42_mediator.specs.declared.answers.Begun.TheVariants as begins
 use Rattle.k42_quiesce.specs.Gracing.{MayStep, IsLeft}
+use Rattle.k42_runtime.specs.Calls.{IsWorn}
 use Rattle.k42_runtime.specs.Systems.{SystemSeen, IsPassHere, IsAtRest, SystemPass}
 use Rattle.k42_runtime.specs.declared.swaps.Cause.{Cause}
 use Rattle.k42_runtime.specs.declared.swaps.Cause.TheVariants as causes
+use Rattle.k42_runtime.specs.declared.swaps.NoSwap.{NoSwap}
+use Rattle.k42_runtime.specs.declared.swaps.NoSwap.TheVariants as reasons
 use Rattle.k42_runtime.specs.declared.swaps.Stage.{Stage}
 use Rattle.k42_runtime.specs.declared.swaps.Stage.TheVariants as stages
 use Rattle.k42_runtime.specs.declared.swaps.Step.{Step}
@@ -57,14 +59,16 @@ pub record IsUnderWay (objects object : ℕ) {P : Type 0} (pass : PassSeen P) : 
   pub there : object < objects
   pub entry : HasRoom pass
   pub row : 0 < pass.row_room
-  pub few : length pass.view.taker.mine < MOST
+  pub few : length pass.view.taker.mine < PASS_ENTRIES
 
 -- a pass that may begin a swap
 pub record MayStart (objects object : ℕ) {P : Type 0} (pass : PassSeen P) : Type 0 where
   pub rests : IsAtRest pass.view
   pub there : object < objects
-  pub few_entries : length pass.view.taker.mine < MOST
-  pub few_graces : pass.view.graces < MOST
+
+-- it has drawn all the entries that a pass draws, or has begun all its graces
+abbrev pub IsWornOut : {P : Type 0} → PassView P → Type 0
+IsWornOut v = IsWorn v ⊎ (PASS_GRACES ≤ v.graces)
 
 -- the swap waits for a grace, which has not begun or has the role
 abbrev pub IsWaiting : {P : Type 0} → ℕ → Option ℕ → PassView P → Type 0
@@ -108,6 +112,7 @@ abbrev pub is_last : Step → Bool
 is_last (steps.Again cause) = false
 is_last (steps.Ended end) = true
 is_last steps.Memory = true
+is_last steps.Worn = true
 
 -- how many graces the swap may still begin
 abbrev pub graces_due : Stage → Option ℕ → ℕ
@@ -139,12 +144,12 @@ abbrev pub IsStepBy : ℕ → Step → Type 0
 IsStepBy word (steps.Ended end) = IsEndBy word end
 IsStepBy word (steps.Again cause) = MayHoldUp (begun_in word) cause
 IsStepBy word steps.Memory = ⊤
+IsStepBy word steps.Worn = ⊤
 
--- it is the same caller, on its processor, and has begun no activity
+-- it is the same caller, on its processor
 pub record IsSameCaller {P : Type 0} (old new : PassView P) : Type 0 where
   pub number : new.number ≡ old.number
   pub proc : new.turn.proc ≡ old.turn.proc
-  pub activities : new.activities ≡ old.activities
 
 -- the incarnation that the entry tells: that of the word found, or the one that the other swap ends
 abbrev pub incarnation_told : Swapped → ℕ → ℕ
@@ -231,8 +236,10 @@ HasBrought system (steps.Again cause) swap old new =
     (new.view.taker.mine ≡ old.view.taker.mine) × IsHeldUpBy cause old.view new.view
 HasBrought system steps.Memory swap old new =
     StepsWithoutMemory swap.stage swap.object swap.to old.view new.view
+HasBrought system steps.Worn swap old new = new ≡ old
 
--- The swap and its pass, once a step has answered so, are where the next one goes on, unless it was the last.
+-- The swap and its pass, once a step has answered so, are where the next one goes on, unless it was the last. Only the first
+-- step of a swap finds its pass worn out.
 pub record HasStepped (system : SystemSeen) (result : Step) (s t : SwapSeen) (old new : SystemPass) : Type 0 where
   pub here : IsPassHere system new
   pub stage : IsAtStage t.stage (length system.plan.objects) t new
@@ -245,10 +252,11 @@ pub record HasStepped (system : SystemSeen) (result : Step) (s t : SwapSeen) (ol
   pub graces :
       new.view.graces + graces_due t.stage t.holder ≤ old.view.graces + graces_due s.stage s.holder
   pub told : IsStepBy (word_begun new.view.last) result
+  pub worn : (result ≡ steps.Worn) ↔ ((s.stage ≡ stages.New) × IsWornOut old.view)
   pub brought : HasBrought system result s old new
 
 -- the pass once a swap has ended that was waited for
-pub record HasEnded {E : Type 0} (system : SystemSeen) (object : ℕ) (to : To) (result : Result Swapped E) (old new : SystemPass)
+pub record HasEnded (system : SystemSeen) (object : ℕ) (to : To) (result : Result Swapped NoSwap) (old new : SystemPass)
     : Type 0 where
   pub here : IsPassHere system new
   pub rests : IsAtRest new.view
@@ -257,4 +265,6 @@ pub record HasEnded {E : Type 0} (system : SystemSeen) (object : ℕ) (to : To) 
   pub graces : new.view.graces ≤ old.view.graces + 1
   pub told : IfOk result (IsEndBy (word_begun new.view.last))
   pub ended : IfOk result (λ end. HasSwapped object to end old.view new.view)
-  pub memory : OnErr result (EndsWithoutMemory object to old.view new.view)
+  pub memory : result ≡ Err reasons.Memory → EndsWithoutMemory object to old.view new.view
+  pub worn : (result ≡ Err reasons.Worn) ↔ IsWornOut old.view
+  pub kept : result ≡ Err reasons.Worn → HasNotBegun old.view new.view

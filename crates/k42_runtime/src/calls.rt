@@ -1,19 +1,21 @@
 //! Calls, which may be stepped where nobody may wait.
-ghost use Rattle.std.specs.Prelude.{◌≡◌, ◌<◌, false, [], length, IfOk, OnErr};
+ghost use Rattle.std.specs.Prelude.{◌≡◌, ◌<◌, ◌↔◌, false, [], length, Err, IfOk};
 ghost use Rattle.k42_kinds.specs.declared.operation.Reply.{Reply};
-ghost use Rattle.k42_board.specs.Generations.{MOST};
+ghost use Rattle.k42_limits.specs.declared.TheConstants.{PASS_ENTRIES};
 ghost use Rattle.k42_board.specs.Seen.{IsPassOf};
 ghost use Rattle.k42_board.specs.Tabling.{MayLookUp};
-ghost use Rattle.k42_runtime.specs.Calls.{IsAsked, HasCalled, HasNotCalled, HoldsUp, is_last};
+ghost use Rattle.k42_runtime.specs.Calls.{IsAsked, IsWorn, HasCalled, HasNotCalled, HoldsUp, is_last};
 ghost use Rattle.k42_runtime.specs.Serving.{IsAskedOf, IsSameSeat, HasTried};
 ghost use Rattle.k42_runtime.specs.Systems.{IsPassHere, IsAtWork, any_layouts, layouts_in};
 ghost use Rattle.k42_runtime.specs.declared.calls.CallCause.{CallCause};
 ghost use Rattle.k42_runtime.specs.declared.calls.CallStep.TheVariants as CallStep;
+ghost use Rattle.k42_runtime.specs.declared.calls.NoCall.TheVariants as NoCall;
 
 use crate::serving::{go_inside, serve};
 use crate::system::{Pass, System, SystemLayout};
 use crossbeam_utils::Backoff;
 use k42_kinds::{Op, Reply};
+use k42_limits::PASS_ENTRIES;
 use k42_memory::Memory;
 use k42_rule::Sys;
 use k42_tables::finish_call;
@@ -39,6 +41,17 @@ pub enum CallStep {
     Again(CallCause),
     Ended(Reply),
     Memory,
+    /// The pass has drawn all the entries that a pass draws. Nothing was done.
+    Worn,
+}
+
+/// Why a call was not made.
+#[derive(Clone, Copy, Debug, PartialEq, Eq, thiserror::Error)]
+pub enum NoCall {
+    #[error("out of memory")]
+    Memory,
+    #[error("the pass has drawn all its entries")]
+    Worn,
 }
 
 /// A call of an object.
@@ -73,7 +86,7 @@ fn try_once(
     requires asked { IsAskedOf sys.now.layouts object op.now }
     requires held { pass.old.view.taker.held ≡ [] }
     requires notes { pass.old.view.notes ≡ [] }
-    requires few { length pass.old.view.taker.mine < MOST }
+    requires few { length pass.old.view.taker.mine < PASS_ENTRIES }
     ensures same { IsSameSeat pass.old pass.new }
     ensures tried { HasTried result object op.now pass.old.view pass.new.view }
 {
@@ -103,7 +116,7 @@ impl Call {
         }
     }
 
-    /// Whether it has answered `Ended` or `Memory`.
+    /// Whether it has answered `Ended`, `Memory` or `Worn`.
     pub fn ended(&self) -> bool
         ensures { result ≡ self.now.ended }
     {
@@ -115,7 +128,6 @@ impl Call {
         requires ours { IsPassHere system.now pass.old }
         requires works { IsAtWork pass.old.view }
         requires asked { IsAsked system.now.plan self.old.object self.old.op }
-        requires few { length pass.old.view.taker.mine < MOST }
         requires going { self.old.ended ≡ false }
         ensures here { IsPassHere system.now pass.new }
         ensures seat { IsSameSeat pass.old pass.new }
@@ -126,7 +138,13 @@ impl Call {
         ensures found { (cause : CallCause) → result ≡ CallStep.Again cause
             → HoldsUp cause self.old.object pass.old.view pass.new.view }
         ensures memory { result ≡ CallStep.Memory → HasNotCalled pass.old.view pass.new.view }
+        ensures worn { (result ≡ CallStep.Worn) ↔ IsWorn pass.old.view }
+        ensures kept { result ≡ CallStep.Worn → pass.new ≡ pass.old }
     {
+        if pass.drawn() >= PASS_ENTRIES {
+            self.ended = true;
+            return CallStep::Worn;
+        }
         let step = try_once(alloc, &system.sys, pass, self.object, &self.op);
         self.ended = !matches!(step, CallStep::Again(_));
         step
@@ -135,7 +153,8 @@ impl Call {
 
 impl System {
     /// Makes the operation, and answers its reply. Waits while the object is shut for a swap, and while another caller
-    /// holds a cell that the operation needs. For want of memory nothing is done.
+    /// holds a cell that the operation needs. For want of memory nothing is done, nor by a pass that has drawn all its
+    /// entries.
     pub fn call<R: Wait>(
         &self,
         rt: &R,
@@ -143,23 +162,25 @@ impl System {
         pass: &mut Pass,
         object: u32,
         op: Op,
-    ) -> Result<Reply, Memory>
+    ) -> Result<Reply, NoCall>
         requires ours { IsPassHere self.now pass.old }
         requires works { IsAtWork pass.old.view }
         requires asked { IsAsked self.now.plan object op }
-        requires few { length pass.old.view.taker.mine < MOST }
         ensures here { IsPassHere self.now pass.new }
         ensures seat { IsSameSeat pass.old pass.new }
         ensures works { IsAtWork pass.new.view }
         ensures called { IfOk result (λ reply. HasCalled object op reply pass.old.view pass.new.view) }
-        ensures memory { OnErr result (HasNotCalled pass.old.view pass.new.view) }
+        ensures memory { result ≡ Err NoCall.Memory → HasNotCalled pass.old.view pass.new.view }
+        ensures worn { (result ≡ Err NoCall.Worn) ↔ IsWorn pass.old.view }
+        ensures kept { result ≡ Err NoCall.Worn → pass.new ≡ pass.old }
     {
         let mut call = Call::new(object, op);
         let backoff = Backoff::new();
         for _ in rt.forever() {
             match call.step(alloc, self, pass) {
                 CallStep::Ended(reply) => return Ok(reply),
-                CallStep::Memory => return Err(Memory),
+                CallStep::Memory => return Err(NoCall::Memory),
+                CallStep::Worn => return Err(NoCall::Worn),
                 CallStep::Again(_) => backoff.snooze(),
             }
         }

@@ -1,5 +1,5 @@
 //! Cells of the row that a call is inside are taken, and given back.
-ghost use Rattle.std.specs.Prelude.{◌≡◌, ℕ, ◌<◌, ◌≤◌, ◌+◌, false, None, [], ◌∷◌, vec_len, vec_capacity, is_some, IsSome};
+ghost use Rattle.std.specs.Prelude.{◌≡◌, ◌<◌, ◌≤◌, ◌+◌, false, None, [], ◌∷◌, vec_len, vec_capacity, is_some};
 ghost use Rattle.phase_core.specs.Stages.{IsInside};
 ghost use Rattle.turn_core.specs.Names.{names};
 ghost use Rattle.k42_joined.specs.Numbers.{row_cells};

@@ -15,7 +15,7 @@ mod swaps;
 mod system;
 mod waiting;
 
-pub use calls::{Call, CallCause, CallStep};
+pub use calls::{Call, CallCause, CallStep, NoCall};
 pub use history::{History, Unclosed};
 pub use k42_kinds::{Act, Answer, Entry, KindName, LayoutName, Name, Op, Reply, Text, To};
 pub use k42_memory::Memory;
@@ -25,5 +25,5 @@ pub use laws::{
     traces_are_legal,
 };
 pub use plan::{ObjectPlan, Plan, PlanFault};
-pub use swaps::{Cause, Step, Swap, Swapped};
+pub use swaps::{Cause, NoSwap, Step, Swap, Swapped};
 pub use system::{Pass, System};

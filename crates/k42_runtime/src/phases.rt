@@ -1,5 +1,5 @@
 //! The phases of a swap, each as far as it can go without waiting.
-ghost use Rattle.std.specs.Prelude.{◌≡◌, ◌<◌, ◌≤◌, ◌+◌, true, length, is_some};
+ghost use Rattle.std.specs.Prelude.{◌≡◌, ◌<◌, ◌≤◌, ◌+◌, ◌↔◌, true, length, is_some};
 ghost use Rattle.k42_limits.specs.declared.TheConstants.{LAST_INCARNATION};
 ghost use Rattle.k42_kinds.specs.declared.entry.Act.TheVariants as Act;
 ghost use Rattle.phase_core.specs.Stages.{named_by};
@@ -7,7 +7,7 @@ ghost use Rattle.k42_board.specs.Values.{incarnation_in, layout_in};
 ghost use Rattle.k42_board.specs.Views.{word_begun};
 ghost use Rattle.k42_mediator.specs.Transfers.{IsOfKind};
 ghost use Rattle.k42_runtime.specs.Phases.{IsMoving, cause_in, end_in, layer_to, tag_to};
-ghost use Rattle.k42_runtime.specs.Swaps.{IsAtStage, IsUnderWay, HasFoundFree, HasStepped};
+ghost use Rattle.k42_runtime.specs.Swaps.{IsAtStage, IsUnderWay, IsWornOut, HasFoundFree, HasStepped};
 ghost use Rattle.k42_runtime.specs.Systems.{IsPassHere, object_in, act_in};
 ghost use Rattle.k42_runtime.specs.declared.swaps.Stage.TheVariants as Stage;
 ghost use Rattle.k42_runtime.specs.declared.swaps.Step.TheVariants as Step;
@@ -16,6 +16,7 @@ use crate::swaps::{Cause, Stage, Step, Swap, Swapped};
 use crate::system::{Pass, System, SystemLayout};
 use k42_board::{incarnation_in, layout_in};
 use k42_kinds::{Act, Answer, Layout, LayoutName, To};
+use k42_limits::{PASS_ENTRIES, PASS_GRACES};
 use k42_mediator::{
     Begun, Marked, Moving, abandon, begin, block, end, interpose, mark, open_entries, transfer,
     try_move,
@@ -24,6 +25,13 @@ use k42_quiesce::{GraceStep, Held, reclaim};
 use k42_rule::{LastBegin, draw_alone};
 use k42_watch::{Layer, Watch};
 use std::alloc::Global;
+
+/// Whether the pass has drawn all its entries, or has begun all its graces.
+fn is_worn_out(pass: &Pass) -> bool
+    ensures { (result ≡ true) ↔ IsWornOut pass.now.view }
+{
+    pass.drawn() >= PASS_ENTRIES || pass.graces() >= PASS_GRACES
+}
 
 /// The tag of what an object of the present tag is swapped to.
 fn tag_to(to: To, present: u32) -> u32
@@ -120,6 +128,10 @@ impl Swap {
         requires new { IsAtStage Stage.New (length system.now.plan.objects) self.old pass.old }
         ensures { HasStepped system.now result self.old self.new pass.old pass.new }
     {
+        if is_worn_out(pass) {
+            self.stage = Stage::Over;
+            return Step::Worn;
+        }
         if pass.reserve().is_err() {
             self.stage = Stage::Over;
             return Step::Memory;
@@ -177,6 +189,7 @@ impl Swap {
     /// Hands the state on, and opens the new row; for want of memory it opens the old one.
     fn transfer_or_abandon(&mut self, alloc: Global, system: &System, pass: &mut Pass) -> Step
         requires ours { IsPassHere system.now pass.old }
+        requires stage { self.old.stage ≡ Stage.Shut }
         requires way { IsUnderWay (length system.now.plan.objects) self.old.object pass.old }
         requires found { HasFoundFree pass.old.view }
         requires moving { IsMoving self.old.object pass.old.view }

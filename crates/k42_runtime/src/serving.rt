@@ -4,8 +4,7 @@ ghost use Rattle.k42_kinds.specs.declared.entry.Reach.TheVariants.{One, All};
 ghost use Rattle.phase_core.specs.Stages.{is_missed, is_at_mediator};
 ghost use Rattle.k42_joined.specs.Numbers.{cell_of};
 ghost use Rattle.k42_board.specs.Drawing.{numbers_of};
-ghost use Rattle.k42_board.specs.Generations.{MOST};
-ghost use Rattle.k42_board.specs.Phases.{is_served};
+ghost use Rattle.k42_limits.specs.declared.TheConstants.{PASS_ENTRIES};
 ghost use Rattle.k42_board.specs.Seen.{HasRoom, IsOf, IsPassOf, IsSamePass};
 ghost use Rattle.k42_board.specs.Tabling.{MayLookUp};
 ghost use Rattle.k42_rule.specs.Settled.{IsSettled};
@@ -101,7 +100,7 @@ fn make_one(
 ) -> CallStep
     requires ours { IsOf sys.now pass.old }
     requires room { HasRoom pass.old }
-    requires few { length pass.old.view.taker.mine < MOST }
+    requires few { length pass.old.view.taker.mine < PASS_ENTRIES }
     requires has { HasCells (any_layouts sys.now.procs sys.now.callers) sys.now.layouts pass.old.view layout.now (One place) op.now (cell.old ∷ []) }
     ensures same { IsSameSeat pass.old pass.new }
     ensures number { cell.new.number ≡ cell.old.number }
@@ -136,7 +135,7 @@ fn serve_one(
     requires held { pass.old.view.taker.held ≡ [] }
     requires settled { IsSettled pass.old.view }
     requires room { HasRoom pass.old }
-    requires few { length pass.old.view.taker.mine < MOST }
+    requires few { length pass.old.view.taker.mine < PASS_ENTRIES }
     ensures same { IsSameSeat pass.old pass.new }
     ensures served { IsServedBy result op.now pass.old.view pass.new.view }
 {
@@ -164,7 +163,7 @@ fn make_all(
 ) -> CallStep
     requires ours { IsOf sys.now pass.old }
     requires room { HasRoom pass.old }
-    requires few { length pass.old.view.taker.mine < MOST }
+    requires few { length pass.old.view.taker.mine < PASS_ENTRIES }
     requires has { HasCells (any_layouts sys.now.procs sys.now.callers) sys.now.layouts pass.old.view layout.now All op.now cells.old.items }
     ensures same { IsSameSeat pass.old pass.new }
     ensures numbers { numbers_of cells.new.items ≡ numbers_of cells.old.items }
@@ -195,7 +194,7 @@ fn serve_all(
     requires held { pass.old.view.taker.held ≡ [] }
     requires settled { IsSettled pass.old.view }
     requires room { HasRoom pass.old }
-    requires few { length pass.old.view.taker.mine < MOST }
+    requires few { length pass.old.view.taker.mine < PASS_ENTRIES }
     ensures same { IsSameSeat pass.old pass.new }
     ensures served { IsServedBy result op.now pass.old.view pass.new.view }
 {
@@ -225,7 +224,7 @@ pub(crate) fn serve(alloc: Global, sys: &Sys<SystemLayout>, pass: &mut Pass, op:
     requires held { pass.old.view.taker.held ≡ [] }
     requires notes { pass.old.view.notes ≡ [] }
     requires room { HasRoom pass.old }
-    requires few { length pass.old.view.taker.mine < MOST }
+    requires few { length pass.old.view.taker.mine < PASS_ENTRIES }
     ensures same { IsSameSeat pass.old pass.new }
     ensures served { IsServedBy result op.now pass.old.view pass.new.view }
 {

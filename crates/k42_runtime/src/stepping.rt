@@ -1,5 +1,5 @@
 //! An operation is made on the parts of the cells that it needs.
-ghost use Rattle.std.specs.Prelude.{◌≡◌, ◌<◌, ◌≤◌, ◌+◌, ◌++◌, IsTrue, None, if◌then◌else◌, length, take, drop, is_some, vec_capacity, IfOk, OnOk, OnErr};
+ghost use Rattle.std.specs.Prelude.{◌≡◌, ◌<◌, ◌≤◌, ◌+◌, IsTrue, None, if◌then◌else◌, length, take, drop, is_some, vec_capacity, IfOk, OnOk, OnErr};
 ghost use Rattle.k42_limits.specs.declared.TheConstants.{PROCESSORS};
 ghost use Rattle.k42_kinds.specs.LayoutLaws.{IsReached};
 ghost use Rattle.k42_mediator.specs.Parts.{parts_from, filled};

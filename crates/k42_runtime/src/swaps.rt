@@ -42,6 +42,17 @@ pub enum Step {
     Ended(Swapped),
     /// The old implementation is open, and the pass is idle.
     Memory,
+    /// The pass has drawn all the entries that a pass draws, or has begun all its graces. Nothing was begun.
+    Worn,
+}
+
+/// Why a swap was not made.
+#[derive(Clone, Copy, Debug, PartialEq, Eq, thiserror::Error)]
+pub enum NoSwap {
+    #[error("out of memory")]
+    Memory,
+    #[error("the pass has drawn all its entries, or has begun all its graces")]
+    Worn,
 }
 
 /// How far a swap is.
@@ -84,7 +95,7 @@ impl Swap {
         }
     }
 
-    /// Whether it has answered `Ended` or `Memory`.
+    /// Whether it has answered `Ended`, `Memory` or `Worn`.
     pub fn ended(&self) -> bool
         ensures { result ≡ is_over self.now.stage }
     {

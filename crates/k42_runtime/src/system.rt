@@ -1,7 +1,6 @@
 //! A system: its table and its plan.
 ghost use Rattle.std.specs.Prelude.{◌≡◌, ◌%◌, ◌<◌, ◌↔◌, true, Some, length, map, slice_get, IfOk};
 ghost use Rattle.k42_board.specs.Generating.{active_in, entered_view, left_view};
-ghost use Rattle.k42_board.specs.Generations.{MOST};
 ghost use Rattle.k42_board.specs.Log.{last_found, took};
 ghost use Rattle.k42_board.specs.Seen.{IsSamePass};
 ghost use Rattle.k42_board.specs.Words.{exits_word, generation_word};
@@ -133,7 +132,6 @@ impl System {
     pub fn enter(&self, pass: &mut Pass)
         requires ours { IsPassHere self.now pass.old }
         requires rests { IsAtRest pass.old.view }
-        requires few { pass.old.view.activities < MOST }
         ensures here { IsPassHere self.now pass.new }
         ensures same { IsSamePass pass.old pass.new }
         ensures works { IsAtWork pass.new.view }

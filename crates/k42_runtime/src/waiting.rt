@@ -1,17 +1,16 @@
 //! Swaps, destroys, watches and unwatches that wait, and rows that are freed.
 ghost use Rattle.std.specs.Prelude.{◌≡◌, ◌+◌, ◌<◌, [], length};
-ghost use Rattle.k42_board.specs.Generations.{MOST};
+ghost use Rattle.k42_limits.specs.declared.TheConstants.{PASS_GRACES};
 ghost use Rattle.k42_runtime.specs.Reclaims.{HasReclaimed};
 ghost use Rattle.k42_runtime.specs.Swaps.{MayStart, IsAtStage, IsSameCaller, HasEnded};
 ghost use Rattle.k42_runtime.specs.declared.swaps.Stage.TheVariants as Stage;
 ghost use Rattle.k42_runtime.specs.Systems.{IsPassHere, IsAtRest, layouts_in};
 ghost use Rattle.k42_kinds.specs.declared.entry.To.TheVariants as To;
 
-use crate::swaps::{Step, Swap, Swapped};
+use crate::swaps::{NoSwap, Step, Swap, Swapped};
 use crate::system::{Pass, System};
 use crossbeam_utils::Backoff;
 use k42_kinds::{LayoutName, To};
-use k42_memory::Memory;
 use k42_quiesce::{collect, grace, hand_over, reclaim};
 use std::alloc::Global;
 use std::sync::Wait;
@@ -23,7 +22,7 @@ fn carry_out<R: Wait>(
     system: &System,
     pass: &mut Pass,
     swap: &mut Swap,
-) -> Result<Swapped, Memory>
+) -> Result<Swapped, NoSwap>
     requires ours { IsPassHere system.now pass.old }
     requires new { swap.old.stage ≡ Stage.New }
     requires stage { IsAtStage Stage.New (length system.now.plan.objects) swap.old pass.old }
@@ -34,7 +33,8 @@ fn carry_out<R: Wait>(
         match swap.step(alloc, system, pass) {
             Step::Again(_) => backoff.snooze(),
             Step::Ended(end) => return Ok(end),
-            Step::Memory => return Err(Memory),
+            Step::Memory => return Err(NoSwap::Memory),
+            Step::Worn => return Err(NoSwap::Worn),
         }
     }
     unreachable!()
@@ -50,7 +50,7 @@ impl System {
         pass: &mut Pass,
         object: u32,
         to: To,
-    ) -> Result<Swapped, Memory>
+    ) -> Result<Swapped, NoSwap>
         requires ours { IsPassHere self.now pass.old }
         requires may { MayStart (length self.now.plan.objects) object pass.old }
         ensures { HasEnded self.now object to result pass.old pass.new }
@@ -72,7 +72,7 @@ impl System {
         pass: &mut Pass,
         object: u32,
         to: LayoutName,
-    ) -> Result<Swapped, Memory>
+    ) -> Result<Swapped, NoSwap>
         requires ours { IsPassHere self.now pass.old }
         requires may { MayStart (length self.now.plan.objects) object pass.old }
         ensures { HasEnded self.now object (To.Layout to) result pass.old pass.new }
@@ -87,7 +87,7 @@ impl System {
         alloc: Global,
         pass: &mut Pass,
         object: u32,
-    ) -> Result<Swapped, Memory>
+    ) -> Result<Swapped, NoSwap>
         requires ours { IsPassHere self.now pass.old }
         requires may { MayStart (length self.now.plan.objects) object pass.old }
         ensures { HasEnded self.now object To.Dead result pass.old pass.new }
@@ -103,7 +103,7 @@ impl System {
         alloc: Global,
         pass: &mut Pass,
         object: u32,
-    ) -> Result<Swapped, Memory>
+    ) -> Result<Swapped, NoSwap>
         requires ours { IsPassHere self.now pass.old }
         requires may { MayStart (length self.now.plan.objects) object pass.old }
         ensures { HasEnded self.now object To.Watch result pass.old pass.new }
@@ -118,7 +118,7 @@ impl System {
         alloc: Global,
         pass: &mut Pass,
         object: u32,
-    ) -> Result<Swapped, Memory>
+    ) -> Result<Swapped, NoSwap>
         requires ours { IsPassHere self.now pass.old }
         requires may { MayStart (length self.now.plan.objects) object pass.old }
         ensures { HasEnded self.now object To.Unwatch result pass.old pass.new }
@@ -131,7 +131,7 @@ impl System {
     pub fn reclaim<R: Wait>(&self, rt: &R, pass: &mut Pass) -> u32
         requires ours { IsPassHere self.now pass.old }
         requires rests { IsAtRest pass.old.view }
-        requires few { pass.old.view.graces < MOST }
+        requires few { pass.old.view.graces < PASS_GRACES }
         ensures here { IsPassHere self.now pass.new }
         ensures rests { IsAtRest pass.new.view }
         ensures seat { pass.new.seat ≡ pass.old.seat }

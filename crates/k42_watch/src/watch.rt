@@ -118,6 +118,7 @@ impl<L: Bare> Layout for Watch<L> {
         })
     }
 
+    #[inline(always)]
     fn step_one(
         &self,
         alloc: Global,
@@ -201,20 +202,30 @@ impl<L: Bare> Layout for Watch<L> {
         }
     }
 
-    ghost steps = { λ watch procs proc row op known there takes kept. laws.reached_steps (L.object watch.inner) (L.ways watch.inner) (L.whole watch.inner procs) (L.serves watch.inner) (L.tag_of watch.inner) procs (laws.some_of there)
+    ghost steps = { λ watch procs proc row op known there takes kept.
+        laws.reached_steps (L.object watch.inner) (L.ways watch.inner) (L.whole watch.inner procs) (L.serves
+        watch.inner) (L.tag_of watch.inner) procs (laws.some_of there)
         (λ parts whole. L.stands watch.inner procs parts known (laws.some_of there) whole) (λ state served. L.ends watch.inner state known served) row op kept proc (is_seen op) refl takes
         (λ own. L.steps watch.inner procs proc (inners row) op known there own kept.inner) (λ own. L.reaches watch.inner procs proc op known there own) };
 
-    ghost steps_all = { λ watch procs row op known some takes kept. laws.all_steps (L.object watch.inner) (L.ways watch.inner) (L.whole watch.inner procs) (L.serves watch.inner) (L.tag_of watch.inner) procs some
+    ghost steps_all = { λ watch procs row op known some takes kept.
+        laws.all_steps (L.object watch.inner) (L.ways watch.inner) (L.whole watch.inner procs) (L.serves
+        watch.inner) (L.tag_of watch.inner) procs some
         (λ parts whole. L.stands watch.inner procs parts known some whole) (λ state served. L.ends watch.inner state known served) row op kept (is_seen op) refl takes
         (λ own. L.steps_all watch.inner procs (inners row) op known some own kept.inner) };
 
-    ghost reaches = { λ watch procs proc op known there takes. laws.reaches_watched (L.object watch.inner) (L.ways watch.inner) (L.tag_of watch.inner) procs proc op (is_seen op) refl (laws.some_of there)
+    ghost reaches = { λ watch procs proc op known there takes.
+        laws.reaches_watched (L.object watch.inner) (L.ways watch.inner) (L.tag_of watch.inner) procs proc op
+        (is_seen op) refl (laws.some_of there)
         (λ own. L.reaches watch.inner procs proc op known there own) takes };
 
-    ghost stands = { λ watch procs row known some kept. laws.stands_watched (L.ways watch.inner) (L.whole watch.inner procs) (L.serves watch.inner) (L.tag_of watch.inner) procs row kept (L.stands watch.inner procs (inners row) known some kept.inner) };
+    ghost stands = { λ watch procs row known some kept.
+        laws.stands_watched (L.ways watch.inner) (L.whole watch.inner procs) (L.serves watch.inner) (L.tag_of
+        watch.inner) procs row kept (L.stands watch.inner procs (inners row) known some kept.inner) };
 
-    ghost begins = { λ watch procs known some. laws.begins_watched (L.object watch.inner) (L.ways watch.inner) (L.whole watch.inner procs) (L.tag_of watch.inner) procs (L.begins watch.inner procs known some) };
+    ghost begins = { λ watch procs known some.
+        laws.begins_watched (L.object watch.inner) (L.ways watch.inner) (L.whole watch.inner procs) (L.tag_of
+        watch.inner) procs (L.begins watch.inner procs known some) };
 
     ghost imports = { λ watch procs state known some kept. laws.imports_watched (L.ways watch.inner) (L.whole watch.inner procs) (L.serves watch.inner) (L.tag_of watch.inner) procs state some kept
         (L.imports watch.inner procs state.inner known some kept.inner) (λ parts whole. L.stands watch.inner procs parts known some whole) };
@@ -222,12 +233,19 @@ impl<L: Bare> Layout for Watch<L> {
     ghost ends = { λ watch state known served. L.ends watch.inner state.inner known served.inner };
 
     ghost admits = { λ watch before state known live same kept. laws.admits_watched (L.serves watch.inner) (L.admitted watch.inner) (L.tag_of watch.inner) watch.layer state kept.small
-        (L.admits watch.inner before.inner state.inner known live (laws.inner_same (L.object before.inner) (L.object watch.inner) (L.takes_no_seen before.inner) (L.takes_no_seen watch.inner) same) kept.inner) };
+        (L.admits watch.inner before.inner state.inner known live (laws.inner_same (L.object before.inner)
+        (L.object watch.inner) (L.takes_no_seen before.inner) (L.takes_no_seen watch.inner) same) kept.inner) };
 
-    ghost swaps = { λ watch state known. laws.swaps_watched (L.object watch.inner) (L.admitted watch.inner) (L.tag_of watch.inner) watch.layer (L.act_of watch.inner) state (L.keeps_state watch.inner) (L.asks_by_tag watch.inner known) (L.swaps watch.inner state.inner known) };
+    ghost swaps = { λ watch state known.
+        laws.swaps_watched (L.object watch.inner) (L.admitted watch.inner) (L.tag_of watch.inner) watch.layer
+        (L.act_of watch.inner) state (L.keeps_state watch.inner) (L.asks_by_tag watch.inner known) (L.swaps
+        watch.inner state.inner known) };
 
     ghost asks = { λ watch. laws.asks_watched (L.tag_of watch.inner) watch.layer (L.act_of watch.inner) (L.asks watch.inner) };
 
-    ghost agrees = { λ watch other same tags. laws.agree_watched (L.ways watch.inner) (L.ways other.inner) (L.whole watch.inner) (L.whole other.inner) (L.serves watch.inner) (L.serves other.inner) (L.tag_of watch.inner) (L.tag_of other.inner) tags
+    ghost agrees = { λ watch other same tags.
+        laws.agree_watched (L.ways watch.inner) (L.ways other.inner) (L.whole watch.inner) (L.whole
+        other.inner) (L.serves watch.inner) (L.serves other.inner) (L.tag_of watch.inner) (L.tag_of
+        other.inner) tags
         (L.agrees watch.inner other.inner (laws.inner_same (L.object watch.inner) (L.object other.inner) (L.takes_no_seen watch.inner) (L.takes_no_seen other.inner) same) tags) };
 }

@@ -85,7 +85,6 @@ module _ (system : SystemSeen) (number : ℕ) (worker : WorkerLines) where
         between = idle.0;
         caller = fresh.caller;
         proc = fresh.proc;
-        activities = omega (arith, fresh.activities);
         graces = omega (arith, fresh.graces);
         way = under_way_at_start worker ready.matches (standing_of pass.view) fresh.entries idle.1;
       }
@@ -124,7 +123,6 @@ module _ (system : SystemSeen) (number : ℕ) (worker : WorkerLines) where
           rests = rests_for line line.act refl here;
           few = record {
             entries = omega (arith, count, more, ready.few);
-            activities = omega (arith, at.activities, more, ready.few);
             graces = omega (arith, at.graces, more, ready.few);
           };
         }
@@ -132,13 +130,12 @@ module _ (system : SystemSeen) (number : ℕ) (worker : WorkerLines) where
     record IsCounted (item : Item) (new : SystemPass) : Type 0 where
       caller : new.view.number ≡ pass.view.number
       proc : new.view.turn.proc ≡ pass.view.turn.proc
-      activities : new.view.activities + length (call_lines (drop (suc place) worker.items)) ≤ length (call_lines worker.items)
       graces : new.view.graces + length (call_lines (drop (suc place) worker.items)) ≤ length (call_lines worker.items)
 
     counted : (item : Item) (new : SystemPass) → drop place worker.items ≡ item ∷ drop (suc place) worker.items → GoesOnBy item pass.view new.view → IsCounted item new
-    counted Begin new here on = record { caller = on.number; proc = on.proc; activities = omega (arith, at.activities, on.activities, ap (λ items. length (call_lines items)) here); graces = omega (arith, at.graces, on.graces, ap (λ items. length (call_lines items)) here) }
-    counted End new here on = record { caller = on.number; proc = on.proc; activities = omega (arith, at.activities, on.activities, ap (λ items. length (call_lines items)) here); graces = omega (arith, at.graces, on.graces, ap (λ items. length (call_lines items)) here) }
-    counted (Line line) new here on = record { caller = on.number; proc = on.proc; activities = omega (arith, at.activities, on.activities, ap (λ items. length (call_lines items)) here); graces = omega (arith, at.graces, on.graces, ap (λ items. length (call_lines items)) here) }
+    counted Begin new here on = record { caller = on.number; proc = on.proc; graces = omega (arith, at.graces, on.graces, ap (λ items. length (call_lines items)) here) }
+    counted End new here on = record { caller = on.number; proc = on.proc; graces = omega (arith, at.graces, on.graces, ap (λ items. length (call_lines items)) here) }
+    counted (Line line) new here on = record { caller = on.number; proc = on.proc; graces = omega (arith, at.graces, on.graces, ap (λ items. length (call_lines items)) here) }
 
     pub at_next : (item : Item) (after : Bool) (new : SystemPass) → slice_get worker.items place ≡ Some item → IsPassHere system new → IsBetween new.view → GoesOnBy item pass.view new.view
         → Follows item pass.view.turn.proc inside after (standing_of pass.view) (standing_of new.view) → IsAt system number worker (suc place) after new
@@ -149,7 +146,6 @@ module _ (system : SystemSeen) (number : ℕ) (worker : WorkerLines) where
           between = between;
           caller = counts.caller ∙ at.caller;
           proc = counts.proc ∙ at.proc;
-          activities = counts.activities;
           graces = counts.graces;
           way = under_way_on worker place inside after item (standing_of pass.view) (standing_of new.view) found at.way
               (subst (λ proc. Follows item proc inside after (standing_of pass.view) (standing_of new.view)) at.proc follows);

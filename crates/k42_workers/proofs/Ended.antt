@@ -43,7 +43,6 @@ module _ (script : Script) (system : SystemSeen) where
         caller = ap (λ (v : PassView SystemPart). v.number) first.new ∙ plain;
         proc = ap (λ (v : PassView SystemPart). v.turn.proc) first.new ∙ home;
         entries = ap (λ (v : PassView SystemPart). v.taker.mine) first.new;
-        activities = ap (λ (v : PassView SystemPart). v.activities) first.new;
         graces = ap (λ (v : PassView SystemPart). v.graces) first.new;
       }
 

@@ -1,7 +1,7 @@
 -- The pass of a worker, between two items.
 use Rattle.std.specs.Prelude.{◌≡◌, ℕ, ◌+◌, ◌<◌, ◌≤◌, true, false, ⊤, List, [], ◌∷◌, All, length}
 use Rattle.gen_core.specs.Events as graces
-use Rattle.k42_limits.specs.declared.TheConstants.{CALLERS, CALL_LINES}
+use Rattle.k42_limits.specs.declared.TheConstants.{CALLERS, CALL_LINES, PASS_ENTRIES, PASS_GRACES}
 use Rattle.k42_places.specs.Places.{EachPair}
 use Rattle.k42_kinds.specs.declared.entry.Act.{Act}
 use Rattle.k42_kinds.specs.declared.entry.Act.TheVariants.{Call, Swap}
@@ -12,7 +12,6 @@ use Rattle.script_text.specs.declared.script.CallLine.{CallLine}
 use Rattle.script_text.specs.declared.script.Item.{Item}
 use Rattle.script_text.specs.declared.script.Item.TheVariants.{Begin, End, Line}
 use Rattle.script_text.specs.declared.script.WorkerLines.{WorkerLines}
-use Rattle.k42_board.specs.Generations.{MOST}
 use Rattle.k42_board.specs.Log.{last_found, step_at}
 use Rattle.k42_board.specs.Words.{generation_word}
 use Rattle.k42_board.specs.declared.view.PassView.{PassView}
@@ -45,24 +44,21 @@ pub record IsBetween {P : Type 0} (v : PassView P) : Type 0 where
   pub grace : graces.is_idle v.turn.grace ≡ true
   pub swap : swaps.is_idle v.visitor.swap ≡ true
 
--- there is room for one activity, one grace and one entry more
+-- there is room for one entry and one grace more
 pub record HasFew {P : Type 0} (v : PassView P) : Type 0 where
-  pub entries : length v.taker.mine < MOST
-  pub activities : v.activities < MOST
-  pub graces : v.graces < MOST
+  pub entries : length v.taker.mine < PASS_ENTRIES
+  pub graces : v.graces < PASS_GRACES
 
--- the same caller on its processor, with at most one activity and one grace more
+-- the same caller on its processor, with at most one grace more
 pub record GoesOnAs {P : Type 0} (old new : PassView P) : Type 0 where
   pub number : new.number ≡ old.number
   pub proc : new.turn.proc ≡ old.turn.proc
-  pub activities : new.activities ≤ old.activities + 1
   pub graces : new.graces ≤ old.graces + 1
 
--- and with no more of them
+-- and with none more
 pub record StaysAs {P : Type 0} (old new : PassView P) : Type 0 where
   pub number : new.number ≡ old.number
   pub proc : new.turn.proc ≡ old.turn.proc
-  pub activities : new.activities ≡ old.activities
   pub graces : new.graces ≡ old.graces
 
 -- it has taken the step into an activity, and no other
@@ -86,7 +82,7 @@ MayFollow plan Begin v = ⊤
 MayFollow plan End v = ⊤
 MayFollow plan (Line line) v = MayAnswer plan line v
 
--- only a line may need an activity and a grace more
+-- only a line may need a grace more
 abbrev pub GoesOnBy : {P : Type 0} → Item → PassView P → PassView P → Type 0
 GoesOnBy Begin old new = StaysAs old new
 GoesOnBy End old new = StaysAs old new
@@ -99,7 +95,6 @@ pub record IsFresh (system : SystemSeen) (number : ℕ) (worker : WorkerLines) (
   pub caller : pass.view.number ≡ number
   pub proc : pass.view.turn.proc ≡ worker.proc
   pub entries : pass.view.taker.mine ≡ []
-  pub activities : pass.view.activities ≡ 0
   pub graces : pass.view.graces ≡ 0
 
 -- it rests, and its entries are those of the worker's lines

@@ -39,14 +39,12 @@ pub record IsUnderWay (worker : WorkerLines) (place : ℕ) (inside : Bool) (stan
       → entry.generation ≡ Some generation
       → standing.active ≡ Some generation
 
--- So many items are behind the pass, and it may need an activity and a grace for each line that is left.
+-- So many items are behind the pass, and it may need a grace for each line that is left.
 pub record IsAt (system : SystemSeen) (number : ℕ) (worker : WorkerLines) (place : ℕ) (inside : Bool) (pass : SystemPass)
     : Type 0 where
   pub here : IsPassHere system pass
   pub between : IsBetween pass.view
   pub caller : pass.view.number ≡ number
   pub proc : pass.view.turn.proc ≡ worker.proc
-  pub activities :
-      pass.view.activities + length (call_lines (drop place worker.items)) ≤ length (call_lines worker.items)
   pub graces : pass.view.graces + length (call_lines (drop place worker.items)) ≤ length (call_lines worker.items)
   pub way : IsUnderWay worker place inside (standing_of pass.view)

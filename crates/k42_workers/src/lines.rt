@@ -1,8 +1,9 @@
 //! The lines of a worker, each carried out on its pass.
 ghost use Rattle.std.specs.Prelude.{◌≡◌, ◌<◌, Bool, true, false, None, OnOk, IfOk, length, is_some, if◌then◌else◌};
 ghost use Rattle.k42_kinds.specs.declared.entry.Act.TheVariants as acts;
-ghost use Rattle.k42_board.specs.Generations.{MOST};
+ghost use Rattle.k42_limits.specs.declared.TheConstants.{PASS_ENTRIES};
 ghost use Rattle.k42_runtime.specs.Calls.{IsAsked};
+ghost use Rattle.k42_runtime.specs.Swaps.{HasEnded, MayStart};
 ghost use Rattle.k42_runtime.specs.Systems.{IsPassHere, IsAtRest, IsAtWork};
 ghost use Rattle.k42_workers.specs.Lines.{AnswersLine, IsOpened, IsMade, Follows};
 ghost use Rattle.k42_workers.specs.Passes.{standing_of, IsBetween, HasFew, GoesOnAs, GoesOnBy, StaysAs, HasOnlyEntered, MayAnswer, MayFollow};
@@ -10,7 +11,7 @@ ghost use Rattle.k42_workers.specs.Passes.{standing_of, IsBetween, HasFew, GoesO
 use crate::gate::Gate;
 use k42_kinds::{Act, Op, To};
 use k42_memory::Memory;
-use k42_runtime::{Pass, System};
+use k42_runtime::{NoCall, NoSwap, Pass, Swapped, System};
 use script_text::{CallLine, Item};
 use std::alloc::Global;
 use std::sync::Wait;
@@ -19,7 +20,6 @@ use std::sync::Wait;
 pub fn open(system: &System, pass: &mut Pass)
     requires here { IsPassHere system.now pass.old }
     requires between { IsBetween pass.old.view }
-    requires few { HasFew pass.old.view }
     ensures here { IsPassHere system.now pass.new }
     ensures works { IsAtWork pass.new.view }
     ensures opened { IsOpened (standing_of pass.old.view) (standing_of pass.new.view) }
@@ -74,15 +74,18 @@ fn call_open<R: Wait>(
     requires here { IsPassHere system.now pass.old }
     requires works { IsAtWork pass.old.view }
     requires asked { IsAsked system.now.plan object op }
-    requires few { length pass.old.view.taker.mine < MOST }
+    requires few { length pass.old.view.taker.mine < PASS_ENTRIES }
     ensures here { IsPassHere system.now pass.new }
     ensures works { IsAtWork pass.new.view }
     ensures called { OnOk result (IsMade object (acts.Call op) pass.old.view.turn.proc pass.old.view.turn.active (standing_of pass.old.view) (standing_of pass.new.view)) }
     ensures active { pass.new.view.turn.active ≡ pass.old.view.turn.active }
     ensures caller { StaysAs pass.old.view pass.new.view }
 {
-    system.call(rt, alloc, pass, object, op)?;
-    Ok(())
+    match system.call(rt, alloc, pass, object, op) {
+        Ok(_reply) => Ok(()),
+        Err(NoCall::Memory) => Err(Memory),
+        Err(NoCall::Worn) => unreachable!(),
+    }
 }
 
 /// Makes a call. Outside a block it has an activity of its own.
@@ -111,7 +114,28 @@ fn call<R: Wait>(
     Ok(())
 }
 
-/// Swaps, destroys, watches or unwatches an object, between two activities.
+/// Swaps, destroys, watches or unwatches an object.
+fn swap_to<R: Wait>(
+    rt: &R,
+    alloc: Global,
+    system: &System,
+    pass: &mut Pass,
+    object: u32,
+    to: To,
+) -> Result<Swapped, NoSwap>
+    requires here { IsPassHere system.now pass.old }
+    requires may { MayStart (length system.now.plan.objects) object pass.old }
+    ensures { HasEnded system.now object to result pass.old pass.new }
+{
+    match to {
+        To::Layout(layout) => system.swap(rt, alloc, pass, object, layout),
+        To::Dead => system.destroy(rt, alloc, pass, object),
+        To::Watch => system.watch(rt, alloc, pass, object),
+        To::Unwatch => system.unwatch(rt, alloc, pass, object),
+    }
+}
+
+/// Carries out a line that swaps, between two activities.
 fn swap<R: Wait>(
     rt: &R,
     alloc: Global,
@@ -130,13 +154,11 @@ fn swap<R: Wait>(
     ensures caller { GoesOnAs pass.old.view pass.new.view }
     ensures answered { (inside : Bool) → OnOk result (AnswersLine line.now pass.old.view.turn.proc inside (standing_of pass.old.view) (standing_of pass.new.view)) }
 {
-    match to {
-        To::Layout(layout) => system.swap(rt, alloc, pass, line.object, layout)?,
-        To::Dead => system.destroy(rt, alloc, pass, line.object)?,
-        To::Watch => system.watch(rt, alloc, pass, line.object)?,
-        To::Unwatch => system.unwatch(rt, alloc, pass, line.object)?,
-    };
-    Ok(())
+    match swap_to(rt, alloc, system, pass, line.object, to) {
+        Ok(_end) => Ok(()),
+        Err(NoSwap::Memory) => Err(Memory),
+        Err(NoSwap::Worn) => unreachable!(),
+    }
 }
 
 /// Does what the line asks.

@@ -1,16 +1,13 @@
 -- Lists of passes.
-use Rattle.std.proofs.Common.{◌≡◌, ℕ, zero, suc, List, [], ◌∷◌, ◌++◌, Option, Some, None, drop, length, take, sym, ap, ◌∙◌, subst, arith}
+use Rattle.std.proofs.Common.{◌≡◌, ℕ, zero, suc, List, [], ◌∷◌, ◌++◌, Option, Some, None, length, sym, ap, ◌∙◌, subst}
 use Rattle.std.specs.List.{slice_get}
 use Rattle.std.specs.Option.{IfSome, option_to_list}
-use Rattle.std.proofs.lemmas.List.{length-map, take-append-le}
 use Rattle.std.proofs.lemmas.Option.{same_Some}
-use Rattle.std.proofs.Math.Seq.{take-length}
 use Rattle.k42_places.proofs.Appended.{slice_get-append_left, slice_get-append_seam}
 use Rattle.k42_board.specs.Seen.{SysSeen, PassSeen}
 use Rattle.k42_board.specs.Starting.{IsStarted}
 use Rattle.k42_board.specs.declared.view.PassView.{PassView}
-use Rattle.k42_rule.specs.Finishing.{AreAtRest, IsPassAtRest, with_none_kept}
-use Rattle.k42_rule.proofs.GivenLists.{given_rest}
+use Rattle.k42_rule.specs.Finishing.{AreAtRest, IsPassAtRest}
 use Rattle.mediator_tests.specs.Ready.{HoldsNoCell, HoldNoCells, RestsAt}
 
 module _ {L P : Type 0} (sys : SysSeen L) where
@@ -48,12 +45,3 @@ module _ {L P : Type 0} (sys : SysSeen L) where
     each zero pass e = subst (IsPassAtRest sys 0) (same_Some one pass e) (rests 0 one a x)
     each (suc zero) pass e = subst (IsPassAtRest sys 1) (same_Some two pass e) (rests 1 two b y)
     each (suc (suc i)) pass e = absurd (cc)
-
-  -- they have given their lists away where they lay
-  pub given_at_rest : (count : ℕ) (passes given : List (PassSeen P)) → count ≡ length passes → given ≡ with_none_kept passes → AreAtRest sys passes
-      → AreAtRest sys (take count (given ++ drop (length given) passes))
-  given_at_rest count passes given many is rest =
-      let long : count ≡ length given = many ∙ sym (ap length is ∙ length-map passes _) in
-      let all : take count (given ++ drop (length given) passes) ≡ given =
-      ap (λ k. take k (given ++ drop (length given) passes)) long ∙ take-append-le (length given) given (drop (length given) passes) (omega (arith)) ∙ take-length given in
-      subst (AreAtRest sys) (sym (all ∙ is)) (given_rest sys passes rest)

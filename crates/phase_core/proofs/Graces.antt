@@ -111,8 +111,7 @@ module _ (scene : Scene) (s : Phases) (h : IsInScene scene s) (c : ℕ) (x : Vis
   pub keeps_enter : turns.is_possible s.turns (Enter c) ≡ true → x.swap ≡ Idle
       → IsInScene scene (record s { turns = turns.effect s.turns (Enter c); callers = set s.callers c x })
   keeps_enter possible idle =
-      let parts = and_parts _ _ possible in
-      let alone = and_parts (turns.is_idle g.grace) _ parts.0 in
+      let alone = and_parts (turns.is_idle g.grace) _ possible in
       let rest = known.at_rest (from_is_none g.active alone.1) in
       let g' : Caller = turns.caller_entered g (turns.home_of s.turns c) in
       keeps_course scene.course (turns.effect s.turns (Enter c)) g' x

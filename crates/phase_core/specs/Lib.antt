@@ -7,6 +7,7 @@ pub mod Notes
 pub mod Events
 pub mod Words
 pub mod Turns
+pub mod Room
 pub mod Outlooks
 pub mod Objects
 pub mod Callers

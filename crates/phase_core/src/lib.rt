@@ -20,6 +20,6 @@ pub use laws::{
     moves_alone, nothing_falls, one_swap, others_stay, reads_by_look_up_and_knock, row_stays,
     stays_sound,
 };
-pub use machine::apply;
+pub use machine::{apply, has_room};
 pub use object::{LocalEntry, PhaseObject};
 pub use state::PhaseState;

@@ -1,7 +1,8 @@
 //! Every event of the machine, passed to the room that carries it out.
-ghost use Rattle.std.specs.Prelude.{◌≡◌, ◌<◌, length};
+ghost use Rattle.std.specs.Prelude.{◌≡◌, ◌<◌, ◌↔◌, length, IsTrue};
 ghost use Rattle.phase_core.specs.Event.{event_seen, caller_of, NamesObjects};
 ghost use Rattle.phase_core.specs.Events.{Applies};
+ghost use Rattle.phase_core.specs.Room.{HasRoomFor};
 ghost use Rattle.phase_core.specs.Sound.{IsSound};
 
 use crate::calling::{end_call, install, knock, look_up, root_load, step_out};
@@ -15,6 +16,7 @@ fn step(state: &mut PhaseState, event: &PhaseEvent) -> bool
     requires sound { IsSound state.old }
     requires caller { caller_of (event_seen event.now) < length state.old.turns.callers }
     requires objects { NamesObjects (length state.old.objects) (event_seen event.now) }
+    requires room { HasRoomFor state.old (event_seen event.now) }
     ensures { Applies result state.old state.new (event_seen event.now) }
 {
     match event {
@@ -38,11 +40,25 @@ fn step(state: &mut PhaseState, event: &PhaseEvent) -> bool
     }
 }
 
+/// Whether the count that an event raises, where it raises one, can rise.
+#[tactic(auto, using(crate::proofs::Ranges::turns_sound, crate::proofs::Reached::turn_there))]
+pub fn has_room(state: &PhaseState, event: &PhaseEvent) -> bool
+    requires sound { IsSound state.now }
+    requires caller { caller_of (event_seen event.now) < length state.now.callers }
+    ensures { IsTrue result ↔ HasRoomFor state.now (event_seen event.now) }
+{
+    let PhaseEvent::Turn(event) = event else {
+        return true;
+    };
+    gen_core::has_room(&state.turns, event)
+}
+
 /// One event. An event that is not possible answers false.
 pub fn apply(state: &mut PhaseState, event: &PhaseEvent) -> bool
     requires sound { IsSound state.old }
     requires caller { caller_of (event_seen event.now) < length state.old.callers }
     requires objects { NamesObjects (length state.old.objects) (event_seen event.now) }
+    requires room { HasRoomFor state.old (event_seen event.now) }
     ensures applies { Applies result state.old state.new (event_seen event.now) }
     ensures sound { IsSound state.new }
     ensures procs { length state.new.turns.procs ≡ length state.old.turns.procs }

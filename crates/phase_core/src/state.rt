@@ -2,6 +2,7 @@
 ghost use Rattle.std.specs.Prelude.{◌≡◌, ℕ, ◌<◌, ◌≤◌, ◌*◌, length, slice_set, replicate, [], is_none};
 ghost use Rattle.gen_core.specs.State.{caller_at};
 ghost use Rattle.phase_core.specs.Turns.{AreTurnsSound, turning, can_turn, turns_happened, put_turns};
+ghost use Rattle.phase_core.specs.Room.{HasRoomToTurn};
 ghost use Rattle.phase_core.specs.State.{object_at, visitor_at, note_at, entry_at, put_object, put_visitor, put_entry, with_row};
 ghost use Rattle.phase_core.specs.Words.{word_of, with_word};
 ghost use Rattle.phase_core.specs.Effects.{at_place, at_row, at_stage};
@@ -150,6 +151,7 @@ impl PhaseState {
     pub(crate) fn pass_on(&mut self, event: &GenEvent) -> bool
         requires sound { AreTurnsSound self.old }
         requires in_range { turning event.now < length self.old.turns.callers }
+        requires room { HasRoomToTurn self.old event.now }
         ensures answer { result ≡ can_turn self.old event.now }
         ensures state { self.new ≡ put_turns self.old (turns_happened self.old event.now) }
     {

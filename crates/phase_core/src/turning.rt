@@ -6,6 +6,7 @@ ghost use Rattle.phase_core.specs.State.{visitor_at, put_visitor};
 ghost use Rattle.phase_core.specs.Effects.{visitor_turned};
 ghost use Rattle.phase_core.specs.Events.{may_turn, Applies};
 ghost use Rattle.phase_core.specs.Turns.{turning};
+ghost use Rattle.phase_core.specs.Room.{HasRoomToTurn};
 ghost use Rattle.phase_core.specs.Sound.{IsSound};
 
 use crate::caller::{Place, SwapAt};
@@ -78,6 +79,7 @@ fn finish(state: &mut PhaseState, event: &GenEvent)
 pub(crate) fn turn(state: &mut PhaseState, event: &GenEvent) -> bool
     requires sound { IsSound state.old }
     requires caller { turning event.now < length state.old.turns.callers }
+    requires room { HasRoomToTurn state.old event.now }
     ensures { Applies result state.old state.new (Turn event.now) }
 {
     if !may_turn(state, event) || !state.pass_on(event) {

@@ -9,7 +9,7 @@ ghost use Rattle.phase_core.specs.Sound.{IsSound};
 use gen_core::GenEvent;
 use k42_limits::LAST_INCARNATION;
 use k42_memory::Memory;
-use phase_core::{LocalEntry, PhaseEvent, PhaseState, Place, SwapAt, apply};
+use phase_core::{LocalEntry, PhaseEvent, PhaseState, Place, SwapAt, apply, has_room};
 use std::alloc::Global;
 use std::test::Fail;
 
@@ -91,7 +91,7 @@ fn does(state: &mut PhaseState, event: &PhaseEvent) -> bool
     if caller_of(event) as usize >= callers || !names_objects(event, objects) {
         return false;
     }
-    apply(state, event)
+    has_room(state, event) && apply(state, event)
 }
 
 // An event, with its notes in a constant.

@@ -9,6 +9,7 @@ ghost use Rattle.table_crews.specs.Ready.{HoldsNoCell};
 
 use co_any::AnyLayout;
 use k42_kinds::LayoutName;
+use k42_limits::PASS_GRACES;
 use k42_quiesce::{Grace, GraceStep, Held, collect, enter, grace, hand_over, leave, reclaim};
 use k42_rule::Sys;
 use std::process::Abort;
@@ -32,7 +33,7 @@ fn begin(rt: &impl Abort, sys: &Sys<AnyLayout>, pass: &mut Walk)
 fn may_begin(pass: &Walk) -> bool
     ensures { result ≡ true → MayTakeRole pass.now.view }
 {
-    pass.is_idle() && pass.graces() < 1_048_576
+    pass.is_idle() && pass.graces() < PASS_GRACES
 }
 
 /// One pass is in an activity. The grace of another waits for it, and holds that of a third up.

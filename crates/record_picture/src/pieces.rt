@@ -4,7 +4,7 @@ ghost use Rattle.record_picture.specs.Pieces.{escape, escaped, numbered, worded,
 
 use crate::lists::front;
 use k42_memory::Memory;
-use record_text::put_digits;
+use script_text::put_digits;
 use std::alloc::Global;
 
 /// Adds a byte as it is written in XML.

@@ -17,7 +17,7 @@ use std::test::Fail;
 #[derive(Drop)]
 struct Told {
     caller: u32,
-    index: u32,
+    index: u64,
     act: Act,
     answer: Answer,
     incarnation: u32,
@@ -169,7 +169,7 @@ fn swap(layout: LayoutName) -> Act {
 }
 
 /// The reply to a call in an activity of the first generation.
-fn reply(caller: u32, index: u32, act: Act, reply: Reply, incarnation: u32) -> Told {
+fn reply(caller: u32, index: u64, act: Act, reply: Reply, incarnation: u32) -> Told {
     Told {
         caller,
         index,
@@ -181,7 +181,7 @@ fn reply(caller: u32, index: u32, act: Act, reply: Reply, incarnation: u32) -> T
 }
 
 /// The end of a swap.
-fn end(caller: u32, index: u32, act: Act, answer: Answer, incarnation: u32) -> Told {
+fn end(caller: u32, index: u64, act: Act, answer: Answer, incarnation: u32) -> Told {
     Told {
         caller,
         index,
@@ -415,7 +415,7 @@ fn a_record_of_65536_lines(rt: HostRuntime) -> Result<(), Fail> {
     let mut entries = Vec::new(alloc);
     for i in 0u32..65536 {
         lines.push((0, i + 4, add(7)))?;
-        entries.push(reply(0, i, add(7), Reply::Done, 0))?;
+        entries.push(reply(0, u64::from(i), add(7), Reply::Done, 0))?;
     }
     let case = Case {
         shows: "many lines",

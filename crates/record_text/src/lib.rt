@@ -18,6 +18,6 @@ pub use laws::{
     first_faults_are_one, lawful_records_have_no_fault, printed_is_read, read_is_printed,
     rules_make_records_lawful, the_first_foreign_line_is_refused, two_records_have_two_texts,
 };
-pub use printing::{print, print_history, put_act, put_answer, put_digits, put_line};
+pub use printing::{print, print_history, put_act, put_answer, put_line};
 pub use reading::read;
 pub use record::{Extra, Record, RecordLine};

@@ -13,14 +13,13 @@ mod tokens;
 use crate::history::{line_at, number_of, numbers_of_all};
 pub use crate::printing::acts::put_act;
 pub use crate::printing::answers::put_answer;
-pub use crate::printing::tokens::put_digits;
 use crate::printing::tokens::{put_marked, put_number, put_token};
 use crate::record::{Extra, Record, RecordLine};
 use crate::version::Version;
 use k42_kinds::Entry;
 use k42_limits::LINE_FEED;
 use k42_memory::Memory;
-use script_text::Script;
+use script_text::{Script, put_digits};
 use std::alloc::Global;
 
 /// Adds the generation of a call, or that there is none.

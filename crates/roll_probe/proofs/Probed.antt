@@ -1,29 +1,21 @@
--- Passes that have done nothing may roll four items, and come back with nothing under way.
-use Rattle.std.proofs.Common.{◌≡◌, ℕ, zero, suc, ◌+◌, ◌<◌, ◌≤◌, List, [], ◌∷◌, length, refl, sym, ap, subst, ◌∙◌, arith}
-use Rattle.std.specs.Prelude.{slice_get, Option, Some, None, IsSomeAnd}
-use Rattle.k42_board.specs.Generations.{MOST}
-use Rattle.k42_board.specs.Seen.{is_at_rest}
-use Rattle.k42_board.specs.declared.view.PassView.{PassView}
+-- Free passes may roll, and come back with nothing under way.
+use Rattle.std.proofs.Common.{◌≡◌, ℕ, zero, suc, ◌<◌, ◌≤◌, List, [], ◌∷◌, refl, subst, arith}
+use Rattle.std.specs.Prelude.{slice_get, Option, Some, None, Result, IsSomeAnd}
+use Rattle.std.proofs.lemmas.Option.{same_Some}
 use Rattle.k42_crews.specs.Ready.{IsFree, AreFree}
 use Rattle.k42_kinds.specs.declared.entry.To.{To}
 use Rattle.k42_places.specs.Places.{EachPlace}
-use Rattle.k42_runtime.specs.Plans.{PlanSeen}
-use Rattle.k42_runtime.specs.Systems.{SystemSeen, IsPassHere, IsAtRest, HasStarted, SystemPart, SystemPass}
+use Rattle.k42_runtime.specs.Systems.{SystemSeen, IsPassHere, IsAtRest, SystemPass}
+use Rattle.k42_runtime.specs.declared.swaps.NoSwap.{NoSwap}
 use Rattle.k42_runtime.specs.declared.swaps.Swapped.{Swapped}
 use Rattle.swap_future.specs.Rolling.{HasRolled, MayRoll, seen}
 use Rattle.swap_future.specs.declared.rolling.Rolling.{Rolling}
 
-pub may_roll : (plan : PlanSeen) (system : SystemSeen) (passes : List SystemPass) → HasStarted plan system passes → EachPlace (λ i. MayRoll system 4) passes
-may_roll plan system passes is i pass at =
-    let first = is.each i pass at in
-    let mine : length pass.view.taker.mine ≡ 0 = ap (λ (v : PassView SystemPart). length v.taker.mine) first.new in
-    let graces : pass.view.graces ≡ 0 = ap (λ (v : PassView SystemPart). v.graces) first.new in
-    record {
-      here = first.here;
-      rests = ap (λ (v : PassView SystemPart). is_at_rest v) first.new;
-      few_entries = omega (arith, mine);
-      few_graces = omega (arith, graces);
-    }
+pub may_roll : (system : SystemSeen) (passes : List SystemPass) → AreFree system passes → EachPlace (λ i. MayRoll system) passes
+may_roll system [] free i pass at = absurd (cc)
+may_roll system (first ∷ passes) free zero pass at =
+    subst (λ (p : SystemPass). MayRoll system p) (same_Some first pass at) (record { here = free.0.here; rests = free.0.rests })
+may_roll system (first ∷ passes) free (suc i) pass at = may_roll system passes free.1 i pass at
 
 pub each_within : (plan : List (ℕ × To)) (few objects : ℕ) → few ≤ objects → EachPlace (λ i asked. asked.0 < few) plan → EachPlace (λ i asked. asked.0 < objects) plan
 each_within plan few objects more each i asked at = let less = each i asked at in omega (arith, less, more)
@@ -34,10 +26,7 @@ all_free system (pass ∷ passes) each =
     let first = each 0 pass refl in
     (record { here = first.0; rests = first.1 }, all_free system passes (λ i other at. each (suc i) other at))
 
-pub all_free_before : (system : SystemSeen) (items : ℕ) (passes : List SystemPass) → EachPlace (λ i. MayRoll system items) passes → AreFree system passes
-all_free_before system items passes each = all_free system passes (λ i pass at. ((each i pass at).here, (each i pass at).rests))
-
-pub rolled_free : (system : SystemSeen) (o : Option Rolling) (answers : List (Option Swapped)) (passes : List SystemPass)
+pub rolled_free : (system : SystemSeen) (o : Option Rolling) (answers : List (Result Swapped NoSwap)) (passes : List SystemPass)
     → IsSomeAnd o (λ rolling. HasRolled system (seen rolling) answers passes) → AreFree system passes
 rolled_free system (Some rolling) answers passes is = all_free system passes is.rest
 rolled_free system None answers passes is = absurd is

@@ -3,13 +3,13 @@ ghost use Rattle.std.specs.Prelude.{◌≡◌, ◌<◌, ◌≤◌, length, IfErr
 ghost use Rattle.k42_board.specs.declared.keep.Keep.TheVariants.{All};
 ghost use Rattle.k42_crews.specs.Ready.{AreFree};
 ghost use Rattle.k42_places.specs.Places.{EachPlace};
-ghost use Rattle.swap_future.specs.Rolling.{IsRolling, MayRoll, seen};
+ghost use Rattle.swap_future.specs.Rolling.{IsRolling, seen};
 
 use futures::executor::block_on;
 use k42_crews::{close, start};
 use k42_kinds::{Answer, Entry, KindName, LayoutName, To};
 use k42_memory::Memory;
-use k42_runtime::{History, Keep, ObjectPlan, Pass, Plan, Swapped, System};
+use k42_runtime::{History, Keep, NoSwap, ObjectPlan, Pass, Plan, Swapped, System};
 use std::alloc::{AllocGlobal, Global};
 use std::io;
 use std::random::RandomSource;
@@ -25,19 +25,10 @@ pub enum Found {
     Wrong,
 }
 
-/// The system of the plan, and its passes, which have done nothing.
-fn started(alloc: Global, plan: Plan) -> Result<(System, Vec<Pass>), Memory>
-    ensures plan { IfOk result (λ made. made.0.plan ≡ plan) }
-    ensures may { IfOk result (λ made. EachPlace (λ i. MayRoll made.0 4) made.1.items) }
-{
-    let made = start(alloc, plan)?;
-    Ok(made)
-}
-
 /// A system of three counters on one processor, and the passes of its two callers.
 fn counters(alloc: Global) -> Result<Option<(System, Vec<Pass>)>, Memory>
     ensures keeps { IfOk result (λ made. IfSome made (λ crew. crew.0.plan.keep ≡ All)) }
-    ensures may { IfOk result (λ made. IfSome made (λ crew. EachPlace (λ i. MayRoll crew.0 4) crew.1.items)) }
+    ensures free { IfOk result (λ made. IfSome made (λ crew. AreFree crew.0 crew.1.items)) }
 {
     let mut objects = Vec::new(alloc);
     for _ in 0..3 {
@@ -48,15 +39,14 @@ fn counters(alloc: Global) -> Result<Option<(System, Vec<Pass>)>, Memory>
     }
     let homes = vec![in alloc; 0, 0]?;
     match Plan::new(1, objects, homes, Keep::All) {
-        Ok(plan) => Ok(Some(started(alloc, plan)?)),
+        Ok(plan) => Ok(Some(start(alloc, plan)?)),
         Err(_) => Ok(None),
     }
 }
 
 /// Four swaps of the three counters, of which one dies.
 fn plan_of(alloc: Global) -> Result<Vec<(u32, To)>, Memory>
-    ensures within { IfOk result (λ plan. EachPlace (λ i asked. asked.0 < 3) plan.items) }
-    ensures four { IfOk result (λ plan. length plan.items ≡ 4) }
+    ensures { IfOk result (λ plan. EachPlace (λ i asked. asked.0 < 3) plan.items) }
 {
     let spread = To::Layout(LayoutName::Spread);
     let shared = To::Layout(LayoutName::Shared);
@@ -69,9 +59,9 @@ fn tells_of_giving_up(entry: &Entry) -> bool {
 }
 
 /// Whether there is an entry for each answer, and besides at most one for each other item, which tells that it was given up.
-fn is_told(history: &History, answers: &[Option<Swapped>]) -> bool {
+fn is_told(history: &History, answers: &[Result<Swapped, NoSwap>]) -> bool {
     let entries = history.entries();
-    let answered = answers.iter().filter(|answer| answer.is_some()).count();
+    let answered = answers.iter().filter(|answer| answer.is_ok()).count();
     let given_up = entries
         .iter()
         .filter(|entry| tells_of_giving_up(entry))
@@ -86,7 +76,7 @@ fn of_rolled(alloc: Global, system: System, end: Rolled) -> Found
     requires free { AreFree system end.passes.items }
 {
     let Rolled { answers, passes } = end;
-    let is_whole = answers.iter().all(|answer| answer.is_some());
+    let is_whole = answers.iter().all(|answer| answer.is_ok());
     match close(alloc, system, passes) {
         Ok(Some(history)) if is_told(&history, answers.as_slice()) => {
             if is_whole {
@@ -119,10 +109,9 @@ fn begin<'a>(
     plan: Vec<(u32, To)>,
 ) -> Result<Roll<'a>, Unrolled>
     requires some { 0 < length passes.items }
-    requires may { EachPlace (λ i. MayRoll system.now 4) passes.items }
+    requires free { AreFree system.now passes.items }
     requires objects { 3 ≤ length system.now.plan.objects }
     requires within { EachPlace (λ i asked. asked.0 < 3) plan.items }
-    requires four { length plan.items ≡ 4 }
     ensures system { IfOk result (λ roll. roll.system.now ≡ system.now) }
     ensures rolls { IfOk result (λ roll. IsSomeAnd roll.rolling (λ rolling. IsRolling system.now (seen rolling))) }
     ensures free { IfErr result (λ back. AreFree system.now back.passes.items) }

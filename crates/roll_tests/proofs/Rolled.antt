@@ -1,22 +1,22 @@
 -- Free passes may roll, and come back free.
 use Rattle.std.proofs.Common.{◌≡◌, ℕ, zero, suc, ◌<◌, List, [], ◌∷◌, ◌++◌, length, Some, None, refl, sym, subst}
-use Rattle.std.specs.Prelude.{slice_get, Option, IsSomeAnd}
+use Rattle.std.specs.Prelude.{slice_get, Option, Result, IsSomeAnd}
 use Rattle.std.proofs.lemmas.Option.{same_Some}
 use Rattle.k42_crews.specs.Ready.{IsFree, AreFree}
 use Rattle.k42_places.specs.Places.{EachPlace}
 use Rattle.k42_runtime.specs.Systems.{SystemSeen, IsPassHere, IsAtRest, SystemPass}
 use Rattle.k42_kinds.specs.declared.entry.To.{To}
+use Rattle.k42_runtime.specs.declared.swaps.NoSwap.{NoSwap}
 use Rattle.k42_runtime.specs.declared.swaps.Swapped.{Swapped}
 use Rattle.swap_future.specs.Rolling.{HasRolled, MayRoll, seen}
 use Rattle.swap_future.specs.declared.rolling.Rolling.{Rolling}
-use Rattle.roll_tests.specs.Rolls.{HaveRoom, AreWithin}
+use Rattle.roll_tests.specs.Rolls.{AreWithin}
 
-pub may_roll : (system : SystemSeen) (items : ℕ) (passes : List SystemPass) → AreFree system passes → HaveRoom items passes → EachPlace (λ i. MayRoll system items) passes
-may_roll system items [] free room i pass at = absurd (cc)
-may_roll system items (first ∷ passes) free room zero pass at =
-    subst (λ (p : SystemPass). MayRoll system items p) (same_Some first pass at)
-    (record { here = free.0.here; rests = free.0.rests; few_entries = room.0; few_graces = room.1 })
-may_roll system items (first ∷ passes) free room (suc i) pass at = may_roll system items passes free.1 room.2 i pass at
+pub may_roll : (system : SystemSeen) (passes : List SystemPass) → AreFree system passes → EachPlace (λ i. MayRoll system) passes
+may_roll system [] free i pass at = absurd (cc)
+may_roll system (first ∷ passes) free zero pass at =
+    subst (λ (p : SystemPass). MayRoll system p) (same_Some first pass at) (record { here = free.0.here; rests = free.0.rests })
+may_roll system (first ∷ passes) free (suc i) pass at = may_roll system passes free.1 i pass at
 
 pub within : (objects : ℕ) (plan : List (ℕ × To)) → AreWithin objects plan → EachPlace (λ i asked. asked.0 < objects) plan
 within objects [] are i asked at = absurd (cc)
@@ -36,7 +36,7 @@ one_more_free system [] pass free one = (one, tt)
 one_more_free system (first ∷ passes) pass free one = (free.0, one_more_free system passes pass free.1 one)
 
 -- and so the passes that a roll gives back
-pub rolled_free : (system : SystemSeen) (o : Option Rolling) (answers : List (Option Swapped)) (passes : List SystemPass)
+pub rolled_free : (system : SystemSeen) (o : Option Rolling) (answers : List (Result Swapped NoSwap)) (passes : List SystemPass)
     → IsSomeAnd o (λ rolling. HasRolled system (seen rolling) answers passes) → AreFree system passes
 rolled_free system (Some rolling) answers passes is = all_free system passes is.rest
 rolled_free system None answers passes is = absurd is

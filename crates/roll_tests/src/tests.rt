@@ -4,7 +4,7 @@ use crate::tests::rolls::{is_held_up, roll_of, roll_through, rolled};
 use crate::tests::steps::{come_in, go_home};
 use k42_crews::{close, last};
 use k42_kinds::{Act, LayoutName};
-use k42_runtime::{Cause, Swapped, To};
+use k42_runtime::{Cause, NoSwap, Swapped, To};
 use std::test::Fail;
 
 mod beside;
@@ -13,12 +13,12 @@ mod rolls;
 mod steps;
 
 /// Whether these are the answers of a roll.
-fn are_answered(answers: &[Option<Swapped>], due: &[Swapped]) -> bool {
+fn are_answered(answers: &[Result<Swapped, NoSwap>], due: &[Swapped]) -> bool {
     if answers.len() != due.len() {
         return false;
     }
     for place in 0..due.len() {
-        if answers[place] != Some(due[place]) {
+        if answers[place] != Ok(due[place]) {
             return false;
         }
     }
@@ -53,7 +53,7 @@ fn two_passes_of_a_plan_meet_at_one_object(rt: HostRuntime) -> Result<(), Fail> 
     let Some(mut active) = last(&system, &mut passes) else {
         return Err("no pass")?;
     };
-    come_in(&rt, &system, &mut active);
+    come_in(&system, &mut active);
     let spread = To::Layout(LayoutName::Spread);
     let plan = vec![in alloc; (0, spread), (0, spread)]?;
     let roll = roll_of(&rt, alloc, &system, passes, plan)?;

@@ -1,6 +1,8 @@
 //! Plans that are refused, and calls, swaps and destroys that meet on one thread.
 use crate::tests::crews::{Three, closed, counters, ended, forgetting, on_two};
-use crate::tests::ending::{destroy_once, find_gone, free_once, swap_and_keep_none, swap_twice};
+use crate::tests::ending::{
+    add_two_million, destroy_once, find_gone, free_once, swap_and_keep_none, swap_twice,
+};
 use crate::tests::waiting::{find, free_in_turn, swap_beside};
 use crate::tests::watching::{
     Deed, call_of, called, find_layout, follow, refuse_beside, swap_and_call, swapped,
@@ -174,6 +176,20 @@ fn a_system_that_keeps_nothing_is_called_swapped_and_ended(rt: HostRuntime) -> R
     follow(&rt, alloc, &system, &mut zero, deeds.as_slice())?;
     assert!(rt; zero.kept().is_empty());
     assert_eq!(rt; zero.drawn(), 5);
+    assert!(rt; ended(alloc, system, zero, one, two)?);
+    Ok(())
+}
+
+#[test]
+fn a_pass_that_keeps_nothing_makes_two_million_calls(rt: HostRuntime) -> Result<(), Fail> {
+    let alloc = rt.alloc();
+    let Some((system, crew)) = forgetting(alloc)? else {
+        return Err("no system")?;
+    };
+    let Three { mut zero, one, two } = crew;
+    add_two_million(&rt, alloc, &system, &mut zero)?;
+    assert_eq!(rt; zero.drawn(), (1 << 21) + 17);
+    assert!(rt; zero.kept().is_empty());
     assert!(rt; ended(alloc, system, zero, one, two)?);
     Ok(())
 }

@@ -4,7 +4,6 @@ use Rattle.k42_kinds.specs.declared.operation.Op.TheVariants.{Add}
 use Rattle.k42_runtime.specs.Calls.{IsAsked}
 use Rattle.k42_runtime.specs.Swaps.{SwapSeen, IsAtStage, is_over}
 use Rattle.k42_runtime.specs.Systems.{SystemSeen, IsPassHere, SystemPass}
-use Rattle.k42_crews.specs.Ready.{MayCall}
 
 -- the pass is one of the system, and as the last step of the swap left it, which was not its last
 pub record IsSwapping (system : SystemSeen) (swap : SwapSeen) (pass : SystemPass) : Type 0 where
@@ -12,7 +11,7 @@ pub record IsSwapping (system : SystemSeen) (swap : SwapSeen) (pass : SystemPass
   pub stage : IsAtStage swap.stage (length system.plan.objects) swap pass
   pub going : is_over swap.stage ≡ false
 
--- if the pass could add one to the first object, it has one entry more
+-- if one can be added to the first object, the pass has one entry more
 abbrev pub HasAdded : SystemSeen → SystemPass → SystemPass → Type 0
 HasAdded system old new =
-    MayCall old.view → IsAsked system.plan 0 (Add 1) → length new.view.taker.mine ≡ length old.view.taker.mine + 1
+    IsAsked system.plan 0 (Add 1) → length new.view.taker.mine ≡ length old.view.taker.mine + 1

@@ -1,8 +1,10 @@
 pub mod LineCuts
+pub mod PrintableLines
 pub mod TokenCuts
 pub mod Spacing
 pub mod NumberSteps
 pub mod ReaderSteps
+pub mod PlacesAsked
 pub mod SoundForms
 pub mod SoundLists
 pub mod SoundSteps

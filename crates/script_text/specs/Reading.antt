@@ -4,10 +4,11 @@ use Rattle.k42_memory.specs.declared.Memory.{Memory}
 use Rattle.k42_limits.specs.declared.TheConstants.{OBJECTS, CALL_LINES}
 use Rattle.script_text.specs.Lines.{is_printable_text}
 use Rattle.script_text.specs.Tokens.{tokens_of, says_nothing}
-use Rattle.script_text.specs.Offences.{object_names, worker_names, is_in_block, call_count}
+use Rattle.script_text.specs.Offences.{object_names, worker_names, place_among, is_in_block, call_count}
 use Rattle.script_text.specs.Forms.{form_of}
 use Rattle.script_text.specs.Language.{with_said, with_line, first_of, is_refused_for, refuses, causes_of_form}
 use Rattle.script_text.specs.declared.form.Form.{Form}
+use Rattle.script_text.specs.declared.form.Form.TheVariants.{Asks}
 use Rattle.script_text.specs.declared.fault.ScriptCause.{ScriptCause}
 use Rattle.script_text.specs.declared.fault.ScriptCause.TheVariants.{ProcsExpected, BadByte}
 use Rattle.script_text.specs.declared.script.WorkerHead.{WorkerHead}
@@ -49,6 +50,11 @@ pub record IsKept (r : Reading) : Type 0 where
 pub record Shows (script : Script) (r : Reading) : Type 0 where
   pub same : script_so_far r ≡ script
   pub kept : IsKept r
+
+-- the place of the object that a line of this form asks
+abbrev pub place_asked : Script → Form → Option ℕ
+place_asked script (Asks object request) = place_among (object_names script) object
+place_asked script _ = None
 
 -- why a line of this form is refused, if it is: none of these causes looks at its tokens
 abbrev pub refusal_of_form : Script → Form → Option ScriptCause

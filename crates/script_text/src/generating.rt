@@ -6,6 +6,7 @@ ghost use Rattle.k42_kinds.specs.declared.operation.LayoutName.TheVariants.{Shar
 ghost use Rattle.script_text.specs.Generated as trial;
 ghost use Rattle.script_text.specs.Sound.{IsSound};
 
+use crate::digits::put_digits;
 use crate::script::{CallLine, Item, ObjectLine, Script, WorkerLines};
 use k42_items::Items;
 use k42_kinds::{Act, KindName, LayoutName, Name, Op, Text, To};
@@ -155,7 +156,7 @@ fn numbered(alloc: Global, letter: u8, number: u32) -> Result<Vec<u8>, Memory>
 {
     let mut bytes = Vec::new(alloc);
     bytes.push(letter)?;
-    bytes.extend_from_slice(number.to_string(alloc)?.as_bytes())?;
+    put_digits(&mut bytes, u64::from(number))?;
     Ok(bytes)
 }
 

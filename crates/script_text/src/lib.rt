@@ -2,6 +2,7 @@
 #![tactic(auto)]
 
 mod accepted_laws;
+mod digits;
 mod fault;
 mod form;
 mod form_laws;
@@ -18,6 +19,7 @@ mod script;
 mod tokens;
 
 pub use accepted_laws::a_line_is_accepted_where_it_may_stand;
+pub use digits::put_digits;
 pub use fault::{ParseEnd, ScriptCause, ScriptFault};
 pub use form_laws::{
     a_form_adds_what_it_says, a_skipped_line_changes_nothing, a_space_parts_tokens,

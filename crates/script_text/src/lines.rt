@@ -1,7 +1,6 @@
 //! A text is cut into lines, and the bytes are tested that may stand in one.
-ghost use Rattle.std.specs.Prelude.{◌≡◌, ◌≢◌, ℕ, ◌<◌, ◌≤◌, ◌∷◌, ◌++◌, length, slice_index};
-ghost use Rattle.std.specs.List.{list_all};
-ghost use Rattle.script_text.specs.Lines.{lines_of, text_of, is_printable};
+ghost use Rattle.std.specs.Prelude.{◌≡◌, ◌≢◌, ℕ, ◌<◌, ◌≤◌, true, false, length, slice_index};
+ghost use Rattle.script_text.specs.Lines.{is_printable, is_printable_text};
 ghost use Rattle.script_text.specs.Cuts.{CutsLine};
 
 use k42_limits::{LINE_FEED, SPACE};
@@ -12,6 +11,22 @@ pub struct Cut<'a> {
     /// What stands on the line, without its line feed.
     pub text: &'a [u8],
     pub rest: &'a [u8],
+    /// Whether every byte of the text may stand in a script.
+    pub is_printable: bool,
+}
+
+/// How many bytes stand before the first that may not stand in the text of a line.
+fn printable_len(bytes: &[u8]) -> usize
+    ensures within { result ≤ length bytes.now }
+    ensures before { (k : ℕ) → k < result → is_printable (slice_index bytes.now k) ≡ true }
+    ensures found { result < length bytes.now → is_printable (slice_index bytes.now result) ≡ false }
+{
+    for (i, &byte) in bytes.iter().enumerate() {
+        if !matches!(byte, SPACE..=b'~') {
+            return i;
+        }
+    }
+    bytes.len()
 }
 
 /// How many bytes stand before the first line feed.
@@ -28,27 +43,26 @@ fn text_len(bytes: &[u8]) -> usize
     bytes.len()
 }
 
-/// Cuts the first line off.
+/// Cuts the first line off, in one pass where its text is printable.
 pub fn next_line(bytes: &[u8]) -> Cut<'_>
     requires { 0 < length bytes.now }
-    ensures { CutsLine bytes.now result.text.now result.rest.now }
+    ensures cuts { CutsLine bytes.now result.text.now result.rest.now }
+    ensures printable { result.is_printable ≡ is_printable_text result.text.now }
 {
-    let len = text_len(bytes);
+    let printable = printable_len(bytes);
+    let others = text_len(&bytes[printable..]);
+    let is_printable = others == 0;
+    let len = printable + others;
     if len == bytes.len() {
         return Cut {
             text: bytes,
             rest: &[],
+            is_printable,
         };
     }
     Cut {
         text: &bytes[..len],
         rest: &bytes[len + 1..],
+        is_printable,
     }
-}
-
-/// Whether every byte may stand in a script.
-pub fn is_printable_text(text: &[u8]) -> bool
-    ensures { result ≡ list_all is_printable text.now }
-{
-    text.iter().all(|&byte| matches!(byte, SPACE..=b'~'))
 }

@@ -44,7 +44,7 @@ fn read_lines(alloc: Global, bytes: &[u8]) -> Result<Script, ParseEnd>
         if bytes.len() - rest.len() > SCRIPT_BYTES {
             return Err(refused(line, ScriptCause::TooLong));
         }
-        if let Some(cause) = reading.take(alloc, line, cut.text)? {
+        if let Some(cause) = reading.take(alloc, line, cut.text, cut.is_printable)? {
             return Err(refused(line, cause));
         }
     }

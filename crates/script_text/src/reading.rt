@@ -1,15 +1,15 @@
 //! What the lines of a script have said so far, and what one more line adds to it or offends by.
-ghost use Rattle.std.specs.Prelude.{◌≡◌, ◌+◌, ◌<◌, ◌≤◌, [], ◌∷◌, ◌++◌, length, OnOk, IfSome, true, false, if◌then◌else◌, Ok, Some, None, Option, is_some, nat_le};
+ghost use Rattle.std.specs.Prelude.{◌≡◌, ◌+◌, ◌<◌, ◌≤◌, [], ◌∷◌, ◌++◌, length, OnOk, IfSome, true, false, if◌then◌else◌, Ok, Some, None, Option, is_some, nat_le, slice_get};
+ghost use Rattle.std.specs.Option.{option_and_then};
 ghost use Rattle.script_text.specs.Tokens.{tokens_of};
 ghost use Rattle.script_text.specs.Forms as forms;
-ghost use Rattle.script_text.specs.Lawful.{call_lines};
+ghost use Rattle.script_text.specs.Lawful.{call_lines, kinds_of};
 ghost use Rattle.script_text.specs.Offences as offences;
 ghost use Rattle.script_text.specs.Reading.{last_worker};
 
 use crate::fault::ScriptCause;
 use crate::form::{Form, Request};
 use crate::forms::{begins_procs, form_of};
-use crate::lines::is_printable_text;
 use crate::names::Names;
 use crate::offences::{act_of, has_bad_name, has_bad_number, is_another_kind, is_swap, kind_asked};
 use crate::script::{CallLine, Item, ObjectLine, Script, WorkerHead, WorkerLines};
@@ -55,8 +55,9 @@ fn push_last(
 
 impl Reading {
     ghost use Rattle.std.specs.Prelude.{ℕ, List, IsTrue, IfOk};
-    ghost use Rattle.script_text.specs.Language.{no_script, with_object, with_worker, with_last_item, with_request, with_form};
-    ghost use Rattle.script_text.specs.Reading.{IsKept, Shows, Takes, TakesSaid, script_so_far, refusal_of_form};
+    ghost use Rattle.script_text.specs.Lines.{is_printable_text};
+    ghost use Rattle.script_text.specs.Language.{no_script, with_object, with_worker, with_last_item, with_call, with_form, act_of};
+    ghost use Rattle.script_text.specs.Reading.{IsKept, Shows, Takes, TakesSaid, script_so_far, place_asked, refusal_of_form};
 
     /// No line was read.
     pub fn new(alloc: Global) -> Reading
@@ -145,36 +146,43 @@ impl Reading {
         }
     }
 
-    /// Whether it asks an object that is not declared.
-    fn asks_unknown_object(&self, form: &Form) -> bool
+    /// The place of the object that it asks, looked up once for all tests of the line.
+    fn place_asked(&self, form: &Form) -> Option<usize>
         requires { IsKept self.now }
+        ensures place { result ≡ place_asked (script_so_far self.now) form.now }
+        ensures within { IfSome result (λ place. place < length self.now.object_names) }
+    {
+        match form {
+            Form::Asks(object, _) => self.place_of(object),
+            _ => None,
+        }
+    }
+
+    /// Whether it asks an object that is not declared.
+    fn asks_unknown_object(&self, form: &Form, place: Option<usize>) -> bool
+        requires place { place ≡ place_asked (script_so_far self.now) form.now }
         ensures { result ≡ offences.asks_unknown_object (script_so_far self.now) form.now }
     {
         match form {
-            Form::Asks(object, _) => !self.knows_object(object),
+            Form::Asks(_, _) => place.is_none(),
             _ => false,
         }
     }
 
-    /// The kind of the object of this name.
-    fn kind_of(&self, object: &Option<Name>) -> Option<KindName>
-        requires { IsKept self.now }
-        ensures { result ≡ offences.kind_of_named (script_so_far self.now) object.now }
+    /// The kind of the object of this place.
+    fn kind_at(&self, place: Option<usize>) -> Option<KindName>
+        ensures { result ≡ option_and_then (slice_get (kinds_of (script_so_far self.now))) place }
     {
-        let place = self.place_of(object)?;
-        Some(self.objects.as_slice().get(place)?.kind)
+        Some(self.objects.as_slice().get(place?)?.kind)
     }
 
     /// Whether it asks for an operation of another kind.
-    fn asks_other_kind(&self, form: &Form) -> bool
-        requires { IsKept self.now }
+    fn asks_other_kind(&self, form: &Form, place: Option<usize>) -> bool
+        requires place { place ≡ place_asked (script_so_far self.now) form.now }
         ensures { result ≡ offences.asks_other_kind (script_so_far self.now) form.now }
     {
         match form {
-            Form::Asks(object, request) => is_another_kind(
-                kind_asked(request),
-                self.kind_of(object),
-            ),
+            Form::Asks(_, request) => is_another_kind(kind_asked(request), self.kind_at(place)),
             _ => false,
         }
     }
@@ -217,8 +225,9 @@ impl Reading {
     }
 
     /// Why a line of this form is refused, if it is.
-    fn cause_of(&self, form: &Form) -> Option<ScriptCause>
-        requires { IsKept self.now }
+    fn cause_of(&self, form: &Form, place: Option<usize>) -> Option<ScriptCause>
+        requires kept { IsKept self.now }
+        requires place { place ≡ place_asked (script_so_far self.now) form.now }
         ensures { result ≡ refusal_of_form (script_so_far self.now) form.now }
     {
         if self.is_unknown(form) {
@@ -233,10 +242,10 @@ impl Reading {
         if self.declares_again(form) {
             return Some(ScriptCause::NameTwice);
         }
-        if self.asks_unknown_object(form) {
+        if self.asks_unknown_object(form, place) {
             return Some(ScriptCause::UnknownObject);
         }
-        if self.asks_other_kind(form) {
+        if self.asks_other_kind(form, place) {
             return Some(ScriptCause::WrongKind);
         }
         if self.wants_worker(form) {
@@ -300,16 +309,17 @@ impl Reading {
     fn add_request(
         &mut self,
         number: u32,
-        object: &Option<Name>,
+        place: Option<usize>,
         request: &Request,
     ) -> Result<(), Memory>
         requires kept { IsKept self.old }
         requires worker { is_some self.old.worker ≡ true }
         requires few { self.old.asked < CALL_LINES }
+        requires within { IfSome place (λ place. place < length self.old.object_names) }
         ensures { OnOk result
-            (Shows (with_request (script_so_far self.old) number object.now request.now) self.new) }
+            (Shows (with_call (script_so_far self.old) number place (act_of request.now)) self.new) }
     {
-        let Some(place) = self.place_of(object) else {
+        let Some(place) = place else {
             return Ok(());
         };
         let Some(act) = act_of(request) else {
@@ -323,9 +333,17 @@ impl Reading {
     }
 
     /// Adds a line that is not refused.
-    fn add(&mut self, alloc: Global, number: u32, form: &Form) -> Result<(), Memory>
+    fn add(
+        &mut self,
+        alloc: Global,
+        number: u32,
+        form: &Form,
+        place: Option<usize>,
+    ) -> Result<(), Memory>
         requires kept { IsKept self.old }
         requires taken { refusal_of_form (script_so_far self.old) form.now ≡ None }
+        requires place { place ≡ place_asked (script_so_far self.old) form.now }
+        requires within { IfSome place (λ place. place < length self.old.object_names) }
         ensures { OnOk result
             (Shows (with_form (script_so_far self.old) number form.now) self.new) }
     {
@@ -348,7 +366,7 @@ impl Reading {
             ),
             Form::Begin => self.add_item(&Item::Begin),
             Form::End => self.add_item(&Item::End),
-            Form::Asks(object, request) => self.add_request(number, object, request),
+            Form::Asks(_, request) => self.add_request(number, place, request),
             _ => Ok(()),
         }
     }
@@ -359,11 +377,13 @@ impl Reading {
         alloc: Global,
         number: u32,
         text: &[u8],
+        is_printable: bool,
     ) -> Result<Option<ScriptCause>, Memory>
-        requires { IsKept self.old }
+        requires kept { IsKept self.old }
+        requires printable { is_printable ≡ is_printable_text text.now }
         ensures { Takes (script_so_far self.old) number text.now result self.new }
     {
-        if !is_printable_text(text) {
+        if !is_printable {
             return Ok(Some(ScriptCause::BadByte));
         }
         if is_skipped(text) {
@@ -388,10 +408,11 @@ impl Reading {
         let Some(form) = form_of(self.procs, text) else {
             return Ok(Some(ScriptCause::UnknownWord));
         };
-        if let Some(cause) = self.cause_of(&form) {
+        let place = self.place_asked(&form);
+        if let Some(cause) = self.cause_of(&form, place) {
             return Ok(Some(cause));
         }
-        self.add(alloc, number, &form)?;
+        self.add(alloc, number, &form, place)?;
         Ok(None)
     }
 }

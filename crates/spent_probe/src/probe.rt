@@ -6,7 +6,7 @@ ghost use Rattle.k42_crews.specs.Ready.{AreFree, IsFree};
 use k42_crews::{call_once, close, last, start, swap_once};
 use k42_kinds::{Answer, Entry, KindName, LayoutName, Op, Reply};
 use k42_memory::Memory;
-use k42_runtime::{Keep, ObjectPlan, Pass, Plan, Swapped, System};
+use k42_runtime::{Keep, NoCall, NoSwap, ObjectPlan, Pass, Plan, Swapped, System};
 use std::alloc::Global;
 use std::sync::Wait;
 
@@ -48,7 +48,7 @@ fn are_answered<R: Wait>(
     one: &mut Pass,
     first: Swapped,
     second: Swapped,
-) -> Result<bool, Memory>
+) -> Result<bool, NoSwap>
     requires zero { IsFree system.now zero.old }
     requires one { IsFree system.now one.old }
     ensures zero { IsFree system.now zero.new }
@@ -66,7 +66,7 @@ fn are_done_to_the_last<R: Wait>(
     system: &System,
     zero: &mut Pass,
     one: &mut Pass,
-) -> Result<bool, Memory>
+) -> Result<bool, NoSwap>
     requires zero { IsFree system.now zero.old }
     requires one { IsFree system.now one.old }
     ensures zero { IsFree system.now zero.new }
@@ -117,13 +117,20 @@ pub fn probe<R: Wait>(rt: &R, alloc: Global) -> Result<Option<Told>, Memory> {
     let Some(mut zero) = last(&system, &mut passes) else {
         return Ok(None);
     };
-    let added = call_once(rt, alloc, &system, &mut one, 0, Op::Add(5))?;
-    let done = are_done_to_the_last(rt, alloc, &system, &mut zero, &mut one)?;
-    let found = call_once(rt, alloc, &system, &mut zero, 0, Op::Get)?;
+    let added = call_once(rt, alloc, &system, &mut one, 0, Op::Add(5));
+    if added == Err(NoCall::Memory) {
+        return Err(Memory);
+    }
+    let done = are_done_to_the_last(rt, alloc, &system, &mut zero, &mut one);
+    let found = call_once(rt, alloc, &system, &mut zero, 0, Op::Get);
+    if done == Err(NoSwap::Memory) || found == Err(NoCall::Memory) {
+        return Err(Memory);
+    }
     let both = vec![in alloc; zero, one]?;
     let history = close(alloc, system, both)?;
     match (history, found) {
-        (Some(history), Some(Reply::Number(value))) if done && added == Some(Reply::Done) => {
+        (Some(history), Ok(Some(Reply::Number(value))))
+            if done == Ok(true) && added == Ok(Some(Reply::Done)) => {
             Ok(told_by(history.entries(), value))
         }
         _ => Ok(None),

@@ -1,5 +1,5 @@
 -- What a pass of a roll has drawn.
-use Rattle.std.proofs.Common.{◌≡◌, ⊎_elim, inl, inr, ◌⊎◌, ℕ, ◌+◌, ◌<◌, List, [], ◌∷◌, ◌++◌, Option, Some, None, IsSomeAnd, length, replicate, refl, sym, ap, subst, ◌∙◌, arith}
+use Rattle.std.proofs.Common.{◌≡◌, ⊎_elim, inl, inr, ◌⊎◌, ℕ, ◌+◌, ◌<◌, List, [], ◌∷◌, ◌++◌, Option, Some, None, Result, Ok, Err, IsSomeAnd, length, replicate, refl, sym, ap, subst, ◌∙◌, arith}
 use Rattle.std.specs.Prelude.{slice_get}
 use Rattle.std.proofs.lemmas.List.{append-nil, append_assoc, length-replicate}
 use Rattle.std.proofs.lemmas.Option.{slice_get_within}
@@ -11,10 +11,12 @@ use Rattle.k42_runtime.proofs.SwapSteps.{same_caller}
 use Rattle.k42_runtime.specs.Swaps.{HasAbandoned}
 use Rattle.k42_runtime.specs.Systems.{SystemSeen, SystemPass, SystemPart}
 use Rattle.k42_runtime.specs.declared.swaps.Stage.TheVariants.{New}
+use Rattle.k42_runtime.specs.declared.swaps.NoSwap.{NoSwap}
+use Rattle.k42_runtime.specs.declared.swaps.NoSwap.TheVariants.{Memory, Worn}
 use Rattle.k42_runtime.specs.declared.swaps.Swapped.{Swapped}
 use Rattle.k42_kinds.specs.declared.entry.To.{To}
 use Rattle.swap_future.specs.Polling.{Ends, new_swap}
-use Rattle.swap_future.specs.Rolling.{Carries, HasRolled, first_flight, items_of, new_roll, result_in}
+use Rattle.swap_future.specs.Rolling.{Carries, HasRolled, first_flight, items_of, new_roll}
 use Rattle.swap_future.specs.declared.rolling.Flight.{Flight}
 use Rattle.swap_future.proofs.Places.{there}
 use Rattle.swap_future.specs.Told.{BeginWith, AreEntriesOf, HasBroughtBack, HasDrawnFor}
@@ -23,12 +25,12 @@ some_is : {A : Type 0} (o : Option A) (P : A → Type 0) → IsSomeAnd o P → (
 some_is (Some x) P is = (x, refl, is)
 some_is None P is = absurd is
 
-module _ (system : SystemSeen) (plan : List (ℕ × To)) (answers : List (Option Swapped)) where
+module _ (system : SystemSeen) (plan : List (ℕ × To)) (answers : List (Result Swapped NoSwap)) where
   -- one item's entry, and those of the others
-  one_more : (asked : ℕ × To) (items : List ℕ) (answer : Option Swapped) (old mid new : SystemPass) → Ends system (new_swap asked.0 asked.1) old (result_in answer) mid
+  one_more : (asked : ℕ × To) (items : List ℕ) (answer : Result Swapped NoSwap) (old mid new : SystemPass) → Ends system (new_swap asked.0 asked.1) old answer mid
       → HasDrawnFor plan answers items mid new
       → (entries : List Entry) × (new.view.taker.mine ≡ old.view.taker.mine ++ entries) × BeginWith asked answer (AreEntriesOf plan answers items) entries
-  one_more asked items (Some end) old mid new ends rest = (
+  one_more asked items (Ok end) old mid new ends rest = (
     ends.ended.entry ∷ rest.0,
     rest.1 ∙ ap (λ mine. mine ++ rest.0) ends.ended.drawn ∙ append_assoc old.view.taker.mine (ends.ended.entry ∷ []) rest.0,
     (
@@ -43,7 +45,9 @@ module _ (system : SystemSeen) (plan : List (ℕ × To)) (answers : List (Option
       rest.2,
     ),
   )
-  one_more asked items None old mid new ends rest =
+  one_more asked items (Err Worn) old mid new ends rest =
+      (rest.0, rest.1 ∙ ap (λ (p : SystemPass). p.view.taker.mine ++ rest.0) (ends.kept refl), rest.2)
+  one_more asked items (Err Memory) old mid new ends rest =
       ⊎_elim
       (λ (u : (New ≡ New) × (mid.view ≡ old.view)).
       (rest.0, rest.1 ∙ ap (λ (v : PassView SystemPart). v.taker.mine ++ rest.0) u.1, inl rest.2))
@@ -65,13 +69,13 @@ module _ (system : SystemSeen) (plan : List (ℕ × To)) (answers : List (Option
           rest.2,
         ),
       ))
-      ends.memory
+      (ends.memory refl)
 
   with_first : (asked : ℕ × To) (item : ℕ) (items : List ℕ) (old mid new : SystemPass) → slice_get plan item ≡ Some asked
-      → IsSomeAnd (slice_get answers item) (λ answer. Ends system (new_swap asked.0 asked.1) old (result_in answer) mid)
+      → IsSomeAnd (slice_get answers item) (λ answer. Ends system (new_swap asked.0 asked.1) old answer mid)
       → HasBroughtBack plan answers items mid new → HasBroughtBack plan answers (item ∷ items) old new
   with_first asked item items old mid new at ends rest =
-      let told = some_is (slice_get answers item) (λ answer. Ends system (new_swap asked.0 asked.1) old (result_in answer) mid) ends in
+      let told = some_is (slice_get answers item) (λ answer. Ends system (new_swap asked.0 asked.1) old answer mid) ends in
       let more = one_more asked items told.0 old mid new told.2 rest.drawn in
       record {
         seat = rest.seat ∙ told.2.seat;
@@ -81,14 +85,14 @@ module _ (system : SystemSeen) (plan : List (ℕ × To)) (answers : List (Option
           more.0,
           more.1,
           subst (λ (o : Option (ℕ × To)). IsSomeAnd o (λ asked. IsSomeAnd (slice_get answers item) (λ answer. BeginWith asked answer (AreEntriesOf plan answers items) more.0))) (sym at)
-              (subst (λ (o : Option (Option Swapped)). IsSomeAnd o (λ answer. BeginWith asked answer (AreEntriesOf plan answers items) more.0)) (sym told.1) more.2),
+              (subst (λ (o : Option (Result Swapped NoSwap)). IsSomeAnd o (λ answer. BeginWith asked answer (AreEntriesOf plan answers items) more.0)) (sym told.1) more.2),
         );
       }
 
   nothing_more : (pass : SystemPass) → HasBroughtBack plan answers [] pass pass
   nothing_more pass = record {
     seat = refl;
-    caller = record { number = refl; proc = refl; activities = refl };
+    caller = record { number = refl; proc = refl };
     graces = omega arith;
     drawn = ([], sym (append-nil pass.view.taker.mine), refl);
   }
@@ -110,7 +114,7 @@ abbrev idle : Option Flight
 idle = None
 
 -- and so have all passes of a roll
-pub all_brought_back : (system : SystemSeen) (plan : List (ℕ × To)) (olds news : List SystemPass) (answers : List (Option Swapped))
+pub all_brought_back : (system : SystemSeen) (plan : List (ℕ × To)) (olds news : List SystemPass) (answers : List (Result Swapped NoSwap))
     → (is : HasRolled system (new_roll plan olds) answers news) → EachPair (λ place. HasBroughtBack plan answers (items_of place 0 is.takers)) olds news
 all_brought_back system plan olds news answers is place old new at_old at_new =
     let less : place < length (replicate (length olds) idle) =

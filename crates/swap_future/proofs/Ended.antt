@@ -1,9 +1,11 @@
 -- A swap that a future has ended from its beginning has ended as one that was waited for.
-use Rattle.std.proofs.Common.{◌≡◌, ⊎_elim, inl, inr, ℕ, Result, Ok, Err, sym, ◌∙◌}
+use Rattle.std.proofs.Common.{◌≡◌, ⊎_elim, inl, inr, ◌↔◌, ℕ, Result, Ok, Err, refl, sym, ap, ◌∙◌}
 use Rattle.k42_board.specs.declared.view.PassView.{PassView}
-use Rattle.k42_runtime.specs.Swaps.{HasAbandoned, HasEnded}
+use Rattle.k42_runtime.specs.Swaps.{HasAbandoned, HasEnded, IsWornOut}
 use Rattle.k42_runtime.specs.Systems.{SystemSeen, SystemPass, SystemPart}
+use Rattle.k42_runtime.specs.declared.swaps.NoSwap.{NoSwap}
 use Rattle.k42_runtime.specs.declared.swaps.Stage.TheVariants.{New}
+use Rattle.k42_runtime.specs.declared.swaps.NoSwap.TheVariants.{Worn}
 use Rattle.k42_runtime.specs.declared.swaps.Swapped.{Swapped}
 use Rattle.k42_kinds.specs.declared.entry.To.{To}
 use Rattle.swap_future.specs.Polling.{Ends, new_swap}
@@ -12,7 +14,10 @@ unchanged : (old new : PassView SystemPart) → new ≡ old → new ≡ record o
 unchanged old new same = same ∙ (λ j. record old { rows = (sym same j).rows; granted = (sym same j).granted })
 
 module _ (system : SystemSeen) (object : ℕ) (to : To) (old new : SystemPass) where
-  pub ended_as_waited : {E : Type 0} (result : Result Swapped E) → Ends system (new_swap object to) old result new → HasEnded system object to result old new
+  worn_now : (result : Result Swapped NoSwap) → Ends system (new_swap object to) old result new → (result ≡ Err Worn) ↔ IsWornOut old.view
+  worn_now result is = (λ e. (is.worn.0 e).1, λ w. is.worn.1 (refl, w))
+
+  pub ended_as_waited : (result : Result Swapped NoSwap) → Ends system (new_swap object to) old result new → HasEnded system object to result old new
   ended_as_waited (Ok end) is = record {
     here = is.here;
     rests = is.rests;
@@ -21,7 +26,9 @@ module _ (system : SystemSeen) (object : ℕ) (to : To) (old new : SystemPass) w
     graces = is.graces;
     told = is.told;
     ended = is.ended;
-    memory = tt;
+    memory = λ e. absurd (cc);
+    worn = worn_now (Ok end) is;
+    kept = λ e. absurd (cc);
   }
   ended_as_waited (Err error) is = record {
     here = is.here;
@@ -31,7 +38,9 @@ module _ (system : SystemSeen) (object : ℕ) (to : To) (old new : SystemPass) w
     graces = is.graces;
     told = tt;
     ended = tt;
-    memory =
+    memory = λ e.
         ⊎_elim (λ (u : (New ≡ New) × (new.view ≡ old.view)). inl (unchanged old.view new.view u.1))
-        (λ (u : HasAbandoned object to old.view new.view). inr u) is.memory;
+        (λ (u : HasAbandoned object to old.view new.view). inr u) (is.memory e);
+    worn = worn_now (Err error) is;
+    kept = λ e. unchanged old.view new.view (ap (λ (p : SystemPass). p.view) (is.kept e));
   }

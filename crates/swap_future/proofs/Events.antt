@@ -1,5 +1,5 @@
 -- What befalls one pass of a roll: it takes an item, its swap waits, or its swap ends.
-use Rattle.std.proofs.Common.{◌≡◌, ◌≢◌, ⊎_elim, ◌⊎◌, ℕ, zero, suc, ◌+◌, ◌-◌, ◌<◌, ◌≤◌, List, [], ◌∷◌, Option, Some, None, length, length-set, length-append, set, IsSomeAnd, refl, sym, ap, subst, ◌∙◌, arith}
+use Rattle.std.proofs.Common.{◌≡◌, ◌≢◌, ⊎_elim, ◌⊎◌, ℕ, zero, suc, ◌+◌, ◌-◌, ◌<◌, ◌≤◌, List, [], ◌∷◌, Option, Some, None, Result, length, length-set, length-append, set, IsSomeAnd, refl, sym, ap, subst, ◌∙◌, arith}
 use Rattle.std.specs.Prelude.{slice_get, is_some, count_by}
 use Rattle.std.proofs.lemmas.Option.{same_Some, slice_get_within}
 use Rattle.k42_board.specs.declared.view.PassView.{PassView}
@@ -11,10 +11,11 @@ use Rattle.k42_runtime.specs.Systems.{SystemSeen, SystemPass, SystemPart}
 use Rattle.k42_runtime.specs.declared.swaps.Cause.{Cause}
 use Rattle.k42_runtime.specs.declared.swaps.Stage.TheVariants.{New}
 use Rattle.k42_runtime.specs.declared.swaps.Step.TheVariants.{Again}
+use Rattle.k42_runtime.specs.declared.swaps.NoSwap.{NoSwap}
 use Rattle.k42_runtime.specs.declared.swaps.Swapped.{Swapped}
 use Rattle.k42_kinds.specs.declared.entry.To.{To}
 use Rattle.swap_future.specs.Polling.{Ends}
-use Rattle.swap_future.specs.Rolling.{RollSeen, HasGotOn, IsRolling, IsLane, IsNotFlown, Agrees, Carries, GetsOn, first_flight, items_of, result_in}
+use Rattle.swap_future.specs.Rolling.{RollSeen, HasGotOn, IsRolling, IsLane, IsNotFlown, Agrees, Carries, GetsOn, first_flight, items_of}
 use Rattle.swap_future.specs.declared.rolling.Flight.{Flight}
 use Rattle.swap_future.proofs.Places.{item_of_taker, no_item_of_others, set_here, there}
 use Rattle.swap_future.proofs.Polled.{ends_by}
@@ -28,7 +29,7 @@ with_taken place f r = record r { taken = r.taken + 1; flights = set r.flights p
 abbrev pub with_flight : ℕ → Flight → SystemPass → RollSeen → RollSeen
 with_flight place f pass r = record r { flights = set r.flights place (Some f); passes = set r.passes place pass }
 
-abbrev pub with_answer : ℕ → ℕ → Option Swapped → SystemPass → RollSeen → RollSeen
+abbrev pub with_answer : ℕ → ℕ → Result Swapped NoSwap → SystemPass → RollSeen → RollSeen
 with_answer place item answer pass r = record r {
   left = r.left - 1;
   flights = set r.flights place None;
@@ -38,7 +39,7 @@ with_answer place item answer pass r = record r {
 
 module _ (system : SystemSeen) (a : RollSeen) (place : ℕ) (is : IsRolling system a) where
   -- the other places are as they were
-  other_lane : (answers : List (Option Swapped)) (f' : Option Flight) (pass' : SystemPass) (other : ℕ) (f g : Option Flight) (old new : SystemPass) → other ≢ place
+  other_lane : (answers : List (Result Swapped NoSwap)) (f' : Option Flight) (pass' : SystemPass) (other : ℕ) (f g : Option Flight) (old new : SystemPass) → other ≢ place
       → slice_get a.flights other ≡ Some f → slice_get a.passes other ≡ Some old
       → slice_get (set a.flights place f') other ≡ Some g → slice_get (set a.passes place pass') other ≡ Some new → GetsOn system answers f old g new
   other_lane answers f' pass' other f g old new differs at_f at_old at_g at_new =
@@ -58,8 +59,8 @@ module _ (system : SystemSeen) (a : RollSeen) (place : ℕ) (is : IsRolling syst
     few = slice_get_within a.plan a.taken asked next
 
     later_lane : (f : Option Flight) (old : SystemPass) → IsLane system a f old → IsLane system (with_taken place taking a) f old
-    later_lane None old lane = (lane.0, lane.1, let n = lane.2 in omega (arith, n), let n = lane.3 in omega (arith, n))
-    later_lane (Some f) old lane = (lane.0, let n = lane.1 in omega (arith, n), let n = lane.2 in omega (arith, n), let n = lane.3 in omega (arith, n), lane.4)
+    later_lane None old lane = lane
+    later_lane (Some f) old lane = (lane.0, let n = lane.1 in omega (arith, n), lane.2)
 
     pub taken_lane : IsLane system (with_taken place taking a) (Some taking) pass
     taken_lane =
@@ -71,15 +72,11 @@ module _ (system : SystemSeen) (a : RollSeen) (place : ℕ) (is : IsRolling syst
               record {
                 rests = lane.1;
                 there = is.objects a.taken asked next;
-                few_entries = let n = lane.2 in let less = few in omega (arith, n, less);
-                few_graces = let n = lane.3 in let less = few in omega (arith, n, less);
               },
             );
             going = refl;
           },
           omega arith,
-          let n = lane.2 in omega (arith, n),
-          let n = lane.3 in omega (arith, n),
           subst (λ (o : Option (ℕ × To)). IsSomeAnd o (λ other. (asked.0 ≡ other.0) × (asked.1 ≡ other.1))) (sym next) (refl, refl),
         )
 
@@ -125,7 +122,7 @@ module _ (system : SystemSeen) (a : RollSeen) (place : ℕ) (is : IsRolling syst
       apart = apart_now;
     }
 
-    taken_carries : (answers : List (Option Swapped)) → Carries system a.plan answers (a.taken ∷ []) None pass (Some taking) pass
+    taken_carries : (answers : List (Result Swapped NoSwap)) → Carries system a.plan answers (a.taken ∷ []) None pass (Some taking) pass
     taken_carries answers = (
       pass,
       refl,
@@ -197,9 +194,7 @@ module _ (system : SystemSeen) (a : RollSeen) (place : ℕ) (is : IsRolling syst
       waits_lane = (
         record { here = step.here; stage = step.stage; going = step.over },
         lane.1,
-        let n = lane.2 in let same = ap length step.brought.0 in omega (arith, n, same),
-        let n = lane.3 in let fewer = step.graces in omega (arith, n, fewer),
-        same_item (slice_get a.plan f.item) lane.4,
+        same_item (slice_get a.plan f.item) lane.2,
       )
         where
           same_item : (o : Option (ℕ × To)) → IsSomeAnd o (λ asked. (f.swap.object ≡ asked.0) × (f.swap.to ≡ asked.1))
@@ -262,31 +257,15 @@ module _ (system : SystemSeen) (a : RollSeen) (place : ℕ) (is : IsRolling syst
       unfolding got_waiting
       taken_by_none = refl
 
-    module _ (answer : Option Swapped) (step : HasStepped system (last_step (result_in answer)) f.swap t old new) where
-      ends : Ends system f.swap old (result_in answer) new
-      ends = ends_by system f.swap t old new (result_in answer) step
+    module _ (answer : Result Swapped NoSwap) (step : HasStepped system (last_step answer) f.swap t old new) where
+      ends : Ends system f.swap old answer new
+      ends = ends_by system f.swap t old new answer step
 
       abbrev answered : RollSeen
       answered = with_answer place f.item answer new a
 
-      -- it has drawn one entry, or none
-      one_drawn : (answer : Option Swapped) → Ends system f.swap old (result_in answer) new → length new.view.taker.mine ≤ length old.view.taker.mine + 1
-      one_drawn (Some end) is =
-          let more = ap length is.ended.drawn in omega (arith, more, length-append old.view.taker.mine (is.ended.entry ∷ []))
-      one_drawn None is =
-          ⊎_elim
-          (λ (u : (f.swap.stage ≡ New) × (new.view ≡ old.view)). let same = ap (λ (v : PassView SystemPart). length v.taker.mine) u.1 in omega (arith, same))
-          (λ (u : HasAbandoned f.swap.object f.swap.to old.view new.view).
-          let more = ap length u.drawn in omega (arith, more, length-append old.view.taker.mine (u.entry ∷ [])))
-          is.memory
-
       pub ended_lane : IsLane system a None new
-      ended_lane = (
-        ends.here,
-        ends.rests,
-        let n = lane.2 in let drawn = one_drawn answer ends in omega (arith, n, drawn),
-        let n = lane.3 in let graces = ends.graces in omega (arith, n, graces),
-      )
+      ended_lane = (ends.here, ends.rests)
 
       flies_else : (p : ℕ) (g : Flight) → slice_get (set a.flights place None) p ≡ Some (Some g) → (p ≢ place) × (slice_get a.flights p ≡ Some (Some g))
       flies_else p g at =
@@ -317,7 +296,7 @@ module _ (system : SystemSeen) (a : RollSeen) (place : ℕ) (is : IsRolling syst
       landed p g at same =
           let u = flies_else p g at in u.0 (is.apart p place g f u.1 at_flight same)
 
-      pub its_answer : (answers : List (Option Swapped)) → Agrees answered answers → slice_get answers f.item ≡ Some answer
+      pub its_answer : (answers : List (Result Swapped NoSwap)) → Agrees answered answers → slice_get answers f.item ≡ Some answer
       its_answer answers agrees =
           agrees f.item lane.1 landed
           ∙ slice_get-set_here a.answers f.item answer
@@ -340,7 +319,7 @@ module _ (system : SystemSeen) (a : RollSeen) (place : ℕ) (is : IsRolling syst
             (λ (u : (other ≡ place) × (None ≡ h)).
             subst (λ (x : Option Flight × SystemPass × Option Flight × SystemPass). GetsOn system answers x.0 x.1 x.2 x.3)
             (λ j. (flight_here other g u.0 at_g j, pass_here other was u.0 at_was j, u.1 j, set_here a.passes place other new now u.0 at_now j))
-            (subst (λ (o : Option (Option Swapped)). IsSomeAnd o (λ answer. Ends system f.swap old (result_in answer) new)) (sym (its_answer answers agrees)) ends))
+            (subst (λ (o : Option (Result Swapped NoSwap)). IsSomeAnd o (λ answer. Ends system f.swap old answer new)) (sym (its_answer answers agrees)) ends))
             (λ (u : (other ≢ place) × (slice_get a.flights other ≡ Some h)).
             other_lane answers None new other g h was now u.0 at_g at_was at_h at_now)
             (at_set a.flights place other None h at_h);

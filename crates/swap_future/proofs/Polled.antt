@@ -1,13 +1,16 @@
 -- A swap that is stepped at polls: how it goes on, and what its last step brings.
-use Rattle.std.proofs.Common.{ℕ, ◌+◌, ◌≤◌, Option, Result, Ok, Err, ◌∙◌, arith}
+use Rattle.std.proofs.Common.{◌≡◌, ◌↔◌, ℕ, ◌+◌, ◌≤◌, Option, Result, Ok, Err, refl, ◌∙◌, arith}
 use Rattle.k42_runtime.specs.Phases.{last_step}
-use Rattle.k42_runtime.specs.Swaps.{SwapSeen, HasStepped, graces_due}
+use Rattle.k42_runtime.specs.Swaps.{SwapSeen, HasStepped, IsWornOut, graces_due}
 use Rattle.k42_runtime.specs.Systems.{SystemSeen, SystemPass}
 use Rattle.k42_runtime.specs.declared.swaps.Cause.{Cause}
+use Rattle.k42_runtime.specs.declared.swaps.NoSwap.{NoSwap}
+use Rattle.k42_runtime.specs.declared.swaps.NoSwap.TheVariants as reasons
 use Rattle.k42_runtime.specs.declared.swaps.Stage.{Stage}
-use Rattle.k42_runtime.specs.declared.swaps.Step.TheVariants.{Again}
+use Rattle.k42_runtime.specs.declared.swaps.Stage.TheVariants.{New}
+use Rattle.k42_runtime.specs.declared.swaps.Step.TheVariants.{Again, Worn}
 use Rattle.k42_runtime.specs.declared.swaps.Swapped.{Swapped}
-use Rattle.k42_runtime.proofs.SwapSteps.{HasComeOn, same_caller, fewer, swapped_since, memory_since}
+use Rattle.k42_runtime.proofs.SwapSteps.{HasComeOn, same_caller, fewer, swapped_since, memory_since, worn_before}
 use Rattle.k42_runtime.proofs.SwapWaits.{not_stepped, stepped_again, rests_over}
 use Rattle.swap_future.specs.Polling.{IsGoing, Ends}
 
@@ -16,7 +19,7 @@ fewer_due new old due stage holder few = omega (arith, few)
 
 module _ (system : SystemSeen) (s t : SwapSeen) (old new : SystemPass) where
   -- a last step leaves its pass so
-  pub ends_by : {E : Type 0} (result : Result Swapped E) → HasStepped system (last_step result) s t old new → Ends system s old result new
+  pub ends_by : (result : Result Swapped NoSwap) → HasStepped system (last_step result) s t old new → Ends system s old result new
   ends_by (Ok end) step = record {
     here = step.here;
     rests = rests_over t.stage _ t new step.over step.stage;
@@ -25,9 +28,11 @@ module _ (system : SystemSeen) (s t : SwapSeen) (old new : SystemPass) where
     graces = fewer_due new.view.graces old.view.graces (graces_due s.stage s.holder) t.stage t.holder step.graces;
     told = step.told;
     ended = step.brought.0;
-    memory = tt;
+    memory = λ e. absurd (cc);
+    worn = (λ e. absurd (cc), λ w. absurd (let never = step.worn.1 w in cc));
+    kept = λ e. absurd (cc);
   }
-  ends_by (Err error) step = record {
+  ends_by (Err reasons.Worn) step = record {
     here = step.here;
     rests = rests_over t.stage _ t new step.over step.stage;
     seat = step.seat;
@@ -35,7 +40,21 @@ module _ (system : SystemSeen) (s t : SwapSeen) (old new : SystemPass) where
     graces = fewer_due new.view.graces old.view.graces (graces_due s.stage s.holder) t.stage t.holder step.graces;
     told = tt;
     ended = tt;
-    memory = step.brought;
+    memory = λ e. absurd (cc);
+    worn = (λ e. step.worn.0 refl, λ w. refl);
+    kept = λ e. step.brought;
+  }
+  ends_by (Err reasons.Memory) step = record {
+    here = step.here;
+    rests = rests_over t.stage _ t new step.over step.stage;
+    seat = step.seat;
+    caller = step.caller;
+    graces = fewer_due new.view.graces old.view.graces (graces_due s.stage s.holder) t.stage t.holder step.graces;
+    told = tt;
+    ended = tt;
+    memory = λ e. step.brought;
+    worn = (λ e. absurd (cc), λ w. absurd (let never = step.worn.1 w in cc));
+    kept = λ e. absurd (cc);
   }
 
 module _ (system : SystemSeen) (s m : SwapSeen) (old mid new : SystemPass) (comes : HasComeOn s m old mid) where
@@ -44,7 +63,7 @@ module _ (system : SystemSeen) (s m : SwapSeen) (old mid new : SystemPass) (come
       fewer (old.view.graces + graces_due s.stage s.holder) (mid.view.graces + graces_due m.stage m.holder) new.view.graces comes.graces few
 
   -- what ends a swap that was stepped before ends it from there on
-  pub ends_before : {E : Type 0} (result : Result Swapped E) → Ends system m mid result new → Ends system s old result new
+  pub ends_before : (result : Result Swapped NoSwap) → Ends system m mid result new → Ends system s old result new
   ends_before (Ok end) is = record {
     here = is.here;
     rests = is.rests;
@@ -53,7 +72,9 @@ module _ (system : SystemSeen) (s m : SwapSeen) (old mid new : SystemPass) (come
     graces = graces_before is.graces;
     told = is.told;
     ended = swapped_since system s m m old mid new comes end is.ended;
-    memory = tt;
+    memory = λ e. absurd (cc);
+    worn = worn_before system s m m old mid new comes is.worn;
+    kept = λ e. absurd (cc);
   }
   ends_before (Err error) is = record {
     here = is.here;
@@ -63,7 +84,9 @@ module _ (system : SystemSeen) (s m : SwapSeen) (old mid new : SystemPass) (come
     graces = graces_before is.graces;
     told = tt;
     ended = tt;
-    memory = memory_since system s m m old mid new comes is.memory;
+    memory = λ e. memory_since system s m m old mid new comes (is.memory e);
+    worn = worn_before system s m m old mid new comes is.worn;
+    kept = λ e. is.kept e ∙ (comes.waits (is.worn.0 e).0).1;
   }
 
 module _ (system : SystemSeen) (s m : SwapSeen) (old mid : SystemPass) (cause : Cause) (going : IsGoing system s old) (step : HasStepped system (Again cause) s m old mid) where
@@ -73,5 +96,5 @@ module _ (system : SystemSeen) (s m : SwapSeen) (old mid : SystemPass) (cause : 
   comes_on : HasComeOn s m old mid
   comes_on = (stepped_again system s s m old old mid cause (not_stepped system s old going.here going.stage going.going) step).comes
 
-  pub ends_later : {E : Type 0} (result : Result Swapped E) (new : SystemPass) → Ends system m mid result new → Ends system s old result new
+  pub ends_later : (result : Result Swapped NoSwap) (new : SystemPass) → Ends system m mid result new → Ends system s old result new
   ends_later result new is = ends_before system s m old mid new comes_on result is

@@ -1,8 +1,9 @@
 -- A roll that has got on, and gets on further.
-use Rattle.std.proofs.Common.{◌≡◌, ℕ, ◌+◌, ◌-◌, ◌<◌, List, [], ◌++◌, Option, Some, None, length, length-append, refl, sym, ap, subst, ◌∙◌, arith}
+use Rattle.std.proofs.Common.{◌≡◌, ℕ, ◌+◌, ◌-◌, ◌<◌, List, [], ◌++◌, Option, Some, None, Result, length, length-append, refl, sym, ap, subst, ◌∙◌, arith}
 use Rattle.std.specs.Prelude.{slice_get}
 use Rattle.std.proofs.lemmas.Option.{same_Some, slice_get_within}
 use Rattle.k42_runtime.specs.Systems.{SystemSeen, SystemPass}
+use Rattle.k42_runtime.specs.declared.swaps.NoSwap.{NoSwap}
 use Rattle.k42_runtime.specs.declared.swaps.Swapped.{Swapped}
 use Rattle.k42_kinds.specs.declared.entry.To.{To}
 use Rattle.swap_future.specs.Rolling.{RollSeen, HasGotOn, HasRolled, Agrees, IsNotFlown, Carries, GetsOn, items_of}
@@ -12,7 +13,7 @@ use Rattle.swap_future.proofs.Waited.{not_moved, carries_then}
 
 module _ (system : SystemSeen) where
   -- one place, seen twice
-  pub same_lane : (answers : List (Option Swapped)) (f g : Option Flight) (old new : SystemPass) (flights : List (Option Flight)) (passes : List SystemPass) (place : ℕ)
+  pub same_lane : (answers : List (Result Swapped NoSwap)) (f g : Option Flight) (old new : SystemPass) (flights : List (Option Flight)) (passes : List SystemPass) (place : ℕ)
       → slice_get flights place ≡ Some f → slice_get passes place ≡ Some old → slice_get flights place ≡ Some g → slice_get passes place ≡ Some new
       → GetsOn system answers f old g new
   same_lane answers f g old new flights passes place at_f at_old at_g at_new =
@@ -48,7 +49,7 @@ module _ (system : SystemSeen) where
     longer item less = let taken = first.taken in omega (arith, taken)
 
     -- answers that agree later agree by now
-    pub agrees_before : (answers : List (Option Swapped)) → Agrees b answers → Agrees a answers
+    pub agrees_before : (answers : List (Result Swapped NoSwap)) → Agrees b answers → Agrees a answers
     agrees_before answers agrees item less free =
         agrees item (longer item less) (not_flown item less free) ∙ first.kept item less free
 
@@ -60,7 +61,7 @@ module _ (system : SystemSeen) where
     )
 
     -- what a pass did by now, and what it does later with the items that these takers leave to it
-    carried : (answers : List (Option Swapped)) (more : List ℕ) (place : ℕ) (f g h : Option Flight) (old mid new : SystemPass) → Agrees b answers
+    carried : (answers : List (Result Swapped NoSwap)) (more : List ℕ) (place : ℕ) (f g h : Option Flight) (old mid new : SystemPass) → Agrees b answers
         → slice_get a.flights place ≡ Some f → slice_get a.passes place ≡ Some old → slice_get b.flights place ≡ Some g → slice_get b.passes place ≡ Some mid
         → Carries system b.plan answers (items_of place b.taken more) g mid h new
         → Carries system a.plan answers (items_of place a.taken (first.takers ++ more)) f old h new
@@ -100,7 +101,7 @@ module _ (system : SystemSeen) where
   then_takers a b c first second = refl
 
   -- the end of a roll that has got on is its end from before
-  pub rolled_before : (a b : RollSeen) → HasGotOn system a b → (answers : List (Option Swapped)) (passes : List SystemPass) → HasRolled system b answers passes
+  pub rolled_before : (a b : RollSeen) → HasGotOn system a b → (answers : List (Result Swapped NoSwap)) (passes : List SystemPass) → HasRolled system b answers passes
       → HasRolled system a answers passes
   rolled_before a b first answers passes is = record {
     takers = first.takers ++ is.takers;

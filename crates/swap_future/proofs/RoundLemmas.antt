@@ -1,5 +1,5 @@
 -- Rounds of turns, and the polls that they make.
-use Rattle.std.proofs.Common.{◌≡◌, ◌≢◌, ⊎_elim, inl, inr, ◌⊎◌, ℕ, zero, suc, ◌+◌, ◌<◌, ◌≤◌, List, [], ◌∷◌, ◌++◌, Option, Some, None, length, IsSomeAnd, refl, sym, ap, subst, ◌∙◌, arith}
+use Rattle.std.proofs.Common.{◌≡◌, ◌≢◌, ⊎_elim, inl, inr, ◌⊎◌, ℕ, zero, suc, ◌+◌, ◌<◌, ◌≤◌, List, [], ◌∷◌, ◌++◌, Option, Some, None, Result, length, IsSomeAnd, refl, sym, ap, subst, ◌∙◌, arith}
 use Rattle.std.specs.Prelude.{slice_get}
 use Rattle.std.proofs.lemmas.Bool.{cases_lt}
 use Rattle.std.proofs.lemmas.List.{append-nil}
@@ -7,6 +7,7 @@ use Rattle.std.proofs.lemmas.Option.{same_Some, slice_get_within}
 use Rattle.k42_kinds.specs.declared.entry.To.{To}
 use Rattle.k42_places.specs.Places.{EachPlace}
 use Rattle.k42_runtime.specs.Systems.{SystemSeen, SystemPass}
+use Rattle.k42_runtime.specs.declared.swaps.NoSwap.{NoSwap}
 use Rattle.k42_runtime.specs.declared.swaps.Swapped.{Swapped}
 use Rattle.swap_future.specs.Polling.{new_swap}
 use Rattle.swap_future.specs.Rolling.{RollSeen, Agrees, HasGotOn, IsRolling, items_of}
@@ -24,7 +25,7 @@ pub record IsRoundTo (system : SystemSeen) (place : ℕ) (a b : RollSeen) : Type
       → (slice_get b.flights other ≡ slice_get a.flights other) × (slice_get b.passes other ≡ slice_get a.passes other)
   pub below : EachPlace (λ i taker. taker < place) got_on.takers
   pub in_order : IsRising got_on.takers
-  pub turns : (answers : List (Option Swapped)) → Agrees b answers → (other : ℕ) → other < place → (f : Option Flight) (old : SystemPass)
+  pub turns : (answers : List (Result Swapped NoSwap)) → Agrees b answers → (other : ℕ) → other < place → (f : Option Flight) (old : SystemPass)
       (g : Option Flight) (new : SystemPass) → slice_get a.flights other ≡ Some f → slice_get a.passes other ≡ Some old
       → slice_get b.flights other ≡ Some g → slice_get b.passes other ≡ Some new
       → HasHadTurn system b answers (items_of other a.taken got_on.takers) f old g new
@@ -43,7 +44,7 @@ no_turn system a is = record {
 }
 
 -- a turn is a turn still, once others have had theirs
-had_later : (system : SystemSeen) (b c : RollSeen) (answers : List (Option Swapped)) (items : List ℕ) (f : Option Flight) (old : SystemPass)
+had_later : (system : SystemSeen) (b c : RollSeen) (answers : List (Result Swapped NoSwap)) (items : List ℕ) (f : Option Flight) (old : SystemPass)
     (g : Option Flight) (new : SystemPass) → c.plan ≡ b.plan → b.taken ≤ c.taken → c.taken ≤ length c.plan
     → HasHadTurn system b answers items f old g new → HasHadTurn system c answers items f old g new
 had_later system b c answers [] (Some f) old g new plan later few is = is
@@ -108,7 +109,7 @@ module _ (system : SystemSeen) (place : ℕ) (a b c : RollSeen) (is : IsRoundTo 
       ap (λ ts. items_of place a.taken ts) takers_are ∙ items_of-append place a.taken is.got_on.takers turn.got_on.takers
       ∙ (λ j. no_items_below place a.taken is.got_on.takers is.below j ++ items_of place (sym is.got_on.taken j) turn.got_on.takers)
 
-  turns_next : (answers : List (Option Swapped)) → Agrees c answers → (other : ℕ) → other < place + 1 → (f : Option Flight) (old : SystemPass)
+  turns_next : (answers : List (Result Swapped NoSwap)) → Agrees c answers → (other : ℕ) → other < place + 1 → (f : Option Flight) (old : SystemPass)
       (g : Option Flight) (new : SystemPass) → slice_get a.flights other ≡ Some f → slice_get a.passes other ≡ Some old
       → slice_get c.flights other ≡ Some g → slice_get c.passes other ≡ Some new
       → HasHadTurn system c answers (items_of other a.taken got.takers) f old g new

@@ -1,5 +1,5 @@
 -- A turn of one pass of a roll, and the beginning and end of a roll.
-use Rattle.std.proofs.Common.{◌≡◌, ◌≢◌, ⊎_elim, inl, inr, ◌⊎◌, ℕ, ◌+◌, ◌-◌, ◌<◌, ◌≤◌, false, List, [], ◌∷◌, ◌++◌, Option, Some, None, length, get_or, set, replicate, IsSomeAnd, refl, sym, ap, subst, ◌∙◌, arith}
+use Rattle.std.proofs.Common.{◌≡◌, ◌≢◌, ⊎_elim, inl, inr, ◌⊎◌, ℕ, ◌+◌, ◌-◌, ◌<◌, ◌≤◌, false, List, [], ◌∷◌, ◌++◌, Option, Some, None, Result, Err, length, get_or, set, replicate, IsSomeAnd, refl, sym, ap, subst, ◌∙◌, arith}
 use Rattle.std.specs.Prelude.{slice_get, is_some}
 use Rattle.std.proofs.lemmas.List.{append-nil, length-replicate}
 use Rattle.std.proofs.lemmas.Option.{same_Some, slice_get_read, slice_get_within}
@@ -12,10 +12,12 @@ use Rattle.k42_runtime.specs.Swaps.{SwapSeen, HasStepped}
 use Rattle.k42_runtime.specs.Systems.{SystemSeen, IsPassHere, IsAtRest, SystemPass}
 use Rattle.k42_runtime.specs.declared.swaps.Cause.{Cause}
 use Rattle.k42_runtime.specs.declared.swaps.Step.TheVariants.{Again}
+use Rattle.k42_runtime.specs.declared.swaps.NoSwap.{NoSwap}
+use Rattle.k42_runtime.specs.declared.swaps.NoSwap.TheVariants.{Memory}
 use Rattle.k42_runtime.specs.declared.swaps.Swapped.{Swapped}
 use Rattle.k42_kinds.specs.declared.entry.To.{To}
 use Rattle.swap_future.specs.Polling.{IsGoing, new_swap}
-use Rattle.swap_future.specs.Rolling.{RollSeen, Agrees, Carries, HasGotOn, HasRolled, IsAtHand, IsLane, IsRolling, MayRoll, first_flight, items_of, new_roll, result_in}
+use Rattle.swap_future.specs.Rolling.{RollSeen, Agrees, Carries, HasGotOn, HasRolled, IsAtHand, IsLane, IsRolling, MayRoll, first_flight, items_of, new_roll}
 use Rattle.swap_future.specs.Rounds.{HasHadTurn, HasMadeStep, HasTurned}
 use Rattle.swap_future.specs.declared.rolling.Flight.{Flight}
 use Rattle.swap_future.proofs.Events.{with_taken, with_flight, with_answer, rolls_taken, got_taken, taken_by, rolls_waiting, got_waiting, taken_by_none, rolls_answered, got_answer, taken_by_nobody, its_answer, some_left}
@@ -97,7 +99,7 @@ module _ (system : SystemSeen) (place : ℕ) (a : RollSeen) (is : IsRolling syst
     was_old pass at = same_Some old pass (sym at_old ∙ ap (λ ps. slice_get ps place) has.passes ∙ at)
 
     -- one step of its swap is the turn of the pass that had it in flight, or took it
-    had_turn : (after : RollSeen) (answers : List (Option Swapped)) (g : Option Flight) (new : SystemPass) (takers : List ℕ) → after.plan ≡ v.plan
+    had_turn : (after : RollSeen) (answers : List (Result Swapped NoSwap)) (g : Option Flight) (new : SystemPass) (takers : List ℕ) → after.plan ≡ v.plan
         → takers ≡ has.got_on.takers → HasMadeStep system answers f.swap f.item old g new → (h : Option Flight) (was : SystemPass)
         → slice_get a.flights place ≡ Some h → slice_get a.passes place ≡ Some was → HasHadTurn system after answers (items_of place a.taken takers) h was g new
     had_turn after answers g new takers plan is made h was at at_was =
@@ -160,13 +162,13 @@ module _ (system : SystemSeen) (place : ℕ) (a : RollSeen) (is : IsRolling syst
           (sym ((λ j. record (has.now j) { flights = set (has.now j).flights place (Some waiting); passes = set (has.now j).passes place new })
           ∙ (λ j. record v { flights = set-set v.flights place None (Some waiting) j; passes = set v.passes place new }))) turned_after
 
-    module _ (answer : Option Swapped) (step : HasStepped system (last_step (result_in answer)) f.swap t old new) where
+    module _ (answer : Result Swapped NoSwap) (step : HasStepped system (last_step answer) f.swap t old new) where
       abbrev ended : RollSeen
       ended = with_answer place f.item answer new v
 
-      made : (answers : List (Option Swapped)) → Agrees ended answers → HasMadeStep system answers f.swap f.item old None new
+      made : (answers : List (Result Swapped NoSwap)) → Agrees ended answers → HasMadeStep system answers f.swap f.item old None new
       made answers agrees =
-          subst (λ (o : Option (Option Swapped)). IsSomeAnd o (λ answer. (t : SwapSeen) × HasStepped system (last_step (result_in answer)) f.swap t old new))
+          subst (λ (o : Option (Result Swapped NoSwap)). IsSomeAnd o (λ answer. (t : SwapSeen) × HasStepped system (last_step answer) f.swap t old new))
           (sym (its_answer system v place has.rolls f t old new has.at at_old answer step answers agrees)) (t, step)
 
       turned_ended : HasTurned system place a ended
@@ -219,7 +221,7 @@ module _ (system : SystemSeen) (place : ℕ) (a : RollSeen) (is : IsRolling syst
         → HasTurned system place a (record b { flights = set b.flights place (Some (record { swap = t; item = f.item; cause = Some cause })); passes = set b.passes place new })
     waits_now t new cause step = turned_waiting f b v has old new stands t cause step
 
-    pub ends_now : (t : SwapSeen) (new : SystemPass) (answer : Option Swapped) → HasStepped system (last_step (result_in answer)) f.swap t old new
+    pub ends_now : (t : SwapSeen) (new : SystemPass) (answer : Result Swapped NoSwap) → HasStepped system (last_step answer) f.swap t old new
         → HasTurned system place a (record b { left = b.left - 1; passes = set b.passes place new; answers = set b.answers f.item answer })
     ends_now t new answer step = turned_answered f b v has old new stands t answer step
 
@@ -273,12 +275,12 @@ rolled_now system b is none = record {
 
 -- a roll that has not begun
 pub new_rolls : (system : SystemSeen) (plan : List (ℕ × To)) (passes : List SystemPass) → 0 < length passes
-    → EachPlace (λ i. MayRoll system (length plan)) passes → EachPlace (λ i asked. asked.0 < length system.plan.objects) plan
+    → EachPlace (λ i. MayRoll system) passes → EachPlace (λ i asked. asked.0 < length system.plan.objects) plan
     → IsRolling system (new_roll plan passes)
 new_rolls system plan passes some each objects = record {
   some = some;
   flights = length-replicate (length passes) None;
-  answers = length-replicate (length plan) None;
+  answers = length-replicate (length plan) unanswered;
   taken = omega arith;
   left =
       let none = count_by_none is_some (replicate (length passes) None) (EachPlace-replicate (λ i (f : Option Flight). is_some f ≡ false) (length passes) None (λ i. refl)) in
@@ -287,9 +289,12 @@ new_rolls system plan passes some each objects = record {
   lanes = λ place f pass at_f at_pass.
       let may = each place pass at_pass in
       subst (λ (g : Option Flight). IsLane system (new_roll plan passes) g pass) (sym (idle place f at_f))
-      (may.here, may.rests, let n = may.few_entries in omega (arith, n), let n = may.few_graces in omega (arith, n));
+      (may.here, may.rests);
   apart = λ p q f g at_f at_g same. absurd (let none = idle p (Some f) at_f in cc);
 }
   where
+    unanswered : Result Swapped NoSwap
+    unanswered = Err Memory
+
     idle : (place : ℕ) (f : Option Flight) → slice_get (replicate (length passes) None) place ≡ Some f → f ≡ None
     idle place f at_f = EachPlace-replicate (λ i (g : Option Flight). g ≡ None) (length passes) None (λ i. refl) place f at_f

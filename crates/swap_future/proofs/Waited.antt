@@ -1,16 +1,17 @@
 -- Swaps that wait, one poll after the other, and how they end.
-use Rattle.std.proofs.Common.{◌≡◌, ℕ, ◌+◌, List, [], ◌∷◌, ◌++◌, Option, Some, None, IsSomeAnd, refl, sym, subst, ◌∙◌, arith}
+use Rattle.std.proofs.Common.{◌≡◌, ℕ, ◌+◌, List, [], ◌∷◌, ◌++◌, Option, Some, None, Result, IsSomeAnd, refl, sym, subst, ◌∙◌, arith}
 use Rattle.std.specs.Prelude.{slice_get}
 use Rattle.k42_runtime.specs.Swaps.{SwapSeen, HasStepped, graces_due}
 use Rattle.k42_runtime.specs.Systems.{SystemSeen, SystemPass}
 use Rattle.k42_runtime.specs.declared.swaps.Cause.{Cause}
-use Rattle.k42_runtime.specs.declared.swaps.Step.TheVariants.{Again}
+use Rattle.k42_runtime.specs.declared.swaps.Step.TheVariants.{Again, Worn}
+use Rattle.k42_runtime.specs.declared.swaps.NoSwap.{NoSwap}
 use Rattle.k42_runtime.specs.declared.swaps.Swapped.{Swapped}
 use Rattle.k42_kinds.specs.declared.entry.To.{To}
 use Rattle.k42_board.proofs.Gained.{follows_on, follows_same}
-use Rattle.k42_runtime.proofs.SwapSteps.{HasComeOn, held_follows, same_caller, fewer}
+use Rattle.k42_runtime.proofs.SwapSteps.{HasComeOn, held_follows, same_caller, fewer, worn_before}
 use Rattle.swap_future.specs.Polling.{Ends}
-use Rattle.swap_future.specs.Rolling.{HasWaited, last_cause, GetsOn, Carries, first_flight, result_in}
+use Rattle.swap_future.specs.Rolling.{HasWaited, last_cause, GetsOn, Carries, first_flight}
 use Rattle.swap_future.specs.declared.rolling.Flight.{Flight}
 use Rattle.swap_future.proofs.Polled.{ends_before}
 
@@ -19,11 +20,12 @@ not_come s old = record {
   object = refl;
   to = refl;
   seat = refl;
-  caller = record { number = refl; proc = refl; activities = refl };
+  caller = record { number = refl; proc = refl };
   drawn = refl;
   log = follows_same old.view.log;
   graces = omega arith;
   waits = λ e. (e, refl);
+  worn = λ e w. e;
 }
 
 comes_again : (system : SystemSeen) (s m t : SwapSeen) (old mid new : SystemPass) (cause : Cause) → HasComeOn s m old mid
@@ -40,6 +42,7 @@ comes_again system s m t old mid new cause comes step = record {
       fewer (old.view.graces + graces_due s.stage s.holder) (mid.view.graces + graces_due m.stage m.holder)
       (new.view.graces + graces_due t.stage t.holder) first second;
   waits = λ e. absurd (step.begun e);
+  worn = λ e w. absurd (let never : Again cause ≡ Worn = (worn_before system s m t old mid new comes step.worn).1 (e, w) in cc);
 }
 
 -- steps that are held up draw nothing
@@ -64,7 +67,7 @@ pub some_then : {A : Type 0} (o : Option A) (P Q : A → Type 0) → IsSomeAnd o
 some_then (Some x) P Q is then = then x is
 some_then None P Q is then = is
 
-module _ (system : SystemSeen) (answers : List (Option Swapped)) where
+module _ (system : SystemSeen) (answers : List (Result Swapped NoSwap)) where
   pub not_moved : (f : Option Flight) (old : SystemPass) → GetsOn system answers f old f old
   not_moved None old = refl
   not_moved (Some f) old = (refl, [], refl, (refl, refl))
@@ -78,9 +81,9 @@ module _ (system : SystemSeen) (answers : List (Option Swapped)) where
   gets_on_then (Some f) None (Some h) old mid new first is = absurd is
   gets_on_then (Some f) (Some g) None old mid new first is =
       let comes = comes_on system first.1 f.swap g.swap old mid first.3 in
-      some_then (slice_get answers f.item) (λ answer. Ends system g.swap mid (result_in answer) new) (λ answer. Ends system f.swap old (result_in answer) new)
-      (subst (λ item. IsSomeAnd (slice_get answers item) (λ answer. Ends system g.swap mid (result_in answer) new)) first.0 is)
-      (λ answer ends. ends_before system f.swap g.swap old mid new comes (result_in answer) ends)
+      some_then (slice_get answers f.item) (λ answer. Ends system g.swap mid answer new) (λ answer. Ends system f.swap old answer new)
+      (subst (λ item. IsSomeAnd (slice_get answers item) (λ answer. Ends system g.swap mid answer new)) first.0 is)
+      (λ answer ends. ends_before system f.swap g.swap old mid new comes answer ends)
   gets_on_then (Some f) (Some g) (Some h) old mid new first is = (
     is.0 ∙ first.0,
     is.1 ++ first.1,

@@ -1,11 +1,12 @@
 -- A roll: which pass takes which item of its plan, how it gets on, and what it leaves.
-use Rattle.std.specs.Prelude.{◌≡◌, ◌≢◌, ℕ, ◌+◌, ◌<◌, ◌≤◌, ◌⊎◌, ◌==◌, if◌then◌else◌, List, [], ◌∷◌, length, replicate, set, Option, Some, None, Result, Ok, Err, IsSomeAnd, slice_get, is_some, count_by}
-use Rattle.k42_board.specs.Generations.{MOST}
+use Rattle.std.specs.Prelude.{◌≡◌, ◌≢◌, ℕ, ◌+◌, ◌<◌, ◌≤◌, ◌⊎◌, ◌==◌, if◌then◌else◌, List, [], ◌∷◌, length, replicate, set, Option, Some, None, Result, Err, IsSomeAnd, slice_get, is_some, count_by}
 use Rattle.k42_places.specs.Places.{EachPlace, EachPair}
-use Rattle.k42_runtime.specs.Swaps.{SwapSeen, HasStepped, graces_due}
+use Rattle.k42_runtime.specs.Swaps.{SwapSeen, HasStepped}
 use Rattle.k42_runtime.specs.Systems.{SystemSeen, IsPassHere, IsAtRest, SystemPass}
 use Rattle.k42_runtime.specs.declared.swaps.Cause.{Cause}
 use Rattle.k42_runtime.specs.declared.swaps.Step.TheVariants.{Again}
+use Rattle.k42_runtime.specs.declared.swaps.NoSwap.{NoSwap}
+use Rattle.k42_runtime.specs.declared.swaps.NoSwap.TheVariants.{Memory}
 use Rattle.k42_runtime.specs.declared.swaps.Swapped.{Swapped}
 use Rattle.k42_kinds.specs.declared.entry.To.{To}
 use Rattle.swap_future.specs.Polling.{IsGoing, Ends, new_swap}
@@ -13,14 +14,14 @@ use Rattle.swap_future.specs.declared.rolling.Flight.{Flight}
 use Rattle.swap_future.specs.declared.rolling.Rolling.{Rolling}
 
 -- A plan of swaps, each of an object to something. So many items are taken, so many are not finished. At each place stand a
--- pass and the swap that it has in flight; at each item's place stands its answer, once it is finished.
+-- pass and the swap that it has in flight; at each item's place stands its answer, once it is finished, and Memory before.
 pub record RollSeen : Type 0 where
   pub plan : List (ℕ × To)
   pub taken : ℕ
   pub left : ℕ
   pub passes : List SystemPass
   pub flights : List (Option Flight)
-  pub answers : List (Option Swapped)
+  pub answers : List (Result Swapped NoSwap)
 
 abbrev pub seen : Rolling → RollSeen
 seen r = record {
@@ -36,11 +37,6 @@ seen r = record {
 abbrev pub first_flight : ℕ × To → ℕ → Flight
 first_flight asked item = record { swap = new_swap asked.0 asked.1; item = item; cause = None }
 
--- None stands for want of memory
-abbrev pub result_in : Option Swapped → Result Swapped (Unit {0})
-result_in (Some end) = Ok end
-result_in None = Err tt
-
 -- steps that were held up by these causes, the last one's first, have brought swap and pass from there to here
 abbrev pub HasWaited : SystemSeen → List Cause → SwapSeen → SystemPass → SwapSeen → SystemPass → Type 0
 HasWaited system [] s old t new = (t ≡ s) × (new ≡ old)
@@ -53,16 +49,16 @@ last_cause [] before = before
 last_cause (cause ∷ causes) before = Some cause
 
 -- A pass gets on with the swap that it has in flight, but takes no item: the swap waits, or has ended with its item's answer.
-abbrev pub GetsOn : SystemSeen → List (Option Swapped) → Option Flight → SystemPass → Option Flight → SystemPass → Type 0
+abbrev pub GetsOn : SystemSeen → List (Result Swapped NoSwap) → Option Flight → SystemPass → Option Flight → SystemPass → Type 0
 GetsOn system answers None old None new = new ≡ old
 GetsOn system answers None old (Some g) new = ⊥
 GetsOn system answers (Some f) old None new =
-    IsSomeAnd (slice_get answers f.item) (λ answer. Ends system f.swap old (result_in answer) new)
+    IsSomeAnd (slice_get answers f.item) (λ answer. Ends system f.swap old answer new)
 GetsOn system answers (Some f) old (Some g) new =
     (g.item ≡ f.item) × (causes : List Cause) × (g.cause ≡ last_cause causes f.cause) × HasWaited system causes f.swap old g.swap new
 
 -- It gets on, and takes these items of the plan, each once the swap before has ended.
-abbrev pub Carries : SystemSeen → List (ℕ × To) → List (Option Swapped) → List ℕ → Option Flight → SystemPass
+abbrev pub Carries : SystemSeen → List (ℕ × To) → List (Result Swapped NoSwap) → List ℕ → Option Flight → SystemPass
     → Option Flight → SystemPass → Type 0
 Carries system plan answers [] f old g new = GetsOn system answers f old g new
 Carries system plan answers (item ∷ items) f old g new =
@@ -86,7 +82,7 @@ abbrev pub IsNotFlown : List (Option Flight) → ℕ → Type 0
 IsNotFlown flights item = (place : ℕ) (f : Flight) → slice_get flights place ≡ Some (Some f) → f.item ≢ item
 
 -- the answers are those that the roll has by now, as far as items are finished
-abbrev pub Agrees : RollSeen → List (Option Swapped) → Type 0
+abbrev pub Agrees : RollSeen → List (Result Swapped NoSwap) → Type 0
 Agrees r answers = (item : ℕ) → item < r.taken → IsNotFlown r.flights item → slice_get answers item ≡ slice_get r.answers item
 
 -- The roll has got on: these passes took the items that follow, in the plan's order, and each pass has got on with what it
@@ -103,11 +99,11 @@ pub record HasGotOn (system : SystemSeen) (a b : RollSeen) : Type 0 where
   -- what is in flight was so before, or was taken now
   pub flown : (place : ℕ) (g : Flight) → slice_get b.flights place ≡ Some (Some g) → g.item < a.taken
       → (f : Flight) × (slice_get a.flights place ≡ Some (Some f)) × (f.item ≡ g.item)
-  pub each : (answers : List (Option Swapped)) → Agrees b answers
+  pub each : (answers : List (Result Swapped NoSwap)) → Agrees b answers
       → EachLane (λ place. Carries system a.plan answers (items_of place a.taken takers)) a.flights a.passes b.flights b.passes
 
 -- The roll has come to its end with these answers, one for each item, and these passes, in their order.
-pub record HasRolled (system : SystemSeen) (r : RollSeen) (answers : List (Option Swapped)) (passes : List SystemPass) : Type 0 where
+pub record HasRolled (system : SystemSeen) (r : RollSeen) (answers : List (Result Swapped NoSwap)) (passes : List SystemPass) : Type 0 where
   pub takers : List ℕ
   pub taken : length r.plan ≡ r.taken + length takers
   pub theirs : EachPlace (λ i taker. taker < length r.passes) takers
@@ -134,7 +130,7 @@ new_roll plan passes = record {
   left = length plan;
   passes = passes;
   flights = replicate (length passes) None;
-  answers = replicate (length plan) None;
+  answers = replicate (length plan) (Err Memory);
 }
 
 -- what holds up the swap that stands there
@@ -152,15 +148,10 @@ cause_at (Some rolling) place = cause_in (slice_get rolling.flights.items place)
 abbrev pub IsOfItem : List (ℕ × To) → Flight → Type 0
 IsOfItem plan f = IsSomeAnd (slice_get plan f.item) (λ asked. (f.swap.object ≡ asked.0) × (f.swap.to ≡ asked.1))
 
--- A pass of a roll: it rests, or goes on with the swap of an item that was taken. It has room for all that may come.
+-- A pass of a roll: it rests, or goes on with the swap of an item that was taken.
 abbrev pub IsLane : SystemSeen → RollSeen → Option Flight → SystemPass → Type 0
-IsLane system r None pass =
-    IsPassHere system pass × IsAtRest pass.view
-    × (length pass.view.taker.mine + length r.plan ≤ MOST + r.taken) × (pass.view.graces + length r.plan ≤ MOST + r.taken)
-IsLane system r (Some f) pass =
-    IsGoing system f.swap pass × (f.item < r.taken)
-    × (length pass.view.taker.mine + 1 + length r.plan ≤ MOST + r.taken)
-    × (pass.view.graces + graces_due f.swap.stage f.swap.holder + length r.plan ≤ MOST + r.taken) × IsOfItem r.plan f
+IsLane system r None pass = IsPassHere system pass × IsAtRest pass.view
+IsLane system r (Some f) pass = IsGoing system f.swap pass × (f.item < r.taken) × IsOfItem r.plan f
 
 -- no two passes have the same item
 abbrev pub AreApart : List (Option Flight) → Type 0
@@ -178,9 +169,7 @@ pub record IsRolling (system : SystemSeen) (r : RollSeen) : Type 0 where
   pub lanes : EachPair (λ place. IsLane system r) r.flights r.passes
   pub apart : AreApart r.flights
 
--- passes that may roll a plan of so many items
-pub record MayRoll (system : SystemSeen) (items : ℕ) (pass : SystemPass) : Type 0 where
+-- a pass that may roll
+pub record MayRoll (system : SystemSeen) (pass : SystemPass) : Type 0 where
   pub here : IsPassHere system pass
   pub rests : IsAtRest pass.view
-  pub few_entries : length pass.view.taker.mine + items ≤ MOST
-  pub few_graces : pass.view.graces + items ≤ MOST

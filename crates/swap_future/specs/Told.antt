@@ -1,10 +1,12 @@
 -- The entries that a roll leaves with a pass.
-use Rattle.std.specs.Prelude.{◌≡◌, ℕ, ◌+◌, ◌≤◌, ◌⊎◌, List, [], ◌∷◌, ◌++◌, length, Option, Some, None, IsSomeAnd, slice_get}
+use Rattle.std.specs.Prelude.{◌≡◌, ℕ, ◌+◌, ◌≤◌, ◌⊎◌, List, [], ◌∷◌, ◌++◌, length, Option, Result, Ok, Err, IsSomeAnd, slice_get}
 use Rattle.k42_kinds.specs.declared.entry.Act.TheVariants as acts
 use Rattle.k42_kinds.specs.declared.entry.Answer.{Answer}
 use Rattle.k42_kinds.specs.declared.entry.Answer.TheVariants.{Abandoned}
 use Rattle.k42_kinds.specs.declared.entry.Entry.{Entry}
 use Rattle.k42_runtime.specs.Swaps.{IsSameCaller, answer_told}
+use Rattle.k42_runtime.specs.declared.swaps.NoSwap.{NoSwap}
+use Rattle.k42_runtime.specs.declared.swaps.NoSwap.TheVariants.{Memory, Worn}
 use Rattle.k42_runtime.specs.declared.swaps.Swapped.{Swapped}
 use Rattle.k42_kinds.specs.declared.entry.To.{To}
 use Rattle.k42_runtime.specs.Systems.{SystemPass}
@@ -19,28 +21,30 @@ pub record IsEntryOf (asked : ℕ × To) (answer : Answer) (entry : Entry) : Typ
 abbrev pub IsGivenUp : ℕ × To → Entry → Type 0
 IsGivenUp asked entry = (number : ℕ) × IsEntryOf asked (Abandoned number) entry
 
--- an item with an answer has just one entry, an item without memory none, or one that tells that it was given up; the others follow
-abbrev pub BeginWith : ℕ × To → Option Swapped → (List Entry → Type 0) → List Entry → Type 0
-BeginWith asked (Some end) Rest entries =
+-- an item that is Ok has just one entry, an item without memory none, or one that tells that it was given up, and
+-- an item of a pass that was worn out none; the others follow
+abbrev pub BeginWith : ℕ × To → Result Swapped NoSwap → (List Entry → Type 0) → List Entry → Type 0
+BeginWith asked (Ok end) Rest entries =
     (entry : Entry) × (others : List Entry) × (entries ≡ entry ∷ others) × IsEntryOf asked (answer_told end) entry × Rest others
-BeginWith asked None Rest entries =
+BeginWith asked (Err Memory) Rest entries =
     Rest entries ⊎ ((entry : Entry) × (others : List Entry) × (entries ≡ entry ∷ others) × IsGivenUp asked entry × Rest others)
+BeginWith asked (Err Worn) Rest entries = Rest entries
 
 -- the entries of these items of the plan, in order
-abbrev pub AreEntriesOf : List (ℕ × To) → List (Option Swapped) → List ℕ → List Entry → Type 0
+abbrev pub AreEntriesOf : List (ℕ × To) → List (Result Swapped NoSwap) → List ℕ → List Entry → Type 0
 AreEntriesOf plan answers [] entries = entries ≡ []
 AreEntriesOf plan answers (item ∷ items) entries =
     IsSomeAnd (slice_get plan item) (λ asked. IsSomeAnd (slice_get answers item) (λ answer.
     BeginWith asked answer (AreEntriesOf plan answers items) entries))
 
 -- besides its former entries the pass has drawn those of these items
-abbrev pub HasDrawnFor : List (ℕ × To) → List (Option Swapped) → List ℕ → SystemPass → SystemPass → Type 0
+abbrev pub HasDrawnFor : List (ℕ × To) → List (Result Swapped NoSwap) → List ℕ → SystemPass → SystemPass → Type 0
 HasDrawnFor plan answers items old new =
     (entries : List Entry) × (new.view.taker.mine ≡ old.view.taker.mine ++ entries) × AreEntriesOf plan answers items entries
 
 -- The pass is that of the same caller of the same system. It has begun at most one grace for each of these items, and has drawn
 -- their entries.
-pub record HasBroughtBack (plan : List (ℕ × To)) (answers : List (Option Swapped)) (items : List ℕ) (old new : SystemPass) : Type 0 where
+pub record HasBroughtBack (plan : List (ℕ × To)) (answers : List (Result Swapped NoSwap)) (items : List ℕ) (old new : SystemPass) : Type 0 where
   pub seat : new.seat ≡ old.seat
   pub caller : IsSameCaller old.view new.view
   pub graces : new.view.graces ≤ old.view.graces + length items

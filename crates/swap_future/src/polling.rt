@@ -10,14 +10,13 @@ ghost use Rattle.swap_future.specs.Polling.{IsGoing, Ends, WasHeldUp, new_swap};
 
 use futures::Future;
 use futures::task::{Context, Poll};
-use k42_memory::Memory;
-use k42_runtime::{Cause, Pass, Step, Swap, Swapped, System, To};
+use k42_runtime::{Cause, NoSwap, Pass, Step, Swap, Swapped, System, To};
 use std::alloc::Global;
 
 /// How a swap ended, and its pass.
 #[derive(Drop)]
 pub struct SwapEnd {
-    pub result: Result<Swapped, Memory>,
+    pub result: Result<Swapped, NoSwap>,
     pub pass: Pass,
 }
 
@@ -108,7 +107,11 @@ impl Future for SwapFuture<'_> {
                 pass,
             }),
             Step::Memory => Poll::Ready(SwapEnd {
-                result: Err(Memory),
+                result: Err(NoSwap::Memory),
+                pass,
+            }),
+            Step::Worn => Poll::Ready(SwapEnd {
+                result: Err(NoSwap::Worn),
                 pass,
             }),
         }

@@ -3,6 +3,7 @@ ghost use Rattle.std.specs.Prelude.{◌≡◌, ◌<◌, ◌≤◌, ◌-◌, ◌+
 ghost use Rattle.futures.specs.Poll.{IfReady, OnPending};
 ghost use Rattle.futures.specs.Task.{Covers, Keeps};
 ghost use Rattle.k42_places.specs.Places.{EachPlace};
+ghost use Rattle.k42_runtime.specs.declared.swaps.NoSwap.TheVariants as NoSwap;
 ghost use Rattle.swap_future.specs.declared.rolling.Rolled.{Rolled};
 ghost use Rattle.swap_future.specs.Rolling.{IsRolling, HasGotOn, HasRolled, IsAtHand, MayRoll, seen, new_roll, cause_at};
 ghost use Rattle.swap_future.specs.Rounds.{HasEndedNone, HasFinished, HasGoneRound, HasTurned, IsHeldUp};
@@ -10,7 +11,7 @@ ghost use Rattle.swap_future.specs.Rounds.{HasEndedNone, HasFinished, HasGoneRou
 use futures::Future;
 use futures::task::{Context, Poll};
 use k42_memory::Memory;
-use k42_runtime::{Cause, Pass, Step, Swap, Swapped, System, To};
+use k42_runtime::{Cause, NoSwap, Pass, Step, Swap, Swapped, System, To};
 use std::alloc::Global;
 use std::mem;
 
@@ -36,13 +37,13 @@ pub struct Rolling {
     /// The swap that each pass has in flight.
     pub flights: Vec<Option<Flight>>,
     /// The answer of each item that is finished.
-    pub answers: Vec<Option<Swapped>>,
+    pub answers: Vec<Result<Swapped, NoSwap>>,
 }
 
-/// The answers of a plan's items in their order, and the passes in theirs. None is want of memory in that item.
+/// The answers of a plan's items in their order, and the passes in theirs.
 #[derive(Drop)]
 pub struct Rolled {
-    pub answers: Vec<Option<Swapped>>,
+    pub answers: Vec<Result<Swapped, NoSwap>>,
     pub passes: Vec<Pass>,
 }
 
@@ -62,15 +63,26 @@ pub struct Roll<'a> {
     pub rolling: Option<Rolling>,
 }
 
-/// So many empty places.
-fn empty_places<T: Drop>(alloc: Global, count: usize) -> Result<Vec<Option<T>>, Memory>
-    ensures { IfOk result (λ places. places.items ≡ replicate count None) }
+/// So many passes with no swap in flight.
+fn no_flights(alloc: Global, count: usize) -> Result<Vec<Option<Flight>>, Memory>
+    ensures { IfOk result (λ flights. flights.items ≡ replicate count None) }
 {
-    let mut places = Vec::with_capacity(alloc, count)?;
+    let mut flights = Vec::with_capacity(alloc, count)?;
     for _ in 0..count {
-        places.push(None)?;
+        flights.push(None)?;
     }
-    Ok(places)
+    Ok(flights)
+}
+
+/// Places for the answers of so many items, none of which is finished.
+fn no_answers(alloc: Global, count: usize) -> Result<Vec<Result<Swapped, NoSwap>>, Memory>
+    ensures { IfOk result (λ answers. answers.items ≡ replicate count (Err NoSwap.Memory)) }
+{
+    let mut answers = Vec::with_capacity(alloc, count)?;
+    for _ in 0..count {
+        answers.push(Err(NoSwap::Memory))?;
+    }
+    Ok(answers)
 }
 
 /// The places of a roll that has not begun.
@@ -82,10 +94,10 @@ fn start_rolling(
     ensures new { IfOk result (λ rolling. seen rolling ≡ new_roll plan.items passes.items) }
     ensures back { IfErr result (λ back. back.passes.items ≡ passes.items) }
 {
-    let Ok(flights) = empty_places(alloc, passes.len()) else {
+    let Ok(flights) = no_flights(alloc, passes.len()) else {
         return Err(Unrolled { passes });
     };
-    let Ok(answers) = empty_places(alloc, plan.len()) else {
+    let Ok(answers) = no_answers(alloc, plan.len()) else {
         return Err(Unrolled { passes });
     };
     Ok(Rolling {
@@ -122,7 +134,7 @@ fn take_flight(rolling: &mut Rolling, place: usize) -> Option<Flight>
 }
 
 /// Writes down the answer of an item.
-fn finish(rolling: &mut Rolling, item: usize, answer: Option<Swapped>)
+fn finish(rolling: &mut Rolling, item: usize, answer: Result<Swapped, NoSwap>)
     requires there { item < length rolling.old.answers.items }
     requires some { 0 < rolling.old.left }
     ensures { seen rolling.new ≡ record (seen rolling.old) {
@@ -148,8 +160,9 @@ fn turn(alloc: Global, system: &System, rolling: &mut Rolling, place: usize)
             flight.cause = Some(cause);
             rolling.flights[place] = Some(flight);
         }
-        Step::Ended(end) => finish(rolling, flight.item, Some(end)),
-        Step::Memory => finish(rolling, flight.item, None),
+        Step::Ended(end) => finish(rolling, flight.item, Ok(end)),
+        Step::Memory => finish(rolling, flight.item, Err(NoSwap::Memory)),
+        Step::Worn => finish(rolling, flight.item, Err(NoSwap::Worn)),
     }
 }
 
@@ -194,7 +207,7 @@ impl<'a> Roll<'a> {
         plan: Vec<(u32, To)>,
     ) -> Result<Roll<'a>, Unrolled>
         requires some { 0 < length passes.items }
-        requires passes { EachPlace (λ i. MayRoll system.now (length plan.items)) passes.items }
+        requires passes { EachPlace (λ i. MayRoll system.now) passes.items }
         requires objects { EachPlace (λ i asked. asked.0 < length system.now.plan.objects) plan.items }
         ensures system { IfOk result (λ roll. roll.system.now ≡ system.now) }
         ensures new { IfOk result (λ roll. IsSomeAnd roll.rolling (λ rolling. seen rolling ≡ new_roll plan.items passes.items)) }

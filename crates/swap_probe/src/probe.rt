@@ -5,7 +5,7 @@ ghost use Rattle.k42_crews.specs.Ready.{AreFree, IsFree};
 ghost use Rattle.swap_probe.specs.Ready.{IsSwapping};
 
 use crate::closing::{are_answered, closed};
-use crate::steps::{Fault, ask, come_in, due, end_swap, free, new_swap, step};
+use crate::steps::{Fault, ask, due, end_swap, free, new_swap, step};
 use k42_crews::{call_once, last, start, swap_once};
 use k42_kinds::{Answer, Entry, KindName, LayoutName, Op, Reply};
 use k42_memory::Memory;
@@ -180,7 +180,7 @@ fn swap_beside<R: Wait>(
     ensures one { OnOk result (IsFree system.now crew.new.one) }
     ensures two { OnOk result (IsFree system.now crew.new.two) }
 {
-    come_in(system, &mut crew.zero)?;
+    system.enter(&mut crew.zero);
     ask(rt, alloc, system, &mut crew.zero, Op::Add(5), Reply::Done)?;
     let swap = find_left(alloc, system, &mut crew.one)?;
     find_busy(rt, alloc, system, &mut crew.two)?;

@@ -3,10 +3,10 @@ ghost use Rattle.std.specs.Prelude.{OnOk, IfOk};
 ghost use Rattle.k42_crews.specs.Ready.{IsFree, IsIn};
 ghost use Rattle.swap_probe.specs.Ready.{IsSwapping};
 
-use k42_crews::{may_call, may_swap};
 use k42_kinds::{LayoutName, Op, Reply, To};
+use k42_limits::PASS_GRACES;
 use k42_memory::Memory;
-use k42_runtime::{Pass, Step, Swap, System};
+use k42_runtime::{NoCall, NoSwap, Pass, Step, Swap, System};
 use std::alloc::Global;
 use std::sync::Wait;
 
@@ -24,21 +24,27 @@ impl From<Memory> for Fault {
     }
 }
 
+impl From<NoCall> for Fault {
+    fn from(reason: NoCall) -> Fault {
+        match reason {
+            NoCall::Memory => Fault::Memory,
+            NoCall::Worn => Fault::Wrong,
+        }
+    }
+}
+
+impl From<NoSwap> for Fault {
+    fn from(reason: NoSwap) -> Fault {
+        match reason {
+            NoSwap::Memory => Fault::Memory,
+            NoSwap::Worn => Fault::Wrong,
+        }
+    }
+}
+
 /// Goes on only where this holds.
 pub(crate) fn due(holds: bool) -> Result<(), Fault> {
     if holds { Ok(()) } else { Err(Fault::Wrong) }
-}
-
-/// Begins an activity.
-pub(crate) fn come_in(system: &System, pass: &mut Pass) -> Result<(), Fault>
-    requires { IsFree system.now pass.old }
-    ensures { OnOk result (IsIn system.now pass.new) }
-{
-    if !may_call(pass) {
-        return Err(Fault::Wrong);
-    }
-    system.enter(pass);
-    Ok(())
 }
 
 /// Makes a call in the activity.
@@ -53,7 +59,7 @@ pub(crate) fn ask<R: Wait>(
     requires { IsIn system.now pass.old }
     ensures { OnOk result (IsIn system.now pass.new) }
 {
-    if !system.takes(0, &op) || !may_call(pass) {
+    if !system.takes(0, &op) {
         return Err(Fault::Wrong);
     }
     due(system.call(rt, alloc, pass, 0, op)? == reply)
@@ -64,7 +70,7 @@ pub(crate) fn new_swap(system: &System, pass: &Pass) -> Result<Swap, Fault>
     requires { IsFree system.now pass.now }
     ensures { IfOk result (λ swap. IsSwapping system.now swap pass.now) }
 {
-    if system.objects() == 0 || !may_swap(pass) {
+    if system.objects() == 0 {
         return Err(Fault::Wrong);
     }
     Ok(Swap::new(0, To::Layout(LayoutName::Spread)))
@@ -107,7 +113,7 @@ pub(crate) fn free<R: Wait>(
     requires { IsFree system.now pass.old }
     ensures { OnOk result (IsFree system.now pass.new) }
 {
-    if !may_swap(pass) {
+    if pass.graces() >= PASS_GRACES {
         return Err(Fault::Wrong);
     }
     due(system.reclaim(rt, pass) == rows)

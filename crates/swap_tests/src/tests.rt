@@ -17,7 +17,7 @@ mod phases;
 mod rows;
 
 /// The entry of a call of the first object by the first caller.
-fn called(stamp: u64, index: u32, incarnation: u32, op: Op, reply: Reply) -> Entry
+fn called(stamp: u64, index: u64, incarnation: u32, op: Op, reply: Reply) -> Entry
     requires { incarnation < 1_048_575 }
 {
     Entry {
@@ -35,7 +35,7 @@ fn called(stamp: u64, index: u32, incarnation: u32, op: Op, reply: Reply) -> Ent
 }
 
 /// The entry of a swap of the first object, where the caller drew it in so many before.
-fn swapped(caller: u32, stamp: u64, index: u32, incarnation: u32, to: LayoutName) -> Entry
+fn swapped(caller: u32, stamp: u64, index: u64, incarnation: u32, to: LayoutName) -> Entry
     requires { incarnation < 1_048_575 }
 {
     Entry {

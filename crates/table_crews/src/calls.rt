@@ -1,8 +1,7 @@
 //! A call, step by step.
-ghost use Rattle.std.specs.Prelude.{◌≡◌, ◌<◌, ◌&&◌, nat_lt, true, false, length, is_some, OnOk, IfOk, IfSome};
+ghost use Rattle.std.specs.Prelude.{◌≡◌, ◌<◌, true, false, length, is_some, OnOk, IfOk, IfSome};
 ghost use Rattle.phase_core.specs.declared.caller.Place.TheVariants.{Missed, AtMediator};
 ghost use Rattle.k42_board.specs.Generating.{MayEnter};
-ghost use Rattle.k42_board.specs.Generations.{MOST};
 ghost use Rattle.k42_board.specs.Protocol as protocol;
 ghost use Rattle.k42_board.specs.Seen.{is_at_rest};
 ghost use Rattle.k42_board.specs.Stepping.{HasStepped};
@@ -21,12 +20,12 @@ use k42_rule::{
 };
 use std::alloc::Global;
 
-/// Whether the pass rests, and may begin an activity.
+/// Whether the pass rests, and so may begin an activity.
 pub fn may_enter<L: Layout>(pass: &Pass<L>) -> bool
-    ensures is { result ≡ (is_at_rest pass.now.view && nat_lt pass.now.view.activities MOST) }
+    ensures is { result ≡ is_at_rest pass.now.view }
     ensures may { result ≡ true → MayEnter pass.now.view }
 {
-    pass.is_idle() && pass.activities() < 1_048_576
+    pass.is_idle()
 }
 
 /// Begins an activity, and answers the word that was found.

@@ -9,6 +9,7 @@ ghost use Rattle.table_crews.specs.Ready.{HoldsNoCell, IsServing, IsLayoutOf};
 use crate::crews::Walk;
 use co_any::AnyLayout;
 use k42_kinds::{Act, Answer, Layout, Op, Reach, Reply, kind_of};
+use k42_limits::PASS_ENTRIES;
 use k42_memory::Memory;
 use k42_rule::{
     Content, Inside, Pass, Sys, draw_call, layouts_are_lawful, lock, put, take, unlock,
@@ -66,7 +67,7 @@ pub fn step_at<L: Layout>(
     let Reach::One(place) = layout.reach(op, pass.processor(), sys.procs()) else {
         return Ok(None);
     };
-    if place >= sys.procs() || pass.drawn() >= 1_048_576 {
+    if place >= sys.procs() || pass.drawn() >= PASS_ENTRIES {
         return Ok(None);
     }
     // Others may wait for the cell, so room is made before its lock is taken.

@@ -23,7 +23,7 @@ use Rattle.k42_joined.proofs.RowsStamps.{place_in}
 use Rattle.k42_board.specs.Cells.{Slot}
 use Rattle.k42_board.specs.Rule.{Rule}
 use Rattle.k42_board.specs.declared.view.View.{View}
-use Rattle.k42_board.proofs.Begun.{few_begun, entered_so_far}
+use Rattle.k42_board.proofs.Begun.{few_begun}
 use Rattle.k42_board.proofs.Fields.{object_fits, entry_known}
 use Rattle.table_laws.specs.Numbers.{ProcessorFits, LocalFits, ObjectFits, EntryFits, HolderFits, AllFit, NumbersFit}
 
@@ -47,16 +47,9 @@ module _ {S L P : Type 0} (F : Layouts S L P) (declared : List L) (table : State
 
   processor_fits : (p : ℕ) → p < length g.procs → ProcessorFits p (proc_at g p)
   processor_fits p there =
-      let begun = r.shows.generations.begun p (proc_at g p) (slice_get-get_or g.procs p fresh_proc there) in
-      let entered = begun.entered in let flipped = begun.flipped in
-      let among = entered_so_far g p (turns_sound s r.sound.phases) there in
-      let activities = few_begun (length g.callers) r.beside.counts.activities few_callers r.shows.generations.activities in
+      let flipped = (r.shows.generations.begun p (proc_at g p) (slice_get-get_or g.procs p fresh_proc there)).flipped in
       let graces = few_begun (length g.callers) r.beside.counts.graces few_callers r.shows.generations.graces in
-      record {
-        generation = omega (arith, flipped, graces);
-        entered = omega (arith, among, entered, activities);
-        exits = omega (arith, entered, activities);
-      }
+      record { generation = omega (arith, flipped, graces) }
 
   -- what a processor's table has of an object that is there
   local_fits : (o : ℕ) → o < length s.objects → (p : ℕ) → p < length (object_at s o).entries → LocalFits p (entry_at (object_at s o) p)
@@ -89,9 +82,9 @@ module _ {S L P : Type 0} (F : Layouts S L P) (declared : List L) (table : State
       let there = (role_there sound.course sound.course.stage c sound.in_course.stage (sym sound.in_course.role ∙ is)).0 in
       let few = sound.in_course.limits.few_callers in omega (arith, there, few)
 
-  few_entries : entries_drawn t.callers ≤ 2 ^ 24
+  few_entries : entries_drawn t.callers ≤ 2 ^ 62
   few_entries =
-      let most = sum_by-le (λ (x : Caller). length x.mine) (2 ^ 20) t.callers (λ i d lt. r.shows.few_entries i (get_or t.callers i d) (slice_get-get_or t.callers i d lt)) in
+      let most = sum_by-le (λ (x : Caller). length x.mine) (2 ^ 58) t.callers (λ i d lt. r.shows.few_entries i (get_or t.callers i d) (slice_get-get_or t.callers i d lt)) in
       let few = few_drawers in omega (arith, most, few)
 
   answered : (c : ℕ) (x : Caller) → slice_get t.callers c ≡ Some x → (place : ℕ) (entry : Entry) → slice_get x.mine place ≡ Some entry → IsAnswer r.state c entry

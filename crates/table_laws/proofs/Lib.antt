@@ -1,5 +1,6 @@
 mod Fitting
 mod Reading
+mod Entering
 mod Views
 mod Renamed
 mod Seated

@@ -1,17 +1,20 @@
--- What a state has of callers whose passes are new: no generation, no entry and no exit, no role and no drawn entry.
-use Rattle.std.proofs.Common.{◌≡◌, ℕ, ◌<◌, ◌≤◌, ◌∙◌, List, Option, Some, None, length, map, replicate, get_or, refl, sym, ap, ⊎_elim, arith, ext_get_or}
-use Rattle.std.specs.List.{slice_index}
+-- What a state has of callers whose passes are new: no generation, nobody inside, no role and no drawn entry.
+use Rattle.std.proofs.Common.{◌≡◌, ℕ, ◌+◌, ◌<◌, ◌≤◌, ◌∙◌, ◌&&◌, Bool, true, false, eqb, List, Option, Some, None, length, map, replicate, get_or, refl, sym, ap, subst, ⊎_elim, arith, ext_get_or}
+use Rattle.std.specs.List.{slice_get, slice_index}
 use Rattle.std.specs.Prelude.{sum}
 use Rattle.std.proofs.lemmas.Bool.{cases_lt}
 use Rattle.std.proofs.lemmas.List.{get_or-map, get_or_default, get_or_past, length-map, length-replicate}
 use Rattle.std.proofs.lemmas.List.Sums.{sum_by-le}
 use Rattle.std.proofs.Math.ListN.{get_or-replicate}
-use Rattle.std.proofs.lemmas.Option.{slice_get-get_or}
+use Rattle.std.proofs.lemmas.Option.{same_Some, slice_get-get_or, slice_get_within}
 use Rattle.atomic_table.specs.Table.{State}
-use Rattle.gen_core.specs.Plain.{Generations}
+use Rattle.k42_places.proofs.Counts.{count_by_none}
+use Rattle.gen_core.specs.Events.{is_even, exits_of}
+use Rattle.gen_core.specs.Plain.{Caller, Generations}
+use Rattle.gen_core.specs.Sound.{active_in, is_active_in, is_in}
 use Rattle.gen_core.specs.State as gens
 use Rattle.gen_core.specs.declared.state.GenProc.{GenProc}
-use Rattle.gen_core.proofs.Reached.{one_holder, role_there}
+use Rattle.gen_core.proofs.Reached.{counts_agree, one_holder, role_there}
 use Rattle.phase_core.specs.State.{visitor_at, fresh_visitor, new_visitor}
 use Rattle.phase_core.proofs.Ranges.{turns_sound}
 use Rattle.phase_core.proofs.Reached.{same_callers}
@@ -21,12 +24,11 @@ use Rattle.k42_stamp.specs.Layouts.{Layouts}
 use Rattle.k42_joined.specs.Plain.{Joined}
 use Rattle.k42_joined.specs.State.{nothing_kept}
 use Rattle.k42_board.specs.Cells.{Slot}
-use Rattle.k42_board.specs.Generations.{AreFew}
+use Rattle.k42_board.specs.Generations.{AreFew, in_words}
 use Rattle.k42_board.specs.Rule.{Ruled, KnowsPass}
 use Rattle.k42_board.specs.Views.{new_pass}
 use Rattle.k42_board.specs.declared.view.View.{View}
-use Rattle.k42_board.proofs.Begun.{entered_so_far}
-use Rattle.table_laws.specs.Opening.{HasSeat, AreNewPasses}
+use Rattle.table_laws.specs.Opening.{HasSeat, AreNewPasses, IsVacant}
 
 none_begun : (callers : ℕ) (begun : List ℕ) → AreFew callers begun → ((c : ℕ) → c < callers → slice_index begun c ≡ 0) → sum begun ≤ 0
 none_begun callers begun are none =
@@ -34,8 +36,11 @@ none_begun callers begun are none =
     let is = get_or_default begun i d 0 lt in let zero_is = none i (rw are.many at lt) in omega (arith, is, zero_is)) in
     omega (arith, most)
 
-proc_is : (k : GenProc) → k.generation ≡ 0 → k.entered ≡ 0 → k.exits_even ≡ 0 → k.exits_odd ≡ 0 → k ≡ gens.fresh_proc
-proc_is k generation entered even odd = λ i. record { generation = generation i; entered = entered i; exits_even = even i; exits_odd = odd i }
+inactive : (p generation : ℕ) (x : Caller) → x.active ≡ None → is_active_in p generation x ≡ false
+inactive p generation x none = ap (λ active. eqb x.proc p && is_in active generation) none ∙ and_false (eqb x.proc p) where
+  and_false : (b : Bool) → (b && false) ≡ false
+  and_false true = refl
+  and_false false = refl
 
 module _ {S L P : Type 0} (F : Layouts S L P) (declared : List L) (callers : List ℕ) (table : State (Slot P) (View P))
     (r : Ruled F declared (length callers) table) (new : AreNewPasses F.procs (length declared) callers table.views) where
@@ -66,13 +71,14 @@ module _ {S L P : Type 0} (F : Layouts S L P) (declared : List L) (callers : Lis
   pub many_drawing : length t.callers ≡ length callers
   many_drawing = r.rule.sound.cells.locks.many.callers ∙ r.many
 
-  -- each caller is as it began
-  pub turning_is : g.callers ≡ map (gens.fresh_caller F.procs) callers
+  -- each caller is as it began, as far as words tell
+  pub turning_is : map in_words g.callers ≡ map (gens.fresh_caller F.procs) callers
   turning_is =
-      ext_get_or _ g.callers (map (gens.fresh_caller F.procs) callers)
-      (many_turning ∙ sym (length-map callers (gens.fresh_caller F.procs)))
-      (λ c lt. let there : c < length callers = rw many_turning at lt in
-      (known c there).generations.turn ∙ sym (get_or-map (gens.fresh_caller F.procs) callers c 0 _ there))
+      ext_get_or (gens.fresh_caller F.procs 0) (map in_words g.callers) (map (gens.fresh_caller F.procs) callers)
+      (length-map g.callers in_words ∙ many_turning ∙ sym (length-map callers (gens.fresh_caller F.procs)))
+      (λ c lt. let within : c < length g.callers = rw (length-map g.callers in_words) at lt in let there : c < length callers = rw many_turning at within in
+      get_or-map in_words g.callers c _ _ within ∙ (known c there).generations.turn
+      ∙ sym (get_or-map (gens.fresh_caller F.procs) callers c 0 _ there))
 
   pub visitors_are : s.phases.callers ≡ replicate (length callers) (new_visitor (length declared))
   visitors_are =
@@ -118,27 +124,31 @@ module _ {S L P : Type 0} (F : Layouts S L P) (declared : List L) (callers : Lis
         let within : c < length callers = rw (← many_turning, is.in_course.many_callers) there in
         absurd ((one_holder g is).under_way c e (ap (λ x. x.grace) (known c within).generations.turn))
 
-  -- nobody has entered a processor, and no grace has flipped it
-  proc_new : (p : ℕ) → p < length g.procs → gens.proc_at g p ≡ gens.fresh_proc
+  -- no grace has flipped a processor, and nobody is on it
+  none_active : (p generation : ℕ) → active_in g.callers p generation ≡ 0
+  none_active p generation =
+      count_by_none (is_active_in p generation) g.callers
+      (λ c x at.
+      let within = slice_get_within g.callers c x at in
+      let same : gens.caller_at g c ≡ x = same_Some (gens.caller_at g c) x (sym (slice_get-get_or g.callers c _ within) ∙ at) in
+      let none = ap (λ (y : Caller). y.active) (known c (rw many_turning at within)).generations.turn in
+      inactive p generation x (sym (ap (λ (y : Caller). y.active) same) ∙ none))
+
+  proc_new : (p : ℕ) → p < length g.procs → IsVacant (gens.proc_at g p)
   proc_new p there =
-      let begun = r.rule.shows.generations.begun p (gens.proc_at g p) (slice_get-get_or g.procs p gens.fresh_proc there) in
-      let entered = begun.entered in let flipped = begun.flipped in
-      let among = entered_so_far g p (turns_sound s.phases r.rule.sound.phases) there in
-      let activities = none_begun (length g.callers) r.rule.beside.counts.activities r.rule.shows.generations.activities
-      (λ c lt. (known c (rw many_turning at lt)).generations.activities) in
+      let flipped = (r.rule.shows.generations.begun p (gens.proc_at g p) (slice_get-get_or g.procs p gens.fresh_proc there)).flipped in
       let graces = none_begun (length g.callers) r.rule.beside.counts.graces r.rule.shows.generations.graces
       (λ c lt. (known c (rw many_turning at lt)).generations.graces) in
-      proc_is (gens.proc_at g p) (omega (arith, flipped, graces)) (omega (arith, among, entered, activities))
-      (omega (arith, entered, activities)) (omega (arith, entered, activities))
+      let first : (gens.proc_at g p).generation ≡ 0 = omega (arith, flipped, graces) in
+      let present = (counts_agree g (turns_sound s.phases r.rule.sound.phases)).present p there in
+      let now : (gens.proc_at g p).entered ≡ (gens.proc_at g p).exits_even + active_in g.callers p 0 =
+      subst (λ n. (gens.proc_at g p).entered ≡ exits_of (gens.proc_at g p) (is_even n) + active_in g.callers p n) first present in
+      record { generation = first; left = let none = none_active p 0 in omega (arith, now, none) }
 
-  pub procs_are : g.procs ≡ replicate F.procs gens.fresh_proc
-  procs_are =
-      ext_get_or gens.fresh_proc g.procs (replicate F.procs gens.fresh_proc)
-      (sym r.rule.sound.cells.rows.told.procs ∙ sym (length-replicate F.procs gens.fresh_proc))
-      (λ p lt. proc_new p lt ∙ sym (get_or-replicate F.procs p gens.fresh_proc gens.fresh_proc (rw (← r.rule.sound.cells.rows.told.procs) at lt)))
+  pub many_procs_are : length g.procs ≡ length (replicate F.procs gens.fresh_proc)
+  many_procs_are = sym r.rule.sound.cells.rows.told.procs ∙ sym (length-replicate F.procs gens.fresh_proc)
 
-  pub generations_are : g ≡ gens.fresh F.procs callers
-  generations_are = generations_from g turning_is procs_are role_is where
-    generations_from : (h : Generations) → h.callers ≡ map (gens.fresh_caller F.procs) callers
-        → h.procs ≡ replicate F.procs gens.fresh_proc → h.role ≡ None → h ≡ gens.fresh F.procs callers
-    generations_from h one two three = λ i. record { procs = two i; callers = one i; role = three i }
+  pub procs_vacant : (p : ℕ) (k : GenProc) → slice_get g.procs p ≡ Some k → IsVacant k
+  procs_vacant p k at =
+      let there = slice_get_within g.procs p k at in
+      subst IsVacant (same_Some (gens.proc_at g p) k (sym (slice_get-get_or g.procs p gens.fresh_proc there) ∙ at)) (proc_new p there)

@@ -25,7 +25,7 @@ use Rattle.k42_board.specs.Cells.{Slot}
 use Rattle.k42_board.specs.Rule.{Ruled}
 use Rattle.k42_board.specs.declared.view.View.{View}
 use Rattle.table_laws.specs.Opening.{AreNewPasses, IsAsMade, IsNew}
-use Rattle.table_laws.proofs.NewPasses.{generations_are, visitors_are, visitor_is, drawing_are, kept_are}
+use Rattle.table_laws.proofs.NewPasses.{turning_is, role_is, many_procs_are, procs_vacant, visitors_are, visitor_is, drawing_are, kept_are}
 use Rattle.table_laws.proofs.NewCells.{first_row, no_hands, first_incarnation, hands_are, many_cells_are, cell_new, all_unused}
 
 -- an object that nobody swaps
@@ -151,7 +151,10 @@ module _ {S L P : Type 0} (F : Layouts S L P) (declared : List L) (callers : Lis
 
   pub new_state : IsNew F declared callers s
   new_state = record {
-    turns = generations_are F declared callers table r new;
+    role = role_is F declared callers table r new;
+    turning = turning_is F declared callers table r new;
+    many_procs = many_procs_are F declared callers table r new;
+    vacant = procs_vacant F declared callers table r new;
     visitors =
         visitors_are F declared callers table r new
         ∙ ap (λ n. replicate (length callers) (new_visitor n)) (sym (length-map declared F.tag_of));

@@ -19,7 +19,7 @@ use Rattle.table_laws.proofs.Fitting.{numbers_are}
 
 processor_is_read : (words : List ℕ) (p : ℕ) (k : GenProc) → IsProcessorShown words p k → ProcessorFits p k → ProcessorIsRead words p k
 processor_is_read words p k shown fits =
-    let is = shown.generation in let few = fits.entered in
+    let is = shown.generation in let few = fits.generation in
     record {
       generation = omega (arith, is, few);
       entered = omega (arith, is, few);

@@ -1,6 +1,6 @@
 -- The counts of a state: how far each goes, in a field that has room for more.
-use Rattle.std.specs.Prelude.{◌≡◌, ℕ, ◌+◌, ◌<◌, ◌≤◌, ◌^◌, List, Option, Some}
-use Rattle.k42_limits.specs.declared.TheConstants.{CALLERS, LAST_INCARNATION, OBJECTS, PROCESSORS}
+use Rattle.std.specs.Prelude.{◌≡◌, ℕ, ◌*◌, ◌<◌, ◌≤◌, List, Option, Some}
+use Rattle.k42_limits.specs.declared.TheConstants.{CALLERS, LAST_INCARNATION, LAST_STAMP, OBJECTS, PASS_ENTRIES, PASS_GRACES, PROCESSORS}
 use Rattle.k42_kinds.specs.declared.entry.Entry.{Entry}
 use Rattle.k42_places.specs.Places.{EachPlace}
 use Rattle.gen_core.specs.declared.state.GenProc.{GenProc}
@@ -8,18 +8,14 @@ use Rattle.phase_core.specs.Plain.{Object}
 use Rattle.phase_core.specs.declared.object.LocalEntry.{LocalEntry}
 use Rattle.turn_core.specs.Sound.{histories_of}
 use Rattle.k42_joined.specs.Plain.{Joined}
-use Rattle.k42_board.specs.Generations.{MOST}
-use Rattle.k42_board.specs.Seats.{LAST_STAMP}
 
--- sixteen callers begin up to 2 ^ 20 activities and as many graces each
-abbrev pub MOST_BEGUN : ℕ
-MOST_BEGUN = 2 ^ 24
+-- so many graces all callers begin
+abbrev pub MOST_GRACES : ℕ
+MOST_GRACES = CALLERS * PASS_GRACES
 
--- a generation, its entries and the exits of each parity have fields of 32 bits
+-- a generation has a field of 32 bits; entries and exits have no bound
 pub record ProcessorFits (p : ℕ) (k : GenProc) : Type 0 where
-  pub generation : k.generation ≤ MOST_BEGUN
-  pub entered : k.entered ≤ MOST_BEGUN
-  pub exits : k.exits_even + k.exits_odd ≤ MOST_BEGUN
+  pub generation : k.generation ≤ MOST_GRACES
 
 -- what a processor's table has of an object: fields of 4, 4, 24 and 32 bits
 pub record LocalFits (p : ℕ) (e : LocalEntry) : Type 0 where
@@ -40,7 +36,7 @@ pub record ObjectFits (o : ℕ) (k : Object) : Type 0 where
 pub record EntryFits (entry : Entry) : Type 0 where
   pub stamp : entry.stamp ≤ LAST_STAMP
   pub caller : entry.caller < CALLERS
-  pub index : entry.index < MOST
+  pub index : entry.index < PASS_ENTRIES
   pub object : entry.object < OBJECTS
   pub incarnation : entry.incarnation ≤ LAST_INCARNATION
 

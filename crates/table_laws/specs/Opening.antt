@@ -1,8 +1,10 @@
 -- Passes that have done nothing, and what a state is like while all passes are such.
-use Rattle.std.specs.Prelude.{◌≡◌, ◌⊎◌, ℕ, ◌<◌, true, List, [], length, Some, None, slice_get, slice_index}
+use Rattle.std.specs.Prelude.{◌≡◌, ◌⊎◌, ℕ, ◌%◌, ◌<◌, ◌^◌, true, List, [], length, map, Some, None, slice_get, slice_index}
 use mathlib.Core.Option.{some}
 use lib.ListN.{get_elem?}
 use Rattle.k42_places.specs.Places.{EachPlace}
+use Rattle.gen_core.specs.Plain.{Generations}
+use Rattle.gen_core.specs.declared.state.GenProc.{GenProc}
 use Rattle.phase_core.specs.Effects.{direct_entry}
 use Rattle.phase_core.specs.Plain.{Object}
 use Rattle.phase_core.specs.State.{empty_entry}
@@ -12,8 +14,9 @@ use Rattle.k42_joined.specs.Fresh.{fresh}
 use Rattle.k42_joined.specs.Numbers.{place_of}
 use Rattle.k42_joined.specs.Plain.{Joined}
 use Rattle.k42_joined.specs.State.{many_objects, object, cell}
+use Rattle.k42_board.specs.Generations.{in_words}
 use Rattle.k42_board.specs.Views.{new_pass}
-use Rattle.k42_board.specs.Words.{local_word}
+use Rattle.k42_board.specs.Words.{exits_word, generation_word, local_word}
 use Rattle.k42_board.specs.declared.view.PassView.{PassView}
 use Rattle.k42_board.specs.declared.view.View.{View}
 use Rattle.k42_board.specs.declared.view.View.TheVariants.{Crew}
@@ -31,10 +34,36 @@ abbrev pub AreNewPasses : {P : Type 0} → ℕ → ℕ → List ℕ → List (Vi
 AreNewPasses procs objects callers views =
     EachPlace (λ c home. HasSeat views (new_pass procs objects c home)) callers
 
--- the word of each local entry is 0
-abbrev pub AreBlank : ℕ → ℕ → List ℕ → Type 0
-AreBlank procs objects words =
-    (o p : ℕ) → o < objects → p < procs → slice_index words (local_word p o) ≡ 0
+-- the words of a processor are 0
+pub record IsBlank (words : List ℕ) (p : ℕ) : Type 0 where
+  pub generation : slice_index words (generation_word p) ≡ 0
+  pub even : slice_index words (exits_word p 0) ≡ 0
+  pub odd : slice_index words (exits_word p 1) ≡ 0
+
+-- so are those of each processor, and the word of each local entry
+pub record AreBlank (procs objects : ℕ) (words : List ℕ) : Type 0 where
+  pub processors : (p : ℕ) → p < procs → IsBlank words p
+  pub entries : (o p : ℕ) → o < objects → p < procs → slice_index words (local_word p o) ≡ 0
+
+-- no grace has flipped the processor, and nobody is on it; how many were, no pass tells
+pub record IsVacant (k : GenProc) : Type 0 where
+  pub generation : k.generation ≡ 0
+  pub left : k.entered ≡ k.exits_even
+
+-- a processor as its words tell of it
+abbrev pub proc_in_words : GenProc → GenProc
+proc_in_words k = record k {
+  entered = k.entered % 2 ^ 32;
+  exits_even = k.exits_even % 2 ^ 64;
+  exits_odd = k.exits_odd % 2 ^ 64;
+}
+
+abbrev pub turns_in_words : Generations → Generations
+turns_in_words g = record g { procs = map proc_in_words g.procs; callers = map in_words g.callers }
+
+-- and the state, of which all else is told whole
+abbrev pub state_in_words : {L : Type 0} → Joined L → Joined L
+state_in_words s = record s { phases = record s.phases { turns = turns_in_words s.phases.turns } }
 
 -- an object is as it was made, but that entries may lead to its row already
 pub record IsAsMade (made k : Object) : Type 0 where
@@ -51,9 +80,13 @@ pub record IsUnused (x : Cell) : Type 0 where
   pub home : x.home ≡ true
   pub history : x.history ≡ []
 
--- A state is like another but for entries that lead to a row, and for cells at places past the processors.
+-- A state is like another but for how many have been on its processors, for entries that lead to a row, and for cells at
+-- places past the processors.
 pub record IsLike {L : Type 0} (procs : ℕ) (new s : Joined L) : Type 0 where
-  pub turns : s.phases.turns ≡ new.phases.turns
+  pub role : s.phases.turns.role ≡ new.phases.turns.role
+  pub turning : map in_words s.phases.turns.callers ≡ new.phases.turns.callers
+  pub many_procs : length s.phases.turns.procs ≡ length new.phases.turns.procs
+  pub vacant : EachPlace (λ p k. IsVacant k) s.phases.turns.procs
   pub visitors : s.phases.callers ≡ new.phases.callers
   pub many : many_objects s ≡ many_objects new
   pub objects : (o : ℕ) → o < many_objects s → IsAsMade (object new o) (object s o)

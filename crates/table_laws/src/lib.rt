@@ -12,7 +12,7 @@ pub use hand_overs::{
     taking_in_leaves_the_state,
 };
 pub use kept::{what_is_kept_follows_the_draws, what_is_kept_is_the_end, what_was_drawn_rises};
-pub use numbers::{numbers_are_read, numbers_fit};
+pub use numbers::{entering_leaves_the_generation, numbers_are_read, numbers_fit};
 pub use opening::{
     a_blank_table_shows_just_the_new_state, a_new_table_shows_the_new_state,
     an_opened_table_has_new_passes,

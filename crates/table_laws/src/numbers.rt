@@ -1,10 +1,12 @@
 //! No count of the table passes its field.
+ghost use Rattle.std.specs.Prelude.{ℕ};
 ghost use Rattle.atomic_table.specs.Table.{State};
 ghost use Rattle.k42_board.specs.Cells.{Slot};
 ghost use Rattle.k42_board.specs.Rule.{Rule};
 ghost use Rattle.k42_board.specs.Stepping.{layouts_in};
+ghost use Rattle.k42_board.specs.declared.view.PassView.{PassView};
 ghost use Rattle.k42_board.specs.declared.view.View.{View};
-ghost use Rattle.table_laws.specs.Fields.{NumbersAreRead};
+ghost use Rattle.table_laws.specs.Fields.{CountsEntry, NumbersAreRead, entering};
 ghost use Rattle.table_laws.specs.Numbers.{NumbersFit};
 
 use k42_kinds::Layout;
@@ -24,6 +26,14 @@ pub fn numbers_are_read<L: Layout>(sys: &Sys<L>)
     ensures { (table : State (Slot L.Part) (View L.Part))
         (rule : Rule (layouts_in L.Layout sys.now) sys.now.layouts table)
         → NumbersAreRead table.words rule.state }
+{
+    let _ = sys.procs();
+}
+
+/// An enter leaves the generation in its processor's word, whatever count of entries stands beside it.
+pub fn entering_leaves_the_generation<L: Layout>(sys: &Sys<L>)
+    ensures { (pass : PassView L.Part) (word : ℕ)
+        → CountsEntry (entering (layouts_in L.Layout sys.now) pass) word }
 {
     let _ = sys.procs();
 }

@@ -8,7 +8,7 @@ ghost use Rattle.k42_board.specs.Views.{first_view};
 ghost use Rattle.k42_board.specs.declared.view.View.{View};
 ghost use Rattle.k42_joined.specs.Fresh.{fresh};
 ghost use Rattle.k42_limits.specs.declared.TheConstants.{PROCESSORS};
-ghost use Rattle.table_laws.specs.Opening.{AreBlank, AreNewPasses, IsNew};
+ghost use Rattle.table_laws.specs.Opening.{AreBlank, AreNewPasses, IsNew, state_in_words};
 
 use k42_kinds::Layout;
 use k42_rule::Sys;
@@ -36,7 +36,8 @@ pub fn a_new_table_shows_the_new_state<L: Layout>(sys: &Sys<L>)
     let _ = sys.procs();
 }
 
-/// And where no entry leads anywhere yet, and each place has a processor, it is just that state.
+/// And where no entry leads anywhere yet, the words of processors are 0, and each place has one, then words and passes
+/// tell of just that state.
 pub fn a_blank_table_shows_just_the_new_state<L: Layout>(sys: &Sys<L>)
     ensures { (table : State (Slot L.Part) (View L.Part))
         (ruled : Ruled
@@ -45,7 +46,7 @@ pub fn a_blank_table_shows_just_the_new_state<L: Layout>(sys: &Sys<L>)
         → AreNewPasses sys.now.procs (length sys.now.layouts) sys.now.callers table.views
         → AreBlank sys.now.procs (length sys.now.layouts) table.words
         → sys.now.procs ≡ PROCESSORS
-        → ruled.rule.state
+        → state_in_words ruled.rule.state
         ≡ fresh (layouts_in L.Layout sys.now) sys.now.layouts sys.now.callers }
 {
     let _ = sys.procs();

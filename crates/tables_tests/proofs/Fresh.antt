@@ -10,7 +10,6 @@ use Rattle.phase_core.specs.declared.caller.Place.{Place}
 use Rattle.phase_core.specs.declared.caller.Place.TheVariants.{Out, Missed, Direct, AtMediator, Tracked, Blocked}
 use Rattle.turn_core.specs.Names.{names}
 use Rattle.k42_joined.specs.Swapping.{holds_none}
-use Rattle.k42_board.specs.Generations.{MOST}
 use Rattle.k42_board.specs.Log.{took}
 use Rattle.k42_board.specs.Seen.{SysSeen, PassSeen}
 use Rattle.k42_board.specs.Starting.{IsStarted}
@@ -33,7 +32,6 @@ all_fresh {L} {P} layouts procs callers sys passes started one three = record {
         some = omega (arith, many);
         free = ap (λ (v : PassView P). is_free v.turn) new;
         no_swap = ap (λ (v : PassView P). is_idle v.visitor.swap) new;
-        few = subst (λ (v : PassView P). v.activities < MOST) (sym new) (omega arith);
         holds = ap (λ (v : PassView P). holds_none v.taker.held) new;
       };
 }

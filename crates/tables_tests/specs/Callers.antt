@@ -4,7 +4,6 @@ use Rattle.k42_places.specs.Places.{EachPlace}
 use Rattle.gen_core.specs.Events.{is_free}
 use Rattle.phase_core.specs.Stages.{is_idle}
 use Rattle.k42_joined.specs.Swapping.{holds_none}
-use Rattle.k42_board.specs.Generations.{MOST}
 use Rattle.k42_board.specs.Seen.{SysSeen, PassSeen, IsPassOf}
 
 -- it has nothing under way
@@ -13,7 +12,6 @@ pub record IsFresh {L P : Type 0} (sys : SysSeen L) (pass : PassSeen P) : Type 0
   pub some : 0 < length sys.layouts
   pub free : is_free pass.view.turn ≡ true
   pub no_swap : is_idle pass.view.visitor.swap ≡ true
-  pub few : pass.view.activities < MOST
   pub holds : holds_none pass.view.taker.held ≡ true
 
 -- it is in an activity, and holds no cell

@@ -34,7 +34,6 @@ module _ (system : SystemSeen) where
       caller = refl;
       proc = refl;
       entries = fresh.entries;
-      activities = fresh.activities;
       graces = fresh.graces;
     };
     ready = record { asked = ready.asked; few = ready.few; matches = ready.matches };

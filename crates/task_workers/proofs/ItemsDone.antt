@@ -123,7 +123,7 @@ module _ (system : SystemSeen) (task : WorkerTask) (is_task : IsTask system task
   begin_followed next =
       let between = between_at system task task.at going is_task.way (λ line other. absurd (let no : Begin ≡ Line line = same_Some Begin (Line line) (sym next ∙ other) in cc)) in
       item_followed system task is_task.ready between Begin next true task.pass (record { here = is_task.here; number = refl; proc = refl }) between.at_item.between
-      (record { number = refl; proc = refl; activities = refl; graces = refl }) (refl, refl)
+      (record { number = refl; proc = refl; graces = refl }) (refl, refl)
 
   -- or ended, with its activity
   pub end_followed : slice_get task.items.now task.done ≡ Some End → (new : SystemPass) → IsPassHere system new → IsAtRest new.view

@@ -19,7 +19,7 @@ use Rattle.k42_workers.specs.Passes.{HasFew, IsReady, MayAnswer, MayAsk, MayAskL
 use Rattle.k42_workers.specs.UnderWay.{IsAt, IsUnderWay}
 use Rattle.k42_workers.proofs.Answered.{line_at, line_in, many_under_way, may_follow}
 use Rattle.task_workers.specs.Tasks.{IsBetweenItems, IsInLine, IsOnWay, IsWithin, has_ended, lines_behind, standing_in, without_own, worker_of}
-use Rattle.task_workers.specs.Tries.{IsOfLine, MayTry, activities_due, activities_with, begun_at, graces_with, started}
+use Rattle.task_workers.specs.Tries.{IsOfLine, MayTry, begun_at, graces_with, started}
 use Rattle.task_workers.specs.declared.tasks.TaskAt.{TaskAt}
 use Rattle.task_workers.specs.declared.tasks.TaskAt.TheVariants.{Between, Calling, Swapping, Over}
 use Rattle.task_workers.specs.declared.tasks.WorkerTask.{WorkerTask}
@@ -28,10 +28,6 @@ use Rattle.task_workers.specs.declared.tasks.WorkerTask.{WorkerTask}
 pub without_none : (inside : Bool) (standing : Standing) → (inside ≡ false → standing.active ≡ None) → standing ≡ without_own inside standing
 without_none true standing none = refl
 without_none false standing none = λ j. record standing { active = none refl j }
-
-due_few : (active : Option ℕ) → activities_due active ≤ 1
-due_few None = omega arith
-due_few (Some generation) = omega arith
 
 -- a swap is made in no block
 pub outside_swap : (to : To) (inside : Bool) → (inside ≡ true → IsCall (Swap to)) → inside ≡ false
@@ -64,12 +60,6 @@ line_under_way system task (Calling call) under way = way
 line_under_way system task (Swapping swap) under way = way
 line_under_way system task Over under way = cc
 
-with_activities : (at : TaskAt) (v : PassView SystemPart) → v.activities ≤ activities_with at v
-with_activities Between v = omega arith
-with_activities (Calling call) v = omega arith
-with_activities (Swapping swap) v = omega arith
-with_activities Over v = omega arith
-
 with_graces : (at : TaskAt) (v : PassView SystemPart) → v.graces ≤ graces_with at v
 with_graces Between v = omega arith
 with_graces (Calling call) v = omega arith
@@ -93,30 +83,25 @@ module _ (system : SystemSeen) (task : WorkerTask) (ready : IsReady system.plan 
     may : MayAnswer system.plan line task.pass.view
     may = may_follow system task.pass.view.number (worker_of task) task.done task.inside task.pass at (Line line) next ready
 
-    within : (activities graces : ℕ) → activities ≤ task.pass.view.activities + 1 → graces ≤ task.pass.view.graces + 1 → IsWithin task activities graces
-    within activities graces one other =
-        let more = lines_next task line next in
-        record {
-          activities_left = let has = at.activities in omega (arith, has, more, one);
-          graces_left = let has = at.graces in omega (arith, has, more, other);
-        }
+    within : (graces : ℕ) → graces ≤ task.pass.view.graces + 1 → IsWithin task graces
+    within graces one = let more = lines_next task line next in let has = at.graces in omega (arith, has, more, one)
 
-    in_line : (at : TaskAt) → IsOfLine line at → MayTry system at task.pass → activities_with at task.pass.view ≤ task.pass.view.activities + 1
-        → graces_with at task.pass.view ≤ task.pass.view.graces + 1 → IsInLine system at task
-    in_line place of may one other = record {
+    in_line : (at : TaskAt) → IsOfLine line at → MayTry system at task.pass → graces_with at task.pass.view ≤ task.pass.view.graces + 1
+        → IsInLine system at task
+    in_line place of may one = record {
       line = line;
       next = next;
       of = of;
       may = may;
       way = subst (IsUnderWay (worker_of task) task.done task.inside) (without_none task.inside (standing_of task.pass.view) (λ out. (at.way.outside out).1)) at.way;
       latest = λ op is. at.way.latest;
-      within = within (activities_with place task.pass.view) (graces_with place task.pass.view) one other;
+      within = within (graces_with place task.pass.view) one;
     }
 
     starts : (act : Act) → line.act ≡ act → IsOnWay system (started line.object act) task
     starts (Call op) is =
         in_line (started line.object (Call op)) (refl, is) (refl, subst (MayAsk system.plan line.object) is asked, at.between)
-        (let few = due_few task.pass.view.turn.active in omega (arith, few)) (omega arith)
+        (omega arith)
     starts (Swap to) is =
         in_line (started line.object (Swap to)) (refl, is) (
           refl,
@@ -125,12 +110,10 @@ module _ (system : SystemSeen) (task : WorkerTask) (ready : IsReady system.plan 
             record {
               rests = subst (λ act. RestsFor act task.pass.view) is may.rests;
               there = subst (MayAsk system.plan line.object) is asked;
-              few_entries = may.few.entries;
-              few_graces = may.few.graces;
             },
           ),
         )
-        (omega arith) (omega arith)
+        (omega arith)
 
   -- a line that begins is under way
   pub begun_way : (at : TaskAt) → has_ended at ≡ false → IsOnWay system at task → IsOnWay system (begun_at line at) task
@@ -145,8 +128,7 @@ module _ (system : SystemSeen) (task : WorkerTask) (ready : IsReady system.plan 
       let more = lines_next task line next in let few = ready.few in
       record {
         entries = omega (arith, many, more, few);
-        activities = let left = in_line.within.activities_left in let one = with_activities at task.pass.view in omega (arith, left, one, few);
-        graces = let left = in_line.within.graces_left in let one = with_graces at task.pass.view in omega (arith, left, one, few);
+        graces = let left = in_line.within in let one = with_graces at task.pass.view in omega (arith, left, one, few);
       }
 
   -- and may be tried

@@ -17,7 +17,7 @@ use Rattle.k42_workers.specs.Passes.{standing_of}
 use Rattle.k42_workers.specs.UnderWay.{IsAt, IsUnderWay}
 use Rattle.k42_workers.proofs.Working.{under_way_on}
 use Rattle.task_workers.specs.Tasks.{IsInLine, IsOnWay, IsWithin, has_ended, lines_behind, standing_in, without_own, worker_of, worker_on}
-use Rattle.task_workers.specs.Tries.{IsDone, IsHeldUp, IsOfLine, IsSame, StaysUnderWay, activities_with, graces_with}
+use Rattle.task_workers.specs.Tries.{IsDone, IsHeldUp, IsOfLine, IsSame, StaysUnderWay, graces_with}
 use Rattle.task_workers.specs.declared.tasks.TaskAt.{TaskAt}
 use Rattle.task_workers.specs.declared.tasks.TaskAt.TheVariants.{Between, Calling, Swapping, Over}
 use Rattle.task_workers.specs.declared.tasks.TaskCause.{TaskCause}
@@ -120,12 +120,8 @@ module _ (system : SystemSeen) (task : WorkerTask) (line : CallLine) (next : sli
       between = done.between;
       caller = same.number;
       proc = same.proc;
-      activities =
-          let left = on.within.activities_left in let few = done.activities in
-          rw (← add-one task.done)
-          (fewer new.view.activities (activities_with at task.pass.view) (lines_behind (task.done + 1) task.items.now) (lines_behind 0 task.items.now) few left);
       graces =
-          let left = on.within.graces_left in let few = done.graces in
+          let left = on.within in let few = done.graces in
           rw (← add-one task.done)
           (fewer new.view.graces (graces_with at task.pass.view) (lines_behind (task.done + 1) task.items.now) (lines_behind 0 task.items.now) few left);
       way = under_way_on (worker_of task) task.done task.inside task.inside (Line line) (standing_in task) (standing_of new.view) next on.way (refl, answered done);
@@ -136,11 +132,8 @@ module _ (system : SystemSeen) (task : WorkerTask) (line : CallLine) (next : sli
 
     -- and one that was held up is under way still
     module _ (cause : TaskCause) (after : TaskAt) (held : IsHeldUp system line cause at after task.pass new) where
-      within_after : IsWithin (record task { pass = new; at = after }) (activities_with after new.view) (graces_with after new.view)
-      within_after = record {
-        activities_left = let left = on.within.activities_left in let few = held.activities in omega (arith, left, few);
-        graces_left = let left = on.within.graces_left in let few = held.graces in omega (arith, left, few);
-      }
+      within_after : IsWithin (record task { pass = new; at = after }) (graces_with after new.view)
+      within_after = let left = on.within in let few = held.graces in omega (arith, left, few)
 
       worker_same : worker_of task ≡ worker_on new task.items.now
       worker_same = ap (λ (proc : ℕ). record (worker_of task) { proc = proc }) (sym same.proc)

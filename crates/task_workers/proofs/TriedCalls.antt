@@ -1,5 +1,5 @@
 -- A call that is tried once: what it leaves when it is done, held up, or without memory.
-use Rattle.std.proofs.Common.{◌≡◌, ℕ, ◌+◌, ◌≤◌, Bool, true, false, Option, Some, None, List, [], ◌∷◌, ◌++◌, is_some, length, refl, sym, ap, ◌∙◌, subst, arith}
+use Rattle.std.proofs.Common.{◌≡◌, ℕ, ◌+◌, Bool, true, false, Option, Some, None, List, [], ◌∷◌, ◌++◌, is_some, length, refl, sym, ap, ◌∙◌, subst, arith}
 use Rattle.std.specs.Prelude.{if◌then◌else◌}
 use Rattle.k42_kinds.specs.declared.entry.Act.{Act}
 use Rattle.k42_kinds.specs.declared.entry.Act.TheVariants.{Call}
@@ -19,18 +19,12 @@ use Rattle.script_text.specs.Lawful.{IsNotGivenUp, deed_of}
 use Rattle.script_text.specs.declared.script.CallLine.{CallLine}
 use Rattle.k42_workers.specs.Lines.{Standing, IsOpened, IsTimed, left_open}
 use Rattle.k42_workers.specs.Passes.{IsBetween, GoesOnAs, HasOnlyEntered, StaysAs, standing_of}
-use Rattle.task_workers.specs.Tries.{IsDone, IsHeldUp, IsSame, activities_due}
+use Rattle.task_workers.specs.Tries.{IsDone, IsHeldUp, IsSame}
 use Rattle.task_workers.specs.declared.tasks.TaskAt.TheVariants.{Calling}
 use Rattle.task_workers.specs.declared.tasks.TaskCause.TheVariants.{Call as HeldCall}
 
 same_active : (old new : PassView SystemPart) → KeepsElse old new → new.turn.active ≡ old.turn.active
 same_active old new keeps = ap (λ (own : Own). own.turn.active) keeps
-
--- the activities of a call, once it has one
-opened_few : (active : Option ℕ) (old mid : PassView SystemPart) → (is_some active ≡ true → mid.activities ≡ old.activities) → mid.activities ≤ old.activities + 1
-    → mid.activities ≤ old.activities + activities_due active
-opened_few None old mid stays on = on
-opened_few (Some generation) old mid stays on = let same = stays refl in omega (arith, same)
 
 -- the step into an activity meets nothing
 meets_none : (old mid : SystemPass) (active : Bool) → is_some old.view.turn.active ≡ active → (is_some old.view.turn.active ≡ true → mid ≡ old)
@@ -74,9 +68,6 @@ module _ (system : SystemSeen) (line : CallLine) (inside : Bool) (call : CallSee
     (of : (line.object ≡ call.object) × (line.act ≡ Call call.op))
     (opened : IsOpened (standing_of old.view) (standing_of mid.view)) (on : GoesOnAs old.view mid.view) (level : mid.view.graces ≡ old.view.graces)
     (stays : is_some old.view.turn.active ≡ true → mid ≡ old) where
-  few : mid.view.activities ≤ old.view.activities + activities_due old.view.turn.active
-  few = opened_few old.view.turn.active old.view mid.view (λ some. ap (λ (pass : SystemPass). pass.view.activities) (stays some)) on.activities
-
   pub call_done : (reply : Reply) (made new : SystemPass) → HasCalled call.object call.op reply mid.view made.view → IsBetween new.view
       → standing_of new.view ≡ record (standing_of made.view) { active = if inside then made.view.turn.active else None } → StaysAs made.view new.view
       → IsDone line inside (Calling call) old new
@@ -98,7 +89,6 @@ module _ (system : SystemSeen) (line : CallLine) (inside : Bool) (call : CallSee
           kept = subst IsNotGivenUp (sym (ap (λ (e : Entry). e.answer) whole)) tt;
           timed = subst (λ (act : Act). IsTimed act inside (standing_of old.view) entry.generation new.view.turn.active) (sym of.1) timed;
         };
-        activities = let steady = ap (λ (own : Own). own.activities) called.keeps in let last = same.activities in omega (arith, few, steady, last);
         graces = let steady = ap (λ (own : Own). own.graces) called.keeps in let last = same.graces in omega (arith, level, steady, last);
       }
 
@@ -112,6 +102,5 @@ module _ (system : SystemSeen) (line : CallLine) (inside : Bool) (call : CallSee
         may = (refl, asked, record { grace = works.grace; swap = works.swap });
         held = held_since cause call.object old.view mid.view new.view on.number on.proc (meets_none old mid (is_some old.view.turn.active) refl stays entered) found;
         stays = record { generation = opened.generation; active = active; goes_on = opened.goes_on; entries = none.same ∙ opened.entries };
-        activities = let due = ap activities_due active in let steady = ap (λ (own : Own). own.activities) none.keeps in omega (arith, few, steady, due);
         graces = let steady = ap (λ (own : Own). own.graces) none.keeps in omega (arith, level, steady);
       })

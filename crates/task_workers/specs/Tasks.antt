@@ -11,7 +11,7 @@ use Rattle.k42_runtime.specs.Systems.{SystemSeen, SystemPass, IsPassHere, IsAtRe
 use Rattle.k42_workers.specs.Lines.{Standing, IsLatest}
 use Rattle.k42_workers.specs.Passes.{IsReady, IsFresh, standing_of}
 use Rattle.k42_workers.specs.UnderWay.{IsUnderWay, IsAt}
-use Rattle.task_workers.specs.Tries.{IsOfLine, MayTry, activities_with, graces_with}
+use Rattle.task_workers.specs.Tries.{IsOfLine, MayTry, graces_with}
 use Rattle.task_workers.specs.declared.tasks.TaskAt.{TaskAt}
 use Rattle.task_workers.specs.declared.tasks.TaskAt.TheVariants as tasks
 use Rattle.task_workers.specs.declared.tasks.WorkerTask.{WorkerTask}
@@ -35,10 +35,9 @@ without_own inside standing = record standing { active = if inside then standing
 abbrev pub standing_in : WorkerTask → Standing
 standing_in task = without_own task.inside (standing_of task.pass.view)
 
--- With so many activities and graces for the lines up to this one, there is one of each left for every line behind it.
-pub record IsWithin (task : WorkerTask) (activities graces : ℕ) : Type 0 where
-  pub activities_left : activities + lines_behind (task.done + 1) task.items.now ≤ lines_behind 0 task.items.now
-  pub graces_left : graces + lines_behind (task.done + 1) task.items.now ≤ lines_behind 0 task.items.now
+-- With so many graces for the lines up to this one, there is one left for every line behind it.
+abbrev pub IsWithin : WorkerTask → ℕ → Type 0
+IsWithin task graces = graces + lines_behind (task.done + 1) task.items.now ≤ lines_behind 0 task.items.now
 
 -- Its next line is under way: the call or the swap, which may be tried once more. A call that has begun an activity is in
 -- that one, of which no entry is later.
@@ -51,7 +50,7 @@ pub record IsInLine (system : SystemSeen) (at : TaskAt) (task : WorkerTask) : Ty
   pub latest :
       (op : Op) → line.act ≡ Call op
       → (generation : ℕ) → task.pass.view.turn.active ≡ Some generation → IsLatest generation task.pass.view.taker.mine
-  pub within : IsWithin task (activities_with at task.pass.view) (graces_with at task.pass.view)
+  pub within : IsWithin task (graces_with at task.pass.view)
 
 -- So many of its items are behind its pass, and none of them is under way.
 pub record IsBetweenItems (system : SystemSeen) (task : WorkerTask) : Type 0 where

@@ -25,16 +25,7 @@ abbrev pub begun_at : CallLine → TaskAt → TaskAt
 begun_at line tasks.Between = started line.object line.act
 begun_at line at = at
 
--- how many activities a call is still to begin, which has this one or none
-abbrev pub activities_due : Option ℕ → ℕ
-activities_due None = 1
-activities_due (Some generation) = 0
-
--- how many activities and graces the pass has begun once the line is done
-abbrev pub activities_with : TaskAt → PassView SystemPart → ℕ
-activities_with (tasks.Calling call) v = v.activities + activities_due v.turn.active
-activities_with at v = v.activities
-
+-- how many graces the pass has begun once the line is done
 abbrev pub graces_with : TaskAt → PassView SystemPart → ℕ
 graces_with (tasks.Swapping swap) v = v.graces + graces_due swap.stage swap.holder
 graces_with at v = v.graces
@@ -81,7 +72,6 @@ GivesUp system at old new = ⊥
 pub record IsDone (line : CallLine) (inside : Bool) (at : TaskAt) (old new : SystemPass) : Type 0 where
   pub between : IsBetween new.view
   pub answered : AnswersLine line old.view.turn.proc inside (standing_of old.view) (standing_of new.view)
-  pub activities : new.view.activities ≤ activities_with at old.view
   pub graces : new.view.graces ≤ graces_with at old.view
 
 -- it was held up, and may be tried again
@@ -91,7 +81,6 @@ pub record IsHeldUp (system : SystemSeen) (line : CallLine) (cause : TaskCause) 
   pub may : MayTry system at new
   pub held : HoldsUpLine system cause at old new
   pub stays : StaysUnderWay at old new
-  pub activities : activities_with at new.view ≤ activities_with old_at old.view
   pub graces : graces_with at new.view ≤ graces_with old_at old.view
 
 -- there was no memory: its pass is idle

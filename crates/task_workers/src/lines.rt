@@ -54,6 +54,7 @@ fn try_call(
             leave_open(system, pass);
             Err(Memory)
         }
+        CallStep::Worn => unreachable!(),
     }
 }
 
@@ -65,6 +66,7 @@ fn try_swap(
     swap: &mut Swap,
 ) -> Result<Option<TaskCause>, Memory>
     requires here { IsPassHere system.now pass.old }
+    requires few { HasFew pass.old.view }
     requires stage { IsAtStage swap.old.stage (length system.now.plan.objects) swap.old pass.old }
     requires going { is_over swap.old.stage ≡ false }
     ensures same { IsSame system.now pass.old pass.new }
@@ -75,6 +77,7 @@ fn try_swap(
         Step::Again(cause) => Ok(Some(TaskCause::Swap(cause))),
         Step::Ended(_) => Ok(None),
         Step::Memory => Err(Memory),
+        Step::Worn => unreachable!(),
     }
 }
 

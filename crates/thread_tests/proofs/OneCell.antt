@@ -6,6 +6,7 @@ use Rattle.std.specs.Option.{unwrap_or}
 use Rattle.std.proofs.lemmas.Bool.{eq-eqb}
 use Rattle.std.proofs.lemmas.List.{length-append}
 use Rattle.std.proofs.lemmas.Option.{same_Some}
+use Rattle.k42_limits.specs.declared.TheConstants.{PASS_ENTRIES}
 use Rattle.k42_places.specs.Places.{EachPlace}
 use Rattle.k42_kinds.specs.LayoutLaws.{Agree, IsReached}
 use Rattle.k42_kinds.specs.Rows.{cells_of, IsWithin}
@@ -24,7 +25,6 @@ use Rattle.k42_joined.specs.Numbers.{cell_of}
 use Rattle.k42_joined.specs.Rows.{cells_reached}
 use Rattle.k42_board.specs.Cells.{cells_noted}
 use Rattle.k42_board.specs.Drawing.{AreTold, history_noted, closed_noted, part_noted, part_due, IsHeld, IsTold, MayDrawCall, IsStepped, drawn_at}
-use Rattle.k42_board.specs.Generations.{MOST}
 use Rattle.k42_board.specs.Log.{step_at, took, with_log}
 use Rattle.k42_board.specs.Parts.{IsPart}
 use Rattle.k42_board.specs.Phases.{is_served}
@@ -162,7 +162,7 @@ module _ {S L P : Type 0} (F : Layouts S L P) (laws : AreLaws F) (declared : Lis
         closed = (taken_agrees content v).closed ∙ ap (λ (x : PassView P). closed_noted x.notes content.number) (sym e);
       }
 
-      pub may_draw : length w.taker.mine < MOST → MayDrawCall F declared (stepped ∷ []) op reply w
+      pub may_draw : length w.taker.mine < PASS_ENTRIES → MayDrawCall F declared (stepped ∷ []) op reply w
       may_draw few = record {
         object = o;
         row = i;

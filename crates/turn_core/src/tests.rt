@@ -13,7 +13,7 @@ use std::test::Fail;
 mod listed;
 
 /// The stamp, caller and index of an entry; what it tells besides is nothing to this machine.
-type Drawn = (u64, u32, u32);
+type Drawn = (u64, u32, u64);
 
 /// An event, with its cells as a constant list.
 enum Asked {

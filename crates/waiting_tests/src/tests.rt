@@ -87,7 +87,7 @@ fn a_call_waits_for_the_cell_that_another_holds(rt: HostRuntime) -> Result<(), F
         ..
     } = crew;
     let cell = hold(&rt, alloc, &system, &mut one)?;
-    come_in(&rt, &system, &mut zero);
+    come_in(&system, &mut zero);
     add_at_a_held_cell(&rt, alloc, &system, &mut zero, &mut one, cell)?;
     see_added(&rt, alloc, &system, &mut one)?;
     Ok(())
@@ -108,7 +108,7 @@ fn a_call_waits_for_the_swap_that_keeps_its_object_shut(rt: HostRuntime) -> Resu
     be_waited_for(
         &rt, alloc, &system, &mut zero, &mut one, &mut two, &mut swap,
     )?;
-    come_in(&rt, &system, &mut zero);
+    come_in(&system, &mut zero);
     get_at_a_shut_object(
         &rt, alloc, &system, &mut zero, &mut one, &mut two, &mut swap,
     )?;

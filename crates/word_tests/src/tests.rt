@@ -31,8 +31,8 @@ const TURNED: u64 = 0x0000_0004_0900_0000;
 const DIRECT: u64 = 0x0000_0003_0000_0511;
 /// An empty entry of incarnation 1.
 const EMPTY: u64 = 0x0000_0001_0000_0000;
-/// Generation 2, and seven entries.
-const ENTERED: u64 = 0x0000_0002_0000_0007;
+/// Seven entries, and generation 2.
+const ENTERED: u64 = 0x0000_0007_0000_0002;
 
 fn visit_seven_times(rt: &impl Abort, sys: &Sys<AnyLayout>, pass: &mut Walk)
     requires free { HoldsNoCell sys.now pass.old }

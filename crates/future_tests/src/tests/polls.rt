@@ -9,7 +9,6 @@ use futures::Future;
 use futures::executor::block_on;
 use futures::future::join;
 use futures::task::{Doorbell, Poll, Queue};
-use k42_crews::may_swap;
 use k42_kinds::LayoutName;
 use k42_runtime::{Cause, Pass, Swap, System, To};
 use std::alloc::{AllocGlobal, Global};
@@ -32,7 +31,6 @@ pub(super) fn swap_with<'a>(
     ensures going { IsSomeAnd result.pass (IsGoing system.now result.swap) }
 {
     assert!(rt; object < system.objects());
-    assert!(rt; may_swap(&pass));
     SwapFuture::new(alloc, system, pass, object, To::Layout(LayoutName::Spread))
 }
 
@@ -99,6 +97,5 @@ pub(super) fn swapped<R: Abort + Wait + RandomSource + AllocGlobal>(
     ensures free { IfOk result (λ end. IsFree system.now end.pass) }
 {
     assert!(rt; object < system.objects());
-    assert!(rt; may_swap(&pass));
     block_on(rt, SwapFuture::new(alloc, system, pass, object, to))
 }

@@ -4,17 +4,15 @@ ghost use Rattle.k42_crews.specs.Ready.{IsFree, IsIn};
 ghost use Rattle.k42_runtime.specs.Swaps.{is_over};
 ghost use Rattle.swap_future.specs.Polling.{IsGoing};
 
-use k42_crews::may_call;
 use k42_runtime::{Pass, Step, Swap, Swapped, System};
 use std::alloc::Global;
 use std::process::Abort;
 
 /// Begins an activity.
-pub(super) fn come_in(rt: &impl Abort, system: &System, pass: &mut Pass)
+pub(super) fn come_in(system: &System, pass: &mut Pass)
     requires free { IsFree system.now pass.old }
     ensures inside { IsIn system.now pass.new }
 {
-    assert!(rt; may_call(pass));
     system.enter(pass);
 }
 

@@ -8,8 +8,9 @@ fn a_number_has_no_sign_and_no_leading_zero(rt: HostRuntime) {
     let cases = [
         ("0", Some(0)),
         ("7", Some(7)),
-        ("1048575", Some(1_048_575)),
-        ("1048576", None),
+        ("1048576", Some(1_048_576)),
+        ("4294967295", Some(4_294_967_295)),
+        ("4294967296", None),
         ("04", None),
         ("00", None),
         ("+4", None),

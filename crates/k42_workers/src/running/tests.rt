@@ -301,7 +301,7 @@ impl Gate for Holding {
 }
 
 /// What the second worker was answered by its line of this place.
-fn got(history: &History, place: u32) -> Option<Answer> {
+fn got(history: &History, place: u64) -> Option<Answer> {
     for entry in history.entries() {
         if entry.caller == 1 && entry.index == place {
             return Some(entry.answer);

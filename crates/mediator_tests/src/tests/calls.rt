@@ -27,7 +27,7 @@ pub(super) fn find_busy<L: Layout>(rt: &impl Abort, sys: &Sys<L>, pass: &mut Pas
 fn may_enter<L: Layout>(pass: &Pass<L>) -> bool
     ensures { result ≡ true → MayEnter pass.now.view }
 {
-    pass.is_idle() && pass.activities() < 1_048_576
+    pass.is_idle()
 }
 
 /// Begins an activity.

@@ -11,6 +11,7 @@ use crate::tests::crews::{finish, last, start};
 use crate::tests::phases::swap;
 use co_any::AnyLayout;
 use k42_kinds::{Act, Answer, Entry, KindName, Layout, LayoutName, To};
+use k42_limits::PASS_ENTRIES;
 use k42_mediator::{Begun, Marked, begin, mark};
 use k42_memory::Memory;
 use k42_rule::{Pass, Sys};
@@ -77,7 +78,7 @@ fn find_dead(
     assert!(rt; pass.is_idle() && 0 < sys.objects());
     assert!(rt; begin(sys, pass, 0) == Begun::Gone);
     pass.reserve()?;
-    assert!(rt; pass.drawn() < 1_048_576);
+    assert!(rt; pass.drawn() < PASS_ENTRIES);
     Ok(())
 }
 

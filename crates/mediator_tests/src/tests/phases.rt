@@ -9,6 +9,7 @@ ghost use Rattle.mediator_tests.specs.Ready.{HoldsNoCell};
 
 use gen_core::GraceAt;
 use k42_kinds::Layout;
+use k42_limits::{PASS_ENTRIES, PASS_GRACES};
 use k42_mediator::{
     Begun, Moving, abandon, begin, block, end, interpose, open_entries, transfer, try_move,
 };
@@ -43,7 +44,7 @@ fn may_wait<L: Layout>(pass: &Pass<L>) -> bool
     !pass.is_active()
         && pass.grace() == GraceAt::Idle
         && matches!(pass.swap(), SwapAt::Idle | SwapAt::Interposed(_))
-        && pass.graces() < 1_048_576
+        && pass.graces() < PASS_GRACES
 }
 
 /// Has a grace, which is to be quiet at once and to free no row.
@@ -131,7 +132,7 @@ pub(super) fn give_up<L: Layout>(
     ensures { OnOk result (HoldsNoCell sys.now pass.new) }
 {
     pass.reserve()?;
-    assert!(rt; pass.drawn() < 1_048_576);
+    assert!(rt; pass.drawn() < PASS_ENTRIES);
     abandon(sys, pass, to);
     Ok(())
 }
@@ -153,7 +154,7 @@ pub(super) fn hand_nothing_on<L: Layout>(
 {
     assert!(rt; pass.swap() == SwapAt::Moved(0));
     pass.reserve()?;
-    assert!(rt; pass.drawn() < 1_048_576);
+    assert!(rt; pass.drawn() < PASS_ENTRIES);
     assert!(rt; transfer(alloc, sys, pass, to).is_err());
     Ok(())
 }
@@ -175,7 +176,7 @@ pub(super) fn transfer_to<L: Layout>(
 {
     assert!(rt; pass.swap() == SwapAt::Moved(0));
     pass.reserve()?;
-    assert!(rt; pass.drawn() < 1_048_576);
+    assert!(rt; pass.drawn() < PASS_ENTRIES);
     transfer(alloc, sys, pass, to)
 }
 

@@ -105,7 +105,7 @@ fn go_on(
 }
 
 /// The entry of a swap by the second caller.
-fn swapped(stamp: u64, index: u32, cell: u32, answer: Answer) -> Entry {
+fn swapped(stamp: u64, index: u64, cell: u32, answer: Answer) -> Entry {
     Entry {
         stamp,
         caller: 1,
@@ -121,7 +121,7 @@ fn swapped(stamp: u64, index: u32, cell: u32, answer: Answer) -> Entry {
 }
 
 /// The entry of a call by the first caller, in the first row.
-fn called(stamp: u64, index: u32, op: Op, reply: Reply) -> Entry {
+fn called(stamp: u64, index: u64, op: Op, reply: Reply) -> Entry {
     Entry {
         stamp,
         caller: 0,

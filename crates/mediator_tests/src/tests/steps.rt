@@ -7,6 +7,7 @@ ghost use Rattle.k42_mediator.specs.Transfers.{IsOfKind};
 ghost use Rattle.mediator_tests.specs.Ready.{IsBusy, IsServing};
 
 use k42_kinds::{Act, Answer, Layout, Op, Reach, Reply};
+use k42_limits::PASS_ENTRIES;
 use k42_memory::Memory;
 use k42_rule::{
     Content, Inside, Pass, Sys, draw_call, layouts_are_lawful, lock, put, take, unlock,
@@ -62,7 +63,7 @@ pub(super) fn step_at<L: Layout>(
     let Reach::One(place) = layout.reach(op, pass.processor(), sys.procs()) else {
         return Ok(None);
     };
-    if place >= sys.procs() || pass.drawn() >= 1_048_576 {
+    if place >= sys.procs() || pass.drawn() >= PASS_ENTRIES {
         return Ok(None);
     }
     let number = (inside.object * 2 + inside.incarnation % 2) * 8 + place;

@@ -5,17 +5,7 @@ ghost use Rattle.record_text.specs.Tokens.{behind_spaces};
 
 use k42_limits::SPACE;
 use k42_memory::Memory;
-
-/// Adds the decimal digits of a number.
-pub fn put_digits(out: &mut Vec<u8>, number: u64) -> Result<(), Memory>
-    ensures { OnOk result (out.new.items ≡ out.old.items ++ decimal number) }
-{
-    if number >= 10 {
-        put_digits(out, number / 10)?;
-    }
-    out.push(b'0' + (number % 10) as u8)?;
-    Ok(())
-}
+use script_text::put_digits;
 
 /// Adds a token.
 pub fn put_token(out: &mut Vec<u8>, token: &[u8]) -> Result<(), Memory>

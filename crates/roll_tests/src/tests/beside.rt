@@ -31,7 +31,7 @@ fn add_to_all<R: Wait>(
     ensures { StaysFree system.now pass.old pass.new }
 {
     for number in 0..CALLS {
-        call_once(rt, alloc, system, pass, number % 4, Op::Add(1))?;
+        call_once(rt, alloc, system, pass, number % 4, Op::Add(1)).map_err(|_| Memory)?;
     }
     Ok(())
 }

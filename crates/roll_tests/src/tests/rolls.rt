@@ -3,7 +3,7 @@ ghost use Rattle.std.specs.Prelude.{◌≡◌, ◌<◌, true, length, IfOk, IsSo
 ghost use Rattle.k42_crews.specs.Ready.{AreFree};
 ghost use Rattle.k42_places.specs.Places.{EachPlace};
 ghost use Rattle.swap_future.specs.Rolling.{IsRolling, MayRoll, seen};
-ghost use Rattle.roll_tests.specs.Rolls.{HaveRoom, AreWithin};
+ghost use Rattle.roll_tests.specs.Rolls.{AreWithin};
 
 use futures::Future;
 use futures::executor::block_on;
@@ -16,24 +16,6 @@ use std::process::Abort;
 use std::random::RandomSource;
 use std::sync::Wait;
 use swap_future::{Roll, Rolled};
-
-/// A pass has at most so many entries, and at most so many graces.
-const MOST: usize = 1_048_576;
-
-fn have_room(passes: &[Pass], items: usize) -> bool
-    ensures { result ≡ true → HaveRoom items passes.now }
-{
-    let Some((pass, others)) = passes.split_first() else {
-        return true;
-    };
-    if items > MOST || pass.drawn() as usize > MOST - items {
-        return false;
-    }
-    if pass.graces() as usize > MOST - items {
-        return false;
-    }
-    have_room(others, items)
-}
 
 fn are_within(plan: &[(u32, To)], objects: u32) -> bool
     ensures { result ≡ true → AreWithin objects plan.now }
@@ -51,12 +33,9 @@ fn are_within(plan: &[(u32, To)], objects: u32) -> bool
 fn may_roll(system: &System, passes: &[Pass], plan: &[(u32, To)]) -> bool
     requires { AreFree system.now passes.now }
     ensures some { result ≡ true → 0 < length passes.now }
-    ensures passes { result ≡ true → EachPlace (λ i. MayRoll system.now (length plan.now)) passes.now }
+    ensures passes { result ≡ true → EachPlace (λ i. MayRoll system.now) passes.now }
     ensures objects { result ≡ true → EachPlace (λ i asked. asked.0 < length system.now.plan.objects) plan.now }
 {
-    if !have_room(passes, plan.len()) {
-        return false;
-    }
     if !are_within(plan, system.objects()) {
         return false;
     }

@@ -1,16 +1,13 @@
 //! An activity of a pass.
 ghost use Rattle.k42_crews.specs.Ready.{IsFree, IsIn};
 
-use k42_crews::may_call;
 use k42_runtime::{Pass, System};
-use std::process::Abort;
 
 /// Begins an activity.
-pub(super) fn come_in(rt: &impl Abort, system: &System, pass: &mut Pass)
+pub(super) fn come_in(system: &System, pass: &mut Pass)
     requires free { IsFree system.now pass.old }
     ensures inside { IsIn system.now pass.new }
 {
-    assert!(rt; may_call(pass));
     system.enter(pass);
 }
 

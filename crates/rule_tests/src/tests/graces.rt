@@ -5,6 +5,7 @@ ghost use Rattle.table_crews.specs.Ready.{HoldsNoCell};
 
 use gen_core::GraceAt;
 use k42_kinds::Layout;
+use k42_limits::PASS_GRACES;
 use k42_rule::{Pass, Sys, flip, free, generation_step, give_role, look, take_role};
 use phase_core::SwapAt;
 
@@ -13,7 +14,7 @@ pub(super) fn take<L: Layout>(sys: &Sys<L>, pass: &mut Pass<L>) -> bool
     requires free { HoldsNoCell sys.now pass.old }
     ensures free { HoldsNoCell sys.now pass.new }
 {
-    if pass.is_active() || pass.grace() != GraceAt::Idle || pass.graces() >= 1_048_576 {
+    if pass.is_active() || pass.grace() != GraceAt::Idle || pass.graces() >= PASS_GRACES {
         return false;
     }
     if !matches!(pass.swap(), SwapAt::Idle | SwapAt::Interposed(_)) {

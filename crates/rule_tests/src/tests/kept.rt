@@ -12,7 +12,7 @@ use std::test::Fail;
 use table_crews::{Walk, call, finish, last, start, start_counter};
 
 /// The entry of a call of object 0 by caller 0 on processor 0.
-fn called(stamp: u64, index: u32, incarnation: u32, op: Op, reply: Reply, generation: u32) -> Entry
+fn called(stamp: u64, index: u64, incarnation: u32, op: Op, reply: Reply, generation: u32) -> Entry
     requires { incarnation < 1_048_575 }
 {
     Entry {

@@ -2,8 +2,8 @@
 ghost use Rattle.k42_crews.specs.Ready.{IsFree, IsIn};
 ghost use Rattle.runtime_tests.specs.Ready.{IsSwapping};
 
-use k42_crews::{may_call, may_swap};
 use k42_kinds::{Op, Reply};
+use k42_limits::PASS_GRACES;
 use k42_memory::Memory;
 use k42_runtime::{Pass, Step, Swap, Swapped, System, To};
 use std::alloc::Global;
@@ -11,11 +11,10 @@ use std::process::Abort;
 use std::sync::Wait;
 
 /// Begins an activity.
-pub(super) fn come_in(rt: &impl Abort, system: &System, pass: &mut Pass)
+pub(super) fn come_in(system: &System, pass: &mut Pass)
     requires free { IsFree system.now pass.old }
     ensures inside { IsIn system.now pass.new }
 {
-    assert!(rt; may_call(pass));
     system.enter(pass);
 }
 
@@ -40,8 +39,7 @@ pub(super) fn ask<R: Abort + Wait>(
     ensures inside { IsIn system.now pass.new }
 {
     assert!(rt; system.takes(0, &op));
-    assert!(rt; may_call(pass));
-    let reply = system.call(rt, alloc, pass, 0, op)?;
+    let reply = system.call(rt, alloc, pass, 0, op).map_err(|_| Memory)?;
     assert_eq!(rt; reply, due);
     Ok(())
 }
@@ -58,13 +56,13 @@ pub(super) fn swap<R: Abort + Wait>(
     ensures free { IsFree system.now pass.new }
 {
     assert!(rt; system.objects() > 0);
-    assert!(rt; may_swap(pass));
-    match to {
+    let end = match to {
         To::Layout(layout) => system.swap(rt, alloc, pass, 0, layout),
         To::Dead => system.destroy(rt, alloc, pass, 0),
         To::Watch => system.watch(rt, alloc, pass, 0),
         To::Unwatch => system.unwatch(rt, alloc, pass, 0),
-    }
+    };
+    end.map_err(|_| Memory)
 }
 
 /// Frees what the pass may free, and answers how many rows these are.
@@ -72,7 +70,7 @@ pub(super) fn reclaim<R: Abort + Wait>(rt: &R, system: &System, pass: &mut Pass)
     requires free { IsFree system.now pass.old }
     ensures free { IsFree system.now pass.new }
 {
-    assert!(rt; may_swap(pass));
+    assert!(rt; pass.graces() < PASS_GRACES);
     system.reclaim(rt, pass)
 }
 
@@ -82,7 +80,6 @@ pub(super) fn swap_to(rt: &impl Abort, system: &System, pass: &Pass, object: u32
     ensures new { IsSwapping system.now result pass.now }
 {
     assert!(rt; object < system.objects());
-    assert!(rt; may_swap(pass));
     Swap::new(object, to)
 }
 

@@ -22,7 +22,7 @@ fn add_and_stay<R: Abort + Wait>(
     requires free { IsFree system.now pass.old }
     ensures inside { OnOk result (IsIn system.now pass.new) }
 {
-    come_in(rt, system, pass);
+    come_in(system, pass);
     ask(rt, alloc, system, pass, Op::Add(5), Reply::Done)
 }
 
@@ -68,7 +68,7 @@ fn find_busy<R: Abort + Wait>(
     ensures free { IsFree system.now pass.new }
 {
     assert_eq!(rt;
-        swap_once(rt, alloc, system, pass, 0, LayoutName::Spread)?,
+        swap_once(rt, alloc, system, pass, 0, LayoutName::Spread).map_err(|_| Memory)?,
         Some(Swapped::Busy(1))
     );
     Ok(())
@@ -138,7 +138,7 @@ pub(super) fn find<R: Abort + Wait>(
     requires free { IsFree system.now pass.old }
     ensures free { IsFree system.now pass.new }
 {
-    let found = call_once(rt, alloc, system, pass, 0, Op::Get)?;
+    let found = call_once(rt, alloc, system, pass, 0, Op::Get).map_err(|_| Memory)?;
     assert_eq!(rt; found, Some(due));
     Ok(())
 }

@@ -45,7 +45,7 @@ fn answer_to<R: Abort + Wait>(
     ensures free { IsFree system.now pass.new }
 {
     match act {
-        Act::Call(op) => match call_once(rt, alloc, system, pass, 0, *op)? {
+        Act::Call(op) => match call_once(rt, alloc, system, pass, 0, *op).map_err(|_| Memory)? {
             Some(reply) => Ok(Some(Answer::Replied(reply))),
             None => Ok(None),
         },
@@ -177,7 +177,7 @@ pub(super) fn refuse_beside<R: Abort + Wait>(
     ensures one { OnOk result (IsFree system.now one.new) }
     ensures two { OnOk result (IsFree system.now two.new) }
 {
-    come_in(rt, system, zero);
+    come_in(system, zero);
     let mut swap = swap_to(rt, system, one, 0, to);
     find_left(rt, alloc, system, one, &mut swap)?;
     let found = [(Act::Swap(refused), Answer::Busy(1))];

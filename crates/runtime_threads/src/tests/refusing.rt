@@ -24,7 +24,7 @@ impl Work for Refusing {
         pass: &mut Pass,
     ) -> Result<(), Memory> {
         self.tried.fetch_add(1, Ordering::SeqCst);
-        call_once(rt, alloc, system, pass, 0, Op::Add(1))?;
+        call_once(rt, alloc, system, pass, 0, Op::Add(1)).map_err(|_| Memory)?;
         if pass.caller() % 2 == 1 {
             return Err(Memory);
         }

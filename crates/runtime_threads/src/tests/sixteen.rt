@@ -49,7 +49,7 @@ impl Work for AddOnce {
         system: &System,
         pass: &mut Pass,
     ) -> Result<(), Memory> {
-        call_once(rt, alloc, system, pass, 0, Op::Add(1))?;
+        call_once(rt, alloc, system, pass, 0, Op::Add(1)).map_err(|_| Memory)?;
         Ok(())
     }
 }
@@ -94,7 +94,7 @@ fn add_often<R: Wait>(
     ensures { StaysFree system.now pass.old pass.new }
 {
     for _ in 0..calls {
-        call_once(rt, alloc, system, pass, 0, Op::Add(1))?;
+        call_once(rt, alloc, system, pass, 0, Op::Add(1)).map_err(|_| Memory)?;
     }
     Ok(())
 }
@@ -150,7 +150,7 @@ impl Work for Meeting {
     ) -> Result<(), Memory> {
         self.there.fetch_add(1, Ordering::SeqCst);
         wait_for(rt, &self.there, 16, &self.late);
-        call_once(rt, alloc, system, pass, 0, Op::Add(1))?;
+        call_once(rt, alloc, system, pass, 0, Op::Add(1)).map_err(|_| Memory)?;
         Ok(())
     }
 }

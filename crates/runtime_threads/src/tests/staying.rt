@@ -5,7 +5,7 @@ ghost use Rattle.runtime_threads.specs.Ready.{IsSwapping};
 
 use crate::tests::crews::wait_for;
 use crossbeam_utils::Backoff;
-use k42_crews::{Work, may_call, may_swap};
+use k42_crews::Work;
 use k42_kinds::{LayoutName, Op};
 use k42_memory::Memory;
 use k42_runtime::{Cause, Pass, Step, Swap, System, To};
@@ -54,10 +54,12 @@ impl LongStay {
         ensures caller { pass.new.view.number ≡ pass.old.view.number }
     {
         for _ in 0..CALLS {
-            if !may_call(pass) || !system.takes(0, &Op::Add(1)) {
+            if !system.takes(0, &Op::Add(1)) {
                 return Ok(());
             }
-            system.call(rt, alloc, pass, 0, Op::Add(1))?;
+            system
+                .call(rt, alloc, pass, 0, Op::Add(1))
+                .map_err(|_| Memory)?;
         }
         Ok(())
     }
@@ -73,9 +75,6 @@ impl LongStay {
         requires { IsFree system.now pass.old }
         ensures { StaysFree system.now pass.old pass.new }
     {
-        if !may_call(pass) {
-            return Ok(());
-        }
         system.enter(pass);
         self.open.store(1, Ordering::SeqCst);
         wait_for(rt, &self.held, 1, &self.late);
@@ -100,13 +99,13 @@ impl LongStay {
     {
         wait_for(rt, &self.held, 1, &self.late);
         for _ in 0..CALLS {
-            if !may_call(pass) || !system.takes(0, &Op::Add(1)) {
+            if !system.takes(0, &Op::Add(1)) {
                 return Ok(());
             }
             system.enter(pass);
             let added = system.call(rt, alloc, pass, 0, Op::Add(1));
             system.leave(pass);
-            added?;
+            added.map_err(|_| Memory)?;
         }
         Ok(())
     }
@@ -132,7 +131,7 @@ impl LongStay {
                     self.swaps.fetch_add(1, Ordering::SeqCst);
                     return Ok(());
                 }
-                Step::Memory => return Err(Memory),
+                Step::Memory | Step::Worn => return Err(Memory),
             }
             backoff.snooze();
         }
@@ -151,7 +150,7 @@ impl LongStay {
         ensures { StaysFree system.now pass.old pass.new }
     {
         wait_for(rt, &self.open, 1, &self.late);
-        if !may_swap(pass) || system.objects() == 0 {
+        if system.objects() == 0 {
             return Ok(());
         }
         let mut swap = Swap::new(0, To::Layout(LayoutName::Shared));

@@ -4,7 +4,7 @@ ghost use Rattle.k42_crews.specs.Ready.{IsFree, StaysFree};
 use crate::tests::asking::asked_by;
 use crate::tests::crews::wait_for;
 use crossbeam_utils::Backoff;
-use k42_crews::{Work, may_call, may_swap};
+use k42_crews::Work;
 use k42_kinds::{KindName, LayoutName};
 use k42_memory::Memory;
 use k42_runtime::{Pass, System};
@@ -55,13 +55,13 @@ impl ToAndFro {
             let Some((op, due)) = asked_by(self.kind, pass.caller(), number) else {
                 return Ok(());
             };
-            if !may_call(pass) || !system.takes(0, &op) {
+            if !system.takes(0, &op) {
                 return Ok(());
             }
             system.enter(pass);
             let reply = system.call(rt, alloc, pass, 0, op);
             system.leave(pass);
-            if reply? != due {
+            if reply.map_err(|_| Memory)? != due {
                 self.wrong.fetch_add(1, Ordering::SeqCst);
             }
         }
@@ -81,7 +81,7 @@ impl ToAndFro {
     {
         let backoff = Backoff::new();
         for number in 0..1_000_000 {
-            if self.done.load(Ordering::SeqCst) >= 4 || !may_swap(pass) || system.objects() == 0 {
+            if self.done.load(Ordering::SeqCst) >= 4 || system.objects() == 0 {
                 return Ok(());
             }
             let to = if number % 2 == 0 {
@@ -89,7 +89,7 @@ impl ToAndFro {
             } else {
                 LayoutName::Spread
             };
-            system.swap(rt, alloc, pass, 0, to)?;
+            system.swap(rt, alloc, pass, 0, to).map_err(|_| Memory)?;
             self.swaps.fetch_add(1, Ordering::SeqCst);
             backoff.snooze();
         }

@@ -4,7 +4,7 @@ ghost use Rattle.k42_crews.specs.Ready.{IsFree, StaysFree};
 
 use crate::tests::crews::wait_for;
 use crossbeam_utils::Backoff;
-use k42_crews::{Work, call_once, may_swap, swap_once};
+use k42_crews::{Work, call_once, swap_once};
 use k42_kinds::{Act, Answer, Entry, LayoutName, Op, Reply, To};
 use k42_memory::Memory;
 use k42_runtime::{Pass, Swapped, System};
@@ -86,7 +86,7 @@ impl Instrument {
         ensures { StaysFree system.now pass.old pass.new }
     {
         for _ in 0..CALLS {
-            call_once(rt, alloc, system, pass, 0, Op::Add(1))?;
+            call_once(rt, alloc, system, pass, 0, Op::Add(1)).map_err(|_| Memory)?;
         }
         Ok(())
     }
@@ -131,7 +131,7 @@ impl Instrument {
             } else {
                 LayoutName::Spread
             };
-            swap_once(rt, alloc, system, pass, 0, to)?;
+            swap_once(rt, alloc, system, pass, 0, to).map_err(|_| Memory)?;
             backoff.snooze();
         }
         Ok(())
@@ -148,10 +148,10 @@ impl Instrument {
         requires { IsFree system.now pass.old }
         ensures { StaysFree system.now pass.old pass.new }
     {
-        if !may_swap(pass) || system.objects() == 0 {
+        if system.objects() == 0 {
             return Ok(false);
         }
-        let end = system.watch(rt, alloc, pass, 0)?;
+        let end = system.watch(rt, alloc, pass, 0).map_err(|_| Memory)?;
         Ok(matches!(end, Swapped::Done(_)))
     }
 
@@ -166,10 +166,10 @@ impl Instrument {
         requires { IsFree system.now pass.old }
         ensures { StaysFree system.now pass.old pass.new }
     {
-        if !may_swap(pass) || system.objects() == 0 {
+        if system.objects() == 0 {
             return Ok(());
         }
-        system.unwatch(rt, alloc, pass, 0)?;
+        system.unwatch(rt, alloc, pass, 0).map_err(|_| Memory)?;
         Ok(())
     }
 
@@ -191,7 +191,7 @@ impl Instrument {
         }
         self.watched.fetch_add(1, Ordering::SeqCst);
         wait_for(rt, &self.half, 4, &self.late);
-        call_once(rt, alloc, system, pass, 0, Op::Seen)?;
+        call_once(rt, alloc, system, pass, 0, Op::Seen).map_err(|_| Memory)?;
         self.read.fetch_add(1, Ordering::SeqCst);
         Ok(())
     }
@@ -212,9 +212,9 @@ impl Instrument {
                 return Ok(());
             }
             self.unwatch_once(rt, alloc, system, pass)?;
-            call_once(rt, alloc, system, pass, 0, Op::Seen)?;
+            call_once(rt, alloc, system, pass, 0, Op::Seen).map_err(|_| Memory)?;
             self.watch_once(rt, alloc, system, pass)?;
-            call_once(rt, alloc, system, pass, 0, Op::Seen)?;
+            call_once(rt, alloc, system, pass, 0, Op::Seen).map_err(|_| Memory)?;
         }
         Ok(())
     }

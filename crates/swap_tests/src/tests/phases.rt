@@ -6,6 +6,7 @@ ghost use Rattle.table_crews.specs.Ready.{HoldsNoCell};
 
 use co_any::AnyLayout;
 use k42_kinds::Layout;
+use k42_limits::PASS_ENTRIES;
 use k42_mediator::{
     Begun, Moving, Phase, abandon, begin, block, end, interpose, open_entries, transfer, try_move,
 };
@@ -122,7 +123,7 @@ pub(super) fn transfer_to(
     assert!(rt; object < sys.objects() && tag <= 2);
     assert!(rt; pass.swap() == SwapAt::Moved(object));
     pass.reserve()?;
-    assert!(rt; pass.drawn() < 1_048_576);
+    assert!(rt; pass.drawn() < PASS_ENTRIES);
     let to = sys.declared(object).with_tag(tag);
     transfer(alloc, sys, pass, &to)
 }
@@ -140,7 +141,7 @@ pub(super) fn give_up(
 {
     assert!(rt; sys.objects() > 0 && tag <= 2);
     pass.reserve()?;
-    assert!(rt; pass.drawn() < 1_048_576);
+    assert!(rt; pass.drawn() < PASS_ENTRIES);
     let to = sys.declared(0).with_tag(tag);
     abandon(sys, pass, &to);
     Ok(())

@@ -11,6 +11,7 @@ use co_any::AnyLayout;
 use crossbeam_utils::Backoff;
 use gen_core::GraceAt;
 use k42_kinds::Layout;
+use k42_limits::{PASS_ENTRIES, PASS_GRACES};
 use k42_mediator::{Begun, Moving, begin, block, end, interpose, open_entries, transfer, try_move};
 use k42_memory::Memory;
 use k42_quiesce::{grace, reclaim};
@@ -44,7 +45,7 @@ fn may_wait(pass: &Walk) -> bool
     !pass.is_active()
         && pass.grace() == GraceAt::Idle
         && matches!(pass.swap(), SwapAt::Idle | SwapAt::Interposed(_))
-        && pass.graces() < 1_048_576
+        && pass.graces() < PASS_GRACES
 }
 
 /// Waits for a grace, which is to free so many rows.
@@ -138,7 +139,7 @@ fn transfer_to(
     assert!(rt; object < sys.objects() && tag <= 2);
     assert!(rt; pass.swap() == SwapAt::Moved(object));
     pass.reserve()?;
-    assert!(rt; pass.drawn() < 1_048_576);
+    assert!(rt; pass.drawn() < PASS_ENTRIES);
     let to = sys.declared(object).with_tag(tag);
     transfer(alloc, sys, pass, &to)
 }

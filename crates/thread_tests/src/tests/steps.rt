@@ -9,6 +9,7 @@ use crate::tests::crews::Walk;
 use co_any::AnyLayout;
 use crossbeam_utils::Backoff;
 use k42_kinds::{Act, Answer, Layout, Op, Reach, Reply, kind_of};
+use k42_limits::PASS_ENTRIES;
 use k42_memory::Memory;
 use k42_rule::{
     Content, Inside, Pass, Sys, draw_call, layouts_are_lawful, lock, put, take, unlock,
@@ -68,7 +69,7 @@ fn step_at<L: Layout>(
     let Reach::One(place) = layout.reach(op, pass.processor(), sys.procs()) else {
         panic!(rt; "it needs more than one cell")
     };
-    if place >= sys.procs() || pass.drawn() >= 1_048_576 {
+    if place >= sys.procs() || pass.drawn() >= PASS_ENTRIES {
         panic!(rt; "no such cell, or no more entries")
     }
     // Others wait for the cell, so room is made before its lock is taken.

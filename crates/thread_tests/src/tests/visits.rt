@@ -23,7 +23,7 @@ fn come_in(rt: &impl Abort, sys: &Sys<AnyLayout>, pass: &mut Walk)
     ensures free { HoldsNoCell sys.now pass.new }
     ensures entered { IsIn pass.new.view }
 {
-    assert!(rt; pass.is_idle() && pass.activities() < 1_048_576);
+    assert!(rt; pass.is_idle());
     enter(sys, pass);
 }
 

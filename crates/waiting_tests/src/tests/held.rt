@@ -23,7 +23,7 @@ pub(super) fn hold<R: Abort + Wait>(
     ensures served { IfOk result (λ cell. IsInRow system.now (cell ∷ []) pass.new) }
     ensures few { IfOk result (λ cell. cell < 256) }
 {
-    come_in(rt, system, pass);
+    come_in(system, pass);
     ask(rt, alloc, system, pass, Op::Get, Reply::Number(0))?;
     Ok(hold_cell(rt, system, pass, 0))
 }
@@ -45,7 +45,7 @@ pub(super) fn wait_for_cell(
     ensures zero { OnOk result (IsFree system.now zero.new) }
     ensures one { OnOk result (IsIn system.now one.new) }
 {
-    come_in(rt, system, zero);
+    come_in(system, zero);
     find_held_up(
         rt,
         alloc,

@@ -61,9 +61,9 @@ fn be_counted(
     ensures one { OnOk result (IsSwapping system.now swap.new one.new) }
     ensures two { OnOk result (IsInRow system.now [] two.new) }
 {
-    come_in(rt, system, zero);
+    come_in(system, zero);
     find_left(rt, alloc, system, one, swap)?;
-    come_in(rt, system, two);
+    come_in(system, two);
     knock_in(rt, system, two, 0);
     go_home(system, zero);
     Ok(())
@@ -108,7 +108,7 @@ pub(super) fn be_shut_out(
     ensures two { OnOk result (IsFree system.now two.new) }
     ensures asked { OnOk result (IsCallOf system.now get.new) }
 {
-    come_in(rt, system, zero);
+    come_in(system, zero);
     find_held_up(rt, alloc, system, zero, get, CallCause::Blocked)?;
     end_call(system, two);
     go_home(system, two);

@@ -2,7 +2,6 @@
 ghost use Rattle.k42_crews.specs.Ready.{IsFree, IsIn};
 ghost use Rattle.waiting_tests.specs.Ready.{IsCallOf, IsSwapping};
 
-use k42_crews::{may_call, may_swap};
 use k42_kinds::{LayoutName, Op, Reply};
 use k42_memory::Memory;
 use k42_runtime::{Call, CallCause, CallStep, Pass, Step, Swap, System, To};
@@ -11,11 +10,10 @@ use std::process::Abort;
 use std::sync::Wait;
 
 /// Begins an activity.
-pub(super) fn come_in(rt: &impl Abort, system: &System, pass: &mut Pass)
+pub(super) fn come_in(system: &System, pass: &mut Pass)
     requires free { IsFree system.now pass.old }
     ensures inside { IsIn system.now pass.new }
 {
-    assert!(rt; may_call(pass));
     system.enter(pass);
 }
 
@@ -40,8 +38,7 @@ pub(super) fn ask<R: Abort + Wait>(
     ensures inside { IsIn system.now pass.new }
 {
     assert!(rt; system.takes(0, &op));
-    assert!(rt; may_call(pass));
-    let reply = system.call(rt, alloc, pass, 0, op)?;
+    let reply = system.call(rt, alloc, pass, 0, op).map_err(|_| Memory)?;
     assert_eq!(rt; reply, due);
     Ok(())
 }
@@ -68,7 +65,6 @@ pub(super) fn try_call(
     ensures asked { IsCallOf system.now call.new }
 {
     assert!(rt; !call.ended());
-    assert!(rt; may_call(pass));
     match call.step(alloc, system, pass) {
         CallStep::Memory => Err(Memory),
         step => Ok(step),
@@ -87,7 +83,6 @@ pub(super) fn swap_to(
     ensures new { IsSwapping system.now result pass.now }
 {
     assert!(rt; object < system.objects());
-    assert!(rt; may_swap(pass));
     Swap::new(object, To::Layout(to))
 }
 

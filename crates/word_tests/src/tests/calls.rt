@@ -17,7 +17,7 @@ fn enter(rt: &impl Abort, sys: &Sys<AnyLayout>, pass: &mut Walk) -> u64
     ensures free { HoldsNoCell sys.now pass.new }
     ensures entered { IsIn pass.new.view }
 {
-    assert!(rt; pass.is_idle() && pass.activities() < 1_048_576);
+    assert!(rt; pass.is_idle());
     enter_step(sys, pass)
 }
 

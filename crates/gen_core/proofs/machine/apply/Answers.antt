@@ -3,10 +3,10 @@ use Rattle.gen_core.proofs.Reached.{IsSound-happens}
 use Rattle.gen_core.proofs.machine.apply.Goals as goal
 
 pub returns-clause-sound : goal.returns-clause-sound
-returns-clause-sound c = rw c.step.ensures.state (IsSound-happens _ c.args.event.now c.requires.sound c.requires.in_range)
+returns-clause-sound c = rw c.step.ensures.state (IsSound-happens c.args.state.now c.args.event.now c.requires.sound c.requires.in_range)
 
 pub returns-clause-callers : goal.returns-clause-callers
-returns-clause-callers c = rw c.step.ensures.state (happens_only _ c.args.event.now c.requires.in_range).many_callers
+returns-clause-callers c = rw c.step.ensures.state (happens_only c.args.state.now c.args.event.now c.requires.in_range).many_callers
 
 pub returns-clause-procs : goal.returns-clause-procs
-returns-clause-procs c = rw c.step.ensures.state (happens_only _ c.args.event.now c.requires.in_range).many_procs
+returns-clause-procs c = rw c.step.ensures.state (happens_only c.args.state.now c.args.event.now c.requires.in_range).many_procs

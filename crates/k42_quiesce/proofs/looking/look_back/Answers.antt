@@ -9,11 +9,11 @@ returns-clause-goes g c = goes_back c.args.proc _ c.look-exits.result _ _ c.requ
 
 pub returns-clause-left : goal.returns-clause-left
 returns-clause-left g c some =
-    left_back c.args.proc c.waits-waits.result _ c.look-exits.result _ _ c.requires.grace c.waits-waits.ensures c.look-exits.ensures.takes.finds
-    c.look-exits.ensures.takes.knows c.requires.there
+    left_back c.args.proc c.waits-waits.result _ _ c.look-exits.result _ _ c.requires.grace c.waits-waits.ensures c.waits-waits.type_inv c.exits_in.ensures
+    c.look-exits.ensures.takes.knows c.look-exits.ensures.takes.finds c.requires.there
     (ap (λ n. exits_word c.args.proc (n % 2)) (c.unwrap_or-base.ensures ∙ ap (λ base. unwrap_or base 0) c.base.ensures)) some
 
 pub returns-clause-passed : goal.returns-clause-passed
 returns-clause-passed g c none =
-    passes_back c.args.proc c.waits-waits.result _ c.look-exits.result _ _ c.requires.grace c.waits-waits.ensures c.look-exits.ensures.takes.finds
+    passes_back c.args.proc c.waits-waits.result _ _ c.look-exits.result _ _ c.requires.grace c.waits-waits.ensures c.waits-waits.type_inv c.exits_in.ensures
     c.look-exits.ensures.takes.knows none

@@ -1,6 +1,6 @@
 use Rattle.std.proofs.Common.{rules, ◌≤◌, vec_capacity, refl, sym, subst}
+use Rattle.k42_limits.specs.declared.TheConstants.{LAST_STAMP}
 use Rattle.k42_board.specs.Queueing.{IsTied}
-use Rattle.k42_board.specs.Seats.{LAST_STAMP}
 use Rattle.k42_board.specs.Views.{pass_in}
 use Rattle.k42_board.proofs.Noted.{last_push}
 use Rattle.k42_rule.proofs.Entries.{alone_entry}
@@ -36,13 +36,12 @@ invariant_of-pass g c =
       old.10,
       old.11,
       old.12,
-      old.13,
-      kept_drawn c.pass.inside.keep c.pass.inside.kept.items c.store.new.kept.items v _ c.alone_word.new.seat.me _ old.14 c.store.ensures.kept taken.alone refl,
+      kept_drawn c.pass.inside.keep c.pass.inside.kept.items c.store.new.kept.items v _ c.alone_word.new.seat.me _ old.13 c.store.ensures.kept taken.alone refl,
       small,
+      old.15,
       old.16,
       old.17,
-      old.18,
-      subst (λ z. IsTied z c.pass.inside.post.me.view.client) (sym taken.table) old.19,
+      subst (λ z. IsTied z c.pass.inside.post.me.view.client) (sym taken.table) old.18,
+      old.19,
       old.20,
-      old.21,
     )

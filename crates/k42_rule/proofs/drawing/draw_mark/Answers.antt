@@ -1,8 +1,8 @@
 use Rattle.std.proofs.Common.{rules, ◌≤◌, [], ◌∷◌, vec_capacity, refl, sym, ap, subst, ◌∙◌}
+use Rattle.k42_limits.specs.declared.TheConstants.{LAST_STAMP}
 use Rattle.k42_board.specs.Drawing.{IsHeld, untold_view}
 use Rattle.k42_board.specs.Queueing.{IsTied}
 use Rattle.k42_board.specs.Receipts.{IsDue, after_first}
-use Rattle.k42_board.specs.Seats.{LAST_STAMP}
 use Rattle.k42_board.specs.Seen.{PassSeen}
 use Rattle.k42_board.specs.Steps.{Seated}
 use Rattle.k42_board.specs.Views.{pass_in}
@@ -61,13 +61,12 @@ invariant_of-pass g c =
       old.10,
       old.11,
       old.12,
-      old.13,
-      kept_drawn c.pass.inside.keep c.pass.inside.kept.items c.store.new.kept.items v _ c.tell_cell.new.seat.me _ old.14 c.store.ensures.kept seated refl,
+      kept_drawn c.pass.inside.keep c.pass.inside.kept.items c.store.new.kept.items v _ c.tell_cell.new.seat.me _ old.13 c.store.ensures.kept seated refl,
       small,
+      old.15,
       old.16,
       old.17,
-      old.18,
-      subst (λ z. IsTied z c.pass.inside.post.me.view.client) (sym (c.tell_cell.ensures.ours.0 ∙ taken.table)) old.19,
+      subst (λ z. IsTied z c.pass.inside.post.me.view.client) (sym (c.tell_cell.ensures.ours.0 ∙ taken.table)) old.18,
+      old.19,
       old.20,
-      old.21,
     )

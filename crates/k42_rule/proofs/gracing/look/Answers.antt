@@ -5,12 +5,12 @@ use Rattle.k42_board.specs.Swapping.{FitsSwap}
 use Rattle.k42_rule.proofs.Fitting.{fits_drained}
 use Rattle.k42_rule.proofs.gracing.look.Goals as goal
 
-pub invariant_of-pass-then-found-from : goal.invariant_of-pass-then-found-from
-invariant_of-pass-then-found-from g c =
+pub invariant_of-pass-then-exits_in-index : goal.invariant_of-pass-then-exits_in-index
+invariant_of-pass-then-exits_in-index g c =
     let pass = c.pass.inside in
     let fits =
     subst (λ (swap : SwapAt). FitsSwap swap pass.turned pass.handed pass.last) (sym c.drained-pass-inside.ensures)
-    (fits_drained pass.swap pass.turned pass.handed pass.last c.pass.invariant.16 _) in
+    (fits_drained pass.swap pass.turned pass.handed pass.last c.pass.invariant.15 _) in
     grind (arith, common_steps, fits)
 
 pub returns-in-Flipping : goal.returns-in-Flipping
@@ -19,14 +19,14 @@ returns-in-Flipping g c = record {
   takes = rw (← c.pass.view_is, ← c.sys.view_is) c.look_word-found.ensures.takes;
 }
 
-pub returns-then-found-from : goal.returns-then-found-from
-returns-then-found-from g c = record {
+pub returns-then-exits_in-index : goal.returns-then-exits_in-index
+returns-then-exits_in-index g c = record {
   same = search rules;
   takes = rw (← c.pass.view_is, ← c.sys.view_is) c.look_word-found.ensures.takes;
 }
 
-pub returns-else-found-from : goal.returns-else-found-from
-returns-else-found-from g c = record {
+pub returns-else-exits_in-index : goal.returns-else-exits_in-index
+returns-else-exits_in-index g c = record {
   same = search rules;
   takes = rw (← c.pass.view_is, ← c.sys.view_is) c.look_word-found.ensures.takes;
 }

@@ -29,15 +29,14 @@ invariant_of-pass g c =
       omega (arith, many),
       (subst (λ (o : Own). 0 < length o.turn.waits) (sym was.0.own_is) c.take_role_word-found.ensures.takes.finds.procs, λ some. absurd (omega (arith, some))),
       omega arith,
-      was.13,
-      was.14 ∙ sym (role_keeps v pass.keep c.take_role_word-found.new.seat.me c.take_role_word-found.result c.take_role_word-found.ensures.alone c.if-found-eq0.true),
-      was.15,
-      fits_draining pass.swap pass.turned pass.handed pass.last was.16 c.draining-pass-inside.result swap_is,
+      was.13 ∙ sym (role_keeps v pass.keep c.take_role_word-found.new.seat.me c.take_role_word-found.result c.take_role_word-found.ensures.alone c.if-found-eq0.true),
+      was.14,
+      fits_draining pass.swap pass.turned pass.handed pass.last was.15 c.draining-pass-inside.result swap_is,
+      was.16,
       was.17,
-      was.18,
-      subst (λ table. IsTied table pass.post.me.view.client) (sym c.take_role_word-found.ensures.table) was.19,
+      subst (λ table. IsTied table pass.post.me.view.client) (sym c.take_role_word-found.ensures.table) was.18,
+      was.19,
       was.20,
-      was.21,
     )
 
 pub returns-then-found-eq0 : goal.returns-then-found-eq0

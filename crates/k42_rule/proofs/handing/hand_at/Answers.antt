@@ -1,4 +1,5 @@
 use Rattle.std.proofs.Common.{rules, refl, ◌≡◌, ℕ, ◌≤◌, true, List, ◌++◌, Some, vec_capacity, take, drop, sym, ap, ◌∙◌, subst}
+use Rattle.k42_limits.specs.declared.TheConstants.{LAST_STAMP}
 use Rattle.k42_kinds.specs.declared.entry.Entry.{Entry}
 use Rattle.k42_joined.specs.Drawing.{first_cell}
 use Rattle.phase_core.specs.Stages.{is_moved}
@@ -8,7 +9,6 @@ use Rattle.k42_board.specs.Log.{took}
 use Rattle.k42_board.specs.Plan.{layouts_on}
 use Rattle.k42_board.specs.Queueing.{IsTied}
 use Rattle.k42_board.specs.Receipts.{AreDue}
-use Rattle.k42_board.specs.Seats.{LAST_STAMP}
 use Rattle.k42_board.specs.Seen.{IsSeatOf, SysSeen, PassSeen, Own, own_in, kept_by}
 use Rattle.k42_board.specs.Steps.{Seated}
 use Rattle.k42_board.specs.Views.{pass_in}
@@ -80,7 +80,6 @@ invariant_of-pass g c =
             swap = c.pass.inside.swap;
             drawn = longer_drawn v.taker.mine entry c.pass.inside.drawn (ap (λ (o : Own). o.drawn) own) j;
             drew_last = last_drawn v.taker.mine entry j;
-            activities = c.pass.inside.activities;
             graces = c.pass.inside.graces;
             base = c.pass.inside.base;
             last = c.pass.inside.last;
@@ -102,16 +101,15 @@ invariant_of-pass g c =
       old.10,
       old.11,
       old.12,
-      old.13,
-      kept_drawn c.pass.inside.keep c.pass.inside.kept.items c.store.new.kept.items v entry c.tell_all.new.seat.me _ (old.14 ∙ ap (λ (x : PassView _). kept_by c.pass.inside.keep x.taker.mine) same) c.store.ensures.kept c.tell_all.ensures.seated mine_now,
+      kept_drawn c.pass.inside.keep c.pass.inside.kept.items c.store.new.kept.items v entry c.tell_all.new.seat.me _ (old.13 ∙ ap (λ (x : PassView _). kept_by c.pass.inside.keep x.taker.mine) same) c.store.ensures.kept c.tell_all.ensures.seated mine_now,
       subst (λ z. z ≤ LAST_STAMP) (last_push v.taker.mine entry) told.1,
-      fits_handed c.pass.inside.swap c.pass.inside.turned c.pass.inside.handed c.pass.inside.last old.16 _
+      fits_handed c.pass.inside.swap c.pass.inside.turned c.pass.inside.handed c.pass.inside.last old.15 _
           (ap (λ (o : Own). is_moved o.swap) own ∙ ap is_moved c.requires.may.moved),
+      old.16,
       old.17,
-      old.18,
-      subst (λ table. IsTied table c.pass.inside.post.me.view.client) (sym (c.tell_all.ensures.ours.0 ∙ taken.table)) old.19,
+      subst (λ table. IsTied table c.pass.inside.post.me.view.client) (sym (c.tell_all.ensures.ours.0 ∙ taken.table)) old.18,
       subst (λ n. n ≤ 2) (sym c.tag.ensures) c.requires.may.known,
-      old.21,
+      old.20,
     )
 
 pub returns-clause-stamp : goal.returns-clause-stamp

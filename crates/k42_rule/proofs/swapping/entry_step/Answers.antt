@@ -9,7 +9,7 @@ invariant_of-pass g c =
     let pass = c.pass.inside in
     let fits : FitsSwap c.stage_after-pass-inside.result pass.turned pass.handed pass.last =
     subst (λ (swap : SwapAt). FitsSwap swap pass.turned pass.handed pass.last) (sym c.stage_after-pass-inside.ensures)
-    (fits_entry pass.swap pass.turned pass.handed pass.last c.pass.invariant.16 _) in
+    (fits_entry pass.swap pass.turned pass.handed pass.last c.pass.invariant.15 _) in
     search (rules, fits)
 
 pub returns : goal.returns

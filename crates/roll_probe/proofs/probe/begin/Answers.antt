@@ -1,14 +1,11 @@
-use Rattle.std.proofs.Common.{ℕ, List, length, sym, subst}
+use Rattle.std.proofs.Common.{List, length, sym, subst}
 use Rattle.k42_crews.specs.Ready.{AreFree}
-use Rattle.k42_places.specs.Places.{EachPlace}
 use Rattle.k42_runtime.specs.Systems.{SystemPass}
-use Rattle.swap_future.specs.Rolling.{MayRoll}
-use Rattle.roll_probe.proofs.Probed.{each_within, all_free_before}
+use Rattle.roll_probe.proofs.Probed.{each_within, may_roll}
 use Rattle.roll_probe.proofs.probe.begin.Goals as goal
 
 pub new-requires-clause-passes : goal.new-requires-clause-passes
-new-requires-clause-passes c =
-    subst (λ (n : ℕ). EachPlace (λ i. MayRoll c.args.system.now n) c.args.passes.items) (sym c.requires.four) c.requires.may
+new-requires-clause-passes c = may_roll c.args.system.now c.args.passes.items c.requires.free
 
 pub new-requires-clause-objects : goal.new-requires-clause-objects
 new-requires-clause-objects c =
@@ -16,5 +13,4 @@ new-requires-clause-objects c =
 
 pub returns-in-Err-clause-free : goal.returns-in-Err-clause-free
 returns-in-Err-clause-free c =
-    subst (λ (passes : List SystemPass). AreFree c.args.system.now passes) (sym c.in-Err.ensures.back)
-    (all_free_before c.args.system.now 4 c.args.passes.items c.requires.may)
+    subst (λ (passes : List SystemPass). AreFree c.args.system.now passes) (sym c.in-Err.ensures.back) c.requires.free

@@ -7,7 +7,7 @@ use Rattle.k42_kinds.specs.declared.entry.Reach.TheVariants.{One}
 use Rattle.k42_kinds.specs.declared.entry.Act.TheVariants.{Call}
 use Rattle.k42_kinds.specs.declared.entry.Answer.TheVariants.{Replied}
 use Rattle.k42_board.specs.Plan.{layouts_on}
-use Rattle.k42_board.specs.Generations.{MOST}
+use Rattle.k42_limits.specs.declared.TheConstants.{PASS_ENTRIES}
 use Rattle.k42_joined.specs.Drawing.{first_cell}
 use Rattle.k42_board.specs.Drawing.{MayDrawCall, drawn_at, entry_call, numbers_of}
 use Rattle.k42_board.specs.Log.{took}
@@ -60,7 +60,7 @@ draw_call-stamp-requires-clause-may g c κs inside_lifetimes =
     let replied =
     subst (λ (k : ℕ). c.in_ok-reply.reply ≡ (g.L.Layout.ways layout).part_reply (unwrap_or content.part ((g.L.Layout.ways layout).empty k p)) op) count c.in_ok-reply.ensures.replied in
     let mine : length w.taker.mine ≡ length v.taker.mine = ap (λ (x : PassView _). length x.taker.mine) e ∙ ap length (mine_stays n c.lock.result v) in
-    let few : length w.taker.mine < MOST = grind (arith, nat_tests, c.if-drawn-ge1048576.false, mine, c.drawn.ensures) in
+    let few : length w.taker.mine < PASS_ENTRIES = grind (arith, nat_tests, c.if-drawn-ge-PASS_ENTRIES.false, mine, c.drawn.ensures) in
     subst (λ cells. MayDrawCall F c.args.sys.now.layouts cells op c.in_ok-reply.reply w) (sym items)
     (may_draw F laws c.args.sys.now.layouts met.agrees content (lifted_at n c.lock.new.pass.view) w c.take-cell.ensures.moved.back.knows layout op inside.object inside.incarnation p is c.take-cell.ensures.number
     after c.in_ok-reply.reply replied refl few)

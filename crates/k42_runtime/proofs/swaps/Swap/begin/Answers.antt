@@ -5,10 +5,10 @@ use Rattle.k42_board.specs.Words.{role_word}
 use Rattle.k42_board.specs.declared.view.StepName.TheVariants as names
 use Rattle.k42_kinds.specs.declared.entry.Act.TheVariants.{Swap}
 use Rattle.k42_kinds.specs.declared.entry.Answer.TheVariants as answers
-use Rattle.k42_runtime.specs.Swaps.{SwapSeen, HasStepped, graces_due}
+use Rattle.k42_runtime.specs.Swaps.{SwapSeen, HasStepped, IsWornOut, graces_due}
 use Rattle.k42_runtime.specs.Systems.{IsPassHere, IsAtRest}
 use Rattle.k42_runtime.specs.declared.swaps.Stage.TheVariants.{New, Waiting, Marking, Over}
-use Rattle.k42_runtime.proofs.SwapBegins.{marks_on, waits_on, refused_by}
+use Rattle.k42_runtime.proofs.SwapBegins.{is_not, marks_on, waits_on, refused_by}
 use Rattle.k42_runtime.proofs.SwapEnds.{few}
 use Rattle.k42_runtime.proofs.SwapSteps.{stepped_before}
 use Rattle.k42_runtime.proofs.swaps.Swap.begin.Goals as goal
@@ -16,6 +16,7 @@ use Rattle.k42_runtime.proofs.swaps.Swap.begin.Goals as goal
 pub returns-in-Begun : goal.returns-in-Begun
 returns-in-Begun c =
     let old = c.args.pass.now in
+    let fresh : IsWornOut old.view → ⊥ = is_not c.is_worn_out.result c.if-is_worn_out.false c.is_worn_out.ensures in
     let s : SwapSeen = record { object = c.self.inside.object; to = c.self.inside.to; stage = c.self.inside.stage; holder = c.self.inside.grace } in
     let m : SwapSeen = record { object = c.self.inside.object; to = c.self.inside.to; stage = Waiting; holder = c.self.inside.grace } in
     let is : s ≡ c.args.self.now = c.self.view_is in
@@ -23,13 +24,14 @@ returns-in-Begun c =
     subst (λ s. HasStepped c.args.system.now c.wait.result s c.wait.new.self old c.wait.new.pass) is
     (stepped_before c.args.system.now s m c.wait.new.self old c.interpose.new.pass c.wait.new.pass
     (waits_on _ _ s.object old c.reserve.new.self c.begin.new.pass c.reserve.ensures.same c.begin.ensures.same c.begin.ensures.knows c.begin.ensures.begun s m c.interpose.new.pass
-    first refl (ap (λ (x : SwapSeen). x.holder) is ∙ c.requires.new.0) refl refl c.interpose.ensures.same c.interpose.ensures.comes)
+    fresh first refl (ap (λ (x : SwapSeen). x.holder) is ∙ c.requires.new.0) refl refl c.interpose.ensures.same c.interpose.ensures.comes)
     c.wait.result
     c.wait.ensures)
 
 pub returns-in-Busy : goal.returns-in-Busy
 returns-in-Busy c =
     let old = c.args.pass.now in let new = c.draw_alone.new.pass in let number : ℕ = c.in-Busy.number in
+    let fresh : IsWornOut old.view → ⊥ = is_not c.is_worn_out.result c.if-is_worn_out.false c.is_worn_out.ensures in
     let s : SwapSeen = record { object = c.self.inside.object; to = c.self.inside.to; stage = c.self.inside.stage; holder = c.self.inside.grace } in
     let is : s ≡ c.args.self.now = c.self.view_is in
     let drawn : new.view ≡ took names.Draw role_word 0 (alone_view (entry_alone c.begin.new.pass.view (Swap s.to) (answers.Busy number)) c.begin.new.pass.view) = (c.draw_alone.ensures.takes 0).knows in
@@ -52,18 +54,20 @@ returns-in-Busy c =
       caller = told.caller;
       graces = few new.view.graces old.view.graces (graces_due s.stage s.holder) told.graces;
       told = told.told;
+      worn = (λ e. absurd (cc), λ w. absurd (fresh w.1));
       brought = (told.swapped, told.log);
     })))
 
 pub returns-in-Spent : goal.returns-in-Spent
 returns-in-Spent c =
     let old = c.args.pass.now in
+    let fresh : IsWornOut old.view → ⊥ = is_not c.is_worn_out.result c.if-is_worn_out.false c.is_worn_out.ensures in
     let s : SwapSeen = record { object = c.self.inside.object; to = c.self.inside.to; stage = c.self.inside.stage; holder = c.self.inside.grace } in
     let m : SwapSeen = record { object = c.self.inside.object; to = c.self.inside.to; stage = Marking; holder = c.self.inside.grace } in
     let is : s ≡ c.args.self.now = c.self.view_is in
     let first : s.stage ≡ New = ap (λ (x : SwapSeen). x.stage) is ∙ c.requires.stage in
     subst (λ s. HasStepped c.args.system.now c.mark.result s c.mark.new.self old c.mark.new.pass) is
     (stepped_before c.args.system.now s m c.mark.new.self old c.begin.new.pass c.mark.new.pass
-    (marks_on _ _ s.object old c.reserve.new.self c.begin.new.pass c.reserve.ensures.same c.begin.ensures.same c.begin.ensures.knows c.begin.ensures.begun s m first refl refl refl)
+    (marks_on _ _ s.object old c.reserve.new.self c.begin.new.pass c.reserve.ensures.same c.begin.ensures.same c.begin.ensures.knows c.begin.ensures.begun s m fresh first refl refl refl)
     c.mark.result
     c.mark.ensures)

@@ -13,6 +13,9 @@ use Rattle.k42_runtime.specs.declared.swaps.Step.TheVariants.{Ended}
 use Rattle.k42_runtime.proofs.SwapEnds.{found_held, held_answer, marked, over_ends, marked_last, marked_caller, marked_graces, few}
 use Rattle.k42_runtime.proofs.swaps.Swap.mark.Goals as goal
 
+never : Marking ≡ New → ⊥
+never e = cc
+
 pub returns-in-Marked : goal.returns-in-Marked
 returns-in-Marked c =
     let old = c.args.pass.now in let new = c.mark.new.pass in let s = c.args.self.now in
@@ -37,11 +40,9 @@ returns-in-Marked c =
       caller = marked_caller (Swap s.to) old new has;
       graces = few new.view.graces old.view.graces (graces_due s.stage s.holder) (marked_graces (Swap s.to) old new has);
       told = subst (λ (l : ℕ). IsEndBy l (end_in word)) (sym (ap word_begun last)) is.ends;
+      worn = (λ e. absurd (cc), λ w. absurd (never (sym c.requires.stage ∙ w.0)));
       brought = (marked s.object s.to old new stage.1.begun stage.1.may.over has, has.comes.log);
     }))
-
-never : Marking ≡ New → ⊥
-never e = cc
 
 pub returns-in-Held : goal.returns-in-Held
 returns-in-Held c =
@@ -60,5 +61,6 @@ returns-in-Held c =
       caller = search rules;
       graces = search rules;
       told = search rules;
+      worn = (λ e. absurd (cc), λ w. absurd (never (sym c.requires.stage ∙ w.0)));
       brought = (search rules, found.1);
     }

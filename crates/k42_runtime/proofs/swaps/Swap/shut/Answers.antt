@@ -36,5 +36,6 @@ returns-in-InFlight c =
       caller = search rules;
       graces = search rules;
       told = search rules;
+      worn = (λ e. absurd (cc), λ w. absurd (never (sym c.requires.stage ∙ w.0)));
       brought = (search rules, counted.1);
     }

@@ -8,8 +8,12 @@ use Rattle.k42_mediator.specs.Swaps.{abandoned_view}
 use Rattle.k42_mediator.specs.Transfers.{HasKept}
 use Rattle.k42_runtime.specs.Swaps.{SwapSeen, graces_due}
 use Rattle.k42_runtime.specs.Systems.{IsPassHere, IsAtRest}
+use Rattle.k42_runtime.specs.declared.swaps.Stage.TheVariants.{New, Shut}
 use Rattle.k42_runtime.proofs.SwapEnds.{cleared_log, on_done, on_error, gave_up, abandoned_caller, abandoned_graces, few}
 use Rattle.k42_runtime.proofs.swaps.Swap.transfer_or_abandon.Goals as goal
+
+never : Shut ≡ New → ⊥
+never e = cc
 
 pub returns-then-is_err : goal.returns-then-is_err
 returns-then-is_err c =
@@ -33,6 +37,7 @@ returns-then-is_err c =
       caller = abandoned_caller (Swap c.args.self.now.to) v mid.view new.view kept.comes.knows knows;
       graces = few new.view.graces old.view.graces (graces_due c.args.self.now.stage c.args.self.now.holder) (abandoned_graces (Swap c.args.self.now.to) v mid.view new.view kept.comes.knows knows);
       told = tt;
+      worn = (λ e. absurd (cc), λ w. absurd (never (sym c.requires.stage ∙ w.0)));
       brought = inr (gave_up _ _ mid.seat c.args.self.now.object c.args.self.now.to v mid.view new.view kept.comes knows begun c.requires.found unturned swapped _ c.layout-to.ensures.act c.abandon.ensures.up);
     }
 

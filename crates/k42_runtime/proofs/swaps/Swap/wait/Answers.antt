@@ -50,6 +50,7 @@ returns-in-Again c =
       caller = up.caller;
       graces = up.graces;
       told = up.told;
+      worn = (λ e. absurd (cc), λ w. absurd (later (sym first ∙ w.0)));
       brought = (ap (λ (x : turns.Caller). x.mine) up.taker, up.found);
     }))
 
@@ -78,7 +79,6 @@ returns-in-Quiet c =
           same_caller old.view c.step.new.pass.view mid.view has.caller (record {
             number = ap (λ (v : PassView _). v.number) blocked ∙ ap (λ (v : PassView _). v.number) reclaimed;
             proc = ap (λ (v : PassView _). v.turn.proc) blocked ∙ ap (λ (v : PassView _). v.turn.proc) reclaimed;
-            activities = ap (λ (v : PassView _). v.activities) blocked ∙ ap (λ (v : PassView _). v.activities) reclaimed;
           });
       drawn =
           ap (λ (v : PassView _). v.taker.mine) blocked ∙ ap (λ (v : PassView _). v.taker.mine) reclaimed
@@ -88,6 +88,7 @@ returns-in-Quiet c =
           let n = ap (λ (v : PassView _). v.graces) blocked ∙ ap (λ (v : PassView _). v.graces) reclaimed ∙ has.graces in
           subst (λ stage. mid.view.graces + 0 ≤ old.view.graces + graces_due stage s.holder) (sym first) (omega (arith, n));
       waits = λ e. absurd (cc);
+      worn = λ e w. absurd (later (sym first ∙ e));
     })
     c.shut.result
     c.shut.ensures)

@@ -2,6 +2,7 @@ use Rattle.std.proofs.Common.{◌≡◌, ◌<◌, ℕ, ◌+◌, ◌*◌, ◌%◌
 use Rattle.std.specs.Prelude.{is_some}
 use Rattle.std.specs.Option.{unwrap_or}
 use Rattle.std.proofs.lemmas.Bool.Decides.{nat_tests}
+use Rattle.k42_limits.specs.declared.TheConstants.{PASS_ENTRIES}
 use Rattle.gen_core.specs.Plain.{Caller}
 use Rattle.phase_core.specs.Plain.{Visitor}
 use Rattle.k42_kinds.specs.LayoutLaws.{IsReached}
@@ -10,7 +11,6 @@ use Rattle.k42_kinds.specs.declared.entry.Act.TheVariants.{Call}
 use Rattle.k42_kinds.specs.declared.entry.Answer.TheVariants.{Replied}
 use Rattle.k42_joined.specs.Drawing.{first_cell}
 use Rattle.k42_board.specs.Plan.{layouts_on}
-use Rattle.k42_board.specs.Generations.{MOST}
 use Rattle.k42_board.specs.Drawing.{MayDrawCall, drawn_at, entry_call, numbers_of}
 use Rattle.k42_board.specs.Log.{step_at, took}
 use Rattle.k42_board.specs.Phases.{is_served}
@@ -67,7 +67,7 @@ draw_call-stamp-requires-clause-may g c κs inside_lifetimes =
     subst (λ (k : ℕ). c.in_ok-reply.reply ≡ (g.L.Layout.ways layout).part_reply (unwrap_or content.part ((g.L.Layout.ways layout).empty k p)) op) count c.in_ok-reply.ensures.replied in
     let mine : length w.taker.mine ≡ length v.taker.mine = ap (λ (x : PassView _). length x.taker.mine) e ∙ ap length (mine_stays _ c.lock.result v) in
     let read = c.drawn.ensures in
-    let few : length w.taker.mine < MOST = grind (arith, nat_tests, c.if-drawn-ge1048576.false, mine, read) in
+    let few : length w.taker.mine < PASS_ENTRIES = grind (arith, nat_tests, c.if-drawn-ge-PASS_ENTRIES.false, mine, read) in
     subst (λ (z : List (Content _) × PassView _). MayDrawCall F c.args.sys.now.layouts z.0 op c.in_ok-reply.reply z.1) (λ k. (sym items k, sym same k))
     (may_draw F laws c.args.sys.now.layouts met.agrees content (log_taken n c.lock.new.pass.view.log) c.lock.new.pass.view w c.take-cell.ensures.moved.back.knows
     layout op inside.object inside.incarnation p is c.take-cell.ensures.number

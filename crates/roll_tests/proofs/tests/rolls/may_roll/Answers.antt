@@ -5,7 +5,7 @@ use Rattle.roll_tests.proofs.tests.rolls.may_roll.Goals as goal
 
 pub returns-clause-passes : goal.returns-clause-passes
 returns-clause-passes c = λ e.
-    may_roll c.args.system.now (length c.args.plan.now) c.args.passes.now c.requires (c.have_room.ensures c.if-not-have_room.false)
+    may_roll c.args.system.now c.args.passes.now c.requires
 
 pub returns-clause-objects : goal.returns-clause-objects
 returns-clause-objects c = λ e.

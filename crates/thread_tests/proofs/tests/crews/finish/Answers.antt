@@ -1,6 +1,7 @@
 use Rattle.std.proofs.Common.{rules, ◌≡◌, true, [], ◌∷◌, ◌++◌, sym, ap, ◌∙◌, subst}
 use Rattle.k42_rule.specs.Finishing.{AreAtRest, with_none_kept}
-use Rattle.thread_tests.proofs.Crews.{at_rest, given_at_rest}
+use Rattle.k42_rule.proofs.GivenLists.{given_at_rest}
+use Rattle.thread_tests.proofs.Crews.{at_rest}
 use Rattle.thread_tests.proofs.tests.crews.finish.Goals as goal
 
 pub finish-requires-after_bounds : goal.finish-requires-after_bounds
