@@ -1,10 +1,10 @@
--- Locking, taking, putting and unlocking keep the answers.
+-- Locking, taking, putting, unlocking and skipping keep the answers.
 use Rattle.std.proofs.Common.{◌≡◌, ℕ, ◌<◌, Bool, true, false, List, Option, Some, None, get_or, set, refl, inr}
 use Rattle.k42_places.proofs.Written.{get_or-set_related}
 use Rattle.turn_core.specs.declared.event.TurnEvent.{TurnEvent}
-use Rattle.turn_core.specs.declared.event.TurnEvent.TheVariants.{Lock, Take, Draw, Alone, Hand, Put, Unlock}
+use Rattle.turn_core.specs.declared.event.TurnEvent.TheVariants.{Lock, Take, Draw, Alone, Hand, Put, Unlock, Skip}
 use Rattle.turn_core.specs.Events as turn_events
-use Rattle.turn_core.specs.Events.{caller_locked, caller_unlocked}
+use Rattle.turn_core.specs.Events.{caller_locked, caller_unlocked, caller_skipped}
 use Rattle.turn_core.specs.Plain.{Caller, Turns}
 use Rattle.turn_core.specs.Sound.{drawn_by}
 use Rattle.turn_core.specs.State.{cell_at, caller_at, fresh_caller}
@@ -35,6 +35,7 @@ touched_drawn t (Lock c n) touch d = locked_drawn t c n d (cell_at t n).lock
 touched_drawn t (Take c n) touch d = refl
 touched_drawn t (Put c n) touch d = refl
 touched_drawn t (Unlock c n) touch d = same_drawn t.callers c d (caller_unlocked n (caller_at t c)) refl
+touched_drawn t (Skip c stamp) touch d = same_drawn t.callers c d (caller_skipped stamp (caller_at t c)) refl
 touched_drawn t event touch d = absurd (cc)
 
 module _ {L : Type 0} (s : Joined L) (answered : AreAnswered s) (event : TurnEvent) (touch : is_touch event ≡ true) where

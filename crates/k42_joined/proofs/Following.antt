@@ -5,7 +5,7 @@ use Rattle.std.specs.Prelude.{Some}
 use Rattle.std.proofs.lemmas.Option.{same_Some}
 use Rattle.k42_kinds.specs.declared.entry.Entry.{Entry}
 use Rattle.phase_core.specs.Event as phases
-use Rattle.turn_core.specs.declared.event.TurnEvent.TheVariants.{Lock, Take, Draw, Alone, Hand, Put, Unlock}
+use Rattle.turn_core.specs.declared.event.TurnEvent.TheVariants.{Lock, Take, Draw, Alone, Hand, Put, Unlock, Skip}
 use Rattle.k42_stamp.specs.Chains.{Chain}
 use Rattle.k42_stamp.specs.Hands.{handed}
 use Rattle.k42_stamp.specs.Laws.{AreLaws}
@@ -92,6 +92,7 @@ module _ {S L P : Type 0} (F : Layouts S L P) (laws : AreLaws F) (declared : Lis
   rows_stay (AtCells (Take c n)) possible else = touched cell_taken (λ y. record { closed = refl; life = refl; history = refl; past = refl }) n _
   rows_stay (AtCells (Put c n)) possible else = touched cell_put (λ y. record { closed = refl; life = refl; history = refl; past = refl }) n _
   rows_stay (AtCells (Unlock c n)) possible else = touched cell_unlocked (λ y. record { closed = refl; life = refl; history = refl; past = refl }) n _
+  rows_stay (AtCells (Skip c stamp)) possible else = same_rows (turns.effect s.turns (Skip c stamp)) _ (λ n. refl)
   rows_stay (AtCells (Alone c e)) possible else = same_rows (turns.effect s.turns (Alone c e)) _ (λ n. refl)
   rows_stay (AtCells (Draw c cells e)) possible else =
       let core = core_draw s.turns c cells e possible.may.core in

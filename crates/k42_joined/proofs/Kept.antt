@@ -9,7 +9,7 @@ use Rattle.phase_core.specs.Event as phase_events
 use Rattle.phase_core.proofs.Kept.{event_keeps}
 use Rattle.phase_core.proofs.Reached.{turn_there}
 use Rattle.turn_core.specs.declared.event.TurnEvent.{TurnEvent}
-use Rattle.turn_core.specs.declared.event.TurnEvent.TheVariants.{Lock, Take, Draw, Alone, Hand, Put, Unlock}
+use Rattle.turn_core.specs.declared.event.TurnEvent.TheVariants.{Lock, Take, Draw, Alone, Hand, Put, Unlock, Skip}
 use Rattle.turn_core.specs.Events as turn_events
 use Rattle.turn_core.specs.Events.{is_caller, holds, has_taken, has_open, has_beginning, is_next}
 use Rattle.turn_core.specs.Plain.{Turns}
@@ -29,11 +29,11 @@ use Rattle.k42_joined.proofs.AnswersCells.{draw_keeps_answers}
 use Rattle.k42_joined.proofs.AnswersDraws.{alone_answers, hand_answers}
 use Rattle.k42_joined.proofs.AnswersPhases.{phases_keep_answers}
 use Rattle.k42_joined.proofs.AnswersTouch.{touch_answers}
-use Rattle.k42_joined.proofs.LocksCells.{lock_keeps, take_keeps, put_keeps, unlock_keeps, alone_keeps, draw_keeps}
+use Rattle.k42_joined.proofs.LocksCells.{lock_keeps, take_keeps, put_keeps, unlock_keeps, skip_keeps, alone_keeps, draw_keeps}
 use Rattle.k42_joined.proofs.LocksHand.{core_hand, from_is_caller, hand_keeps}
 use Rattle.k42_joined.proofs.LocksPhases.{phases_keep_locks, held_there}
 use Rattle.k42_joined.proofs.RowsCalls.{draw_drawn}
-use Rattle.k42_joined.proofs.RowsCells.{lock_keeps_rows, take_keeps_rows, put_keeps_rows, unlock_keeps_rows, alone_keeps_rows}
+use Rattle.k42_joined.proofs.RowsCells.{lock_keeps_rows, take_keeps_rows, put_keeps_rows, unlock_keeps_rows, skip_keeps_rows, alone_keeps_rows}
 use Rattle.k42_joined.proofs.RowsDraw.{core_draw}
 use Rattle.k42_joined.proofs.RowsHand.{hand_keeps_rows, named}
 use Rattle.k42_joined.proofs.RowsPhases.{phases_keep_rows}
@@ -132,6 +132,15 @@ module _ {S L P : Type 0} (F : Layouts S L P) (laws : AreLaws F) (declared : Lis
         };
         answers = touch_answers s sound.answers (Unlock c n) refl;
       }
+  cells_keep (Skip c stamp) there may = record {
+    phases = sound.phases;
+    cells = record {
+      turns = turns_keep (Skip c stamp) there tt may.core;
+      locks = skip_keeps s sound.cells.locks c stamp;
+      rows = skip_keeps_rows F declared s sound.cells.rows c stamp;
+    };
+    answers = touch_answers s sound.answers (Skip c stamp) refl;
+  }
   cells_keep (Draw c cells e) there may =
       let core = core_draw s.turns c cells e may.core in
       let drawn = draw_drawn F laws declared s sound.phases sound.cells.turns sound.cells.locks sound.cells.rows sound.answers c cells e there core may.beside in

@@ -38,6 +38,7 @@ pub mod Readers
 pub mod AnswersTrace
 pub mod TraceAtRest
 pub mod SeenBelow
+pub mod Later
 pub mod OneChain
 pub mod Following
 pub mod Frame

@@ -1,11 +1,11 @@
--- Locking, taking, putting, unlocking and drawing keep locks and lives.
+-- Locking, taking, putting, unlocking, skipping and drawing keep locks and lives.
 use Rattle.std.proofs.Common.{◌≡◌, ℕ, ◌+◌, ◌%◌, ◌<◌, ◌≤◌, ◌≢◌, ◌∙◌, Bool, true, false, List, [], ◌∷◌, Option, Some, None, length, length-set, sym, refl, ap, subst, ⊎_elim, arith}
 use Rattle.std.proofs.lemmas.List.{get_or-set_other}
 use Rattle.std.proofs.lemmas.Option.{same_Some}
 use Rattle.std.proofs.lemmas.Bool.{cases_eq}
 use Rattle.k42_kinds.specs.declared.entry.Entry.{Entry}
 use Rattle.k42_places.proofs.Written.{get_or-set_related}
-use Rattle.turn_core.specs.declared.event.TurnEvent.TheVariants.{Lock, Take, Draw, Alone, Put, Unlock}
+use Rattle.turn_core.specs.declared.event.TurnEvent.TheVariants.{Lock, Take, Draw, Alone, Put, Unlock, Skip}
 use Rattle.turn_core.specs.Plain.{Cell, Caller, Turns}
 use Rattle.turn_core.specs.State.{cell_at, fresh_cell, change_cell, change_caller, change_cells}
 use Rattle.turn_core.specs.Names.{names}
@@ -146,6 +146,17 @@ module _ {L : Type 0} (s : Joined L) (locked : AreLocked s) where
 
   pub lock_keeps : (c n : ℕ) → n < length s.turns.cells → MayTouch s c n → AreLocked (record s { turns = turns.effect s.turns (Lock c n) })
   lock_keeps c n there may = lock_found c n there may (cell s n).lock
+
+  pub skip_keeps : (c stamp : ℕ) → AreLocked (record s { turns = turns.effect s.turns (Skip c stamp) })
+  skip_keeps c stamp =
+      lives_left s (turns.effect s.turns (Skip c stamp)) s.kept locked (record {
+        callers = length-set s.turns.callers c _;
+        cells = refl;
+        kept = refl;
+        lives = λ n. same_life (cell s n);
+        next = λ o p named within. refl;
+        held = λ n d lock. locked.held n d lock;
+      })
 
   pub alone_keeps : (c : ℕ) (entry : Entry) (abandons : Bool)
       → AreLocked (record s { turns = turns.effect s.turns (Alone c entry); kept = kept_drawn s c abandons })

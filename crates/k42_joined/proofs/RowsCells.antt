@@ -1,4 +1,5 @@
--- What changes no history keeps the rows: locking, taking, putting and unlocking, and an entry drawn at no cell.
+-- What changes no history keeps the rows: locking, taking, putting, unlocking and skipping, and an entry drawn at
+-- no cell.
 use Rattle.std.proofs.Common.{◌≡◌, ℕ, zero, suc, ◌/◌, ◌<◌, ◌∙◌, Bool, true, false, List, [], ◌∷◌, ◌++◌, Option, Some, None, length, map, get_or, set, refl, sym, ap, subst, inr, arith}
 use Rattle.std.specs.List.{slice_get}
 use Rattle.std.proofs.Math.Nat.{le_refl}
@@ -8,9 +9,9 @@ use Rattle.k42_kinds.specs.declared.entry.Act.TheVariants.{Call, Swap}
 use Rattle.k42_kinds.specs.declared.entry.Answer.{Answer}
 use Rattle.k42_kinds.specs.declared.entry.Answer.TheVariants.{Busy, Abandoned}
 use Rattle.k42_kinds.specs.declared.entry.Entry.{Entry}
-use Rattle.turn_core.specs.declared.event.TurnEvent.TheVariants.{Lock, Take, Alone, Put, Unlock}
+use Rattle.turn_core.specs.declared.event.TurnEvent.TheVariants.{Lock, Take, Alone, Put, Unlock, Skip}
 use Rattle.turn_core.specs.Events as turns
-use Rattle.turn_core.specs.Events.{cell_locked, cell_unlocked, cell_taken, cell_put, caller_locked, caller_unlocked, caller_drawn}
+use Rattle.turn_core.specs.Events.{cell_locked, cell_unlocked, cell_taken, cell_put, caller_locked, caller_unlocked, caller_drawn, caller_skipped}
 use Rattle.turn_core.specs.Plain.{Cell, Caller, Turns}
 use Rattle.turn_core.specs.Sound.{histories_of, drawn_by}
 use Rattle.turn_core.specs.State.{cell_at, caller_at, fresh_caller, change_cell}
@@ -114,6 +115,11 @@ module _ {S L P : Type 0} (F : Layouts S L P) (declared : List L) (s : Joined L)
 
   pub lock_keeps_rows : (c n : ℕ) → Fitting F declared (record s { turns = turns.effect s.turns (Lock c n) })
   lock_keeps_rows c n = lock_found c n (cell s n).lock
+
+  pub skip_keeps_rows : (c stamp : ℕ) → Fitting F declared (record s { turns = turns.effect s.turns (Skip c stamp) })
+  skip_keeps_rows c stamp =
+      told_keeps (turns.effect s.turns (Skip c stamp)) (λ n. refl)
+      (map-set_same (λ (x : Caller). x.mine) s.turns.callers c (caller_skipped stamp (caller_at s.turns c)) fresh_caller refl)
 
   -- an entry drawn at no cell
 

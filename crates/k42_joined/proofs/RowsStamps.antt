@@ -61,7 +61,7 @@ module _ (t : Turns) (sound : IsSound t) where
     above_own f is =
         let placed = in_place f (drawn_by t.callers c) is in
         let most = last-above (drawn_by t.callers c) placed.place f (lists-rise t c sound) placed.at in
-        let less = above_mine t c cells e next in
+        let less = above_mine t c cells e sound next in
         omega (arith, most, less)
 
     pub above_cell : (n : ℕ) → names cells n ≡ true → (f : Entry) → In f (cell_at t n).history → f.stamp < e.stamp

@@ -5,7 +5,7 @@ use Rattle.phase_core.specs.Event as phases
 use Rattle.phase_core.specs.Events as phase_events
 use Rattle.turn_core.specs.Events as turns
 use Rattle.turn_core.specs.declared.event.TurnEvent.{TurnEvent}
-use Rattle.turn_core.specs.declared.event.TurnEvent.TheVariants.{Lock, Take, Draw, Alone, Hand, Put, Unlock}
+use Rattle.turn_core.specs.declared.event.TurnEvent.TheVariants.{Lock, Take, Draw, Alone, Hand, Put, Unlock, Skip}
 use Rattle.k42_stamp.specs.Layouts.{Layouts}
 use Rattle.k42_joined.specs.Plain.{Joined}
 use Rattle.k42_joined.specs.Event.{Event, AtPhases, AtCells, HandWith, caller_of}
@@ -35,6 +35,7 @@ module _ {S L P : Type 0} (F : Layouts S L P) (declared : List L) (s : Joined L)
   BesideCells (Take c n) = MayTouch s c n
   BesideCells (Put c n) = MayTouch s c n
   BesideCells (Unlock c n) = ⊤
+  BesideCells (Skip c stamp) = ⊤
   BesideCells (Draw c cells entry) = MayDraw F declared s c cells entry
   BesideCells (Alone c entry) = MayDrawAlone s c entry
   BesideCells (Hand c from onto entry) = ⊥

@@ -16,7 +16,7 @@ ghost use Rattle.k42_joined.specs.Touching.{IsAloneAt};
 ghost use Rattle.k42_joined.specs.Frame.{cells_of, object_of, LeavesOthers};
 ghost use Rattle.k42_joined.specs.Rows.{AreRowsOf};
 ghost use Rattle.k42_joined.specs.Following.{FollowsDraw, FollowsHand, drawn_at};
-ghost use Rattle.turn_core.specs.declared.event.TurnEvent.TheVariants.{Draw};
+ghost use Rattle.turn_core.specs.declared.event.TurnEvent.TheVariants.{Draw, Skip};
 ghost use Rattle.k42_joined.specs.Rest.{IsAtRest, IsHistoryOf};
 ghost use Rattle.k42_joined.specs.Seen.{HasSeen, StandsAt, Drawn, drawn_by};
 ghost use Rattle.k42_joined.specs.Runs.{Leads, IsReached, Leaves, IsFreedOnce, TakesRow};
@@ -98,6 +98,17 @@ pub fn stamps_pass_what_was_seen<L: Layout>(procs: u32)
         (declared : List L) (s : Joined L) (event : Event L) (drawn : Drawn) (seen : Entry) →
         IsSound F declared s → IsPossible F declared s event → drawn_by event ≡ Some drawn →
         HasSeen s (caller_of event) seen ⊎ StandsAt s drawn.cells seen → seen.stamp < drawn.entry.stamp }
+{}
+
+/// What a caller draws after a skip, whatever comes between, is later than the stamp to which it skipped.
+pub fn what_follows_a_skip_is_later<L: Layout>(procs: u32)
+    requires { 0 < procs }
+    ensures { (proc_of : ℕ → ℕ) → ((caller : ℕ) → proc_of caller < procs) →
+        let F = layouts_with L.object L.tag_of L.ways L.whole L.serves L.admitted L.act_of procs proc_of in
+        (declared : List L) (s t : Joined L) (c stamp : ℕ) (events : List (Event L)) (event : Event L)
+        (drawn : Drawn) → IsSound F declared s → IsPossible F declared s (AtCells (Skip c stamp)) →
+        Leads F declared events (effect s (AtCells (Skip c stamp))) t → IsPossible F declared t event →
+        caller_of event ≡ c → drawn_by event ≡ Some drawn → stamp < drawn.entry.stamp }
 {}
 
 /// An event leaves all callers but its own, all cells that it does not name, and all objects but one.

@@ -4,10 +4,10 @@ use Rattle.std.specs.Prelude.{Result, Ok, Err, Option, Some, None}
 use Rattle.std.proofs.lemmas.List.{length-set}
 use Rattle.k42_memory.specs.declared.Memory.{Memory}
 use Rattle.turn_core.specs.declared.event.TurnEvent.{TurnEvent}
-use Rattle.turn_core.specs.declared.event.TurnEvent.TheVariants.{Lock, Take, Draw, Alone, Hand, Put, Unlock}
+use Rattle.turn_core.specs.declared.event.TurnEvent.TheVariants.{Lock, Take, Draw, Alone, Hand, Put, Unlock, Skip}
 use Rattle.turn_core.specs.Plain.{Turns}
 use Rattle.turn_core.specs.State.{cell_at, caller_at, change_caller, change_cells}
-use Rattle.turn_core.specs.Events.{effect, locked, cell_told, cell_begun, cell_closed, cell_taken, cell_put, cell_locked, cell_unlocked, caller_drawn, caller_locked, caller_unlocked}
+use Rattle.turn_core.specs.Events.{effect, locked, cell_told, cell_begun, cell_closed, cell_taken, cell_put, cell_locked, cell_unlocked, caller_drawn, caller_locked, caller_unlocked, caller_skipped}
 use Rattle.turn_core.specs.Applies.{Applies}
 use Rattle.turn_core.specs.Sound.{IsSound}
 use Rattle.turn_core.proofs.Changed.{length-change_cells, callers-change_cells}
@@ -37,6 +37,7 @@ as_many-effect s (Hand c from onto entry) =
     }
 as_many-effect s (Put c n) = record { cells = length-set s.cells n (cell_put (cell_at s n)); callers = refl }
 as_many-effect s (Unlock c n) = record { cells = length-set s.cells n (cell_unlocked (cell_at s n)); callers = length-set s.callers c (caller_unlocked n (caller_at s c)) }
+as_many-effect s (Skip c stamp) = record { cells = refl; callers = length-set s.callers c (caller_skipped stamp (caller_at s c)) }
 
 pub as_many-after : (result : Result Bool Memory) (s t : Turns) (event : TurnEvent) → Applies result s t event → HasAsMany s t
 as_many-after (Ok true) s t event applies = subst (HasAsMany s) (sym applies.1) (as_many-effect s event)

@@ -4,11 +4,11 @@ use Rattle.std.specs.Prelude.{Option, Some, None}
 use Rattle.std.proofs.lemmas.List.{get_or-set_other}
 use Rattle.std.proofs.lemmas.List.Folds.{list_any-append}
 use Rattle.turn_core.specs.declared.event.TurnEvent.{TurnEvent}
-use Rattle.turn_core.specs.declared.event.TurnEvent.TheVariants.{Lock, Take, Draw, Alone, Hand, Put, Unlock}
+use Rattle.turn_core.specs.declared.event.TurnEvent.TheVariants.{Lock, Take, Draw, Alone, Hand, Put, Unlock, Skip}
 use Rattle.turn_core.specs.Plain.{Cell, Caller, Turns}
 use Rattle.turn_core.specs.State.{cell_at, caller_at, fresh_caller, change_cell, change_caller, change_cells}
 use Rattle.turn_core.specs.Names.{names}
-use Rattle.turn_core.specs.Events.{caller_of, cells_of, is_possible, effect, locked, cell_locked, cell_unlocked, cell_taken, cell_put, cell_told, cell_begun, cell_closed, caller_locked, caller_unlocked, caller_drawn}
+use Rattle.turn_core.specs.Events.{caller_of, cells_of, is_possible, effect, locked, cell_locked, cell_unlocked, cell_taken, cell_put, cell_told, cell_begun, cell_closed, caller_locked, caller_unlocked, caller_drawn, caller_skipped}
 use Rattle.turn_core.specs.Runs.{happens}
 use Rattle.turn_core.proofs.Named.{first_not, further_not, cell_at-change_else}
 use Rattle.turn_core.proofs.Changed.{callers-change_cells}
@@ -42,6 +42,7 @@ caller-effect s (Hand c from onto entry) d apart =
     caller-change_cells cell_closed (change_cells (cell_begun entry) mine onto) from d ∙ caller-change_cells (cell_begun entry) mine onto d ∙ caller-change_else (caller_drawn entry) s c d apart
 caller-effect s (Put c n) d apart = refl
 caller-effect s (Unlock c n) d apart = caller-change_else (caller_unlocked n) (change_cell cell_unlocked s n) c d apart
+caller-effect s (Skip c stamp) d apart = caller-change_else (caller_skipped stamp) s c d apart
 
 cell-effect : (s : Turns) (event : TurnEvent) (m : ℕ) → names (cells_of event) m ≡ false → cell_at (effect s event) m ≡ cell_at s m
 cell-effect s (Lock c n) m unnamed = go (cell_at s n).lock where
@@ -57,6 +58,7 @@ cell-effect s (Hand c from onto entry) m unnamed =
     cell-change_cells cell_closed (change_cells (cell_begun entry) mine onto) from m parts.0 ∙ cell-change_cells (cell_begun entry) mine onto m parts.1
 cell-effect s (Put c n) m unnamed = cell_at-change_else cell_put s n m (first_not n m [] unnamed)
 cell-effect s (Unlock c n) m unnamed = cell_at-change_else cell_unlocked s n m (first_not n m [] unnamed)
+cell-effect s (Skip c stamp) m unnamed = refl
 
 pub caller-happens : (s : Turns) (event : TurnEvent) (d : ℕ) → d ≢ caller_of event → caller_at (happens s event) d ≡ caller_at s d
 caller-happens s event d apart = go (is_possible s event) where

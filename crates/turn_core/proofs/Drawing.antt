@@ -11,12 +11,12 @@ use Rattle.k42_places.proofs.Appended.{at_push}
 use Rattle.k42_places.proofs.Written.{get_or-set_related}
 use Rattle.k42_kinds.specs.declared.entry.Entry.{Entry}
 use Rattle.turn_core.specs.Plain.{Cell, Caller, Turns}
-use Rattle.turn_core.specs.State.{cell_at, caller_at, fresh_cell, fresh_caller, change_cell, change_cells}
+use Rattle.turn_core.specs.State.{cell_at, caller_at, clock_of, fresh_cell, fresh_caller, change_cell, change_cells}
 use Rattle.turn_core.specs.Names.{names}
 use Rattle.turn_core.specs.Events.{caller_drawn, cell_told, cell_opened, cell_begun, is_next}
 use Rattle.turn_core.specs.Stamps.{stamp_of, last_stamp, last_stamp_at, next_stamp}
 use Rattle.turn_core.specs.Sound.{drawn_by, holder_of, entries_drawn, histories_of, StandsIn, IsHistory, IsCell, IsOwn, IsCaller, IsSound}
-use Rattle.turn_core.proofs.Rising.{rising-push}
+use Rattle.turn_core.proofs.Rising.{rising-push, last_stamp-push}
 use Rattle.turn_core.proofs.Growing.{with_drawn, held_by-drawn, entries-drawn, history-kept, history-push, history-one, each_last, each_front, each_push}
 
 -- the last stamp of each named cell is known to the stamp drawn there
@@ -73,8 +73,18 @@ pub record IsDraw (s t : Turns) (c : ℕ) (cells : List ℕ) (entry : Entry) : T
   pub many : length t.cells ≡ length s.cells
   pub holders : (n : ℕ) → holder_of t.cells n ≡ holder_of s.cells n
 
-pub above_mine : (s : Turns) (c : ℕ) (cells : List ℕ) (entry : Entry) → IsNext s c cells entry → last_stamp (drawn_by s.callers c) < entry.stamp
-above_mine s c cells entry next = omega (arith, next.stamp)
+-- the clock of a caller is at least the last stamp of its list
+pub clock-above : (s : Turns) (c : ℕ) → IsSound s → last_stamp (drawn_by s.callers c) ≤ clock_of s c
+clock-above s c sound = elim (cases_lt c (length s.callers)) [
+  | inl there ↦ (sound.callers c (caller_at s c) (slice_get-get_or s.callers c fresh_caller there)).clocked
+  | inr past ↦ subst (λ (x : Caller). last_stamp x.mine ≤ x.clock) (sym (get_or_past s.callers c fresh_caller past)) (omega arith)
+]
+
+pub above_clock : (s : Turns) (c : ℕ) (cells : List ℕ) (entry : Entry) → IsNext s c cells entry → clock_of s c < entry.stamp
+above_clock s c cells entry next = omega (arith, next.stamp)
+
+pub above_mine : (s : Turns) (c : ℕ) (cells : List ℕ) (entry : Entry) → IsSound s → IsNext s c cells entry → last_stamp (drawn_by s.callers c) < entry.stamp
+above_mine s c cells entry sound next = omega (arith, clock-above s c sound, above_clock s c cells entry next)
 
 pub above_history : (s : Turns) (c : ℕ) (cells : List ℕ) (entry : Entry) (n : ℕ) → IsNext s c cells entry → names cells n ≡ true → last_stamp (cell_at s n).history < entry.stamp
 above_history s c cells entry n next named = omega (arith, next.stamp, last_stamp-known s cells n named)
@@ -82,17 +92,19 @@ above_history s c cells entry n next named = omega (arith, next.stamp, last_stam
 pub drawer-kept : (s : Turns) (c : ℕ) (cells : List ℕ) (entry : Entry) → IsSound s → c < length s.callers → IsNext s c cells entry → IsCaller s.cells (entries_drawn s.callers + 1) c (caller_drawn entry (caller_at s c))
 drawer-kept s c cells entry sound there next =
     let old = sound.callers c (caller_at s c) (slice_get-get_or s.callers c fresh_caller there) in
-    let mine_bounded : last_stamp (drawn_by s.callers c) ≤ entries_drawn s.callers = last-most (entries_drawn s.callers) (drawn_by s.callers c) old.bounded in
+    let bound : entry.stamp ≤ entries_drawn s.callers + 1 = omega (arith, next.stamp, old.clock, last_stamp_at-bounded s cells sound) in
     record {
-      rising = rising-push (caller_at s c).mine entry old.rising (above_mine s c cells entry next);
+      rising = rising-push (caller_at s c).mine entry old.rising (above_mine s c cells entry sound next);
       own = λ i other e. elim (at_push (caller_at s c).mine entry i other e) [
         | inl was ↦ old.own i other was.1
         | inr is ↦ subst (IsOwn c i) is.1 (record { caller = next.caller; index = next.index ∙ sym is.0 })
       ];
       bounded = λ i other e. elim (at_push (caller_at s c).mine entry i other e) [
         | inl was ↦ omega (arith, old.bounded i other was.1)
-        | inr is ↦ rw (← is.1) (omega (arith, next.stamp, mine_bounded, last_stamp_at-bounded s cells sound))
+        | inr is ↦ rw (← is.1) bound
       ];
+      clocked = omega (arith, last_stamp-push (caller_at s c).mine entry);
+      clock = bound;
       holds = old.holds;
       there = old.there;
       once = old.once;
@@ -104,6 +116,8 @@ other-kept s t c cells entry d x draw old = record {
   rising = old.rising;
   own = old.own;
   bounded = λ i other e. omega (arith, old.bounded i other e);
+  clocked = old.clocked;
+  clock = omega (arith, old.clock);
   holds = λ n held. draw.holders n ∙ old.holds n held;
   there = λ n held. omega (arith, old.there n held, draw.many);
   once = old.once;
@@ -119,6 +133,8 @@ callers-kept s t c cells entry sound draw =
         rising = kept.rising;
         own = kept.own;
         bounded = kept.bounded;
+        clocked = kept.clocked;
+        clock = kept.clock;
         holds = λ n held. draw.holders n ∙ kept.holds n held;
         there = λ n held. omega (arith, kept.there n held, draw.many);
         once = kept.once;

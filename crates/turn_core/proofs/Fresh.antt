@@ -1,5 +1,5 @@
 -- A state that was just made meets every fact.
-use Rattle.std.proofs.Common.{◌≡◌, ℕ, List, [], refl, sym, subst}
+use Rattle.std.proofs.Common.{◌≡◌, ℕ, List, [], refl, sym, subst, arith}
 use Rattle.std.proofs.lemmas.Option.{none-some}
 use Rattle.k42_places.proofs.EachPlaces.{EachPlace-map, EachPlace-replicate}
 use Rattle.turn_core.specs.Plain.{Turns}
@@ -19,6 +19,8 @@ sound-fresh lives callers = record {
     rising = λ i j earlier later before at_i at_j. cc;
     own = λ i entry f. cc;
     bounded = λ i entry f. cc;
+    clocked = omega arith;
+    clock = omega arith;
     holds = λ n held. cc;
     there = λ n held. cc;
     once = refl;

@@ -4,13 +4,14 @@ use Rattle.std.specs.Prelude.{All, Option, Some, None}
 use Rattle.std.proofs.lemmas.Bool.Decides.{nat_tests}
 use Rattle.std.proofs.lemmas.Bool.{and_parts}
 use Rattle.turn_core.specs.declared.event.TurnEvent.{TurnEvent}
-use Rattle.turn_core.specs.declared.event.TurnEvent.TheVariants.{Lock, Take, Draw, Alone, Hand, Put, Unlock}
+use Rattle.turn_core.specs.declared.event.TurnEvent.TheVariants.{Lock, Take, Draw, Alone, Hand, Put, Unlock, Skip}
 use Rattle.turn_core.specs.Plain.{Turns}
 use Rattle.turn_core.specs.State.{cell_at}
 use Rattle.turn_core.specs.Events.{caller_of, cells_of, is_caller, holds, is_possible, effect, cell_taken, cell_put, locked}
 use Rattle.turn_core.specs.Sound.{IsSound}
 use Rattle.turn_core.proofs.Locking.{keeps_moved, keeps_lock, keeps_unlock}
 use Rattle.turn_core.proofs.Drawn.{keeps_alone, keeps_draw, keeps_hand}
+use Rattle.turn_core.proofs.Skipping.{keeps_skip}
 
 -- the event's caller and its cells are there
 pub record IsInRange (s : Turns) (event : TurnEvent) : Type 0 where
@@ -41,3 +42,4 @@ keeps_effect s (Put c n) sound range possible =
 keeps_effect s (Unlock c n) sound range possible =
     let parts = and_parts (holds s c n) (cell_at s n).home possible in
     keeps_unlock s c n sound range.caller (first_there s n range.cells) (held_is (cell_at s n).lock c parts.0) parts.1
+keeps_effect s (Skip c stamp) sound range possible = keeps_skip s c stamp sound range.caller possible

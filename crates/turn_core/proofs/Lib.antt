@@ -6,8 +6,10 @@ pub mod Growing
 pub mod Drawing
 pub mod Drawn
 pub mod Locking
+pub mod Skipping
 pub mod Kept
 pub mod After
 pub mod Fresh
 pub mod Reached
 pub mod Alone
+pub mod Later

@@ -35,6 +35,8 @@ keeps_moved changed locks histories s n there sound away =
         rising = kept.rising;
         own = kept.own;
         bounded = kept.bounded;
+        clocked = kept.clocked;
+        clock = kept.clock;
         holds = λ m held. same_holder changed locks s (n ∷ []) m ∙ kept.holds m held;
         there = λ m held. omega (arith, kept.there m held, length-set s.cells n (changed (cell_at s n)));
         once = kept.once;
@@ -201,6 +203,8 @@ keeps_lock s c n sound c_there n_there free =
         rising = kept.rising;
         own = kept.own;
         bounded = λ i entry e. omega (arith, kept.bounded i entry e, same);
+        clocked = kept.clocked;
+        clock = omega (arith, kept.clock, same);
         holds = λ m held. still d m (kept.holds m held);
         there = λ m held. omega (arith, kept.there m held, length-set s.cells n (cell_locked c (cell_at s n)));
         once = kept.once;
@@ -211,6 +215,8 @@ keeps_lock s c n sound c_there n_there free =
         rising = kept.rising;
         own = kept.own;
         bounded = λ i entry e. omega (arith, kept.bounded i entry e, same);
+        clocked = kept.clocked;
+        clock = omega (arith, kept.clock, same);
         holds = λ m held. elim (eqb_tells m n) [
           | inl here ↦ subst (λ k. holder_of cells k ≡ Some c) (sym here.1) (holder-here (cell_locked c) s n n_there)
           | inr apart ↦ still c m (kept.holds m (names-push_other (caller_at s c).held n m apart.1 held))
@@ -267,6 +273,8 @@ keeps_unlock s c n sound c_there n_there locked home =
         rising = kept.rising;
         own = kept.own;
         bounded = λ i entry e. omega (arith, kept.bounded i entry e, same);
+        clocked = kept.clocked;
+        clock = omega (arith, kept.clock, same);
         holds = λ m held. elim (eqb_tells m n) [
           | inl here ↦ absurd (another (same_Some d c (sym (kept.holds m held) ∙ ap (holder_of s.cells) here.1 ∙ locked)))
           | inr apart ↦ holder-else cell_unlocked s n m apart.1 ∙ kept.holds m held
@@ -280,6 +288,8 @@ keeps_unlock s c n sound c_there n_there locked home =
         rising = kept.rising;
         own = kept.own;
         bounded = λ i entry e. omega (arith, kept.bounded i entry e, same);
+        clocked = kept.clocked;
+        clock = omega (arith, kept.clock, same);
         holds = λ m held. let named = names-without (caller_at s c).held n m held in holder-else cell_unlocked s n m named.1 ∙ kept.holds m named.0;
         there = λ m held. omega (arith, kept.there m (names-without (caller_at s c).held n m held).0, length-set s.cells n (cell_unlocked (cell_at s n)));
         once = once-without (caller_at s c).held n kept.once;

@@ -3,13 +3,19 @@ use Rattle.std.proofs.Common.{◌≡◌, ℕ, zero, suc, ◌-◌, ◌<◌, ◌�
 use Rattle.std.specs.Prelude.{Some, slice_get}
 use Rattle.std.proofs.lemmas.Option.{slice_get_within, slice_get-get_or}
 use Rattle.std.proofs.lemmas.Bool.{cases_lt}
-use Rattle.k42_places.proofs.Appended.{at_push}
+use Rattle.std.proofs.lemmas.List.{length-append}
+use Rattle.k42_places.proofs.Appended.{at_push, slice_get-append_seam}
 use Rattle.k42_kinds.specs.declared.entry.Entry.{Entry}
 use Rattle.turn_core.specs.Stamps.{stamp_of, last_stamp}
 use Rattle.turn_core.specs.Sound.{IsRising}
 
 stamp_of-last : (entries : List Entry) (last : Entry) → slice_get entries (length entries - 1) ≡ Some last → last_stamp entries ≡ last.stamp
 stamp_of-last entries last e = ap stamp_of e
+
+pub last_stamp-push : (entries : List Entry) (entry : Entry) → last_stamp (entries ++ entry ∷ []) ≡ entry.stamp
+last_stamp-push entries entry =
+    let last : length (entries ++ entry ∷ []) - 1 ≡ length entries = omega (arith, length-append entries (entry ∷ [])) in
+    rw last (ap stamp_of (slice_get-append_seam entries entry []))
 
 -- no stamp of a list that rises is above its last
 pub last-above : (entries : List Entry) (i : ℕ) (entry : Entry) → IsRising entries → slice_get entries i ≡ Some entry → entry.stamp ≤ last_stamp entries

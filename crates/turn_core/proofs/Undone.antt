@@ -5,7 +5,7 @@ use Rattle.std.proofs.lemmas.List.{get_or-set_same, set-set, set-get_or, length-
 use Rattle.std.proofs.Math.Seq.{take-append_seam, get_or-append_seam}
 use Rattle.k42_kinds.specs.declared.entry.Entry.{Entry}
 use Rattle.turn_core.specs.Plain.{Cell, Caller, Turns}
-use Rattle.turn_core.specs.State.{cell_at, caller_at, fresh_cell, fresh_caller, put_cell, change_cell, change_caller}
+use Rattle.turn_core.specs.State.{cell_at, caller_at, clock_of, fresh_cell, fresh_caller, put_cell, change_cell, change_caller}
 use Rattle.turn_core.specs.Events.{cell_told, cell_opened, cell_begun, caller_drawn}
 use Rattle.turn_core.specs.Undoing.{cell_untold, cell_reclosed, cell_unbegun, caller_undrawn}
 
@@ -58,8 +58,8 @@ unbegun entry s n false there closed = undone (cell_begun entry) cell_untold s n
   told_again : (x : Cell) → x.closed ≡ false → cell_begun entry x ≡ cell_told entry x
   told_again x closed = rw closed refl
 
-pub undrawn : (entry : Entry) (s : Turns) (c : ℕ) → c < length s.callers → change_caller caller_undrawn (change_caller (caller_drawn entry) s c) c ≡ s
+pub undrawn : (entry : Entry) (s : Turns) (c : ℕ) → c < length s.callers → change_caller (caller_undrawn (clock_of s c)) (change_caller (caller_drawn entry) s c) c ≡ s
 undrawn entry s c there =
-    ap (λ callers. record s { callers = callers }) (rw (get_or-set_same s.callers c (caller_drawn entry (caller_at s c)) fresh_caller there) (set-set s.callers c (caller_drawn entry (caller_at s c)) (caller_undrawn (caller_drawn entry (caller_at s c))) ∙ ap (set s.callers c) (undrawn_again (caller_at s c)) ∙ set-get_or s.callers c fresh_caller)) where
-      undrawn_again : (x : Caller) → caller_undrawn (caller_drawn entry x) ≡ x
+    ap (λ callers. record s { callers = callers }) (rw (get_or-set_same s.callers c (caller_drawn entry (caller_at s c)) fresh_caller there) (set-set s.callers c (caller_drawn entry (caller_at s c)) (caller_undrawn (clock_of s c) (caller_drawn entry (caller_at s c))) ∙ ap (set s.callers c) (undrawn_again (caller_at s c)) ∙ set-get_or s.callers c fresh_caller)) where
+      undrawn_again : (x : Caller) → caller_undrawn x.clock (caller_drawn entry x) ≡ x
       undrawn_again x = ap (λ mine. record x { mine = mine }) (without_last x.mine entry)

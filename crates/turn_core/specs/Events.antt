@@ -1,9 +1,10 @@
 -- For each event where it is possible and what its effect is.
-use Rattle.std.specs.Prelude.{ℕ, ◌+◌, ◌-◌, ◌^◌, Bool, true, false, not, ◌&&◌, ◌==◌, nat_lt, if◌then◌else◌, List, [], ◌∷◌, ◌++◌, length, Option, Some, None}
-use Rattle.std.specs.List.{list_all, filter}
+use Rattle.std.specs.Prelude.{ℕ, ◌+◌, ◌-◌, ◌^◌, Bool, true, false, not, ◌&&◌, ◌==◌, nat_lt, nat_le, max, if◌then◌else◌}
+use Rattle.std.specs.Prelude.{List, [], ◌∷◌, ◌++◌, length, Option, Some, None}
+use Rattle.std.specs.List.{list_all, list_any, filter}
 use Rattle.k42_kinds.specs.declared.entry.Entry.{Entry}
 use Rattle.turn_core.specs.declared.event.TurnEvent.{TurnEvent}
-use Rattle.turn_core.specs.declared.event.TurnEvent.TheVariants.{Lock, Take, Draw, Alone, Hand, Put, Unlock}
+use Rattle.turn_core.specs.declared.event.TurnEvent.TheVariants.{Lock, Take, Draw, Alone, Hand, Put, Unlock, Skip}
 use Rattle.turn_core.specs.Plain.{Cell, Caller, Turns}
 use Rattle.turn_core.specs.State.{cell_at, caller_at, change_cell, change_caller, change_cells}
 use Rattle.turn_core.specs.Names.{names_once}
@@ -59,6 +60,10 @@ can_hand s c from onto entry =
     names_once (from ++ onto) && list_all (has_open s c) from && list_all (has_beginning s c) onto
     && is_next s c (from ++ onto) entry
 
+-- some caller's clock is at least the stamp
+abbrev pub is_known : Turns → ℕ → Bool
+is_known s stamp = list_any (λ x. nat_le stamp x.clock) s.callers
+
 -- whether an event is possible
 abbrev pub is_possible : Turns → TurnEvent → Bool
 is_possible s (Lock c n) = not (holds s c n)
@@ -68,6 +73,7 @@ is_possible s (Alone c entry) = is_next s c [] entry
 is_possible s (Hand c from onto entry) = can_hand s c from onto entry
 is_possible s (Put c n) = has_taken s c n
 is_possible s (Unlock c n) = holds_home s c n
+is_possible s (Skip c stamp) = is_known s stamp
 
 -- one cell and one caller after an event
 
@@ -104,7 +110,11 @@ abbrev pub caller_unlocked : ℕ → Caller → Caller
 caller_unlocked n x = record x { held = filter (λ m. not (m == n)) x.held }
 
 abbrev pub caller_drawn : Entry → Caller → Caller
-caller_drawn entry x = record x { mine = x.mine ++ entry ∷ [] }
+caller_drawn entry x = record x { mine = x.mine ++ entry ∷ []; clock = entry.stamp }
+
+-- its clock is at least the stamp
+abbrev pub caller_skipped : ℕ → Caller → Caller
+caller_skipped stamp x = record x { clock = max x.clock stamp }
 
 -- the state after an event of the caller
 
@@ -130,8 +140,9 @@ effect s (Alone c entry) = change_caller (caller_drawn entry) s c
 effect s (Hand c from onto entry) = handed s c from onto entry
 effect s (Put c n) = change_cell cell_put s n
 effect s (Unlock c n) = change_caller (caller_unlocked n) (change_cell cell_unlocked s n) c
+effect s (Skip c stamp) = change_caller (caller_skipped stamp) s c
 
--- the caller of an event, and the cells that it names
+-- the caller of an event, the cells that it names, and what it draws
 abbrev pub caller_of : TurnEvent → ℕ
 caller_of (Lock c n) = c
 caller_of (Take c n) = c
@@ -140,6 +151,7 @@ caller_of (Alone c entry) = c
 caller_of (Hand c from onto entry) = c
 caller_of (Put c n) = c
 caller_of (Unlock c n) = c
+caller_of (Skip c stamp) = c
 
 abbrev pub cells_of : TurnEvent → List ℕ
 cells_of (Lock c n) = n ∷ []
@@ -149,3 +161,10 @@ cells_of (Alone c entry) = []
 cells_of (Hand c from onto entry) = from ++ onto
 cells_of (Put c n) = n ∷ []
 cells_of (Unlock c n) = n ∷ []
+cells_of (Skip c stamp) = []
+
+abbrev pub drawn_in : TurnEvent → Option Entry
+drawn_in (Draw c cells entry) = Some entry
+drawn_in (Alone c entry) = Some entry
+drawn_in (Hand c from onto entry) = Some entry
+drawn_in event = None

@@ -13,6 +13,8 @@ pub record Cell : Type 0 where
 pub record Caller : Type 0 where
   pub held : List ℕ
   pub mine : List Entry
+  -- no stamp of its list is above it, and what it draws next bears a greater one
+  pub clock : ℕ
 
 pub record Turns : Type 0 where
   pub cells : List Cell

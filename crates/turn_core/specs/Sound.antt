@@ -5,6 +5,7 @@ use Rattle.k42_places.specs.Places.{EachPlace}
 use Rattle.turn_core.specs.Plain.{Cell, Caller, Turns}
 use Rattle.turn_core.specs.State.{fresh_cell, fresh_caller}
 use Rattle.turn_core.specs.Names.{names, names_once}
+use Rattle.turn_core.specs.Stamps.{last_stamp}
 
 abbrev pub held_by : List Caller → ℕ → List ℕ
 held_by callers c = (slice_index_or callers c fresh_caller).held
@@ -51,12 +52,14 @@ pub record IsOwn (c place : ℕ) (entry : Entry) : Type 0 where
   pub caller : entry.caller ≡ c
   pub index : entry.index ≡ place
 
--- The stamps of a caller rise, none is above the number of entries, each entry is its own, and the cells
--- that it lists are those that it holds, each once.
+-- The stamps of a caller rise, none is above its clock or the number of entries, each entry is its own, and
+-- the cells that it lists are those that it holds, each once.
 pub record IsCaller (cells : List Cell) (entries : ℕ) (c : ℕ) (x : Caller) : Type 0 where
   pub rising : IsRising x.mine
   pub own : EachPlace (IsOwn c) x.mine
   pub bounded : EachPlace (λ place entry. entry.stamp ≤ entries) x.mine
+  pub clocked : last_stamp x.mine ≤ x.clock
+  pub clock : x.clock ≤ entries
   pub holds : (n : ℕ) → names x.held n ≡ true → holder_of cells n ≡ Some c
   pub there : (n : ℕ) → names x.held n ≡ true → n < length cells
   pub once : names_once x.held ≡ true

@@ -1,8 +1,8 @@
--- The stamp that a draw bears: Lamport's rule, over the drawer's entries and those of the cells.
+-- The stamp that a draw bears: Lamport's rule, over the drawer's clock and the entries of the cells.
 use Rattle.std.specs.Prelude.{ℕ, ◌+◌, ◌-◌, List, [], ◌∷◌, length, max, Option, Some, None, slice_get}
 use Rattle.k42_kinds.specs.declared.entry.Entry.{Entry}
 use Rattle.turn_core.specs.Plain.{Turns}
-use Rattle.turn_core.specs.State.{cell_at, caller_at}
+use Rattle.turn_core.specs.State.{cell_at, clock_of}
 
 -- the stamp of an entry, 0 where there is none
 abbrev pub stamp_of : Option Entry → ℕ
@@ -18,6 +18,6 @@ abbrev pub last_stamp_at : Turns → List ℕ → ℕ
 last_stamp_at s [] = 0
 last_stamp_at s (n ∷ cells) = max (last_stamp (cell_at s n).history) (last_stamp_at s cells)
 
--- one more than the greatest last stamp that the caller and the cells know
+-- one more than the caller's clock, and than the last stamps of the cells
 abbrev pub next_stamp : Turns → ℕ → List ℕ → ℕ
-next_stamp s c cells = max (last_stamp (caller_at s c).mine) (last_stamp_at s cells) + 1
+next_stamp s c cells = max (clock_of s c) (last_stamp_at s cells) + 1

@@ -9,7 +9,7 @@ fresh_cell life = record { lock = None; home = true; closed = false; life = life
 
 -- a caller that holds nothing and has drawn nothing
 abbrev pub fresh_caller : Caller
-fresh_caller = record { held = []; mine = [] }
+fresh_caller = record { held = []; mine = []; clock = 0 }
 
 -- a cell for each of these lives, and so many callers
 abbrev pub fresh_cells : List ℕ → List Cell
@@ -33,6 +33,9 @@ cell_at s n = slice_index_or s.cells n (fresh_cell 0)
 
 abbrev pub caller_at : Turns → ℕ → Caller
 caller_at s c = slice_index_or s.callers c fresh_caller
+
+abbrev pub clock_of : Turns → ℕ → ℕ
+clock_of s c = (caller_at s c).clock
 
 abbrev pub put_cell : Turns → ℕ → Cell → Turns
 put_cell s n x = record s { cells = slice_set s.cells n x }

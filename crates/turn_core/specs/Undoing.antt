@@ -1,5 +1,5 @@
 -- What gives back a step for which there was no memory in the end.
-use Rattle.std.specs.Prelude.{◌-◌, Bool, true, if◌then◌else◌, List, [], take, length, slice_index_or}
+use Rattle.std.specs.Prelude.{ℕ, ◌-◌, Bool, true, if◌then◌else◌, List, [], take, length, slice_index_or}
 use Rattle.k42_kinds.specs.declared.entry.Entry.{Entry}
 use Rattle.turn_core.specs.Plain.{Cell, Caller}
 
@@ -24,6 +24,6 @@ cell_reclosed x = record x {
 abbrev pub cell_unbegun : Bool → Cell → Cell
 cell_unbegun was_closed x = if was_closed then cell_reclosed x else cell_untold x
 
--- without the last of its entries
-abbrev pub caller_undrawn : Caller → Caller
-caller_undrawn x = record x { mine = take (length x.mine - 1) x.mine }
+-- without the last of its entries, and with the clock that it had before
+abbrev pub caller_undrawn : ℕ → Caller → Caller
+caller_undrawn clock x = record x { mine = take (length x.mine - 1) x.mine; clock = clock }

@@ -10,24 +10,27 @@ use k42_kinds::Entry;
 use k42_memory::Memory;
 
 impl TurnState {
-    /// The caller has drawn an entry. Want of memory leaves the state.
+    /// The caller has drawn an entry, to whose stamp its clock is set. Want of memory leaves the state.
     pub(crate) fn add_mine(&mut self, c: u32, entry: &Entry) -> Result<(), Memory>
         requires { c < length self.old.callers }
         ensures ok { OnOk result (self.new ≡ change_caller (caller_drawn entry.now) self.old c) }
         ensures memory { OnErr result (self.new ≡ self.old) }
     {
         let caller = &mut self.callers[c as usize];
-        entry.push_onto(&mut caller.mine)
+        entry.push_onto(&mut caller.mine)?;
+        caller.clock = entry.stamp;
+        Ok(())
     }
 
-    /// Takes the last entry of a caller back.
-    pub(crate) fn undraw(&mut self, c: u32)
+    /// Takes the last entry of a caller back, whose clock was this before.
+    pub(crate) fn undraw(&mut self, c: u32, clock: u64)
         requires { c < length self.old.callers }
-        ensures { self.new ≡ change_caller caller_undrawn self.old c }
+        ensures { self.new ≡ change_caller (caller_undrawn clock) self.old c }
     {
         let caller = &mut self.callers[c as usize];
         let drawn = caller.mine.len();
         caller.mine.truncate(drawn.saturating_sub(1));
+        caller.clock = clock;
     }
 
     /// The caller holds one cell more. Want of memory leaves the state.

@@ -19,4 +19,6 @@ pub enum TurnEvent {
     Put(u32, u32),
     /// Gives a cell free.
     Unlock(u32, u32),
+    /// Raises its clock to a stamp that was drawn, so that what it draws next is later.
+    Skip(u32, u64),
 }

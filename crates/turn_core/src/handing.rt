@@ -176,10 +176,11 @@ impl TurnState {
         ensures ok { OnOk result (self.new ≡ handed self.old c from.now onto.now entry.now) }
         ensures memory { OnErr result (self.new ≡ self.old) }
     {
+        let clock = self.clock(c);
         self.add_mine(c, entry)?;
         let begun = self.begin_all(alloc, onto, entry);
         if begun.is_err() {
-            self.undraw(c);
+            self.undraw(c, clock);
         } else {
             self.close_all(from);
         }

@@ -1,13 +1,14 @@
 //! What holds of cells, histories and lists, whatever events come.
-ghost use Rattle.std.specs.Prelude.{◌≡◌, ◌≢◌, ℕ, ◌≤◌, List, Some, slice_get, IsFalse};
+ghost use Rattle.std.specs.Prelude.{◌≡◌, ◌≢◌, ℕ, ◌<◌, ◌≤◌, List, length, Some, slice_get, IsFalse, IsTrue};
 ghost use Rattle.k42_kinds.specs.declared.entry.Entry.{Entry};
 ghost use Rattle.turn_core.specs.declared.event.TurnEvent.{TurnEvent};
+ghost use Rattle.turn_core.specs.declared.event.TurnEvent.TheVariants.{Skip};
 ghost use Rattle.turn_core.specs.Plain.{Turns};
-ghost use Rattle.turn_core.specs.State.{caller_at, cell_at};
+ghost use Rattle.turn_core.specs.State.{caller_at, cell_at, clock_of};
 ghost use Rattle.turn_core.specs.Names.{names};
-ghost use Rattle.turn_core.specs.Events.{caller_of, cells_of};
+ghost use Rattle.turn_core.specs.Events.{caller_of, cells_of, drawn_in, is_possible};
 ghost use Rattle.turn_core.specs.Sound.{drawn_by, entries_drawn, IsRising, IsSound};
-ghost use Rattle.turn_core.specs.Runs.{happens, IsReached, IsHistoryOf, NumbersItsEntries, StandsAt, StandsOnce};
+ghost use Rattle.turn_core.specs.Runs.{happens, run, IsReached, IsHistoryOf, NumbersItsEntries, StandsAt, StandsOnce};
 
 /// Whatever events come, every fact of the invariant holds.
 pub fn stays_sound()
@@ -37,6 +38,25 @@ pub fn entries_stand_once()
 pub fn stamps_are_few()
     ensures { (s : Turns) (c n : ℕ) (entry : Entry) → IsSound s → StandsAt s entry c n →
         entry.stamp ≤ entries_drawn s.callers }
+{}
+
+/// What is drawn is later than its caller's clock.
+pub fn what_is_drawn_is_later_than_the_clock()
+    ensures { (s : Turns) (event : TurnEvent) (entry : Entry) → IsTrue (is_possible s event) →
+        drawn_in event ≡ Some entry → clock_of s (caller_of event) < entry.stamp }
+{}
+
+/// Whatever events come, no clock falls.
+pub fn clocks_never_fall()
+    ensures { (s : Turns) (events : List TurnEvent) (c : ℕ) → clock_of s c ≤ clock_of (run events s) c }
+{}
+
+/// What a caller draws after a skip, whatever comes between, is later than the stamp to which it skipped.
+pub fn what_follows_a_skip_is_later()
+    ensures { (s : Turns) (c stamp : ℕ) (events : List TurnEvent) (event : TurnEvent) (entry : Entry) →
+        c < length s.callers → IsTrue (is_possible s (Skip c stamp)) →
+        IsTrue (is_possible (run events (happens s (Skip c stamp))) event) → caller_of event ≡ c →
+        drawn_in event ≡ Some entry → stamp < entry.stamp }
 {}
 
 /// An event leaves every other caller, and every cell that it does not name.

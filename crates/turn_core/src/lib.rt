@@ -15,7 +15,8 @@ mod telling;
 
 pub use event::TurnEvent;
 pub use laws::{
-    entries_are_numbered, entries_stand_once, others_stay, stamps_are_few, stamps_rise, stays_sound,
+    clocks_never_fall, entries_are_numbered, entries_stand_once, others_stay, stamps_are_few,
+    stamps_rise, stays_sound, what_follows_a_skip_is_later, what_is_drawn_is_later_than_the_clock,
 };
 pub use machine::apply;
 pub use state::{TurnCaller, TurnCell, TurnState};

@@ -63,6 +63,17 @@ fn unlock(state: &mut TurnState, c: u32, n: u32) -> bool
     possible
 }
 
+fn skip(state: &mut TurnState, c: u32, stamp: u64) -> bool
+    requires caller { c < length state.old.callers }
+    ensures { Applies (Ok result) state.old state.new (events.Skip c stamp) }
+{
+    let possible = state.is_known(stamp);
+    if possible {
+        state.raise_clock(c, stamp);
+    }
+    possible
+}
+
 fn alone(state: &mut TurnState, c: u32, entry: &Entry) -> Result<bool, Memory>
     requires caller { c < length state.old.callers }
     ensures { Applies result state.old state.new (events.Alone c entry.now) }
@@ -126,6 +137,7 @@ fn step(alloc: Global, state: &mut TurnState, event: &TurnEvent) -> Result<bool,
         }
         TurnEvent::Put(c, n) => Ok(put(state, *c, *n)),
         TurnEvent::Unlock(c, n) => Ok(unlock(state, *c, *n)),
+        TurnEvent::Skip(c, stamp) => Ok(skip(state, *c, *stamp)),
     }
 }
 

@@ -1,8 +1,8 @@
 //! Which stamp a draw bears, and whether an entry is the caller's next.
 ghost use Rattle.std.specs.Prelude.{◌≡◌, ◌<◌, ◌+◌, ◌==◌, length, All, max};
-ghost use Rattle.turn_core.specs.State.{caller_at};
+ghost use Rattle.turn_core.specs.State.{clock_of, change_caller};
 ghost use Rattle.turn_core.specs.Stamps.{last_stamp, last_stamp_at};
-ghost use Rattle.turn_core.specs.Events.{is_next};
+ghost use Rattle.turn_core.specs.Events.{caller_skipped, is_known, is_next};
 
 use crate::state::TurnState;
 use k42_kinds::Entry;
@@ -38,13 +38,13 @@ impl TurnState {
         }
     }
 
-    /// The greatest last stamp that the caller and the cells know.
+    /// The greatest of the caller's clock and the last stamps of the cells.
     fn known_stamp(&self, c: u32, cells: &[u32]) -> u64
         requires caller { c < length self.now.callers }
         requires cells { All (λ n. n < length self.now.cells) cells.now }
-        ensures { result ≡ max (last_stamp (caller_at self.now c).mine) (last_stamp_at self.now cells.now) }
+        ensures { result ≡ max (clock_of self.now c) (last_stamp_at self.now cells.now) }
     {
-        last_stamp(&self.caller(c).mine).max(self.last_stamp_at(cells))
+        self.clock(c).max(self.last_stamp_at(cells))
     }
 
     /// Whether the entry is the caller's next, with the stamp of a draw at these cells.
@@ -56,5 +56,20 @@ impl TurnState {
         entry.caller == c
             && entry.index as usize == self.caller(c).mine.len()
             && is_after(entry.stamp, self.known_stamp(c, cells))
+    }
+    /// Whether some caller's clock is at least the stamp.
+    pub(crate) fn is_known(&self, stamp: u64) -> bool
+        ensures { result ≡ is_known self.now stamp }
+    {
+        self.callers.iter().any(|caller| stamp <= caller.clock)
+    }
+
+    /// The caller's clock is at least the stamp.
+    pub(crate) fn raise_clock(&mut self, c: u32, stamp: u64)
+        requires { c < length self.old.callers }
+        ensures { self.new ≡ change_caller (caller_skipped stamp) self.old c }
+    {
+        let caller = &mut self.callers[c as usize];
+        caller.clock = caller.clock.max(stamp);
     }
 }

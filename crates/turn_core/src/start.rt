@@ -34,6 +34,7 @@ fn fresh_callers(alloc: Global, callers: u32) -> Result<Vec<TurnCaller>, Memory>
         list.push(TurnCaller {
             held: Vec::new(alloc),
             mine: Vec::new(alloc),
+            clock: 0,
         })?;
     }
     Ok(list)

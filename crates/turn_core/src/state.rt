@@ -1,6 +1,6 @@
 //! The state of the machine: cells with their histories, and callers with their lists.
 ghost use Rattle.std.specs.Prelude.{◌≡◌, ◌<◌, length};
-ghost use Rattle.turn_core.specs.State.{cell_at, caller_at, change_cell, change_caller};
+ghost use Rattle.turn_core.specs.State.{cell_at, caller_at, clock_of, change_cell, change_caller};
 ghost use Rattle.turn_core.specs.Events.{cell_locked, cell_unlocked, cell_taken, cell_put, cell_closed, caller_unlocked};
 
 use crate::naming::forget;
@@ -47,6 +47,8 @@ pub struct TurnCaller {
     pub held: Vec<u32>,
     /// Its entries, the oldest first.
     pub mine: Vec<Entry>,
+    /// Its clock, at least the stamp of its last entry; what it draws next bears a greater stamp.
+    pub clock: u64,
 }
 
 impl Model for TurnCaller {
@@ -54,7 +56,7 @@ impl Model for TurnCaller {
 
     ghost Value = { Caller };
 
-    ghost view = { λ x. record { held = x.held.items; mine = x.mine.items } };
+    ghost view = { λ x. record { held = x.held.items; mine = x.mine.items; clock = x.clock } };
 }
 
 /// Cells and callers, each named by its place.
@@ -85,6 +87,13 @@ impl TurnState {
         ensures { result.now ≡ caller_at self.now c }
     {
         &self.callers[c as usize]
+    }
+
+    pub(crate) fn clock(&self, c: u32) -> u64
+        requires { c < length self.now.callers }
+        ensures { result ≡ clock_of self.now c }
+    {
+        self.caller(c).clock
     }
 
     pub(crate) fn set_locked(&mut self, n: u32, c: u32)

@@ -55,10 +55,11 @@ impl TurnState {
         ensures ok { OnOk result (self.new ≡ drawn self.old c cells.now entry.now) }
         ensures memory { OnErr result (self.new ≡ self.old) }
     {
+        let clock = self.clock(c);
         self.add_mine(c, entry)?;
         let told = self.tell_all(cells, entry);
         if told.is_err() {
-            self.undraw(c);
+            self.undraw(c, clock);
         }
         told
     }

@@ -24,6 +24,7 @@ enum Asked {
     Hand(u32, &'static [u32], &'static [u32], Drawn),
     Put(u32, u32),
     Unlock(u32, u32),
+    Skip(u32, u64),
 }
 
 fn entry_of(drawn: &Drawn) -> Entry {
@@ -57,6 +58,7 @@ fn event_of(alloc: Global, asked: &Asked) -> Result<TurnEvent, Fail> {
         ),
         Asked::Put(c, n) => TurnEvent::Put(*c, *n),
         Asked::Unlock(c, n) => TurnEvent::Unlock(*c, *n),
+        Asked::Skip(c, stamp) => TurnEvent::Skip(*c, *stamp),
     })
 }
 
@@ -79,7 +81,7 @@ fn is_in_range(event: &TurnEvent, cells: usize, callers: usize) -> bool
         | TurnEvent::Unlock(c, n) => (*c as usize) < callers && (*n as usize) < cells,
         TurnEvent::Draw(c, named, _) => (*c as usize) < callers
             && are_there(named.as_slice(), cells),
-        TurnEvent::Alone(c, _) => (*c as usize) < callers,
+        TurnEvent::Alone(c, _) | TurnEvent::Skip(c, _) => (*c as usize) < callers,
         TurnEvent::Hand(c, from, onto, _) => {
             (*c as usize) < callers
                 && are_there(from.as_slice(), cells)
@@ -139,6 +141,45 @@ fn a_locked_cell_stays_with_its_holder(rt: HostRuntime) -> Result<(), Fail> {
             .iter()
             .map(|caller| caller.held.len())
             .eq([1, 0])
+    );
+    Ok(())
+}
+
+/// Skips to stamps that were drawn or not, and what is drawn behind them: the first caller draws three
+/// entries, and the second, which knows of none, skips to the second of them.
+const SKIPS: &[(Asked, bool)] = &[
+    (Asked::Skip(1, 1), false),
+    (Asked::Skip(1, 0), true),
+    (Asked::Alone(0, (1, 0, 0)), true),
+    (Asked::Alone(0, (2, 0, 1)), true),
+    (Asked::Alone(0, (3, 0, 2)), true),
+    (Asked::Skip(1, 4), false),
+    (Asked::Skip(1, 2), true),
+    (Asked::Alone(1, (1, 1, 0)), false),
+    (Asked::Alone(1, (2, 1, 0)), false),
+    (Asked::Alone(1, (3, 1, 0)), true),
+    (Asked::Skip(0, 1), true),
+    (Asked::Alone(0, (4, 0, 3)), true),
+    (Asked::Skip(1, 4), true),
+    (Asked::Skip(1, 2), true),
+    (Asked::Lock(1, 0), true),
+    (Asked::Take(1, 0), true),
+    (Asked::Draw(1, &[0], (4, 1, 1)), false),
+    (Asked::Draw(1, &[0], (5, 1, 1)), true),
+];
+
+#[test]
+fn what_is_drawn_behind_a_skip_is_later(rt: HostRuntime) -> Result<(), Fail> {
+    let alloc = rt.alloc();
+    let mut state = TurnState::new(alloc, 1, 2, vec![in alloc; 0]?)?;
+    assert_eq!(rt; astray(alloc, &mut state, SKIPS)?, 0);
+    assert!(rt; state.callers.iter().map(|caller| caller.clock).eq([4, 5]));
+    assert!(rt;
+        state
+            .callers
+            .iter()
+            .map(|caller| caller.mine.len())
+            .eq([4, 2])
     );
     Ok(())
 }
