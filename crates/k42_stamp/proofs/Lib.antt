@@ -10,9 +10,12 @@ pub mod Lawful
 pub mod Rowed
 pub mod MergeLaw
 pub mod Numbering
+pub mod Totals
 pub mod PartsAfter
 pub mod Unique
 pub mod Examples
 pub mod Listed
 pub mod NextEntries
 pub mod MergesExist
+pub mod MergedSections
+pub mod SectionExamples

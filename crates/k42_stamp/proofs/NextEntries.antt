@@ -231,7 +231,7 @@ rising_before : (list : List Entry) → Ordered (λ one other. one.stamp < other
 rising_before [] up = tt
 rising_before (entry ∷ list) up = (all_weaker (λ e. entry.stamp < e.stamp) (IsBefore entry) (λ e less. inl less) list up.0, rising_before list up.1)
 
-read_map : {X Y : Type 0} (f : X → Y) (xs : List X) (place : ℕ) (x : X) (y : Y) → slice_get (map f xs) place ≡ Some y → get_or xs place x ≡ x → f x ≡ y
+pub read_map : {X Y : Type 0} (f : X → Y) (xs : List X) (place : ℕ) (x : X) (y : Y) → slice_get (map f xs) place ≡ Some y → get_or xs place x ≡ x → f x ≡ y
 read_map f [] place x y at read = absurd (cc)
 read_map f (one ∷ xs) zero x y at read = let same : f one ≡ y = same_Some (f one) y at in ap f (sym read) ∙ same
 read_map f (one ∷ xs) (suc place) x y at read = read_map f xs place x y at read

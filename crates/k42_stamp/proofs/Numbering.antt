@@ -1,7 +1,16 @@
 -- Entries that are numbered one after the other.
-use Rattle.std.proofs.Common.{◌≡◌, ℕ, zero, suc, ◌+◌, ◌<◌, ◌≤◌, List, [], ◌∷◌, length, set, get_or, refl, sym, ap, ◌∙◌, arith}
+use Rattle.std.proofs.Common.{◌≡◌, ℕ, zero, suc, ◌+◌, ◌<◌, ◌≤◌, List, [], ◌∷◌, ◌++◌, length, set, get_or, refl, sym, ap, ◌∙◌, arith}
 use Rattle.k42_kinds.specs.declared.entry.Entry.{Entry}
 use Rattle.k42_stamp.specs.Lists.{numbered_from}
+
+pub length-numbered_from : (first : ℕ) (entries : List Entry) → length (numbered_from first entries) ≡ length entries
+length-numbered_from first [] = refl
+length-numbered_from first (entry ∷ entries) = ap suc (length-numbered_from (suc first) entries)
+
+pub numbered_from-append : (first : ℕ) (front back : List Entry) → numbered_from first (front ++ back) ≡ numbered_from first front ++ numbered_from (first + length front) back
+numbered_from-append first [] back = ap (λ n. numbered_from n back) (omega arith)
+numbered_from-append first (entry ∷ front) back =
+    ap (λ l. record entry { stamp = first } ∷ l) (numbered_from-append (suc first) front back ∙ ap (λ n. numbered_from (suc first) front ++ numbered_from n back) (omega arith))
 
 -- so many entries are numbered, and the others are not yet
 abbrev pub numbered_up_to : ℕ → ℕ → List Entry → List Entry
@@ -36,15 +45,10 @@ numbered_suc first (suc many) (entry ∷ entries) x d h is =
     ap (λ l. with_stamp entry first ∷ l) (numbered_suc (suc first) many entries x d (omega arith) (is ∙ ap (with_stamp (get_or (numbered_up_to (suc first) many entries) many d)) same))
 
 -- the entry at the next place is numbered too
-pub numbered_next : (many : ℕ) (entries : List Entry) (old d : Entry) → many < length entries → old ≡ get_or (numbered_up_to 1 many entries) many d
-    → set (numbered_up_to 1 many entries) many (record old { stamp = many + 1 }) ≡ numbered_up_to 1 (many + 1) entries
-numbered_next many entries old d h is =
-    let stamp : many + 1 ≡ 1 + many = omega arith in
+pub numbered_step : (first many : ℕ) (entries now : List Entry) (old : Entry) → many < length entries → now ≡ numbered_up_to first many entries → old ≡ get_or now many old
+    → set now many (record old { stamp = first + many }) ≡ numbered_up_to first (many + 1) entries
+numbered_step first many entries now old h done is =
     let next : suc many ≡ many + 1 = omega arith in
-    numbered_suc 1 many entries (with_stamp old (many + 1)) d h (ap (λ y. with_stamp y (many + 1)) is ∙ ap (with_stamp (get_or (numbered_up_to 1 many entries) many d)) stamp)
-    ∙ ap (λ n. numbered_up_to 1 n entries) next
-
-pub numbered_step : (many : ℕ) (entries now : List Entry) (old : Entry) → many < length entries → now ≡ numbered_up_to 1 many entries → old ≡ get_or now many old
-    → set now many (record old { stamp = many + 1 }) ≡ numbered_up_to 1 (many + 1) entries
-numbered_step many entries now old h done is =
-    ap (λ items. set items many (with_stamp old (many + 1))) done ∙ numbered_next many entries old old h (is ∙ ap (λ items. get_or items many old) done)
+    let stamped = ap (λ y. with_stamp y (first + many)) (is ∙ ap (λ items. get_or items many old) done) in
+    ap (λ items. set items many (with_stamp old (first + many))) done
+    ∙ (numbered_suc first many entries (with_stamp old (first + many)) old h stamped ∙ ap (λ n. numbered_up_to first n entries) next)

@@ -8,4 +8,5 @@ pub mod Draws
 pub mod Hands
 pub mod Laws
 pub mod Lists
+pub mod Sections
 pub mod Merging

@@ -42,11 +42,15 @@ pub record IsTrace (lists : List (List Entry)) (trace : List Entry) : Type 0 whe
   pub all : (entry : Entry) → InSome lists entry → In entry trace
   pub only : (entry : Entry) → In entry trace → InSome lists entry
 
--- what the lists merge to: their entries in order, numbered anew from 1
-pub record IsMerged (lists : List (List Entry)) (merged : List Entry) : Type 0 where
+-- what the lists merge to: their entries in order, numbered anew from a first number
+pub record IsMergedFrom (first : ℕ) (lists : List (List Entry)) (merged : List Entry) : Type 0 where
   pub trace : List Entry
   pub just : IsTrace lists trace
-  pub numbered : merged ≡ numbered_from 1 trace
+  pub numbered : merged ≡ numbered_from first trace
+
+-- and so from 1
+abbrev pub IsMerged : List (List Entry) → List Entry → Type 0
+IsMerged lists merged = IsMergedFrom 1 lists merged
 
 -- whether an entry moved its object: a call, or a swap that was carried out
 abbrev pub is_step : Act → Answer → Bool

@@ -1,5 +1,5 @@
 //! Laws of rows and lists: what a draw and a hand keep, that lists merge, and to a legal history.
-ghost use Rattle.std.specs.Prelude.{◌≡◌, ◌<◌, ℕ, suc, Bool, List, length};
+ghost use Rattle.std.specs.Prelude.{◌≡◌, ◌<◌, ◌+◌, ◌++◌, ℕ, suc, Bool, List, length};
 ghost use Rattle.k42_kinds.specs.declared.entry.Act.{Act};
 ghost use Rattle.k42_kinds.specs.declared.entry.Answer.{Answer};
 ghost use Rattle.k42_kinds.specs.declared.entry.Entry.{Entry};
@@ -8,7 +8,8 @@ ghost use Rattle.k42_stamp.specs.Chains.{Chain};
 ghost use Rattle.k42_stamp.specs.Fits.{Fits};
 ghost use Rattle.k42_stamp.specs.Draws.{IsNext, Draws};
 ghost use Rattle.k42_stamp.specs.Hands.{IsHand, handed, begun_at};
-ghost use Rattle.k42_stamp.specs.Lists.{AreLists, LetsSteps, AllFit, AreThose, IsMerged, AreLegal};
+ghost use Rattle.k42_stamp.specs.Lists.{AreLists, LetsSteps, AllFit, AreThose, IsMerged, IsMergedFrom, AreLegal};
+ghost use Rattle.k42_stamp.specs.Sections.{AreCutAt};
 
 use k42_kinds::Layout;
 
@@ -40,6 +41,19 @@ pub fn hand_begins<L: Layout>(procs: u32)
 pub fn lists_have_a_merge()
     ensures { (lists : List (List Entry)) → AreLists lists →
         (merged : List Entry) × IsMerged lists merged }
+{}
+
+/// Two merges of the same lists, numbered from the same number, are one.
+pub fn a_merge_is_one()
+    ensures { (first : ℕ) (lists : List (List Entry)) (one other : List Entry) →
+        IsMergedFrom first lists one → IsMergedFrom first lists other → one ≡ other }
+{}
+
+/// Lists that are cut at a stamp are merged in two sections, of which the second is numbered on.
+pub fn sections_merge_to_the_whole()
+    ensures { (last : ℕ) (lists fronts rests : List (List Entry)) (before section : List Entry) →
+        AreCutAt last lists fronts rests → IsMerged fronts before →
+        IsMergedFrom (length before + 1) rests section → IsMerged lists (before ++ section) }
 {}
 
 /// Lists whose calls and carried-out swaps are just those of rows that fit merge to a history in which

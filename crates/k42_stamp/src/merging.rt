@@ -1,6 +1,6 @@
 //! The lists of all callers become one history, in the order of their stamps.
-ghost use Rattle.std.specs.Prelude.{◌≡◌, ◌+◌, ◌≤◌, true, false, None, [], map, vec_items, vec_len, vec_capacity, length, IfOk, IfSome};
-ghost use Rattle.k42_stamp.specs.Lists.{AreLists, IsMerged, IsTrace, numbered_from};
+ghost use Rattle.std.specs.Prelude.{◌≡◌, ◌+◌, ◌≤◌, ◌^◌, true, false, None, [], map, vec_items, vec_len, vec_capacity, length, IfOk, IfSome};
+ghost use Rattle.k42_stamp.specs.Lists.{AreLists, IsMerged, IsMergedFrom, IsTrace, numbered_from};
 ghost use Rattle.k42_stamp.specs.Merging.{HasRoom, HasMoved, AreEmpty, IsAlone, entries_in};
 
 use crate::rests::{Rest, next_entry};
@@ -9,12 +9,13 @@ use k42_memory::Memory;
 use std::alloc::Global;
 use std::marker::Model;
 
-/// Gives each entry its place, from 1, as stamp.
-fn number(entries: &mut Vec<Entry>)
-    ensures { entries.new.items ≡ numbered_from 1 entries.old.items }
+/// Gives each entry its place as stamp, counted from the first.
+fn number(first: u64, entries: &mut Vec<Entry>)
+    requires { first + length entries.old.items ≤ 2 ^ 64 }
+    ensures { entries.new.items ≡ numbered_from first entries.old.items }
 {
     for place in 0..entries.len() {
-        entries[place].stamp = place as u64 + 1;
+        entries[place].stamp = first + place as u64;
     }
 }
 
@@ -69,7 +70,8 @@ fn move_all(rests: &mut Vec<Rest>, entries: &mut Vec<Entry>)
     requires lists { AreLists rests.old.items }
     requires room { entries_in rests.old.items ≤ vec_capacity entries.old }
     requires none { entries.old.items ≡ [] }
-    ensures { IsTrace rests.old.items entries.new.items }
+    ensures trace { IsTrace rests.old.items entries.new.items }
+    ensures all { length entries.new.items ≡ entries_in rests.old.items }
 {
     while move_next(rests, entries) {}
 }
@@ -85,7 +87,7 @@ fn are_empty(lists: &[Vec<Entry>]) -> bool
 }
 
 /// The place of the list that alone has entries.
-fn only_place(lists: &[Vec<Entry>]) -> Option<usize>
+pub(crate) fn only_place(lists: &[Vec<Entry>]) -> Option<usize>
     ensures { IfSome result (λ place. IsAlone (map vec_items lists.now) place) }
 {
     let (list, others) = lists.split_first()?;
@@ -110,32 +112,54 @@ fn rests_of(mut rests: Vec<Rest>, lists: Vec<Vec<Entry>>) -> Vec<Rest>
     rests
 }
 
-/// The list at that place, which alone has entries, numbered anew from 1. It is not copied.
+/// The list at that place, which alone has entries, numbered anew from the first number. It is not
+/// copied.
+pub fn take_alone_from(first: u64, place: usize, mut lists: Vec<Vec<Entry>>) -> Vec<Entry>
+    requires lists { AreLists (map vec_items lists.items) }
+    requires alone { IsAlone (map vec_items lists.items) place }
+    requires fits { first + entries_in (map vec_items lists.items) ≤ 2 ^ 64 }
+    ensures { IsMergedFrom first (map vec_items lists.items) result.items }
+{
+    let mut list = lists.swap_remove(place);
+    number(first, &mut list);
+    list
+}
+
+/// The same from 1.
 pub fn take_alone(place: usize, mut lists: Vec<Vec<Entry>>) -> Vec<Entry>
     requires lists { AreLists (map vec_items lists.items) }
     requires alone { IsAlone (map vec_items lists.items) place }
     ensures { IsMerged (map vec_items lists.items) result.items }
 {
-    let mut list = lists.swap_remove(place);
-    number(&mut list);
-    list
+    take_alone_from(1, place, lists)
 }
 
-/// The entries of all lists in the order of stamp, object, cell and caller, numbered anew from 1.
+/// The entries of all lists in the order of stamp, object, cell and caller, numbered anew from the
+/// first number.
+pub fn merge_from(first: u64, room: Room, lists: Vec<Vec<Entry>>) -> Vec<Entry>
+    requires lists { AreLists (map vec_items lists.items) }
+    requires room { HasRoom room (map vec_items lists.items) }
+    requires fits { first + entries_in (map vec_items lists.items) ≤ 2 ^ 64 }
+    ensures { IsMergedFrom first (map vec_items lists.items) result.items }
+{
+    let Room { rests, mut entries } = room;
+    let mut rests = rests_of(rests, lists);
+    move_all(&mut rests, &mut entries);
+    number(first, &mut entries);
+    entries
+}
+
+/// The same from 1.
 pub fn merge_into(room: Room, lists: Vec<Vec<Entry>>) -> Vec<Entry>
     requires lists { AreLists (map vec_items lists.items) }
     requires room { HasRoom room (map vec_items lists.items) }
     ensures { IsMerged (map vec_items lists.items) result.items }
 {
-    let Room { rests, mut entries } = room;
-    let mut rests = rests_of(rests, lists);
-    move_all(&mut rests, &mut entries);
-    number(&mut entries);
-    entries
+    merge_from(1, room, lists)
 }
 
 /// How many entries the lists have.
-fn total_of(lists: &[Vec<Entry>]) -> Option<usize>
+pub(crate) fn total_of(lists: &[Vec<Entry>]) -> Option<usize>
     ensures { IfSome result (λ total. total ≡ entries_in (map vec_items lists.now)) }
 {
     let Some((list, others)) = lists.split_first() else {

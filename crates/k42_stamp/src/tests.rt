@@ -2,6 +2,7 @@
 ghost use Rattle.std.specs.Prelude.{◌≡◌, ◌≤◌, map, vec_items, IfOk};
 ghost use Rattle.k42_stamp.specs.Lists.{IsListOf, AreLists};
 
+use crate::merging::{only_place, total_of};
 use crate::*;
 use k42_kinds::{Act, Answer, Entry, Op, Reply};
 use k42_memory::Memory;
@@ -98,5 +99,30 @@ fn more_than_1048576_entries_are_merged(rt: HostRuntime) -> Result<(), Fail> {
     let callers: [&[(u64, u32, u32)]; 4] = [odd.as_slice(), &[], even.as_slice(), &[]];
     let merged = merge(rt.alloc(), lists_of(rt.alloc(), &callers)?)?;
     assert!(rt; merged.iter().map(|entry| entry.stamp).eq(1..=1_048_578));
+    Ok(())
+}
+
+#[test]
+fn a_section_is_numbered_from_its_first_number(rt: HostRuntime) -> Result<(), Fail> {
+    let callers: [&[(u64, u32, u32)]; 4] = [&[(6, 0, 0), (9, 0, 0)], &[], &[(7, 0, 0)], &[]];
+    let lists = lists_of(rt.alloc(), &callers)?;
+    let total = total_of(lists.as_slice()).expect(&rt, "a total");
+    assert_eq!(rt; total, 3);
+    let room = Room::new(rt.alloc(), lists.len(), total)?;
+    let section = merge_from(3, room, lists);
+    let told = section.iter().map(|entry| (entry.stamp, entry.caller));
+    assert!(rt; told.eq([(3, 0), (4, 2), (5, 0)]));
+    Ok(())
+}
+
+#[test]
+fn a_section_of_one_caller_is_numbered_from_its_first_number(rt: HostRuntime) -> Result<(), Fail> {
+    let callers: [&[(u64, u32, u32)]; 4] = [&[], &[(6, 0, 0), (9, 0, 0)], &[], &[]];
+    let lists = lists_of(rt.alloc(), &callers)?;
+    let place = only_place(lists.as_slice()).expect(&rt, "one caller");
+    let total = total_of(lists.as_slice()).expect(&rt, "a total");
+    assert_eq!(rt; total, 2);
+    let section = take_alone_from(3, place, lists);
+    assert!(rt; section.iter().map(|entry| entry.stamp).eq(3..=4));
     Ok(())
 }

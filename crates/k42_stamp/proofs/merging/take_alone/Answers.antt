@@ -1,10 +1,8 @@
-use Rattle.std.proofs.Common.{rules, vec_items}
-use Rattle.k42_stamp.proofs.NextEntries.{alone_merged}
+use Rattle.std.proofs.Common.{◌^◌, vec_items, arith}
+use Rattle.k42_stamp.proofs.Totals.{few_alone}
 use Rattle.k42_stamp.proofs.merging.take_alone.Goals as goal
 
-pub returns : goal.returns
-returns c = record {
-  trace = c.swap_remove-list.result.items;
-  just = alone_merged vec_items c.args.lists.items c.args.place c.swap_remove-list.result c.requires.lists c.requires.alone (search rules);
-  numbered = search rules;
-}
+pub take_alone_from-requires-clause-fits : goal.take_alone_from-requires-clause-fits
+take_alone_from-requires-clause-fits c =
+    let few = few_alone vec_items (2 ^ 63) c.args.lists.items c.args.place (λ v. omega (arith, v.ok.0, v.ok.1, v.small)) c.requires.alone in
+    omega (arith, few)
