@@ -308,6 +308,7 @@ module _ {S L P : Type 0} (F : Layouts S L P) (laws : AreLaws F) (declared : Lis
           pass_stays r.state objects visitors_after kept y (visit.left j y not was) F.tag_of r.beside naming same_names visit.on j many_after
           (get_or-set_other r.state.phases.callers v.number y.number x fresh_visitor not) (visit.kept_else y.number not) was;
       named = λ j row not old is. (visit.on.old row old, same_names row old ∙ is);
+      drawn = λ stamp known. known;
     }
 
     sound : IsSound F declared state_after

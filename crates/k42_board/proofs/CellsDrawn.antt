@@ -1,6 +1,6 @@
 -- An entry is drawn at cells that a pass has taken: what the step owes to the rule.
-use Rattle.std.proofs.Common.{◌≡◌, ◌≢◌, ℕ, ◌<◌, ◌≤◌, Bool, true, false, not, cond, List, [], ◌∷◌, ◌++◌, Option, Some, None, length, get_or, set, sym, refl, ap, ◌∙◌, subst, zero, suc, arith, get_or-set_other, get_or-set_same}
-use Rattle.std.specs.List.{slice_get}
+use Rattle.std.proofs.Common.{nat_le, ◌≡◌, ◌≢◌, ℕ, ◌<◌, ◌≤◌, Bool, true, false, not, cond, List, [], ◌∷◌, ◌++◌, Option, Some, None, length, get_or, set, sym, refl, ap, ◌∙◌, subst, zero, suc, arith, get_or-set_other, get_or-set_same}
+use Rattle.std.specs.List.{slice_get, list_any}
 use Rattle.std.proofs.lemmas.Option.{same_Some, get_or_from_slice_get}
 use Rattle.std.proofs.lemmas.List.{length_push, set-get_or}
 use mathlib.Core.Option.{some}
@@ -18,6 +18,7 @@ use Rattle.turn_core.specs.Plain.{Cell, Caller, Turns}
 use Rattle.turn_core.specs.State.{cell_at, caller_at, fresh_cell, fresh_caller, change_caller}
 use Rattle.turn_core.specs.declared.event.TurnEvent.TheVariants.{Draw}
 use Rattle.turn_core.proofs.Changed.{callers-change_cells, length-change_cells, at_changed}
+use Rattle.turn_core.proofs.Later.{later_drawn}
 use Rattle.k42_stamp.specs.Laws.{AreLaws}
 use Rattle.k42_stamp.specs.Layouts.{Layouts}
 use Rattle.k42_joined.specs.Effects.{effect, kept_drawn}
@@ -40,6 +41,7 @@ use Rattle.k42_board.proofs.CellsApart.{note_of}
 use Rattle.k42_board.proofs.CellsMoved.{moved_to, with_contents, StaysAt, LeavesCells, others_stay}
 use Rattle.k42_board.proofs.Drawers.{pass_drawn}
 use Rattle.k42_board.proofs.OnePass.{with_pass, known, moved}
+use Rattle.k42_board.proofs.KnownStamps.{known_after}
 
 some_one : (c d : ℕ) → Some c ≡ Some d → c ≡ d
 some_one c d e = cc
@@ -161,6 +163,11 @@ module _ {S L P : Type 0} (F : Layouts S L P) (laws : AreLaws F) (declared : Lis
       keeps = λ d not. get_or-set_other s.kept c d _ nothing_kept not;
       held = λ n d not lock. stays n (of_other n d not lock);
       holds = λ n d not lock. stays n (of_other n d not (sym (lock_stays n) ∙ lock));
+      drawn = λ stamp known.
+          subst (λ (callers : List Caller). list_any (λ (x : Caller). nat_le stamp x.clock) callers ≡ true)
+          (sym (callers-change_cells (cell_told entry) base cells))
+          (known_after s.turns c (caller_drawn entry (caller_at s.turns c)) stamp
+          (omega (arith, later_drawn s.turns (Draw c cells entry) entry is.possible.may.core refl)) known);
     }
 
     own : caller_at t c ≡ caller_drawn entry v.taker

@@ -36,6 +36,7 @@ use Rattle.k42_board.proofs.CellsMoved.{cell_moved}
 use Rattle.k42_board.proofs.CellsSteps.{free_word, held_word, some_one, stands, relock, take_move, slot_move, put_move, has_content, before}
 use Rattle.k42_board.proofs.CellsTouched.{touch, alone_at}
 use Rattle.k42_board.proofs.OnePass.{with_pass, known}
+use Rattle.k42_board.proofs.KnownStamps.{known_after}
 
 module _ {S L P : Type 0} (F : Layouts S L P) (laws : AreLaws F) (declared : List L)
     (table : State (Slot P) (View P)) (r : Rule F declared table) (id : ℕ) (v : PassView P)
@@ -161,7 +162,8 @@ module _ {S L P : Type 0} (F : Layouts S L P) (laws : AreLaws F) (declared : Lis
           cell_moved F declared table r id v at n (c + 1) table.homes r.beside.contents (cell_locked c x) callers (caller_locked n v.taker) v.notes v.out
           (relock F laws declared table r id v at n lock_there touched (Some c) (c + 1) callers (caller_locked n v.taker) (home_free free x.home refl) idle
           (λ d not e'. absurd (cc)) (λ d not e'. not (sym (some_one c d e'))) refl (λ d not. get_or-set_other s.turns.callers c d _ fresh_caller not)
-          (get_or-set_same s.turns.callers c _ fresh_caller c_there ∙ ap (caller_locked n) knows.taker) refl)
+          (get_or-set_same s.turns.callers c _ fresh_caller c_there ∙ ap (caller_locked n) knows.taker) refl
+          (λ stamp. known_after s.turns c (caller_locked n (caller_at s.turns c)) stamp (omega arith)))
           (effect s (AtCells (Lock c n))) (λ k. record s { turns = locked s.turns c n (sym free k); kept = s.kept })
           (joined_keeps F laws declared s r.sound (AtCells (Lock c n)) lock_possible) in
           (after.0, after.1, lock_possible)
@@ -204,7 +206,8 @@ module _ {S L P : Type 0} (F : Layouts S L P) (laws : AreLaws F) (declared : Lis
       cell_moved F declared table r id v at n 0 table.homes r.beside.contents (cell_unlocked x) callers (caller_unlocked n v.taker) v.notes v.out
       (relock F laws declared table r id v at n is.there is.touched None 0 callers (caller_unlocked n v.taker) home idle
       (λ d not e. not (some_one d c (sym e ∙ is.held))) (λ d not e. absurd (cc)) refl (λ d not. get_or-set_other s.turns.callers c d _ fresh_caller not)
-      (get_or-set_same s.turns.callers c _ fresh_caller c_there ∙ ap (caller_unlocked n) knows.taker) refl)
+      (get_or-set_same s.turns.callers c _ fresh_caller c_there ∙ ap (caller_unlocked n) knows.taker) refl
+      (λ stamp. known_after s.turns c (caller_unlocked n (caller_at s.turns c)) stamp (omega arith)))
       (effect s (AtCells (Unlock c n))) refl (joined_keeps F laws declared s r.sound (AtCells (Unlock c n)) (unlock_possible is home)) in
       (after.0, after.1, unlock_possible is home)
 

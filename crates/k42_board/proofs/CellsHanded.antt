@@ -1,6 +1,6 @@
 -- A row is handed on at cells that a pass has taken: what the step owes to the rule.
-use Rattle.std.proofs.Common.{◌≡◌, ◌≢◌, ℕ, zero, suc, ◌-◌, ◌<◌, ◌≤◌, ◌^◌, ◌&&◌, Bool, true, false, not, cond, ltb, List, [], ◌∷◌, ◌++◌, Option, Some, None, length, get_or, set, sym, refl, ap, ◌∙◌, subst, arith, get_or-set_other, get_or-set_same}
-use Rattle.std.specs.List.{slice_get}
+use Rattle.std.proofs.Common.{nat_le, ◌≡◌, ◌≢◌, ℕ, zero, suc, ◌-◌, ◌<◌, ◌≤◌, ◌^◌, ◌&&◌, Bool, true, false, not, cond, ltb, List, [], ◌∷◌, ◌++◌, Option, Some, None, length, get_or, set, sym, refl, ap, ◌∙◌, subst, arith, get_or-set_other, get_or-set_same}
+use Rattle.std.specs.List.{slice_get, list_any}
 use Rattle.std.specs.Prelude.{map}
 use Rattle.std.proofs.lemmas.Option.{slice_get_within, slice_get-get_or, same_Some, get_or_from_slice_get}
 use Rattle.std.proofs.lemmas.List.{length_push, set-get_or}
@@ -25,6 +25,7 @@ use Rattle.turn_core.specs.Plain.{Cell, Caller, Turns}
 use Rattle.turn_core.specs.State.{cell_at, caller_at, fresh_cell, fresh_caller, change_caller, change_cells}
 use Rattle.turn_core.specs.declared.event.TurnEvent.TheVariants.{Hand}
 use Rattle.turn_core.proofs.Changed.{callers-change_cells, length-change_cells}
+use Rattle.turn_core.proofs.Later.{later_drawn}
 use Rattle.k42_stamp.specs.Laws.{AreLaws}
 use Rattle.k42_stamp.specs.Layouts.{Layouts}
 use Rattle.k42_joined.specs.Effects.{effect, kept_drawn, hands_with}
@@ -48,6 +49,7 @@ use Rattle.k42_board.proofs.CellsApart.{note_of}
 use Rattle.k42_board.proofs.CellsMoved.{with_contents, StaysAt, LeavesCells, others_stay}
 use Rattle.k42_board.proofs.Drawers.{pass_drawn}
 use Rattle.k42_board.proofs.OnePass.{with_pass, known, LeavesOthers, moved}
+use Rattle.k42_board.proofs.KnownStamps.{known_after}
 
 some_one : (c d : ℕ) → Some c ≡ Some d → c ≡ d
 some_one c d e = cc
@@ -251,6 +253,10 @@ module _ {S L P : Type 0} (F : Layouts S L P) (laws : AreLaws F) (declared : Lis
       keeps = λ d not. get_or-set_other s.kept c d _ nothing_kept not;
       held = stays_other;
       holds = λ n d not lock. stays_other n d not (sym (lock_stays n) ∙ lock);
+      drawn = λ stamp known.
+          subst (λ (callers : List Caller). list_any (λ (x : Caller). nat_le stamp x.clock) callers ≡ true) (sym callers_are)
+          (known_after s.turns c (caller_drawn entry (caller_at s.turns c)) stamp
+          (omega (arith, later_drawn s.turns (Hand c from onto entry) entry is.possible.may.core refl)) known);
     }
 
     own : caller_at t c ≡ caller_drawn entry v.taker
@@ -302,6 +308,7 @@ module _ {S L P : Type 0} (F : Layouts S L P) (laws : AreLaws F) (declared : Lis
                 };
               };
           named = still.named;
+          drawn = still.drawn;
         }
 
     note_after : (old : Note P) → IsNoted s.turns contents c old → IsNoted t handed_contents c (handed_note from onto entry fresh old)

@@ -21,6 +21,7 @@ use Rattle.k42_limits.specs.declared.TheConstants.{PASS_ENTRIES}
 use Rattle.k42_board.specs.Generations.{Counts, KnowsGenerations}
 use Rattle.k42_places.proofs.EachPlaces.{EachPlace-set_else}
 use Rattle.phase_core.specs.Plain.{Object, Phases}
+use Rattle.turn_core.specs.Events.{is_known}
 use Rattle.turn_core.specs.Names.{names}
 use Rattle.turn_core.specs.Plain.{Cell, Caller, Turns}
 use Rattle.turn_core.specs.State.{cell_at, caller_at, fresh_cell, fresh_caller}
@@ -148,6 +149,8 @@ module _ {S L P : Type 0} (F : Layouts S L P) (declared : List L)
     pub keeps : (d : ℕ) → d ≢ v.number → kept_of (moved_to s t kept) d ≡ kept_of s d
     pub held : (n d : ℕ) → d ≢ v.number → (cell_at s.turns n).lock ≡ Some d → StaysAt t contents n
     pub holds : (n d : ℕ) → d ≢ v.number → (cell_at t n).lock ≡ Some d → StaysAt t contents n
+    -- and no clock falls
+    pub drawn : (stamp : ℕ) → is_known s.turns stamp ≡ true → is_known t stamp ≡ true
 
   module _ (t : Turns) (kept : List Kept) (contents : Contents P) (leaves : LeavesCells t kept contents) where
     note_stays : (c : ℕ) (note : Note P) → c ≢ v.number → IsNoted s.turns r.beside.contents c note → IsNoted t contents c note
@@ -202,6 +205,7 @@ module _ {S L P : Type 0} (F : Layouts S L P) (declared : List L)
         trace = trace_stays_known x not knows.trace;
       };
       named = λ j row not old is. (old, is);
+      drawn = leaves.drawn;
     }
 
   few_objects : length s.phases.objects ≤ 16
@@ -281,6 +285,7 @@ module _ {S L P : Type 0} (F : Layouts S L P) (declared : List L)
       pub others : (d : ℕ) → d ≢ v.number → caller_at t d ≡ caller_at s.turns d
       pub own : caller_at t v.number ≡ taker
       pub mine : taker.mine ≡ v.taker.mine
+      pub drawn : (stamp : ℕ) → is_known s.turns stamp ≡ true → is_known t stamp ≡ true
       pub part : IsPart F declared s n (contents.part n)
       pub notes_are :
           EachPlace (λ place note. ((note.cell ≢ n) × IsNoted s.turns r.beside.contents v.number note) ⊎ IsNoted t contents v.number note) notes
@@ -303,6 +308,7 @@ module _ {S L P : Type 0} (F : Layouts S L P) (declared : List L)
         keeps = λ d not. refl;
         held = λ m d not lock. stays_else m (λ e. is.was d not (ap (λ k. (cell_at s.turns k).lock) (sym e) ∙ lock));
         holds = λ m d not lock. stays_else m (λ e. is.now d not (ap (λ (x : Cell). x.lock) (sym here) ∙ ap (λ k. (cell_at t k).lock) (sym e) ∙ lock));
+        drawn = is.drawn;
       }
 
       knows : KnowsCells s.turns r.beside.contents v

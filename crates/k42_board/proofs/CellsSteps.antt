@@ -1,6 +1,6 @@
 -- Each step on a lock or a slot keeps the rule, as its event.
-use Rattle.std.proofs.Common.{◌≡◌, ◌≢◌, ◌⊎◌, ℕ, ◌<◌, Bool, true, false, not, List, [], ◌∷◌, Option, Some, None, length, get_or, set, sym, refl, ap, ◌∙◌, subst, inl, inr, arith, length-set, get_or-set_same}
-use Rattle.std.specs.List.{slice_get}
+use Rattle.std.proofs.Common.{nat_le, ◌≡◌, ◌≢◌, ◌⊎◌, ℕ, ◌<◌, Bool, true, false, not, List, [], ◌∷◌, Option, Some, None, length, get_or, set, sym, refl, ap, ◌∙◌, subst, inl, inr, arith, length-set, get_or-set_same}
+use Rattle.std.specs.List.{slice_get, list_any}
 use Rattle.std.proofs.lemmas.List.{set-get_or}
 use Rattle.std.proofs.lemmas.Option.{slice_get-get_or}
 use mathlib.Core.Option.{none, some}
@@ -8,7 +8,7 @@ use mathlib.Core.Option as maybe
 use lib.ListN.{get_elem?}
 use Rattle.atomic_table.specs.Table.{State}
 use Rattle.atomic_table.proofs.Lists.{set_here, set_else}
-use Rattle.turn_core.specs.Events.{cell_taken, cell_put}
+use Rattle.turn_core.specs.Events.{cell_taken, cell_put, is_known}
 use Rattle.turn_core.specs.Plain.{Cell, Caller, Turns}
 use Rattle.turn_core.specs.State.{cell_at, caller_at, fresh_cell, fresh_caller}
 use Rattle.k42_stamp.specs.Laws.{AreLaws}
@@ -70,7 +70,7 @@ module _ {S L P : Type 0} (F : Layouts S L P) (laws : AreLaws F) (declared : Lis
   stands found is =
       let same : set table.words i found ≡ table.words = ap (set table.words i) (sym is) ∙ set-get_or table.words i 0 in
       moved F declared table r id v at s r.beside (set table.words i found) table.homes v
-      (record { passes = λ j y not k. k; named = λ j row not old is. (old, is) }) r.sound
+      (record { passes = λ j y not k. k; named = λ j row not old is. (old, is); drawn = λ stamp known. known }) r.sound
       (shows_again s r.beside table (set table.words i found) id v r.shows same) r.parts
       (known F declared table r id v at)
 
@@ -117,8 +117,9 @@ module _ {S L P : Type 0} (F : Layouts S L P) (laws : AreLaws F) (declared : Lis
 
       pub relock : x.home ≡ true → v.out ≡ None → ((d : ℕ) → d ≢ c → x.lock ≢ Some d) → ((d : ℕ) → d ≢ c → lock ≢ Some d) → new ≡ holder_value lock
           → ((d : ℕ) → d ≢ c → get_or callers d fresh_caller ≡ caller_at s.turns d) → get_or callers c fresh_caller ≡ taker → taker.mine ≡ v.taker.mine
+          → ((stamp : ℕ) → is_known s.turns stamp ≡ true → list_any (λ (z : Caller). nat_le stamp z.clock) callers ≡ true)
           → IsMove F declared table r id v at n new table.homes contents relocked callers taker v.notes v.out
-      relock home idle was now word others own mine = record {
+      relock home idle was now word others own mine drawn = record {
         one = record {
           there = there;
           many = refl;
@@ -142,6 +143,7 @@ module _ {S L P : Type 0} (F : Layouts S L P) (laws : AreLaws F) (declared : Lis
         others = others;
         own = own;
         mine = mine;
+        drawn = drawn;
         part = r.parts n there;
         notes_are = λ place note e. let is = knows.notes place note e in inl (not_noted home note is, is);
         noted = λ held away. absurd (cc);
@@ -231,6 +233,7 @@ module _ {S L P : Type 0} (F : Layouts S L P) (laws : AreLaws F) (declared : Lis
             others = λ d not. refl;
             own = knows.taker;
             mine = refl;
+            drawn = λ stamp known. known;
             part = r.parts n there;
             notes_are = each_first (λ note. ((note.cell ≢ n) × IsNoted s.turns contents c note) ⊎ IsNoted (t_taken) (with_out true) c note) (noted content) v.notes
                 (inr (note_taken content is))
@@ -271,6 +274,7 @@ module _ {S L P : Type 0} (F : Layouts S L P) (laws : AreLaws F) (declared : Lis
             others = λ d not. refl;
             own = knows.taker;
             mine = refl;
+            drawn = λ stamp known. known;
             part = r.parts n there;
             notes_are = λ place note e. inr (note_before (with_out out') (λ m. refl) note (knows.notes place note e));
             noted = λ lock home. knows.noted n lock home;
@@ -307,6 +311,7 @@ module _ {S L P : Type 0} (F : Layouts S L P) (laws : AreLaws F) (declared : Lis
         others = λ d not. refl;
         own = knows.taker;
         mine = refl;
+        drawn = λ stamp known. known;
         part = subst (IsPart F declared s n) (sym (written_here contents.part n content.part)) part;
         notes_are = λ place note e. let kept = each_without n v.notes place note e in inl (kept.apart, knows.notes kept.place note kept.there);
         noted = λ lock home. absurd (cc);

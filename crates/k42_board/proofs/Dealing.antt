@@ -12,7 +12,7 @@ use Rattle.k42_board.specs.Rule.{Beside, NamesRows, KnowsPass, Knows, Rule, Rule
 use Rattle.k42_board.specs.declared.view.PassView.{PassView}
 use Rattle.k42_board.specs.declared.view.Row.{Row}
 use Rattle.k42_board.specs.declared.view.View.{View}
-use Rattle.k42_board.specs.declared.view.View.TheVariants.{Crew, Kept, Named, Spent}
+use Rattle.k42_board.specs.declared.view.View.TheVariants.{Crew, Kept, Named, Drew, Spent}
 use Rattle.k42_board.proofs.OnePass.{apart_alone}
 use Rattle.k42_board.proofs.Replaced.{put, put_here, put_else}
 
@@ -105,6 +105,7 @@ module _ {S L P : Type 0} (F : Layouts S L P) (declared : List L) (callers : ℕ
     )
     other j (Kept told) not known = tt
     other j (Named row) not known = known
+    other j (Drew stamp) not known = known
     other j Spent not known = tt
 
   pub deals : Splits (Ruled F declared callers) id (Crew (v ∷ rest)) (Crew rest) (Crew (v ∷ []))

@@ -10,13 +10,11 @@ use Rattle.atomic_table.specs.Table.{State, Step, Allows}
 use Rattle.atomic_table.proofs.Lists.{set_here}
 use Rattle.k42_limits.specs.declared.TheConstants.{LAST_STAMP}
 use Rattle.k42_kinds.specs.declared.entry.Entry.{Entry}
-use Rattle.k42_places.specs.Places.{EachPlace}
 use Rattle.k42_places.proofs.Appended.{at_push}
 use Rattle.phase_core.specs.Stages.{is_moved, object_named}
 use Rattle.turn_core.specs.Events.{caller_drawn, is_next}
 use Rattle.turn_core.specs.Plain.{Caller, Turns}
-use Rattle.turn_core.specs.Sound.{entries_drawn}
-use Rattle.turn_core.specs.Stamps.{last_stamp, stamp_of, next_stamp}
+use Rattle.turn_core.specs.Stamps.{next_stamp}
 use Rattle.turn_core.specs.State.{caller_at, fresh_caller}
 use Rattle.k42_stamp.specs.Layouts.{Layouts}
 use Rattle.k42_joined.specs.Event.{Event}
@@ -154,13 +152,6 @@ is_next_of s c cells entry caller index stamp =
     let three = eq-eqb entry.stamp (next_stamp s c cells) stamp in
     rw (one, two, three) refl
 
--- where no stamp is above a number, the last is not
-last_most : (most : ℕ) (entries : List Entry) → EachPlace (λ i (entry : Entry). entry.stamp ≤ most) entries → last_stamp entries ≤ most
-last_most most entries each = go (slice_get entries (length entries - 1)) refl where
-  go : (found : Option Entry) → slice_get entries (length entries - 1) ≡ found → stamp_of found ≤ most
-  go None e = omega arith
-  go (Some entry) e = each (length entries - 1) entry e
-
 -- nobody draws an entry with a large stamp
 pub small_stamps : {S L P : Type 0} (F : Layouts S L P) (declared : List L) (table : State (Slot P) (View P)) (r : Rule F declared table) (id : ℕ) (v : PassView P)
     → get_elem? table.views id ≡ some (Crew (v ∷ [])) → HasSmallStamp v
@@ -169,12 +160,12 @@ small_stamps F declared table r id v at =
     let k = known F declared table r id v at in
     let there : v.number < length s.callers = let many = r.sound.cells.locks.many.callers in let lt = k.there in omega (arith, many, lt) in
     let own = r.sound.cells.turns.callers v.number (caller_at s v.number) (slice_get-get_or s.callers v.number fresh_caller there) in
-    let bounded : last_stamp (caller_at s v.number).mine ≤ entries_drawn s.callers = last_most (entries_drawn s.callers) (caller_at s v.number).mine own.bounded in
+    let bounded = own.clock in
     let most = sum_by-le (λ (x : Caller). length x.mine) (2 ^ 58) s.callers (λ i d lt. r.shows.few_entries i (get_or s.callers i d) (slice_get-get_or s.callers i d lt)) in
     let few = r.sound.phases.in_scene.in_course.limits.few_callers in
     let long = r.sound.phases.in_scene.in_course.many_callers in
     let many = r.sound.cells.locks.many.callers in
-    subst (λ (x : Caller). last_stamp x.mine ≤ LAST_STAMP) k.cells.taker (omega (arith, bounded, most, few, long, many))
+    subst (λ (x : Caller). x.clock ≤ LAST_STAMP) k.cells.taker (omega (arith, bounded, most, few, long, many))
 
 -- a step that makes this of its pass, whatever it finds
 module _ {S L P : Type 0} {F : Layouts S L P} {declared : List L} {event : Event L} {word : ℕ} {becomes : PassView P → PassView P} {id : ℕ} {v : PassView P}

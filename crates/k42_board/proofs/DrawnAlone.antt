@@ -19,9 +19,9 @@ use Rattle.phase_core.specs.declared.caller.SwapAt.TheVariants.{Idle, Refused, B
 use Rattle.turn_core.specs.Events as turns
 use Rattle.turn_core.specs.Events.{caller_drawn}
 use Rattle.turn_core.specs.Plain.{Caller, Turns}
-use Rattle.turn_core.specs.Stamps.{last_stamp}
 use Rattle.turn_core.specs.State.{cell_at, caller_at, fresh_caller}
 use Rattle.turn_core.specs.declared.event.TurnEvent.TheVariants.{Alone}
+use Rattle.turn_core.proofs.Later.{later_drawn}
 use Rattle.k42_stamp.specs.Laws.{AreLaws}
 use Rattle.k42_stamp.specs.Layouts.{Layouts}
 use Rattle.k42_joined.specs.Answers.{is_turned}
@@ -46,6 +46,7 @@ use Rattle.k42_board.proofs.CellsMoved.{part_stays, same_told', LeavesCells, oth
 use Rattle.k42_board.proofs.Drawers.{pass_drawn, is_next_of}
 use Rattle.k42_board.proofs.Moves.{Moves}
 use Rattle.k42_board.proofs.OnePass.{with_pass, known, moved}
+use Rattle.k42_board.proofs.KnownStamps.{known_after}
 
 -- what is kept of a Begin tells its object
 begun_some : (last : Option LastBegin) (o : ℕ) → begun_of last ≡ Some o → object_begun last ≡ o
@@ -150,7 +151,7 @@ module _ {S L P : Type 0} (F : Layouts S L P) (laws : AreLaws F) (declared : Lis
       record {
         caller = k.there;
         may = record {
-          core = is_next_of s.turns c [] entry refl (ap length (sym mine_is)) (ap (λ (mine : List Entry). max (last_stamp mine) 0 + 1) (sym mine_is));
+          core = is_next_of s.turns c [] entry refl (ap length (sym mine_is)) (ap (λ (x : Caller). max x.clock 0 + 1) (sym k.cells.taker));
           beside = record {
             bears = record { proc = ap (λ x. x.proc) (sym k.generations.turn); cell = refl };
             begun = ap (λ (z : Kept). z.begun) k.trace.kept ∙ is.begun;
@@ -179,6 +180,9 @@ module _ {S L P : Type 0} (F : Layouts S L P) (laws : AreLaws F) (declared : Lis
     keeps = λ d not. get_or-set_other s.kept c d _ nothing_kept not;
     held = λ n d not lock. record { cell = refl; part = refl; out = refl };
     holds = λ n d not lock. record { cell = refl; part = refl; out = refl };
+    drawn = λ stamp known.
+        known_after s.turns c (caller_drawn entry (caller_at s.turns c)) stamp
+        (omega (arith, later_drawn s.turns (Alone c entry) entry possible.may.core refl)) known;
   }
 
   knows : KnowsCells t r.beside.contents (alone_view entry v)

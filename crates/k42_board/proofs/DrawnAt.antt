@@ -94,10 +94,10 @@ module _ {S L P : Type 0} (F : Layouts S L P) (laws : AreLaws F) (declared : Lis
 
   -- so the entry is its next
   pub next_noted : (cells : List ℕ) (entry : Entry) → ((n : ℕ) → names cells n ≡ true → names (cells_noted v.notes) n ≡ true)
-      → entry.caller ≡ v.number → entry.index ≡ length v.taker.mine → entry.stamp ≡ max (last_stamp v.taker.mine) (last_noted v.notes cells) + 1
+      → entry.caller ≡ v.number → entry.index ≡ length v.taker.mine → entry.stamp ≡ max v.taker.clock (last_noted v.notes cells) + 1
       → is_next r.state.turns v.number cells entry ≡ true
   next_noted cells entry each caller index stamp =
       let k = known F declared table r id v at in
-      let mine : (caller_at r.state.turns v.number).mine ≡ v.taker.mine = ap (λ (x : Caller). x.mine) k.cells.taker in
-      is_next_of r.state.turns v.number cells entry caller (index ∙ ap length (sym mine))
-      (stamp ∙ (λ i. max (last_stamp (sym mine i)) (stamps_noted cells each i) + 1))
+      let taker : v.taker ≡ caller_at r.state.turns v.number = sym k.cells.taker in
+      is_next_of r.state.turns v.number cells entry caller (index ∙ ap (λ (x : Caller). length x.mine) taker)
+      (stamp ∙ (λ i. max (taker i).clock (stamps_noted cells each i) + 1))

@@ -1,3 +1,4 @@
+pub mod KnownStamps
 pub mod OnePass
 pub mod Apart
 pub mod Turning
@@ -52,6 +53,7 @@ pub mod TurningOver
 pub mod Clearing
 pub mod WordExamples
 pub mod NoteExamples
+pub mod SectionExamples
 pub mod FirstParts
 pub mod Replaced
 pub mod Dealing
@@ -59,3 +61,4 @@ pub mod Carrying
 pub mod FewRows
 pub mod Naming
 pub mod Starting
+pub mod Skips

@@ -19,7 +19,7 @@ use Rattle.k42_board.specs.Steps.{Seated}
 use Rattle.k42_board.specs.declared.view.PassView.{PassView}
 use Rattle.k42_board.specs.declared.view.Row.{Row}
 use Rattle.k42_board.specs.declared.view.View.{View}
-use Rattle.k42_board.specs.declared.view.View.TheVariants.{Crew, Kept, Named, Spent}
+use Rattle.k42_board.specs.declared.view.View.TheVariants.{Crew, Kept, Named, Drew, Spent}
 use Rattle.k42_board.specs.Cells.{Slot}
 use Rattle.k42_board.proofs.Dealing.{at_end}
 use Rattle.k42_board.proofs.Moves.{Stays, Finds}
@@ -117,6 +117,7 @@ module _ {L P : Type 0} (tag_of : L → ℕ) (s : Joined L) (beside : Beside P) 
         with_rows j x x.rows x.granted k (record { named = λ at row f. same row (k.names.named at row f); once = k.names.once }) k.phases.rows.old k.phases.rows.granted
   other_names j (Kept told) same knows = tt
   other_names j (Named row) same knows = (knows.0, same row knows.1)
+  other_names j (Drew stamp) same knows = knows
   other_names j Spent same knows = tt
 
 none_there : {A : Type 0} (i : ℕ) (a : A) → slice_get [] i ≡ Some a → ⊥

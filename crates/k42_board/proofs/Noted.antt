@@ -212,20 +212,17 @@ each_named contents k content e = named_at contents k content e
 
 -- the seat after a draw at this word, and after its cells were told
 
-pub small_entry : {P : Type 0} (v : PassView P) (contents : List (Content P)) (entry : Entry) → HasSmallStamp (draws_at contents entry v) → entry.stamp ≤ LAST_STAMP
-small_entry v contents entry small = subst (λ z. z ≤ LAST_STAMP) (last_push v.taker.mine entry) small
-
 pub mark_due : {P : Type 0} (word : ℕ) (v : PassView P) (content : Content P) (entry : Entry) (me : Seated P) → IsSeatOf me (took steps.Draw word 0 (draws_at (content ∷ []) entry v))
     → HasSmallStamp (draws_at (content ∷ []) entry v) → IsHeld v.notes content → IsDue (pass_in me.0).notes content.number content.closed entry.stamp
 mark_due word v content entry me is small held =
     subst (λ (m : Seated _). IsDue (pass_in m.0).notes content.number content.closed entry.stamp) (sym is)
-    (due_told (content.number ∷ []) entry (part_in (content ∷ [])) v.notes content held (named_at (content ∷ []) 0 content refl) (small_entry v (content ∷ []) entry small))
+    (due_told (content.number ∷ []) entry (part_in (content ∷ [])) v.notes content held (named_at (content ∷ []) 0 content refl) small)
 
 pub all_due : {P : Type 0} (word : ℕ) (v : PassView P) (contents : List (Content P)) (entry : Entry) (me : Seated P) → IsSeatOf me (took steps.Draw word 0 (draws_at contents entry v))
     → HasSmallStamp (draws_at contents entry v) → AreHeld v.notes contents → AreDue (pass_in me.0).notes 0 false entry.stamp contents
 all_due word v contents entry me is small held =
     subst (λ (m : Seated _). AreDue (pass_in m.0).notes 0 false entry.stamp contents) (sym is)
-    (all_due_told (numbers_of contents) entry (part_in contents) v.notes contents held (each_named contents) (small_entry v contents entry small))
+    (all_due_told (numbers_of contents) entry (part_in contents) v.notes contents held (each_named contents) small)
 
 pub view_back : {P : Type 0} (word : ℕ) (v : PassView P) (contents : List (Content P)) (entry : Entry) (me seated : Seated P) → IsSeatOf me (took steps.Draw word 0 (draws_at contents entry v))
     → (cells : List ℕ) → IsSeatOf seated (untold_view cells (pass_in me.0)) → untold_view (numbers_of contents) (pass_in seated.0) ≡ pass_in me.0
@@ -252,6 +249,6 @@ call_entry v cells act answer stamp caller index object incarnation cell proc ge
   generation = (e8 ∙ sym (ap (λ b. cond b v.turn.active None) call)) i;
 }
 
-pub stamp_held : {P : Type 0} (v : PassView P) (contents : List (Content P)) (entries : List Entry) (stamp last : ℕ) → AreHeld v.notes contents → entries ≡ v.taker.mine
-    → last ≡ last_told contents → stamp ≡ max (last_stamp entries) last + 1 → stamp ≡ stamp_next v (numbers_of contents)
-stamp_held v contents entries stamp last held mine last_is is = is ∙ (λ i. max (last_stamp (mine i)) ((last_is ∙ last_held v.notes contents held) i) + 1)
+pub stamp_held : {P : Type 0} (v : PassView P) (contents : List (Content P)) (clock stamp last : ℕ) → AreHeld v.notes contents → clock ≡ v.taker.clock
+    → last ≡ last_told contents → stamp ≡ max clock last + 1 → stamp ≡ stamp_next v (numbers_of contents)
+stamp_held v contents clock stamp last held clock_is last_is is = is ∙ (λ i. max (clock_is i) ((last_is ∙ last_held v.notes contents held) i) + 1)

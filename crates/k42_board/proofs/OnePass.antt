@@ -1,5 +1,5 @@
 -- One pass moved: what a step of one seat owes to the rule.
-use Rattle.std.proofs.Common.{◌≡◌, ◌≢◌, ℕ, zero, suc, ◌<◌, List, [], ◌∷◌, Some, length, set, sym, refl, ap, ◌∙◌, subst, ⊎_elim}
+use Rattle.std.proofs.Common.{◌≡◌, ◌≢◌, ℕ, zero, suc, ◌<◌, true, List, [], ◌∷◌, Some, length, set, sym, refl, ap, ◌∙◌, subst, ⊎_elim}
 use Rattle.std.specs.List.{slice_get}
 use Rattle.std.proofs.lemmas.Option.{same_Some}
 use mathlib.Core.Option.{some}
@@ -7,6 +7,7 @@ use mathlib.Core.Option as maybe
 use lib.ListN.{get_elem?}
 use Rattle.atomic_table.specs.Table.{State}
 use Rattle.atomic_table.proofs.Lists.{at_set}
+use Rattle.turn_core.specs.Events.{is_known}
 use Rattle.k42_stamp.specs.Layouts.{Layouts}
 use Rattle.k42_joined.specs.Plain.{Joined}
 use Rattle.k42_joined.specs.Sound.{IsSound}
@@ -17,7 +18,7 @@ use Rattle.k42_board.specs.Rule.{Beside, AreApart, KnowsPass, Knows, Shows, Rule
 use Rattle.k42_board.specs.declared.view.PassView.{PassView}
 use Rattle.k42_board.specs.declared.view.Row.{Row}
 use Rattle.k42_board.specs.declared.view.View.{View}
-use Rattle.k42_board.specs.declared.view.View.TheVariants.{Crew, Kept, Named, Spent}
+use Rattle.k42_board.specs.declared.view.View.TheVariants.{Crew, Kept, Named, Drew, Spent}
 
 -- a table whose words and slots are others, and where the seat has another pass
 abbrev pub with_pass :
@@ -46,6 +47,8 @@ module _ {S L P : Type 0} (F : Layouts S L P) (declared : List L)
     pub named :
         (j : ℕ) (row : Row) → j ≢ id → IsOld r.state.phases row → r.beside.row_seat row ≡ j
         → IsOld t.phases row × (beside.row_seat row ≡ j)
+    -- and what was drawn stays known
+    pub drawn : (stamp : ℕ) → is_known r.state.turns stamp ≡ true → is_known t.turns stamp ≡ true
 
   module _ (t : Joined L) (beside : Beside P) (words : List ℕ) (homes : List (maybe.Option (Slot P)))
       (w : PassView P) (leaves : LeavesOthers t beside) where
@@ -58,6 +61,7 @@ module _ {S L P : Type 0} (F : Layouts S L P) (declared : List L)
     )
     other j (Kept told) not knows = tt
     other j (Named row) not knows = leaves.named j row not knows.0 knows.1
+    other j (Drew stamp) not knows = leaves.drawn stamp knows
     other j Spent not knows = tt
 
     own : KnowsPass F.tag_of t beside id w → (place : ℕ) (x : PassView P) → slice_get (w ∷ []) place ≡ Some x

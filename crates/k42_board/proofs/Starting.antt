@@ -10,7 +10,7 @@ use Rattle.k42_places.proofs.Appended.{at_push}
 use Rattle.k42_places.proofs.Rests.{drop_at}
 use Rattle.k42_board.specs.Cells.{Slot, IsCell}
 use Rattle.k42_board.specs.Dealing.{dealer}
-use Rattle.k42_board.specs.Seen.{QueueId, SysSeen, PassSeen, IsPassOf}
+use Rattle.k42_board.specs.Seen.{QueueId, SysSeen, PassSeen, Keeping, IsPassOf}
 use Rattle.k42_board.specs.Steps.{Seated}
 use Rattle.k42_board.specs.Starting.{AreFirstWords, AreFirstSlots, IsNewPass, AreDealt, IsStarted, IsDealing, number_in}
 use Rattle.k42_board.specs.Views.{new_passes}
@@ -84,7 +84,7 @@ pub is_of_system : {L P : Type 0} (sys : SysSeen L) (number home : ℕ) (pass : 
 is_of_system {L} {P} sys number home pass there is = record {
   table = is.ours;
   queue = is.posted;
-  keep = is.keeps;
+  keep = ap (λ (k : Keeping). k.what) is.keeps;
   proc = rw is.new there;
   waits = ap (λ (v : PassView P). length v.turn.waits) is.new ∙ length-replicate sys.procs 0;
   objects = ap (λ (v : PassView P). length v.visitor.noted) is.new ∙ length-replicate (length sys.layouts) None;

@@ -225,7 +225,7 @@ module _ {S L P : Type 0} (F : Layouts S L P) (declared : List L)
       subst (λ (words : List ℕ). (after : Rule F declared (with_pass table words table.homes id w)) × (after.state ≡ r.state))
       (sym (set-get_or table.words i 0))
       (moved F declared table r id v at r.state r.beside table.words table.homes w
-      (record { passes = λ j x not knows. knows; named = λ j row not old is. (old, is) })
+      (record { passes = λ j x not knows. knows; named = λ j row not old is. (old, is); drawn = λ stamp known. known })
       r.sound
       (record {
         many_words = r.shows.many_words;
@@ -285,6 +285,7 @@ module _ {S L P : Type 0} (F : Layouts S L P) (laws : AreLaws F) (declared : Lis
             pass_stays r.state g visitors_after F.tag_of r.beside counts j y (length-set r.state.phases.callers v.number x) turn.rises
             (others y.number not) knows;
         named = λ j row not old is. (old, is);
+        drawn = λ stamp known. known;
       }
 
       turned_shows : (i new : ℕ) (w : PassView P) → IsOfGenerations i

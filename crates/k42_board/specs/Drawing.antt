@@ -62,7 +62,7 @@ last_noted notes [] = 0
 last_noted notes (n ∷ cells) = max (last_stamp (history_noted notes n)) (last_noted notes cells)
 
 abbrev pub stamp_next : {P : Type 0} → PassView P → List ℕ → ℕ
-stamp_next v cells = max (last_stamp v.taker.mine) (last_noted v.notes cells) + 1
+stamp_next v cells = max v.taker.clock (last_noted v.notes cells) + 1
 
 -- the next entry of the pass, at these cells; a call bears the generation of its activity
 abbrev pub entry_next : {P : Type 0} → PassView P → List ℕ → (object incarnation cell : ℕ) → Act → Answer → Entry
@@ -193,16 +193,16 @@ draws_at contents entry v =
 abbrev pub drawn_at : {P : Type 0} → List (Content P) → Entry → PassView P → PassView P
 drawn_at contents entry v = untold_view [] (drawn_view (numbers_of contents) entry (part_in contents) v)
 
--- the stamp of its last entry is not above the number of entries that may be drawn
+-- its clock is not above the number of entries that may be drawn
 abbrev pub HasSmallStamp : {P : Type 0} → PassView P → Type 0
-HasSmallStamp v = last_stamp v.taker.mine ≤ LAST_STAMP
+HasSmallStamp v = v.taker.clock ≤ LAST_STAMP
 
 -- the pass that has drawn has the same seat, and room for one entry less where it keeps them
 pub record IsDrawer {P : Type 0} (old new : PassSeen P) : Type 0 where
   pub table : new.table ≡ old.table
   pub seat : new.seat ≡ old.seat
   pub keep : new.keep ≡ old.keep
-  pub room : new.room + room_due new.keep ≡ old.room
+  pub room : new.room + room_due new.keep.what ≡ old.room
   pub row_room : new.row_room ≡ old.row_room
   pub queue : new.queue ≡ old.queue
   pub pushed : new.pushed ≡ old.pushed

@@ -109,7 +109,7 @@ looked_view found v = looked_at v.turn.grace found v
 abbrev pub short_of : ℕ → ℕ → ℕ
 short_of entered found = (entered + 2 ^ 32 - exits_in found) % 2 ^ 32
 
--- no more have not left than there are callers
+-- at most as many as there are callers have not left
 pub record ExitsFound {P : Type 0} (v : PassView P) (found : ℕ) : Type 0 where
   pub few : is_looking v.turn.grace ≡ true → short_of (slice_index v.turn.waits (place_of v.turn.grace)) found ≤ CALLERS
 

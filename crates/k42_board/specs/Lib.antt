@@ -21,6 +21,7 @@ pub mod Taking
 pub mod Drawing
 pub mod Handing
 pub mod Receipts
+pub mod Skipping
 pub mod Plan
 pub mod Starting
 pub mod Dealing

@@ -1,11 +1,12 @@
 -- The rule of the table: words, slots and views show a state of the joined machine that meets its invariant.
-use Rattle.std.specs.Prelude.{◌≡◌, ℕ, ◌<◌, ◌≤◌, List, length, ⊤, Some, slice_get}
+use Rattle.std.specs.Prelude.{◌≡◌, ℕ, ◌<◌, ◌≤◌, true, List, length, ⊤, Some, slice_get}
 use mathlib.Core.Option.{some}
 use lib.ListN.{get_elem?}
 use Rattle.atomic_table.specs.Table.{State}
 use Rattle.k42_limits.specs.declared.TheConstants.{OBJECTS, PASS_ENTRIES}
 use Rattle.k42_places.specs.Places.{EachPlace}
 use Rattle.k42_stamp.specs.Layouts.{Layouts}
+use Rattle.turn_core.specs.Events.{is_known}
 use Rattle.k42_joined.specs.Plain.{Joined}
 use Rattle.k42_joined.specs.Sound.{IsSound}
 use Rattle.k42_joined.specs.State.{many_procs, many_callers, many_objects}
@@ -18,7 +19,7 @@ use Rattle.k42_board.specs.Words.{many_words, many_slots}
 use Rattle.k42_board.specs.declared.view.PassView.{PassView}
 use Rattle.k42_board.specs.declared.view.Row.{Row}
 use Rattle.k42_board.specs.declared.view.View.{View}
-use Rattle.k42_board.specs.declared.view.View.TheVariants.{Crew, Kept, Named, Spent}
+use Rattle.k42_board.specs.declared.view.View.TheVariants.{Crew, Kept, Named, Drew, Spent}
 
 -- what is shown beside the state: which seat each caller and each row has, which graces callers have begun, and what
 -- the cells have
@@ -58,6 +59,7 @@ module _ {L P : Type 0} (tag_of : L → ℕ) (s : Joined L) (beside : Beside P) 
   abbrev pub Knows : ℕ → View P → Type 0
   Knows id (Crew passes) = AreApart passes × EachPlace (λ place v. KnowsPass id v) passes
   Knows id (Named row) = IsOld s.phases row × (beside.row_seat row ≡ id)
+  Knows id (Drew stamp) = is_known s.turns stamp ≡ true
   Knows id (Kept told) = ⊤
   Knows id Spent = ⊤
 

@@ -1,15 +1,16 @@
 -- Systems and passes, as contracts see them.
-use Rattle.std.specs.Prelude.{◌≡◌, ◌+◌, ◌<◌, ◌≤◌, ℕ, ◌&&◌, Bool, true, false, List, [], ◌∷◌, ◌++◌, Option, None, is_none, length, unwrap_or}
+use Rattle.std.specs.Prelude.{◌≡◌, ◌+◌, ◌<◌, ◌≤◌, ℕ, ◌&&◌, Bool, true, false, List, [], ◌∷◌, ◌++◌, Option, None, drop, is_none, length, take, unwrap_or}
 use Rattle.std.specs.Global.{Global}
 use Rattle.atomic_table.specs.Seated.{TableId}
 use Rattle.crossbeam_queue.specs.SegTies.{SegId}
 use Rattle.gen_core.specs.Events as graces
 use Rattle.gen_core.specs.Plain as gens
 use Rattle.phase_core.specs.Stages as swaps
-use Rattle.turn_core.specs.Stamps.{last_stamp}
 use Rattle.phase_core.specs.declared.caller.Place.{Place}
 use Rattle.phase_core.specs.declared.caller.Place.TheVariants.{Tracked}
 use Rattle.phase_core.specs.declared.caller.SwapAt.{SwapAt}
+use Rattle.k42_kinds.specs.declared.entry.Entry.{Entry}
+use Rattle.k42_places.specs.Places.{EachPlace}
 use Rattle.k42_board.specs.Steps.{Seated}
 use Rattle.k42_board.specs.Views.{pass_in}
 use Rattle.k42_board.specs.declared.keep.Keep.{Keep}
@@ -33,27 +34,50 @@ pub record SysSeen (L : Type 0) : Type 0 where
   pub layouts : List L
   pub callers : List ℕ
 
--- what is kept of the entries that were drawn
-abbrev pub kept_by : {A : Type 0} → Keep → List A → List A
-kept_by keeps.All mine = mine
-kept_by keeps.Nothing mine = []
+-- which of its entries a pass keeps, how many it has given to sections, and the stamp to which the last of these has raised
+-- its clock
+pub record Keeping : Type 0 where
+  pub what : Keep
+  pub given : ℕ
+  pub since : ℕ
+
+-- before the first section
+abbrev pub keeping : Keep → Keeping
+keeping what = record { what = what; given = 0; since = 0 }
+
+-- what is kept of the entries that were drawn, where so many were given
+abbrev pub kept_of : {A : Type 0} → Keep → ℕ → List A → List A
+kept_of keeps.All given mine = mine
+kept_of keeps.Sections given mine = drop given mine
+kept_of keeps.Nothing given mine = []
+
+abbrev pub kept_by : {A : Type 0} → Keeping → List A → List A
+kept_by keep mine = kept_of keep.what keep.given mine
 
 -- and of what was kept, once one more was drawn
 abbrev pub kept_with : {A : Type 0} → Keep → List A → A → List A
 kept_with keeps.All kept entry = kept ++ entry ∷ []
+kept_with keeps.Sections kept entry = kept ++ entry ∷ []
 kept_with keeps.Nothing kept entry = kept
 
 -- how much room the next entry needs
 abbrev pub room_due : Keep → ℕ
 room_due keeps.All = 1
+room_due keeps.Sections = 1
 room_due keeps.Nothing = 0
+
+-- the entries that were given bear no stamp above that of the last section, and all others bear a greater one
+pub record IsParted (keep : Keeping) (mine : List Entry) : Type 0 where
+  pub few : keep.given ≤ length mine
+  pub given : EachPlace (λ place entry. entry.stamp ≤ keep.since) (take keep.given mine)
+  pub left : EachPlace (λ place entry. keep.since < entry.stamp) (drop keep.given mine)
 
 -- a pass: whose table's seat it has, which of its entries it keeps, what it knows, and for how many more entries and
 -- rows it has room
 pub record PassSeen (P : Type 0) : Type 0 where
   pub table : TableId
   pub seat : ℕ
-  pub keep : Keep
+  pub keep : Keeping
   pub view : PassView P
   pub room : ℕ
   pub row_room : ℕ
@@ -70,9 +94,9 @@ pub record Own : Type 0 where
   pub noted : List (Option ℕ)
   pub freeing : List (ℕ × ℕ)
   pub swap : SwapAt
-  -- how many entries it has drawn, and the stamp of the last
+  -- how many entries it has drawn, and the stamp above which it draws the next
   pub drawn : ℕ
-  pub drew_last : ℕ
+  pub clock : ℕ
   pub graces : ℕ
   pub base : Option ℕ
   pub last : Option LastBegin
@@ -91,7 +115,7 @@ own_in v = record {
   freeing = v.visitor.freeing;
   swap = v.visitor.swap;
   drawn = length v.taker.mine;
-  drew_last = last_stamp v.taker.mine;
+  clock = v.taker.clock;
   graces = v.graces;
   base = v.base;
   last = v.last;
@@ -115,7 +139,7 @@ pub record Mirrors {P : Type 0} (me : Seated P) (own : Own) : Type 0 where
 
 -- the pass has room for its next entry
 abbrev pub HasRoom : {P : Type 0} → PassSeen P → Type 0
-HasRoom pass = room_due pass.keep ≤ pass.room
+HasRoom pass = room_due pass.keep.what ≤ pass.room
 
 -- the pass has a seat of the system's table
 abbrev pub IsOf : {L P : Type 0} → SysSeen L → PassSeen P → Type 0
@@ -129,7 +153,7 @@ pub record IsPassOf {L P : Type 0} (sys : SysSeen L) (pass : PassSeen P) : Type 
   pub objects : length pass.view.visitor.noted ≡ length sys.layouts
   pub spans : length pass.view.visitor.freeing ≡ length sys.layouts
   pub queue : pass.queue ≡ sys.queue
-  pub keep : pass.keep ≡ sys.keep
+  pub keep : pass.keep.what ≡ sys.keep
 
 -- it has the same seat and the same room, and keeps the same
 pub record IsSamePass {P : Type 0} (old new : PassSeen P) : Type 0 where

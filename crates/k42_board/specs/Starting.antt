@@ -5,7 +5,7 @@ use Rattle.k42_limits.specs.declared.TheConstants.{OBJECTS}
 use Rattle.k42_places.specs.Places.{EachPlace}
 use Rattle.k42_board.specs.Cells.{IsCell, Slot}
 use Rattle.gen_core.specs.State as gens
-use Rattle.k42_board.specs.Seen.{QueueId, SysSeen, PassSeen, IsPassOf}
+use Rattle.k42_board.specs.Seen.{QueueId, SysSeen, PassSeen, IsPassOf, keeping}
 use Rattle.k42_board.specs.Steps.{Seated}
 use Rattle.k42_board.specs.Views.{new_pass, new_passes}
 use Rattle.k42_board.specs.Words.{object_word, many_words}
@@ -46,7 +46,7 @@ pub record IsNewPass
     {P : Type 0} (table : TableId) (queue : QueueId) (keep : Keep) (procs objects number home : ℕ) (pass : PassSeen P)
     : Type 0 where
   pub ours : pass.table ≡ table
-  pub keeps : pass.keep ≡ keep
+  pub keeps : pass.keep ≡ keeping keep
   pub new : pass.view ≡ new_pass procs objects number home
   pub room : pass.room ≡ 0
   pub rows : pass.row_room ≡ 64

@@ -5,6 +5,8 @@
 pub enum Keep {
     /// All, from which closing the system makes its history.
     All,
+    /// Those that no section has taken yet.
+    Sections,
     /// None: a draw stores nothing.
     Nothing,
 }

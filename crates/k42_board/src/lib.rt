@@ -15,6 +15,7 @@ mod queueing;
 mod receipts;
 mod retired;
 mod setup;
+mod skipping;
 mod slot_plays;
 mod slots;
 mod stamps;
@@ -48,6 +49,7 @@ pub use queueing::{
 pub use receipts::{tell_all, tell_cell};
 pub use retired::{Carried, Retired, Slip};
 pub use setup::Setup;
+pub use skipping::{skip_to, tell_clock};
 pub use slot_plays::Known;
 pub use slots::{lock_cell, put_cell, take_cell, unlock_cell};
 pub use stamps::{last_at, stamp_after};

@@ -92,6 +92,27 @@ impl<P: Drop> Play<Option<Content<P>>, View<P>> for Free {
     ghost then = { λ step. TellsWith (λ found v. took steps.Free step.word found (freed_view (freed_object step.word) found v)) (MarkFound (freed_object step.word)) step };
 }
 
+pub(crate) struct TellClock;
+
+impl<P> Split<View<P>> for TellClock {
+    ghost use Rattle.k42_board.specs.Skipping.{clock_told};
+
+    ghost left = { λ view. view };
+
+    ghost right = { clock_told };
+}
+
+pub(crate) struct Skip;
+
+impl<P> Join<View<P>> for Skip {
+    ghost use Rattle.k42_board.specs.Skipping.{skipping};
+    ghost use Rattle.k42_board.specs.declared.view.View.TheVariants.{Spent};
+
+    ghost both = { skipping };
+
+    ghost spent = { Spent };
+}
+
 pub struct Deal;
 
 impl<P> Split<View<P>> for Deal {

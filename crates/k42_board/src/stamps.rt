@@ -16,11 +16,11 @@ pub fn last_at<P: Drop>(cells: &[Content<P>]) -> u64
     }
 }
 
-/// One more than the last stamp that a pass drew, and than those of cells.
+/// One more than the clock of a pass, and than the last stamps of cells.
 #[inline(always)]
-pub fn stamp_after(drew_last: u64, at_cells: u64) -> u64
-    requires { (drew_last ≤ LAST_STAMP) × (at_cells ≤ LAST_STAMP) }
-    ensures { result ≡ max drew_last at_cells + 1 }
+pub fn stamp_after(clock: u64, at_cells: u64) -> u64
+    requires { (clock ≤ LAST_STAMP) × (at_cells ≤ LAST_STAMP) }
+    ensures { result ≡ max clock at_cells + 1 }
 {
-    drew_last.max(at_cells) + 1
+    clock.max(at_cells) + 1
 }

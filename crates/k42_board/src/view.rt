@@ -126,5 +126,7 @@ pub enum View<P> {
     Kept(CellView),
     /// The row that a `Retired` names.
     Named(Row),
+    /// A stamp to which some caller's clock has come.
+    Drew(u64),
     Spent,
 }

@@ -1,8 +1,6 @@
 -- What a pass knows once it has drawn that its object is over.
 use Rattle.std.proofs.Common.{◌≡◌, ℕ, ◌+◌, ◌-◌, ◌<◌, Bool, true, false, ◌||◌, cond, eqb, List, [], ◌∷◌, ◌++◌, Some, None, length, refl, sym, ap, ◌∙◌, subst, arith}
-use Rattle.std.specs.Prelude.{max}
 use Rattle.std.proofs.lemmas.Bool.{eq-eqb}
-use Rattle.std.proofs.lemmas.Bool.Decides.{nat_tests}
 use Rattle.std.proofs.lemmas.Option.{same_Some}
 use Rattle.k42_kinds.specs.Histories.{is_call}
 use Rattle.k42_kinds.specs.declared.entry.Act.{Act}
@@ -19,7 +17,7 @@ use Rattle.k42_stamp.specs.Laws.{AreLaws}
 use Rattle.k42_stamp.specs.Layouts.{Layouts}
 use Rattle.k42_joined.specs.Swapping.{holds_none}
 use Rattle.k42_board.specs.Cells.{cells_noted}
-use Rattle.k42_board.specs.Drawing.{IsTold, MayDrawMark, entry_mark, stamp_next, last_noted, drawn_at, part_in, part_noted}
+use Rattle.k42_board.specs.Drawing.{IsTold, MayDrawMark, entry_mark, stamp_next, drawn_at, part_in, part_noted}
 use Rattle.k42_board.specs.Log.{ComesTo, step_at, took, with_log}
 use Rattle.k42_board.specs.Plan.{LayoutWords}
 use Rattle.k42_board.specs.Protocol as protocol
@@ -41,11 +39,10 @@ use Rattle.k42_mediator.proofs.GivenBack.{holds_last, released_taken, released_d
 use Rattle.k42_mediator.proofs.Logs.{comes_by, comes_on}
 use Rattle.k42_mediator.proofs.NotesTold.{told_part, taken_now}
 
--- a stamp is later than all that the pass has drawn
-pub later_stamp : {P : Type 0} (v : PassView P) (cells : List ℕ) → last_stamp v.taker.mine < stamp_next v cells
-later_stamp v cells = above (last_stamp v.taker.mine) (last_noted v.notes cells) where
-  above : (a b : ℕ) → a < max a b + 1
-  above a b = grind (arith, nat_tests)
+-- a stamp that was drawn is later than all that the pass had drawn
+pub later_stamp : {P : Type 0} (v : PassView P) (cells : List ℕ) (stamp : ℕ) → stamp ≡ stamp_next v cells → last_stamp v.taker.mine < stamp
+    → last_stamp v.taker.mine < stamp_next v cells
+later_stamp v cells stamp is later = subst (λ n. last_stamp v.taker.mine < n) is later
 
 -- a word of an object that is over answers that
 pub over_told : (word : ℕ) (answer : Answer) → is_over_in word ≡ true → answer_in word ≡ Some answer → tells_over answer ≡ true
@@ -98,10 +95,10 @@ module _ {P : Type 0} (v0 : PassView P) (n : ℕ) (cell : Content P) (number : c
       (extends_one (step_at steps.Draw word 0) v1.log refl))
       (λ log u. refl)
 
-  pub marks_next : (object incarnation : ℕ) → object_begun v0.last ≡ object → incarnation_in (word_begun v0.last) ≡ incarnation
+  pub marks_next : last_stamp v0.taker.mine < entry.stamp → (object incarnation : ℕ) → object_begun v0.last ≡ object → incarnation_in (word_begun v0.last) ≡ incarnation
       → IsNext v0 object incarnation n act answer entry
-  marks_next object incarnation o i = record {
-    later = later_stamp v (cell.number ∷ []);
+  marks_next later object incarnation o i = record {
+    later = later;
     whole = λ j. record {
       stamp = entry.stamp;
       caller = v0.number;

@@ -1,11 +1,14 @@
 -- What a pass knows as it gives its swap up.
-use Rattle.std.proofs.Common.{◌≡◌, ℕ, ◌+◌, true, false, cond, List, ◌∷◌, inr, refl, sym, ap, ◌∙◌, subst}
+use Rattle.std.proofs.Common.{◌≡◌, ℕ, ◌+◌, ◌<◌, true, false, cond, List, [], ◌∷◌, inr, refl, sym, ap, ◌∙◌, subst}
+use Rattle.std.specs.Prelude.{max}
 use Rattle.k42_kinds.specs.declared.entry.Act.{Act}
 use Rattle.k42_kinds.specs.declared.entry.Answer.TheVariants.{Abandoned}
 use Rattle.phase_core.specs.Stages.{is_moved}
 use Rattle.phase_core.specs.declared.caller.SwapAt.TheVariants.{Idle, Moved, Reopening, Opened}
+use Rattle.turn_core.specs.Plain.{Caller}
+use Rattle.turn_core.specs.Stamps.{last_stamp}
 use Rattle.k42_stamp.specs.Layouts.{Layouts}
-use Rattle.k42_board.specs.Drawing.{entry_alone, alone_view}
+use Rattle.k42_board.specs.Drawing.{entry_alone, alone_view, stamp_next}
 use Rattle.k42_board.specs.Log.{ComesTo, step_at, took, last_found, with_log}
 use Rattle.k42_board.specs.Protocol as protocol
 use Rattle.k42_board.specs.Stepping.{Takes}
@@ -57,6 +60,15 @@ module _ {P : Type 0} (act : Act) (v : PassView P) (moved : v.visitor.swap ≡ M
       (comes_by v2 (gives_up act (incarnation_in (word_begun v.last) + 1) v2) v3 (step_at steps.Draw role_word 0 ∷ v2.log)
       (third ∙ (λ i. took steps.Draw role_word 0 (gives_up (same i) (is i) v2))) (extends_one (step_at steps.Draw role_word 0) v2.log refl))
       (λ log w. refl)
+
+  -- and that is later than all before it
+  pub later_up : (word found stamp : ℕ) (v1 v2 : PassView P) → v1 ≡ took steps.Clear word found (cleared_view v)
+      → ComesTo v1 (staged (stage_changed v1.visitor.swap) v1) v2 → stamp ≡ stamp_next v2 [] → last_stamp v2.taker.mine < stamp
+      → last_stamp v.taker.mine < stamp_next v []
+  later_up word found stamp v1 v2 first second is later =
+      let taker : v2.taker ≡ v.taker =
+      ap (λ (u : PassView P). u.taker) second.knows ∙ ap (λ (u : PassView P). u.taker) (first ∙ ap (took steps.Clear word found) (cleared_moved v moved)) in
+      subst (λ (x : Caller). last_stamp x.mine < max x.clock 0 + 1) taker (subst (λ n. last_stamp v2.taker.mine < n) is later)
 
 module _ {P : Type 0} (act : Act) (v v3 : PassView P) (unturned : v.turned ≡ false) (comes : ComesTo v (given_up_view act v) v3) where
   pub clears_up : MayClear v3

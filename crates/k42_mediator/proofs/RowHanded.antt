@@ -12,6 +12,7 @@ use Rattle.k42_kinds.specs.declared.entry.Entry.{Entry}
 use Rattle.phase_core.specs.Stages.{object_named}
 use Rattle.turn_core.specs.Events.{caller_drawn}
 use Rattle.turn_core.specs.Names.{names, names_once}
+use Rattle.turn_core.specs.Stamps.{last_stamp}
 use Rattle.k42_stamp.specs.Laws.{AreLaws}
 use Rattle.k42_stamp.specs.Layouts.{Layouts}
 use Rattle.k42_joined.specs.Drawing.{first_cell}
@@ -34,7 +35,6 @@ use Rattle.k42_board.proofs.RowCells.{row_once}
 use Rattle.k42_rule.proofs.HandedNotes.{numbers_more}
 use Rattle.k42_mediator.specs.Taken.{released, AreTaken, MayPutAllBack}
 use Rattle.k42_mediator.specs.Transfers.{IsDoneNext, HasHanded}
-use Rattle.k42_mediator.proofs.AfterMark.{later_stamp}
 use Rattle.k42_mediator.proofs.GivenBack.{held_due}
 use Rattle.k42_mediator.proofs.Logs.{log_now}
 use Rattle.k42_mediator.proofs.NotesHanded.{handed_part, released_handed, part_at_once}
@@ -113,15 +113,22 @@ module _ {S L P : Type 0} (F : Layouts S L P) (laws : AreLaws F) (declared : Lis
       }
 
   -- the entry that it has drawn
-  pub done_next : (act : Act) → is_call act ≡ false → 0 < F.procs → numbers_of onto ≡ row_cells F.procs o (i + 1)
+  -- it is later than all before it
+  pub done_later : (stamp : ℕ) → stamp ≡ stamp_next v (numbers_of news) → last_stamp v.taker.mine < stamp
+      → last_stamp v.taker.mine < stamp_next v (numbers_of from ++ numbers_of onto)
+  done_later stamp is later =
+      subst (λ n. last_stamp v.taker.mine < n) (is ∙ ap (stamp_next v) (sym (sym (numbers_more from onto) ∙ ap numbers_of both))) later
+
+  pub done_next : (act : Act) → last_stamp v.taker.mine < stamp_next v (numbers_of from ++ numbers_of onto) → is_call act ≡ false → 0 < F.procs
+      → numbers_of onto ≡ row_cells F.procs o (i + 1)
       → IsDoneNext act v (entry_hand v (numbers_of from) (numbers_of onto) act (Swapped (i + 1)))
-  done_next act asks some are =
+  done_next act later asks some are =
       let stamp : ℕ = stamp_next v (numbers_of from ++ numbers_of onto) in
       let named : o ≡ object_named v.visitor.swap = ap object_named (sym has.moved) in
       let first : first_cell (numbers_of onto) ≡ cell_of (object_named v.visitor.swap) (incarnation_in (word_begun v.last) + 1) 0 =
       ap first_cell are ∙ first_of F.procs some ∙ (λ j. cell_of (named j) (has.row j + 1) 0) in
       record {
-        later = later_stamp v (numbers_of from ++ numbers_of onto);
+        later = later;
         whole = λ j. record {
           stamp = stamp;
           caller = v.number;

@@ -1,7 +1,8 @@
 //! A swap is given up.
-ghost use Rattle.std.specs.Prelude.{◌≡◌, ◌<◌, ◌≤◌, length};
+ghost use Rattle.std.specs.Prelude.{◌≡◌, ◌<◌, ◌≤◌, [], length};
+ghost use Rattle.turn_core.specs.Stamps.{last_stamp};
 ghost use Rattle.k42_limits.specs.declared.TheConstants.{PASS_ENTRIES};
-ghost use Rattle.k42_board.specs.Drawing.{IsDrawer};
+ghost use Rattle.k42_board.specs.Drawing.{IsDrawer, stamp_next};
 ghost use Rattle.k42_board.specs.Log.{with_log};
 ghost use Rattle.k42_board.specs.Seen.{HasRoom, IsPassOf};
 ghost use Rattle.k42_board.specs.Stepping.{layouts_in};
@@ -21,6 +22,7 @@ pub fn abandon<L: Layout>(sys: &Sys<L>, pass: &mut Pass<L>, to: &L)
     requires known { L.tag_of to.now ≤ 2 }
     ensures same { IsDrawer pass.old pass.new }
     ensures knows { pass.new.view ≡ with_log pass.new.view.log (abandoned_view (L.act_of to.now) pass.old.view) }
+    ensures later { last_stamp pass.old.view.taker.mine < stamp_next pass.old.view [] }
     ensures up { HasGivenUp (layouts_in L.Layout sys.now) sys.now.layouts pass.old.seat (L.act_of to.now) pass.old.view pass.new.view }
 {
     let number = moved_row::<L>(pass).incarnation + 1;

@@ -121,7 +121,7 @@ module _ {P : Type 0} where
     objects = ap (λ (v : PassView P). length v.visitor.noted) knows ∙ is.objects;
     spans = ap (λ (v : PassView P). length v.visitor.freeing) knows ∙ is.spans;
     queue = same.queue ∙ is.queue;
-    keep = same.keep ∙ is.keep;
+    keep = (λ i. (same.keep i).what) ∙ is.keep;
   }
 
 module _ {S L P : Type 0} (F : Layouts S L P) (laws : AreLaws F) (declared : List L) (id : ℕ) where

@@ -199,7 +199,7 @@ module _ {P : Type 0} where
         objects = ap (λ (y : Visitor). length y.noted) visitor ∙ is.objects;
         spans = ap (λ (y : Visitor). length y.freeing) visitor ∙ is.spans;
         queue = same.queue ∙ is.queue;
-        keep = same.keep ∙ is.keep;
+        keep = (λ i. (same.keep i).what) ∙ is.keep;
       }
 
   pub may_flip : (p : ℕ) (v : PassView P) → is_some v.base ≡ true → v.turn.grace ≡ Flipping p → is_some v.turn.coming ≡ true → MayFlip p v
@@ -231,7 +231,7 @@ module _ {P : Type 0} where
         objects = ap (λ (v : PassView P). length v.visitor.noted) knows ∙ is.objects;
         spans = ap (λ (v : PassView P). length v.visitor.freeing) knows ∙ is.spans;
         queue = same.queue ∙ is.queue;
-        keep = same.keep ∙ is.keep;
+        keep = (λ i. (same.keep i).what) ∙ is.keep;
       }
 
   pub role_extends : (holder : Option ℕ) (v : PassView P) → Extends v.log (with_role holder v).log
@@ -247,7 +247,7 @@ module _ {P : Type 0} where
     objects = ap (λ (v : PassView P). length v.visitor.noted) e ∙ made_length (due_note old.view) 0 (length old.view.visitor.noted) ∙ is.objects;
     spans = ap (λ (v : PassView P). length v.visitor.freeing) e ∙ is.spans;
     queue = same.queue ∙ is.queue;
-    keep = same.keep ∙ is.keep;
+    keep = (λ i. (same.keep i).what) ∙ is.keep;
   }
 
 module _ {S L P : Type 0} (F : Layouts S L P) (declared : List L) (id : ℕ) (v w : PassView P) (found : ℕ) (takes : Takes F declared take_role id v found w) where

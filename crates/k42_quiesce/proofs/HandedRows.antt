@@ -81,7 +81,7 @@ module _ {P : Type 0} (old mid new : PassSeen P) (pushed : HasPushed mid new) wh
       objects = ap (λ (v : PassView P). length v.visitor.noted) pushed.knows ∙ ours.objects;
       spans = ap (λ (v : PassView P). length v.visitor.freeing) pushed.knows ∙ ours.spans;
       queue = pushed.queue ∙ ours.queue;
-      keep = pushed.keep ∙ ours.keep;
+      keep = (λ i. (pushed.keep i).what) ∙ ours.keep;
     },
     handed_next is some,
   )

@@ -23,7 +23,7 @@ swept_still {L} {P} sys procs o count old new is same sweeps =
       objects = ap (λ (v : PassView P). length v.visitor.noted) rest ∙ is.objects;
       spans = sweeps.spans ∙ is.spans;
       queue = same.queue ∙ is.queue;
-      keep = same.keep ∙ is.keep;
+      keep = (λ i. (same.keep i).what) ∙ is.keep;
     }
 
 freed_object_is : (o : ℕ) → freed_object (freed_word o) ≡ o

@@ -50,7 +50,7 @@ ours_still sys o old now waits ours = record {
   objects = ap (λ (x : PassView _). length x.visitor.noted) waits.there ∙ ours.objects;
   spans = ap (λ (x : PassView _). length x.visitor.freeing) waits.there ∙ ours.spans;
   queue = waits.same.queue ∙ ours.queue;
-  keep = waits.same.keep ∙ ours.keep;
+  keep = (λ i. (waits.same.keep i).what) ∙ ours.keep;
 }
 
 pub waits_from : {P : Type 0} (o : ℕ) (old : PassSeen P) → IsWaiting o old old

@@ -1,7 +1,7 @@
 use Rattle.std.proofs.Common.{◌+◌, refl, ap, ◌∙◌}
 use Rattle.k42_board.specs.Log.{ComesTo}
 use Rattle.k42_mediator.specs.Swaps.{given_up_view}
-use Rattle.k42_mediator.proofs.GivenUp.{comes_up, rows_before, clears_up, never_turned, given_up, abandoned, room_stays}
+use Rattle.k42_mediator.proofs.GivenUp.{comes_up, later_up, rows_before, clears_up, never_turned, given_up, abandoned, room_stays}
 use Rattle.k42_mediator.proofs.SamePass.{same_twice, same_of_room, draws_between}
 use Rattle.k42_mediator.proofs.abandoning.abandon.Goals as goal
 
@@ -42,6 +42,11 @@ returns-clause-knows g c =
     comes_up act v c.requires.moved.moved _ _ _ _ _ _ _ c.act.ensures (ap (λ i. i + 1) c.moved_row-number.ensures.row) c.clear_step.ensures.takes.knows
     c.change_entries.ensures.comes (c.draw_alone.ensures.takes 0).knows in
     abandoned _ _ act _ _ v _ _ _ c.moved_row-number.ensures.unturned comes refl c.clear_step-2.ensures.takes
+
+pub returns-clause-later : goal.returns-clause-later
+returns-clause-later g c =
+    later_up (g.L.Layout.act_of c.args.to.now) c.args.pass.now.view c.requires.moved.moved _ _ c.draw_alone.result c.clear_step.new.pass.view c.change_entries.new.pass.view
+    c.clear_step.ensures.takes.knows c.change_entries.ensures.comes c.draw_alone.ensures.stamp c.draw_alone.ensures.later
 
 pub returns-clause-up : goal.returns-clause-up
 returns-clause-up g c =

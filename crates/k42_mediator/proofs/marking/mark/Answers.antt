@@ -1,6 +1,7 @@
-use Rattle.std.proofs.Common.{◌≡◌, ℕ, ◌<◌, Some, inr, refl, sym, ap, ◌∙◌, subst}
+use Rattle.std.proofs.Common.{◌≡◌, ℕ, ◌<◌, [], ◌∷◌, Some, inr, refl, sym, ap, ◌∙◌, subst}
+use Rattle.turn_core.specs.Stamps.{last_stamp}
 use Rattle.k42_joined.specs.Numbers.{cell_of}
-use Rattle.k42_board.specs.Drawing.{IsTold, MayDrawMark, entry_mark}
+use Rattle.k42_board.specs.Drawing.{IsTold, MayDrawMark, entry_mark, stamp_next}
 use Rattle.k42_board.specs.Log.{ComesTo}
 use Rattle.k42_board.specs.Plan.{layouts_on}
 use Rattle.k42_board.specs.Taking.{CELLS, locked_view, taken_view}
@@ -11,7 +12,7 @@ use Rattle.k42_board.specs.declared.view.PassView.{PassView}
 use Rattle.k42_mediator.specs.Entries.{IsNext}
 use Rattle.k42_mediator.specs.Marks.{cell_marked}
 use Rattle.k42_mediator.specs.Taken.{MayPutBack}
-use Rattle.k42_mediator.proofs.AfterMark.{over_told, cell_small, held_by, holds_nothing, may_mark, comes_drawn, marks_next, marked_now, mark_ready}
+use Rattle.k42_mediator.proofs.AfterMark.{later_stamp, over_told, cell_small, held_by, holds_nothing, may_mark, comes_drawn, marks_next, marked_now, mark_ready}
 use Rattle.k42_mediator.proofs.GivenBack.{comes_taken, locked_home}
 use Rattle.k42_mediator.proofs.SamePass.{same_twice, draws_between}
 use Rattle.k42_mediator.proofs.marking.mark.Goals as goal
@@ -92,7 +93,10 @@ returns g c =
       entry = entry_mark (taken_view cell (locked_view n 0 v)) cell.number c.args.act answer;
       next =
           subst (λ (m : ℕ). IsNext v (object_begun v.last) (incarnation_in (word_begun v.last)) m c.args.act answer (entry_mark (taken_view cell (locked_view n 0 v)) cell.number c.args.act answer)) named
-          (marks_next v n cell number c.args.act answer act_is (object_begun v.last) (incarnation_in (word_begun v.last)) refl refl);
+          (marks_next v n cell number c.args.act answer act_is
+          (subst (λ (u : PassView _). last_stamp u.taker.mine < stamp_next u (cell.number ∷ [])) taken.knows
+          (later_stamp c.take-cell.new.pass.view (cell.number ∷ []) c.draw_mark.result c.draw_mark.ensures.stamp c.draw_mark.ensures.later))
+          (object_begun v.last) (incarnation_in (word_begun v.last)) refl refl);
       comes =
           marked_now v n cell number c.args.act answer act_is c.draw_mark.new.cell.number c.draw_mark.new.pass.view c.give_next.new.pass.view
           (c.draw_mark.ensures.told.number ∙ number) drawn c.give_next.ensures.comes

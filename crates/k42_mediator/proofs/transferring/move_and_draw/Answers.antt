@@ -14,7 +14,7 @@ use Rattle.k42_board.specs.declared.view.StepName.TheVariants as steps
 use Rattle.k42_board.proofs.Gained.{extends_as, extends_one}
 use Rattle.k42_mediator.specs.Parts.{parts_from, AreKept, filled}
 use Rattle.k42_mediator.specs.Taken.{MayPutAllBack}
-use Rattle.k42_mediator.proofs.RowHanded.{ready_handed, done_next, has_handed}
+use Rattle.k42_mediator.proofs.RowHanded.{ready_handed, done_later, done_next, has_handed}
 use Rattle.k42_mediator.proofs.RowMoved.{filled_numbers}
 use Rattle.k42_mediator.proofs.RowReady.{HasRows, has_rows, live, long, whole, from_numbers, old_numbers, new_numbers, numbers_same, ready_again, may_hand, written_back, told_numbers}
 use Rattle.k42_mediator.proofs.transferring.move_and_draw.Goals as goal
@@ -218,4 +218,6 @@ returns-clause-handed g c =
     has_handed F laws declared agrees v o i items layout has cells numbers entry tag log act c.args.pass.now c.draw_done.new.pass refl knows
     (extends_as (ap (λ (w : PassView _). w.log) knows) (extends_one (step_at steps.Draw (lock_word (first_cell (numbers_of cells))) 0) v.log refl))
     c.draw_done.ensures.drawn.drawer
-    (done_next F laws declared agrees v o i items layout has cells numbers entry tag log act (laws.asks to) laws.some onto)
+    (done_next F laws declared agrees v o i items layout has cells numbers entry tag log act
+    (done_later F laws declared agrees v o i items layout has cells numbers entry tag log c.draw_done.result c.draw_done.ensures.stamp c.draw_done.ensures.later)
+    (laws.asks to) laws.some onto)
