@@ -8,6 +8,8 @@ use Rattle.std.proofs.lemmas.Bool.{and_parts}
 use Rattle.std.proofs.lemmas.List.{length-map, ext_get_or}
 use Rattle.std.proofs.Math.ListN.{get_or-map}
 use Rattle.std.proofs.lemmas.Option.{slice_get-map, get_or_from_slice_get}
+use mathlib.Core.Option.{some}
+use lib.ListN.{get_elem?}
 use Rattle.atomic_table.specs.Table.{State, Seen}
 use Rattle.gen_core.specs.State.{caller_at}
 use Rattle.phase_core.specs.Stages.{is_out, is_idle}
@@ -15,6 +17,7 @@ use Rattle.phase_core.proofs.InSound.{visitor_known}
 use Rattle.turn_core.specs.Plain.{Caller}
 use Rattle.turn_core.specs.State as turns
 use Rattle.k42_kinds.specs.declared.entry.Entry.{Entry}
+use Rattle.k42_places.specs.Places.{EachPlace}
 use Rattle.k42_stamp.specs.Layouts.{Layouts}
 use Rattle.k42_joined.specs.Fitting.{lists_of}
 use Rattle.k42_joined.specs.Plain.{Joined}
@@ -40,27 +43,24 @@ rests_at v e =
     let parts = and_parts (is_none v.turn.active && graces.is_idle v.turn.grace) (is_idle v.visitor.swap) e in
     (none_is v.turn.active (and_parts (is_none v.turn.active) (graces.is_idle v.turn.grace) parts.0).0, parts.1)
 
+-- passes that each have a seat in the state
 module _ {S L P : Type 0} (F : Layouts S L P) (declared : List L) (sys : SysSeen L) (passes : List (PassSeen P)) (rest : AreAtRest sys passes)
-    (id : ℕ) (table : State (Slot P) (View P)) (seen : Seen (Ruled F declared (length sys.callers)) id (Crew (views_of passes)) table) where
+    (table : State (Slot P) (View P)) (ruled : Ruled F declared (length sys.callers) table)
+    (known : (c : ℕ) (pass : PassSeen P) → slice_get passes c ≡ Some pass → (id : ℕ) × KnowsPass F.tag_of ruled.rule.state ruled.rule.beside id pass.view) where
   abbrev s : Joined L
-  s = seen.0.rule.state
+  s = ruled.rule.state
 
   pass_at : (c : ℕ) → c < length passes → (pass : PassSeen P) × (slice_get passes c ≡ Some pass)
   pass_at c lt = there_is passes c lt
 
-  known : (c : ℕ) (pass : PassSeen P) → slice_get passes c ≡ Some pass → KnowsPass F.tag_of s seen.0.rule.beside id pass.view
-  known c pass e =
-      (seen.0.rule.seats id (Crew (views_of passes)) seen.1).1 c pass.view
-      (slice_get-map (λ (p : PassSeen P). p.view) passes c ∙ ap (option_map (λ (p : PassSeen P). p.view)) e)
-
   mine_is : (c : ℕ) (pass : PassSeen P) → slice_get passes c ≡ Some pass → mine s c ≡ pass.view.taker.mine
   mine_is c pass e =
-      ap (λ d. mine s d) (sym (rest.each c pass e).number) ∙ ap (λ (x : Caller). x.mine) (known c pass e).cells.taker
+      ap (λ d. mine s d) (sym (rest.each c pass e).number) ∙ ap (λ (x : Caller). x.mine) (known c pass e).1.cells.taker
 
   resting_at : (c : ℕ) (pass : PassSeen P) → slice_get passes c ≡ Some pass → IsResting s c
   resting_at c pass e = subst (IsResting s) (rest.each c pass e).number resting where
-    k : KnowsPass F.tag_of s seen.0.rule.beside id pass.view
-    k = known c pass e
+    k : KnowsPass F.tag_of s ruled.rule.beside (known c pass e).0 pass.view
+    k = (known c pass e).1
 
     inactive : (caller_at s.phases.turns pass.view.number).active ≡ None
     inactive = ap (λ x. x.active) k.generations.turn ∙ (rests_at pass.view (rest.each c pass e).rests).0
@@ -68,12 +68,12 @@ module _ {S L P : Type 0} (F : Layouts S L P) (declared : List L) (sys : SysSeen
     resting : IsResting s pass.view.number
     resting = record {
       inactive = inactive;
-      out = ap is_out ((visitor_known s.phases seen.0.rule.sound.phases pass.view.number k.there).at_rest inactive).0;
+      out = ap is_out ((visitor_known s.phases ruled.rule.sound.phases pass.view.number k.there).at_rest inactive).0;
       swap = ap (λ x. is_idle x.swap) k.phases.visitor ∙ (rests_at pass.view (rest.each c pass e).rests).1;
     }
 
   many_lists : length s.turns.callers ≡ length passes
-  many_lists = seen.0.rule.sound.cells.locks.many.callers ∙ seen.0.many ∙ sym rest.many
+  many_lists = ruled.rule.sound.cells.locks.many.callers ∙ ruled.many ∙ sym rest.many
 
   drawn : lists_in passes ≡ lists_of s
   drawn =
@@ -86,14 +86,33 @@ module _ {S L P : Type 0} (F : Layouts S L P) (declared : List L) (sys : SysSeen
       ∙ sym (mine_is c pass.0 pass.1)
       ∙ sym (get_or-map (λ (x : Caller). x.mine) s.turns.callers c turns.fresh_caller))
 
-  pub are_last : (lists : List (List Entry)) → lists ≡ lists_in passes → AreLastLists F declared (length sys.callers) lists
-  are_last lists is = record {
+  known_last : (lists : List (List Entry)) → lists ≡ lists_in passes → AreLastLists F declared (length sys.callers) lists
+  known_last lists is = record {
     state = s;
-    sound = seen.0.rule.sound;
-    many = seen.0.many;
+    sound = ruled.rule.sound;
+    many = ruled.many;
     drawn = is ∙ drawn;
     resting = λ c lt. let pass = pass_at c (let many = rest.many in omega (arith, lt, many)) in resting_at c pass.0 pass.1;
   }
+
+module _ {S L P : Type 0} (F : Layouts S L P) (declared : List L) (sys : SysSeen L) (passes : List (PassSeen P)) (rest : AreAtRest sys passes) where
+  -- all at one seat, as they end
+  pub are_last : (id : ℕ) (table : State (Slot P) (View P)) → Seen (Ruled F declared (length sys.callers)) id (Crew (views_of passes)) table
+      → (lists : List (List Entry)) → lists ≡ lists_in passes → AreLastLists F declared (length sys.callers) lists
+  are_last id table seen =
+      known_last F declared sys passes rest table seen.0
+      (λ c pass e. (
+        id,
+        (seen.0.rule.seats id (Crew (views_of passes)) seen.1).1 c pass.view
+            (slice_get-map (λ (p : PassSeen P). p.view) passes c ∙ ap (option_map (λ (p : PassSeen P). p.view)) e),
+      ))
+
+  -- each at its own, as they go on
+  pub last_seated : (table : State (Slot P) (View P)) → Ruled F declared (length sys.callers) table
+      → EachPlace (λ c pass. get_elem? table.views pass.seat ≡ some (Crew (pass.view ∷ []))) passes → AreLastLists F declared (length sys.callers) (lists_in passes)
+  last_seated table ruled shown =
+      known_last F declared sys passes rest table ruled
+      (λ c pass e. (pass.seat, (ruled.rule.seats pass.seat (Crew (pass.view ∷ [])) (shown c pass e)).1 0 pass.view refl)) (lists_in passes) refl
 
 -- a list that is not empty, and what is left of it without its first member
 pub first_removed : {A : Type 0} (xs : List A) (a : A) (rest : List A) → 0 < length xs → a ≡ get_or xs 0 a → rest ≡ remove xs 0 → xs ≡ a ∷ rest

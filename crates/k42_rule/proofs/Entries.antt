@@ -1,23 +1,18 @@
 -- The entries that a pass draws, field by field.
-use Rattle.std.proofs.Common.{◌≡◌, ℕ, ◌+◌, ◌-◌, false, cond, List, [], ◌∷◌, None, refl, sym, ap, subst, ◌∙◌}
+use Rattle.std.proofs.Common.{◌≡◌, ℕ, ◌+◌, ◌-◌, false, cond, [], ◌∷◌, None, sym, ap, ◌∙◌}
 use Rattle.std.specs.Prelude.{max}
 use Rattle.k42_kinds.specs.Histories.{is_call}
 use Rattle.k42_kinds.specs.declared.entry.Act.{Act}
 use Rattle.k42_kinds.specs.declared.entry.Answer.{Answer}
-use Rattle.k42_kinds.specs.declared.entry.Entry.{Entry}
-use Rattle.k42_stamp.specs.Layouts.{Layouts}
-use Rattle.k42_board.specs.Drawing.{MayDrawAs, entry_alone, entry_call, entry_mark, last_noted, last_told, number_told, numbers_of, stamp_next}
+use Rattle.k42_board.specs.Drawing.{entry_alone, entry_mark, number_told, stamp_next}
 use Rattle.k42_board.specs.Seen.{Own, own_in}
 use Rattle.k42_board.specs.Values.{incarnation_in}
 use Rattle.k42_board.specs.Views.{object_begun, word_begun}
-use Rattle.k42_board.specs.declared.cell.Content.{Content}
 use Rattle.k42_board.specs.declared.view.PassView.{PassView}
-use Rattle.k42_board.proofs.DrawnCall.{drawn_held}
-use Rattle.k42_board.proofs.Noted.{last_held}
 
 module _ {P : Type 0} (v : PassView P) (own : Own) (own_is : own ≡ own_in v) (act : Act) (answer : Answer) (is : is_call act ≡ false)
     (stamp index object incarnation : ℕ) (indexed : index ≡ own.drawn) (begun : object ≡ object_begun own.last) where
-  pub alone_entry : stamp ≡ max own.drew_last 0 + 1 → incarnation ≡ number_told answer - 1
+  pub alone_entry : stamp ≡ max own.clock 0 + 1 → incarnation ≡ number_told answer - 1
       → record {
         stamp = stamp;
         caller = own.number;
@@ -32,7 +27,7 @@ module _ {P : Type 0} (v : PassView P) (own : Own) (own_is : own ≡ own_in v) (
       }
       ≡ entry_alone v act answer
   alone_entry stamped told = λ i. record {
-    stamp = (stamped ∙ ap (λ (o : Own). max o.drew_last 0 + 1) own_is) i;
+    stamp = (stamped ∙ ap (λ (o : Own). max o.clock 0 + 1) own_is) i;
     caller = ap (λ (o : Own). o.number) own_is i;
     index = (indexed ∙ ap (λ (o : Own). o.drawn) own_is) i;
     object = (begun ∙ ap (λ (o : Own). object_begun o.last) own_is) i;
@@ -70,15 +65,3 @@ module _ {P : Type 0} (v : PassView P) (own : Own) (own_is : own ≡ own_in v) (
     proc = ap (λ (o : Own). o.turn.proc) own_is i;
     generation = ap (λ b. cond b v.turn.active None) (sym is) i;
   }
-
--- what cells tell of their last stamps is what a pass that may draw at them has noted
-pub last_held_at : {S L P : Type 0} (F : Layouts S L P) (declared : List L) (v : PassView P) (contents : List (Content P)) (act : Act) (answer : Answer)
-    → MayDrawAs F declared contents act answer v → (last : ℕ) → last ≡ last_told contents → last ≡ last_noted v.notes (numbers_of contents)
-last_held_at F declared v contents act answer may last told = told ∙ last_held v.notes contents (drawn_held F declared v contents act answer may)
-
--- what is asked of a draw is so of the entry that is the next of the pass
-pub may_draw_entry : {S L P : Type 0} (F : Layouts S L P) (declared : List L) (v : PassView P) (contents : List (Content P)) (act : Act) (answer : Answer)
-    → MayDrawAs F declared contents act answer v → (entry : Entry) → entry ≡ entry_call v (numbers_of contents) act answer
-    → MayDrawAs F declared contents entry.act entry.answer v × (entry ≡ entry_call v (numbers_of contents) entry.act entry.answer)
-may_draw_entry F declared v contents act answer may entry is =
-    subst (λ (e : Entry). MayDrawAs F declared contents e.act e.answer v × (e ≡ entry_call v (numbers_of contents) e.act e.answer)) (sym is) (may, refl)

@@ -1,11 +1,10 @@
 -- Passes that have given their lists away.
-use Rattle.std.proofs.Common.{◌≡◌, ℕ, zero, suc, List, [], ◌∷◌, ◌++◌, Some, drop, length, map, take, refl, sym, ap, ◌∙◌, subst}
+use Rattle.std.proofs.Common.{◌≡◌, ℕ, zero, suc, List, [], ◌∷◌, Some, map, refl, ap, ◌∙◌, subst}
 use Rattle.std.specs.List.{slice_get}
 use Rattle.std.proofs.lemmas.List.{length-map}
 use Rattle.std.proofs.lemmas.Option.{same_Some}
-use Rattle.std.proofs.Math.Seq.{take-append_seam}
 use Rattle.k42_places.specs.Places.{EachPlace}
-use Rattle.k42_board.specs.Seen.{SysSeen, PassSeen, kept_by}
+use Rattle.k42_board.specs.Seen.{SysSeen, PassSeen, kept_of}
 use Rattle.k42_board.specs.declared.keep.Keep.TheVariants as keeps
 use Rattle.k42_rule.specs.Finishing.{AreAtRest, IsPassAtRest, kept_in, lists_in, with_none, with_none_kept}
 
@@ -24,20 +23,11 @@ given_rest {L} {P} sys passes rest = record {
       subst (IsPassAtRest sys c) was.2 (record { ours = is.ours; number = is.number; rests = is.rests });
 }
 
--- so are they where they lie
-pub given_at_rest : {L P : Type 0} (sys : SysSeen L) (count : ℕ) (passes given : List (PassSeen P)) → count ≡ length passes → given ≡ with_none_kept passes
-    → AreAtRest sys passes → AreAtRest sys (take count (given ++ drop (length given) passes))
-given_at_rest sys count passes given many is rest =
-    let same : length given ≡ length passes = ap length is ∙ length-map passes _ in
-    let back : take count (given ++ drop (length given) passes) ≡ with_none_kept passes =
-    ap (λ k. take k (given ++ drop (length given) passes)) (many ∙ sym same) ∙ take-append_seam given (drop (length given) passes) ∙ is in
-    subst (AreAtRest sys) (sym back) (given_rest sys passes rest)
-
 pub given_lists : {P : Type 0} (passes : List (PassSeen P)) → lists_in (with_none_kept passes) ≡ lists_in passes
 given_lists [] = refl
 given_lists (pass ∷ passes) = ap (λ lists. pass.view.taker.mine ∷ lists) (given_lists passes)
 
 -- where each has kept all, those are all lists
-pub all_kept : {P : Type 0} (passes : List (PassSeen P)) → EachPlace (λ c pass. pass.keep ≡ keeps.All) passes → kept_in passes ≡ lists_in passes
+pub all_kept : {P : Type 0} (passes : List (PassSeen P)) → EachPlace (λ c pass. pass.keep.what ≡ keeps.All) passes → kept_in passes ≡ lists_in passes
 all_kept [] all = refl
-all_kept (pass ∷ passes) all = λ i. kept_by (all 0 pass refl i) pass.view.taker.mine ∷ all_kept passes (λ c other e. all (suc c) other e) i
+all_kept (pass ∷ passes) all = λ i. kept_of (all 0 pass refl i) pass.keep.given pass.view.taker.mine ∷ all_kept passes (λ c other e. all (suc c) other e) i

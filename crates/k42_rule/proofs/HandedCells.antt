@@ -60,8 +60,8 @@ module _ {S L P : Type 0} (F : Layouts S L P) (declared : List L) (cells : List 
   held : AreHeld v.notes cells
   held = subst (AreHeld v.notes) all_cells (held_more v.notes from onto may.held_from may.held_onto)
 
-  pub stamp_is : max (last_stamp v.taker.mine) (last_told cells) + 1 ≡ stamp_next v (numbers_of from ++ numbers_of onto)
-  stamp_is = λ j. max (last_stamp v.taker.mine) ((last_held v.notes cells held ∙ ap (last_noted v.notes) (sym all_numbers)) j) + 1
+  pub stamp_is : max v.taker.clock (last_told cells) + 1 ≡ stamp_next v (numbers_of from ++ numbers_of onto)
+  stamp_is = λ j. max v.taker.clock ((last_held v.notes cells held ∙ ap (last_noted v.notes) (sym all_numbers)) j) + 1
 
   pub parted : F.procs ≤ 8 → EachPlace (λ place (content : Content P). names (numbers_of from) content.number ≡ false) onto
   parted few place content e =

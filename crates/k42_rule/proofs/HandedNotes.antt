@@ -2,7 +2,6 @@
 use Rattle.std.proofs.Common.{◌≡◌, ℕ, suc, ◌≤◌, ◌||◌, ◌&&◌, Bool, true, false, not, cond, eqb, List, [], ◌∷◌, ◌++◌, Option, length, sym, refl, ap, ◌∙◌, subst, arith}
 use Rattle.std.specs.Prelude.{map}
 use Rattle.std.proofs.lemmas.Bool.{eqb-true, lt-ltb}
-use Rattle.k42_limits.specs.declared.TheConstants.{LAST_STAMP}
 use Rattle.k42_kinds.specs.declared.entry.Entry.{Entry}
 use Rattle.k42_places.specs.Places.{EachPlace}
 use Rattle.turn_core.specs.Names.{names}
@@ -12,6 +11,7 @@ use Rattle.k42_board.specs.Drawing.{history_noted, closed_noted, numbers_of, par
 use Rattle.k42_board.specs.Handing.{hands_at}
 use Rattle.k42_board.specs.Log.{took}
 use Rattle.k42_board.specs.Receipts.{IsDue, AreDue, closed_due, last_due}
+use Rattle.k42_limits.specs.declared.TheConstants.{LAST_STAMP}
 use Rattle.k42_board.specs.Seats.{told_by}
 use Rattle.k42_board.specs.Seen.{IsSeatOf}
 use Rattle.k42_board.specs.Steps.{Seated}
@@ -134,15 +134,12 @@ numbers_more (content ∷ from) onto = ap (λ xs. content.number ∷ xs) (number
 -- the seat after the hand, and once its cells were told
 
 module _ {P : Type 0} (v : PassView P) (from onto : List (Content P)) (entry : Entry) (tag : ℕ) where
-  small_entry : HasSmallStamp (hands_at from onto entry tag v) → entry.stamp ≤ LAST_STAMP
-  small_entry small = subst (λ z. z ≤ LAST_STAMP) (last_push v.taker.mine entry) small
-
   pub seat_due : (me : Seated P) (word : ℕ) → IsSeatOf me (took steps.Draw word 0 (hands_at from onto entry tag v)) → HasSmallStamp (hands_at from onto entry tag v) → AreHeld v.notes from → AreHeld v.notes onto
       → EachPlace (λ place (content : Content P). names (numbers_of from) content.number ≡ false) onto
       → AreDue (pass_in me.0).notes (length from) true entry.stamp (from ++ onto)
   seat_due me word is small held held' apart =
       subst (λ (m : Seated P). AreDue (pass_in m.0).notes (length from) true entry.stamp (from ++ onto)) (sym is)
-      (hand_due (numbers_of from) (numbers_of onto) entry (part_in (from ++ onto)) v.notes from onto held (each_named from) held' apart (each_named onto) (small_entry small))
+      (hand_due (numbers_of from) (numbers_of onto) entry (part_in (from ++ onto)) v.notes from onto held (each_named from) held' apart (each_named onto) small)
 
 -- the cells once they were told, for those who put them back
 module _ {P : Type 0} (from onto : List ℕ) (entry : Entry) (fresh : ℕ → Option P) (notes : List (Note P)) (old new : Content P)

@@ -3,7 +3,6 @@ use Rattle.std.proofs.Common.{◌≡◌, ℕ, ◌≤◌, true, List, [], ◌∷�
 use Rattle.k42_kinds.specs.declared.entry.Act.{Act}
 use Rattle.k42_kinds.specs.declared.entry.Answer.{Answer}
 use Rattle.k42_kinds.specs.declared.entry.Entry.{Entry}
-use Rattle.turn_core.specs.Stamps.{last_stamp}
 use Rattle.k42_stamp.specs.Layouts.{Layouts}
 use Rattle.k42_board.specs.Drawing.{MayHandOn, entry_hand, numbers_of, stamp_next, untold_view, HasSmallStamp}
 use Rattle.k42_board.specs.Handing.{hands_at, handed_at}
@@ -47,11 +46,11 @@ module _ {S L P : Type 0} (F : Layouts S L P) (declared : List L) (cells : List 
       knows_is = knows_drawn _ me seated is told
 
       pub mirrors_is : (before : Seated P) (own now : Own) → Mirrors before own → pass_in before.0 ≡ v
-          → now ≡ record own { drawn = length (v.taker.mine ++ entry ∷ []); drew_last = last_stamp (v.taker.mine ++ entry ∷ []); handed = Some tag } → Mirrors seated now
+          → now ≡ record own { drawn = length (v.taker.mine ++ entry ∷ []); clock = entry.stamp; handed = Some tag } → Mirrors seated now
       mirrors_is before own now mirrors same becomes = record {
         seat = told ∙ (λ j. (Crew (sym (ap (λ (m : Seated P). pass_in m.0) told) j ∷ []), []));
         own_is =
-            becomes ∙ ap (λ (o : Own). record o { drawn = length (v.taker.mine ++ entry ∷ []); drew_last = last_stamp (v.taker.mine ++ entry ∷ []); handed = Some tag }) (mirrors.own_is ∙ ap own_in same)
+            becomes ∙ ap (λ (o : Own). record o { drawn = length (v.taker.mine ++ entry ∷ []); clock = entry.stamp; handed = Some tag }) (mirrors.own_is ∙ ap own_in same)
             ∙ sym (ap own_in knows_is);
         out = ap (λ (x : PassView P). x.out) knows_is ∙ ap (λ (x : PassView P). x.out) (sym same) ∙ mirrors.out;
         told = ap (λ (x : PassView P). x.untold) knows_is;

@@ -8,7 +8,7 @@ use Rattle.k42_joined.specs.Plain.{Joined}
 use Rattle.k42_board.specs.Rule.{Beside, AreApart, KnowsPass, Knows, Rule, Ruled}
 use Rattle.k42_board.specs.declared.view.PassView.{PassView}
 use Rattle.k42_board.specs.declared.view.View.{View}
-use Rattle.k42_board.specs.declared.view.View.TheVariants.{Crew, Kept, Named, Spent}
+use Rattle.k42_board.specs.declared.view.View.TheVariants.{Crew, Drew, Kept, Named, Spent}
 use Rattle.k42_board.proofs.Replaced.{put, put_here, put_else}
 
 -- a member of two lists, one behind the other
@@ -62,6 +62,7 @@ module _ {L P : Type 0} (tag_of : L → ℕ) (s : Joined L) (beside : Beside P) 
     moved_others j (Kept told) not not_other known = tt
     moved_others j (Named row) not not_other known =
         (known.0, ap (moved other id) known.1 ∙ moved_same other id j not_other)
+    moved_others j (Drew stamp) not not_other known = known
     moved_others j Spent not not_other known = tt
 
     module _ (ours theirs : List (PassView P)) (mine : Knows tag_of s beside id (Crew ours)) (them : Knows tag_of s beside other (Crew theirs)) where

@@ -13,5 +13,8 @@ pub mod Joining
 pub mod Gathering
 pub mod Ending
 pub mod GivenLists
+pub mod GivenSections
+pub mod CutLists
+pub mod RaisedClocks
 pub mod Showing
 pub mod Plans

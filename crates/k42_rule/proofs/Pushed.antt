@@ -1,39 +1,102 @@
--- A pass after a draw: it has drawn one more, as its view tells, and keeps the entry where it keeps all.
-use Rattle.std.proofs.Common.{◌≡◌, ℕ, ◌+◌, ◌-◌, ◌≤◌, List, [], ◌∷◌, ◌++◌, length, sym, refl, ap, ◌∙◌, subst, arith}
-use Rattle.std.proofs.lemmas.List.{length_push}
+-- A pass after a draw: it has drawn one more, as its view tells, and keeps the entry where it keeps any.
+use Rattle.std.proofs.Common.{◌≡◌, ℕ, suc, ◌+◌, ◌-◌, ◌<◌, ◌≤◌, List, [], ◌∷◌, ◌++◌, Option, Some, None, drop, length, take, sym, refl, ap, ◌∙◌, subst, ⊎_elim, arith}
+use Rattle.std.specs.List.{slice_get, AllByRecursion}
+use Rattle.std.specs.Prelude.{max}
+use Rattle.std.proofs.Math.Nat.{le-max_left}
+use Rattle.std.proofs.lemmas.List.{drop-append-le, length_push, take-append-le}
 use Rattle.k42_kinds.specs.declared.entry.Entry.{Entry}
-use Rattle.turn_core.specs.Stamps.{last_stamp}
-use Rattle.k42_board.specs.Drawing.{IsDrawer}
-use Rattle.k42_board.specs.Seen.{PassSeen, HasRoom, IsSeatOf, Mirrors, Own, own_in, kept_by, kept_with, room_due}
+use Rattle.k42_limits.specs.declared.TheConstants.{PASS_ENTRIES}
+use Rattle.k42_places.specs.Places.{EachPlace}
+use Rattle.k42_places.proofs.Appended.{at_push}
+use Rattle.k42_kinds.specs.declared.entry.Act.{Act}
+use Rattle.k42_kinds.specs.declared.entry.Act.TheVariants.{Call}
+use Rattle.k42_kinds.specs.declared.entry.Answer.{Answer}
+use Rattle.k42_kinds.specs.declared.entry.Answer.TheVariants.{Replied}
+use Rattle.turn_core.specs.Stamps.{last_stamp, stamp_of}
+use Rattle.k42_stamp.specs.Layouts.{Layouts}
+use Rattle.k42_stamp.proofs.Listed.{list_push}
+use Rattle.k42_board.specs.Drawing.{IsDrawer, MayDrawAs}
+use Rattle.k42_board.specs.declared.cell.Content.{Content}
+use Rattle.k42_board.specs.Seen.{PassSeen, HasRoom, IsParted, IsSeatOf, Keeping, Mirrors, Own, own_in, kept_of, kept_with, room_due}
 use Rattle.k42_board.specs.Steps.{Seated}
 use Rattle.k42_board.specs.Views.{pass_in}
 use Rattle.k42_board.specs.declared.keep.Keep.{Keep}
 use Rattle.k42_board.specs.declared.keep.Keep.TheVariants as keeps
 use Rattle.k42_board.specs.declared.view.PassView.{PassView}
 use Rattle.k42_board.specs.declared.view.View.TheVariants.{Crew}
-use Rattle.k42_board.proofs.Noted.{last_push}
+use Rattle.k42_rule.specs.Keeping.{HasKept}
+
+-- of each, as a list is gone through
+pub each_all : (P : Entry → Type 0) (entries : List Entry) → EachPlace (λ place entry. P entry) entries → AllByRecursion P entries
+each_all P [] each = tt
+each_all P (entry ∷ entries) each = (each 0 entry refl, each_all P entries (λ place. each (suc place)))
+
+each_push : (P : Entry → Type 0) (entries : List Entry) (e : Entry) → EachPlace (λ place f. P f) entries → P e → EachPlace (λ place f. P f) (entries ++ e ∷ [])
+each_push P entries e each is place f at =
+    ⊎_elim (λ before. each place f before.1) (λ last. subst P last.1 is) (at_push entries e place f at)
 
 -- what was kept, and the entry where that is kept, are what is kept of the list with the entry
-kept_push : (keep : Keep) (mine : List Entry) (e : Entry) → kept_with keep (kept_by keep mine) e ≡ kept_by keep (mine ++ e ∷ [])
-kept_push keeps.All mine e = refl
-kept_push keeps.Nothing mine e = refl
+kept_push : (what : Keep) (given : ℕ) (mine : List Entry) (e : Entry) → given ≤ length mine
+    → kept_with what (kept_of what given mine) e ≡ kept_of what given (mine ++ e ∷ [])
+kept_push keeps.All given mine e few = refl
+kept_push keeps.Sections given mine e few = sym (drop-append-le given mine (e ∷ []) few)
+kept_push keeps.Nothing given mine e few = refl
 
-pub kept_drawn : {P : Type 0} (keep : Keep) (kept after : List Entry) (v : PassView P) (e : Entry) (seated : Seated P) (w : PassView P) → kept ≡ kept_by keep v.taker.mine
-    → after ≡ kept_with keep kept e → IsSeatOf seated w → w.taker.mine ≡ v.taker.mine ++ e ∷ [] → after ≡ kept_by keep (pass_in seated.0).taker.mine
-kept_drawn keep kept after v e seated w old is seat drew =
-    is ∙ ap (λ xs. kept_with keep xs e) old ∙ kept_push keep v.taker.mine e
-    ∙ ap (kept_by keep) (sym drew) ∙ ap (λ (m : Seated _). kept_by keep (pass_in m.0).taker.mine) (sym seat)
+-- an entry that is later than the last section parts the list in the same place
+parted_push : (keep : Keeping) (mine : List Entry) (e : Entry) → IsParted keep mine → keep.since < e.stamp → IsParted keep (mine ++ e ∷ [])
+parted_push keep mine e is later = record {
+  few = let longer = length_push mine e in let few = is.few in omega (arith, longer, few);
+  given = subst (EachPlace (λ place (f : Entry). f.stamp ≤ keep.since)) (sym (take-append-le keep.given mine (e ∷ []) is.few)) is.given;
+  left =
+      subst (EachPlace (λ place (f : Entry). keep.since < f.stamp)) (sym (drop-append-le keep.given mine (e ∷ []) is.few))
+      (each_push (λ (f : Entry). keep.since < f.stamp) (drop keep.given mine) e is.left later);
+}
+
+-- no entry is later than the clock
+low_stamp : (mine : List Entry) (clock : ℕ) → EachPlace (λ place entry. entry.stamp ≤ clock) mine → last_stamp mine ≤ clock
+low_stamp mine clock below = go (slice_get mine (length mine - 1)) refl where
+  go : (last : Option Entry) → slice_get mine (length mine - 1) ≡ last → stamp_of last ≤ clock
+  go None there = omega arith
+  go (Some entry) there = below (length mine - 1) entry there
+
+-- so a draw is later than them all
+pub drawn_later : (keep : Keeping) (number : ℕ) (mine kept : List Entry) (clock last stamp : ℕ) → HasKept keep number mine clock kept → stamp ≡ max clock last + 1
+    → last_stamp mine < stamp
+drawn_later keep number mine kept clock last stamp has is =
+    let low = low_stamp mine clock has.below in let most = le-max_left clock last in omega (arith, low, most, is)
+
+pub kept_drawn : {P : Type 0} (keep : Keeping) (number : ℕ) (kept after : List Entry) (clock last : ℕ) (v : PassView P) (e : Entry) (seated : Seated P) (w : PassView P)
+    → HasKept keep number v.taker.mine clock kept → e.stamp ≡ max clock last + 1 → e.caller ≡ number → length v.taker.mine < PASS_ENTRIES
+    → after ≡ kept_with keep.what kept e → IsSeatOf seated w → w.taker.mine ≡ v.taker.mine ++ e ∷ []
+    → HasKept keep number (pass_in seated.0).taker.mine e.stamp after
+kept_drawn keep number kept after clock last v e seated w old stamp own few is seat drew =
+    subst (λ mine. HasKept keep number mine e.stamp after) (sym drew ∙ ap (λ (m : Seated _). (pass_in m.0).taker.mine) (sym seat))
+    (record {
+      kept_is = is ∙ ap (λ xs. kept_with keep.what xs e) old.kept_is ∙ kept_push keep.what keep.given mine e old.parted.few;
+      list = (list_push number clock mine e (record { is = old.list; few = each_all (λ (f : Entry). f.stamp ≤ clock) mine old.below }) own above).is;
+      parted = parted_push keep mine e old.parted (let since = old.since in omega (arith, since, above));
+      below = each_push (λ (f : Entry). f.stamp ≤ e.stamp) mine e (λ place f at. let low = old.below place f at in omega (arith, low, above)) (omega arith);
+      since = let since = old.since in omega (arith, since, above);
+      few = let longer = length_push mine e in omega (arith, longer, few);
+    }) where
+      mine : List Entry
+      mine = v.taker.mine
+
+      above : clock < e.stamp
+      above = let most = le-max_left clock last in omega (arith, most, stamp)
 
 -- the room that is left
 room_after : (keep : Keep) (kept after : List Entry) (e : Entry) (cap cap' : ℕ) → after ≡ kept_with keep kept e → cap' ≡ cap → room_due keep ≤ cap - length kept
     → cap' - length after + room_due keep ≡ cap - length kept
 room_after keeps.All kept after e cap cap' is same room =
     let long = ap length is ∙ length_push kept e in omega (arith, long, same, room)
+room_after keeps.Sections kept after e cap cap' is same room =
+    let long = ap length is ∙ length_push kept e in omega (arith, long, same, room)
 room_after keeps.Nothing kept after e cap cap' is same room = let long = ap length is in omega (arith, long, same)
 
 pub drawer_is : {P : Type 0} (inside old new : PassSeen P) (kept after : List Entry) (e : Entry) (cap cap' : ℕ) → inside ≡ old → HasRoom old
     → new.table ≡ inside.table → new.seat ≡ inside.seat → new.keep ≡ inside.keep → inside.room ≡ cap - length kept → new.room ≡ cap' - length after
-    → after ≡ kept_with inside.keep kept e → cap' ≡ cap → new.row_room ≡ inside.row_room → new.queue ≡ inside.queue → new.pushed ≡ inside.pushed
+    → after ≡ kept_with inside.keep.what kept e → cap' ≡ cap → new.row_room ≡ inside.row_room → new.queue ≡ inside.queue → new.pushed ≡ inside.pushed
     → new.popped ≡ inside.popped → IsDrawer old new
 drawer_is {P} inside old new kept after e cap cap' seen has table seat keep was is stored same row_room queue pushed popped =
     subst (λ (p : PassSeen P). IsDrawer p new) seen
@@ -42,9 +105,9 @@ drawer_is {P} inside old new kept after e cap cap' seen has table seat keep was 
       seat = seat;
       keep = keep;
       room =
-          (λ i. is i + room_due (keep i))
-          ∙ room_after inside.keep kept after e cap cap' stored same
-          (subst (λ n. room_due inside.keep ≤ n) was (subst (λ (p : PassSeen P). HasRoom p) (sym seen) has))
+          (λ i. is i + room_due (keep i).what)
+          ∙ room_after inside.keep.what kept after e cap cap' stored same
+          (subst (λ n. room_due inside.keep.what ≤ n) was (subst (λ (p : PassSeen P). HasRoom p) (sym seen) has))
           ∙ sym was;
       row_room = row_room;
       queue = queue;
@@ -52,17 +115,13 @@ drawer_is {P} inside old new kept after e cap cap' seen has table seat keep was 
       popped = popped;
     })
 
-module _ (mine : List Entry) (e : Entry) where
-  pub longer_drawn : (drawn : ℕ) → drawn ≡ length mine → drawn + 1 ≡ length (mine ++ e ∷ [])
-  longer_drawn drawn same = let longer = length_push mine e in omega (arith, longer, same)
-
-  pub last_drawn : e.stamp ≡ last_stamp (mine ++ e ∷ [])
-  last_drawn = sym (last_push mine e)
+pub longer_drawn : (mine : List Entry) (e : Entry) (drawn : ℕ) → drawn ≡ length mine → drawn + 1 ≡ length (mine ++ e ∷ [])
+longer_drawn mine e drawn same = let longer = length_push mine e in omega (arith, longer, same)
 
 -- the pass mirrors its view, which has the entry too
 pub mirrors_drawn : {P : Type 0} (own : Own) (me seated : Seated P) (w : PassView P) (e : Entry) → Mirrors me own → IsSeatOf seated w
-    → own_in w ≡ record (own_in (pass_in me.0)) { drawn = length ((pass_in me.0).taker.mine ++ e ∷ []); drew_last = last_stamp ((pass_in me.0).taker.mine ++ e ∷ []) }
-    → w.out ≡ (pass_in me.0).out → w.untold ≡ [] → Mirrors seated (record own { drawn = own.drawn + 1; drew_last = e.stamp })
+    → own_in w ≡ record (own_in (pass_in me.0)) { drawn = length ((pass_in me.0).taker.mine ++ e ∷ []); clock = e.stamp }
+    → w.out ≡ (pass_in me.0).out → w.untold ≡ [] → Mirrors seated (record own { drawn = own.drawn + 1; clock = e.stamp })
 mirrors_drawn own me seated w e old is same out untold =
     let here : pass_in seated.0 ≡ w = ap (λ (m : Seated _). pass_in m.0) is in
     let mine = (pass_in me.0).taker.mine in
@@ -70,9 +129,15 @@ mirrors_drawn own me seated w e old is same out untold =
     record {
       seat = is ∙ (λ j. (Crew (sym here j ∷ []), []));
       own_is =
-          (λ j. record own { drawn = longer j; drew_last = last_drawn mine e j })
-          ∙ ap (λ (o : Own). record o { drawn = length (mine ++ e ∷ []); drew_last = last_stamp (mine ++ e ∷ []) }) old.own_is
+          (λ j. record own { drawn = longer j; clock = e.stamp })
+          ∙ ap (λ (o : Own). record o { drawn = length (mine ++ e ∷ []); clock = e.stamp }) old.own_is
           ∙ sym same ∙ ap own_in (sym here);
       out = ap (λ (z : PassView _). z.out) here ∙ out ∙ old.out;
       told = ap (λ (z : PassView _). z.untold) here ∙ untold;
     }
+
+-- who may draw a call has room in its numbers for one more
+pub call_few : {S L P : Type 0} (F : Layouts S L P) (declared : List L) (v : PassView P) (contents : List (Content P)) (act : Act) (answer : Answer)
+    → MayDrawAs F declared contents act answer v → length v.taker.mine < PASS_ENTRIES
+call_few F declared v contents (Call op) (Replied reply) may = may.few
+call_few F declared v contents act answer may = absurd may

@@ -13,12 +13,11 @@ use Rattle.phase_core.specs.declared.caller.SwapAt.TheVariants.{Interposed}
 use Rattle.k42_board.specs.Gracing.{role_view, given_view}
 use Rattle.k42_board.specs.Log.{took}
 use Rattle.k42_board.specs.Noting.{due_of, notes_due}
-use Rattle.k42_board.specs.Seen.{Own, own_in, IsSeatOf, Mirrors, kept_by}
+use Rattle.k42_board.specs.Seen.{Own, own_in, IsSeatOf, Mirrors}
 use Rattle.k42_board.specs.Steps.{Seated}
 use Rattle.k42_board.specs.Swapping.{next_entry}
 use Rattle.k42_board.specs.Views.{pass_in}
 use Rattle.k42_board.specs.Words.{role_word}
-use Rattle.k42_board.specs.declared.keep.Keep.{Keep}
 use Rattle.k42_board.specs.declared.view.PassView.{PassView}
 use Rattle.k42_board.specs.declared.view.Row.{Row}
 use Rattle.k42_board.specs.declared.view.StepName.TheVariants as steps
@@ -44,10 +43,10 @@ rows_given rows turned now many granted is long cut =
     ∙ take-append_seam (drop granted rows) (take granted rows)
 
 -- taking the role draws nothing
-pub role_keeps : {P : Type 0} (v : PassView P) (keep : Keep) (me : Seated P) (found : ℕ) → IsSeatOf me (took steps.TakeRole role_word found (role_view found v)) → found ≡ 0
-    → kept_by keep (pass_in me.0).taker.mine ≡ kept_by keep v.taker.mine
-role_keeps v keep me found seat zero =
-    ap (λ (m : Seated _). kept_by keep (pass_in m.0).taker.mine) (subst (λ n. IsSeatOf me (took steps.TakeRole role_word n (role_view n v))) zero seat)
+pub role_keeps : {P : Type 0} (v : PassView P) (me : Seated P) (found : ℕ) → IsSeatOf me (took steps.TakeRole role_word found (role_view found v)) → found ≡ 0
+    → (pass_in me.0).taker.mine ≡ v.taker.mine
+role_keeps v me found seat zero =
+    ap (λ (m : Seated _). (pass_in m.0).taker.mine) (subst (λ n. IsSeatOf me (took steps.TakeRole role_word n (role_view n v))) zero seat)
 
 module _ {P : Type 0} (v : PassView P) (own : Own) (own_is : own ≡ own_in v) where
   pub noted_anew :

@@ -27,7 +27,7 @@ use Rattle.k42_board.specs.Steps.{StepIs}
 use Rattle.k42_board.specs.declared.view.PassView.{PassView}
 use Rattle.k42_board.specs.declared.view.Row.{Row}
 use Rattle.k42_board.specs.declared.view.View.{View}
-use Rattle.k42_board.specs.declared.view.View.TheVariants.{Crew, Kept, Named, Spent}
+use Rattle.k42_board.specs.declared.view.View.TheVariants.{Crew, Drew, Kept, Named, Spent}
 
 -- a served pass is inside the row of its place
 served_inside : (place : Place) → is_served place ≡ true → IsInside place (object_of place) (row_of place)
@@ -82,6 +82,7 @@ named_at : {L P : Type 0} (tag_of : L → ℕ) (s : Joined L) (beside : Beside P
 named_at tag_of s beside id (Crew passes) row knows names = (knows.1 names.0 names.2 names.3).names.named names.1 row names.4
 named_at tag_of s beside id (Named named) row knows names = ap beside.row_seat (sym names) ∙ knows.1
 named_at tag_of s beside id (Kept told) row knows names = absurd names
+named_at tag_of s beside id (Drew stamp) row knows names = absurd names
 named_at tag_of s beside id Spent row knows names = absurd names
 
 pub one_name : {S L P : Type 0} (F : Layouts S L P) (declared : List L) (table : State (Slot P) (View P)) (rule : Rule F declared table) (row : Row)

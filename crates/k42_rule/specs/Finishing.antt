@@ -32,7 +32,7 @@ kept_in passes = map (λ pass. kept_by pass.keep pass.view.taker.mine) passes
 
 -- a pass once it has given that away
 abbrev pub with_none : {P : Type 0} → PassSeen P → PassSeen P
-with_none pass = record pass { keep = keeps.Nothing; room = 0 }
+with_none pass = record pass { keep = record pass.keep { what = keeps.Nothing }; room = 0 }
 
 abbrev pub with_none_kept : {P : Type 0} → List (PassSeen P) → List (PassSeen P)
 with_none_kept passes = map with_none passes

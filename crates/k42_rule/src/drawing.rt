@@ -1,9 +1,7 @@
 //! The steps that draw entries.
-ghost use Rattle.std.specs.Prelude.{◌≡◌, ℕ, ◌≤◌, true, List, [], ◌∷◌};
-ghost use Rattle.k42_limits.specs.declared.TheConstants.{LAST_STAMP};
-ghost use Rattle.k42_kinds.specs.Histories.{is_call};
-ghost use Rattle.k42_joined.specs.Drawing.{first_cell};
-ghost use Rattle.k42_board.specs.Drawing.{AgreeOn, MayDrawAlone, MayDrawMark, MayDrawAs, IsDrawer, IsTold, AreTold, entry_alone, entry_mark, entry_call, last_noted, numbers_of, number_told, stamp_next};
+ghost use Rattle.std.specs.Prelude.{◌≡◌, ◌<◌, ℕ, [], ◌∷◌};
+ghost use Rattle.turn_core.specs.Stamps.{last_stamp};
+ghost use Rattle.k42_board.specs.Drawing.{AgreeOn, MayDrawAlone, MayDrawMark, MayDrawAs, IsDrawer, IsTold, AreTold, entry_alone, entry_mark, entry_call, numbers_of, number_told, stamp_next};
 ghost use Rattle.k42_board.specs.Protocol as protocol;
 ghost use Rattle.k42_board.specs.Seen.{HasRoom, IsOf};
 ghost use Rattle.k42_board.specs.Stepping.{HasDrawn, TakesIn, layouts_in};
@@ -36,10 +34,11 @@ pub fn draw_alone<L: Layout>(sys: &Sys<L>, pass: &mut Pass<L>, act: Act, answer:
     requires room { HasRoom pass.old }
     requires may { MayDrawAlone act answer pass.old.view }
     ensures stamp { result ≡ stamp_next pass.old.view [] }
+    ensures later { last_stamp pass.old.view.taker.mine < result }
     ensures drawer { IsDrawer pass.old pass.new }
     ensures takes { (found : ℕ) → TakesIn L.Layout sys.now (protocol.draw_alone (entry_alone pass.old.view act answer)) pass.old found pass.new }
 {
-    let stamp = stamp_after(pass.drew_last, 0);
+    let stamp = stamp_after(pass.clock, 0);
     let entry = Entry {
         stamp,
         caller: pass.number,
@@ -54,7 +53,7 @@ pub fn draw_alone<L: Layout>(sys: &Sys<L>, pass: &mut Pass<L>, act: Act, answer:
     };
     alone_word::<L, Brand>(&sys.board, &mut pass.seat, &entry);
     pass.drawn += 1;
-    pass.drew_last = stamp;
+    pass.clock = stamp;
     store(pass.keep, &mut pass.kept, entry);
     stamp
 }
@@ -71,10 +70,11 @@ pub fn draw_mark<L: Layout>(
     requires room { HasRoom pass.old }
     requires may { MayDrawMark cell.old act answer pass.old.view }
     ensures stamp { result ≡ stamp_next pass.old.view (cell.old.number ∷ []) }
+    ensures later { last_stamp pass.old.view.taker.mine < result }
     ensures drawn { HasDrawn L.Layout sys.now (protocol.draw_mark cell.old (entry_mark pass.old.view cell.old.number act answer)) (cell.old.number ∷ []) pass.old pass.new }
     ensures told { IsTold pass.new.view.notes cell.old cell.new }
 {
-    let stamp = stamp_after(pass.drew_last, cell.last_stamp());
+    let stamp = stamp_after(pass.clock, cell.last_stamp());
     let entry = Entry {
         stamp,
         caller: pass.number,
@@ -91,31 +91,9 @@ pub fn draw_mark<L: Layout>(
     let closed = cell.is_closed();
     tell_cell(&sys.board, &mut pass.seat, cell, closed, stamp);
     pass.drawn += 1;
-    pass.drew_last = stamp;
+    pass.clock = stamp;
     store(pass.keep, &mut pass.kept, entry);
     stamp
-}
-
-/// The entry of a call, at cells of which this is the first, and this the greatest last stamp.
-#[inline(always)]
-fn call_entry<L: Layout>(pass: &Pass<L>, last: u64, cell: u32, act: Act, answer: Answer) -> Entry
-    requires last { last ≤ LAST_STAMP }
-    requires call { is_call act ≡ true }
-    ensures { (cells : List ℕ) → last ≡ last_noted pass.now.view.notes cells → cell ≡ first_cell cells
-        → result ≡ entry_call pass.now.view cells act answer }
-{
-    Entry {
-        stamp: stamp_after(pass.drew_last, last),
-        caller: pass.number,
-        index: pass.drawn,
-        object: object_in(&pass.place),
-        incarnation: row_in(&pass.place),
-        cell,
-        act,
-        answer,
-        proc: pass.home,
-        generation: pass.active,
-    }
 }
 
 /// Draws a call at cells that stand side by side.
@@ -132,15 +110,27 @@ fn draw_at<L: Layout>(
     requires room { HasRoom pass.old }
     requires may { MayDrawAs (layouts_in L.Layout sys.now) sys.now.layouts cells.old act answer pass.old.view }
     ensures stamp { result ≡ stamp_next pass.old.view (numbers_of cells.old) }
+    ensures later { last_stamp pass.old.view.taker.mine < result }
     ensures drawn { HasDrawn L.Layout sys.now (protocol.draw_call cells.old (entry_call pass.old.view (numbers_of cells.old) act answer)) (numbers_of cells.old) pass.old pass.new }
     ensures told { AreTold pass.new.view.notes cells.old cells.new }
 {
-    let entry = call_entry::<L>(pass, last_at(cells), first_of(cells), act, answer);
-    let stamp = entry.stamp;
+    let stamp = stamp_after(pass.clock, last_at(cells));
+    let entry = Entry {
+        stamp,
+        caller: pass.number,
+        index: pass.drawn,
+        object: object_in(&pass.place),
+        incarnation: row_in(&pass.place),
+        cell: first_of(cells),
+        act,
+        answer,
+        proc: pass.home,
+        generation: pass.active,
+    };
     call_word::<L, Brand>(&sys.board, &mut pass.seat, cells, &entry);
     tell_all(&sys.board, &mut pass.seat, cells, 0, false, stamp);
     pass.drawn += 1;
-    pass.drew_last = stamp;
+    pass.clock = stamp;
     store(pass.keep, &mut pass.kept, entry);
     stamp
 }
@@ -158,16 +148,28 @@ pub fn draw_one<L: Layout>(
     requires room { HasRoom pass.old }
     requires may { MayDrawAs (layouts_in L.Layout sys.now) sys.now.layouts (cell.old ∷ []) act answer pass.old.view }
     ensures stamp { result ≡ stamp_next pass.old.view (cell.old.number ∷ []) }
+    ensures later { last_stamp pass.old.view.taker.mine < result }
     ensures drawn { HasDrawn L.Layout sys.now (protocol.draw_call (cell.old ∷ []) (entry_call pass.old.view (cell.old.number ∷ []) act answer)) (cell.old.number ∷ []) pass.old pass.new }
     ensures told { IsTold pass.new.view.notes cell.old cell.new }
 {
-    let entry = call_entry::<L>(pass, cell.last_stamp(), cell.number(), act, answer);
-    let stamp = entry.stamp;
+    let stamp = stamp_after(pass.clock, cell.last_stamp());
+    let entry = Entry {
+        stamp,
+        caller: pass.number,
+        index: pass.drawn,
+        object: object_in(&pass.place),
+        incarnation: row_in(&pass.place),
+        cell: cell.number(),
+        act,
+        answer,
+        proc: pass.home,
+        generation: pass.active,
+    };
     one_word::<L, Brand>(&sys.board, &mut pass.seat, cell, &entry);
     let closed = cell.is_closed();
     tell_cell(&sys.board, &mut pass.seat, cell, closed, stamp);
     pass.drawn += 1;
-    pass.drew_last = stamp;
+    pass.clock = stamp;
     store(pass.keep, &mut pass.kept, entry);
     stamp
 }
@@ -184,6 +186,7 @@ pub fn draw_call<L: Layout>(
     requires room { HasRoom pass.old }
     requires may { MayDrawAs (layouts_in L.Layout sys.now) sys.now.layouts cells.old.items act answer pass.old.view }
     ensures stamp { result ≡ stamp_next pass.old.view (numbers_of cells.old.items) }
+    ensures later { last_stamp pass.old.view.taker.mine < result }
     ensures drawn { HasDrawn L.Layout sys.now (protocol.draw_call cells.old.items (entry_call pass.old.view (numbers_of cells.old.items) act answer)) (numbers_of cells.old.items) pass.old pass.new }
     ensures told { AreTold pass.new.view.notes cells.old.items cells.new.items }
 {

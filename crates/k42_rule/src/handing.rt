@@ -1,5 +1,6 @@
 //! The step that hands a row on.
 ghost use Rattle.std.specs.Prelude.{◌≡◌, ◌<◌};
+ghost use Rattle.turn_core.specs.Stamps.{last_stamp};
 ghost use Rattle.k42_board.specs.Drawing.{AreTold, numbers_of, stamp_next};
 ghost use Rattle.k42_board.specs.Handing.{MayHandAt, entry_done};
 ghost use Rattle.k42_board.specs.Protocol as protocol;
@@ -26,7 +27,7 @@ fn done_entry<L: Layout>(
     requires may { MayHandAt (layouts_in L.Layout sys.now) sys.now.layouts cells.now to.now answer pass.now.view }
     ensures { result ≡ entry_done sys.now.procs cells.now (L.act_of to.now) answer pass.now.view }
 {
-    let stamp = stamp_after(pass.drew_last, last_at(cells));
+    let stamp = stamp_after(pass.clock, last_at(cells));
     Entry {
         stamp,
         caller: pass.number,
@@ -53,6 +54,7 @@ fn hand_at<L: Layout>(
     requires room { HasRoom pass.old }
     requires may { MayHandAt (layouts_in L.Layout sys.now) sys.now.layouts cells.old to.now answer pass.old.view }
     ensures stamp { result ≡ stamp_next pass.old.view (numbers_of cells.old) }
+    ensures later { last_stamp pass.old.view.taker.mine < result }
     ensures drawn { HasDrawn L.Layout sys.now
         (protocol.hand_on sys.now.procs cells.old to.now (L.tag_of to.now) (entry_done sys.now.procs cells.old (L.act_of to.now) answer pass.old.view))
         (numbers_of cells.old) pass.old pass.new }
@@ -65,7 +67,7 @@ fn hand_at<L: Layout>(
     tell_all(&sys.board, &mut pass.seat, cells, procs, true, stamp);
     pass.handed = Some(to.tag());
     pass.drawn += 1;
-    pass.drew_last = stamp;
+    pass.clock = stamp;
     store(pass.keep, &mut pass.kept, entry);
     stamp
 }
@@ -82,6 +84,7 @@ pub fn draw_done<L: Layout>(
     requires room { HasRoom pass.old }
     requires may { MayHandAt (layouts_in L.Layout sys.now) sys.now.layouts cells.old.items to.now answer pass.old.view }
     ensures stamp { result ≡ stamp_next pass.old.view (numbers_of cells.old.items) }
+    ensures later { last_stamp pass.old.view.taker.mine < result }
     ensures drawn { HasDrawn L.Layout sys.now
         (protocol.hand_on sys.now.procs cells.old.items to.now (L.tag_of to.now) (entry_done sys.now.procs cells.old.items (L.act_of to.now) answer pass.old.view))
         (numbers_of cells.old.items) pass.old pass.new }

@@ -4,7 +4,7 @@ ghost use Rattle.k42_board.specs.Seen.{kept_with, room_due};
 
 use k42_board::Keep;
 
-/// Keeps the entry, where all are kept.
+/// Keeps the entry, where any are kept.
 #[inline(always)]
 pub(crate) fn store<E: Drop>(keep: Keep, kept: &mut Vec<E>, entry: E)
     requires room { room_due keep ≤ vec_capacity kept.old - length kept.old.items }
@@ -12,7 +12,7 @@ pub(crate) fn store<E: Drop>(keep: Keep, kept: &mut Vec<E>, entry: E)
     ensures capacity { vec_capacity kept.new ≡ vec_capacity kept.old }
 {
     match keep {
-        Keep::All => kept.push_reserved(entry),
+        Keep::All | Keep::Sections => kept.push_reserved(entry),
         Keep::Nothing => {}
     }
 }

@@ -13,6 +13,7 @@ mod laws;
 mod noting;
 mod pass;
 mod retiring;
+mod sections;
 mod start;
 mod swap_begins;
 mod swapping;
@@ -33,6 +34,7 @@ pub use laws::{
 };
 pub use pass::{Pass, Walker};
 pub use retiring::{pop_row, push_row};
+pub use sections::give_section;
 pub use swap_begins::begin_step;
 pub use swapping::{block_step, clear_step, entry_step, move_step, turn_over};
 pub use sys::Sys;

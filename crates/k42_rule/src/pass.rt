@@ -1,13 +1,16 @@
 //! A pass: what one caller steps with.
 ghost use Rattle.std.specs.Prelude.{◌≡◌, ◌<◌, ◌≤◌, ◌-◌, true, Some, drop, length, slice_index, is_some, IsOk, OnOk};
 ghost use Rattle.k42_board.specs.declared.keep.Keep.TheVariants as keeps;
-ghost use Rattle.k42_limits.specs.declared.TheConstants.{LAST_INCARNATION};
+ghost use Rattle.k42_limits.specs.declared.TheConstants.{LAST_INCARNATION, LAST_STAMP, PASS_ENTRIES};
+ghost use Rattle.k42_places.specs.Places.{EachPlace};
 ghost use Rattle.phase_core.specs.Stages.{named_by, object_named};
 ghost use Rattle.phase_core.specs.State.{note_at};
+ghost use Rattle.k42_rule.specs.Finishing.{with_none};
+ghost use Rattle.k42_rule.specs.Sections.{HasParts, given_all};
 ghost use Rattle.k42_rule.specs.Settled.{IsSettled};
 ghost use Rattle.k42_board.specs.Gracing.{FitsGrace};
 ghost use Rattle.k42_board.specs.Phases.{is_served};
-ghost use Rattle.k42_board.specs.Seen.{HasRoom, IsRoomier, inside_in, is_at_rest, kept_by};
+ghost use Rattle.k42_board.specs.Seen.{HasRoom, IsParted, IsRoomier, inside_in, is_at_rest, kept_by};
 ghost use Rattle.k42_board.specs.Swapping.{FitsSwap};
 ghost use Rattle.k42_board.specs.Values.{layout_in, incarnation_in};
 ghost use Rattle.k42_board.specs.Views.{object_begun, word_begun};
@@ -31,16 +34,20 @@ pub struct Walker<P: Drop> {
     pub(crate) home: u32,
     pub(crate) active: Option<u32>,
     pub(crate) grace: GraceAt,
+    /// Of exits to come, and of entries that its grace waits for, the lower 32 bits, as words tell them.
     pub(crate) coming: Option<u32>,
     pub(crate) waits: Vec<u32>,
     pub(crate) place: Place,
     pub(crate) noted: Vec<Option<u32>>,
     pub(crate) freeing: Vec<(u32, u32)>,
     pub(crate) swap: SwapAt,
-    /// How many entries it has drawn, and the stamp of the last.
+    /// How many entries it has drawn, and the stamp above which it draws the next.
     pub(crate) drawn: u64,
-    pub(crate) drew_last: u64,
+    pub(crate) clock: u64,
     pub(crate) keep: Keep,
+    /// How many of its entries sections have taken, and the clock to which the last of these raised all.
+    pub(crate) given: u64,
+    pub(crate) since: u64,
     pub(crate) kept: Vec<Entry>,
     pub(crate) graces: u32,
     pub(crate) base: Option<u32>,
@@ -63,17 +70,18 @@ impl<P: Drop> Model for Walker<P> {
     ghost use Rattle.phase_core.specs.Stages.{object_of, row_of, object_named};
     ghost use Rattle.k42_board.specs.Gracing.{FitsGrace};
     ghost use Rattle.k42_board.specs.Queueing.{IsTied};
-    ghost use Rattle.k42_board.specs.Seen.{PassSeen, Mirrors, kept_by};
+    ghost use Rattle.k42_board.specs.Seen.{PassSeen, Mirrors};
     ghost use Rattle.k42_board.specs.Swapping.{next_entry, FitsSwap};
     ghost use Rattle.k42_board.specs.Values.{layout_in, incarnation_in};
     ghost use Rattle.k42_board.specs.Views.{object_begun, pass_in, word_begun};
+    ghost use Rattle.k42_rule.specs.Keeping.{HasKept};
 
     ghost Value = { PassSeen P };
 
     ghost view = { λ p. record {
       table = p.seat.table_id;
       seat = p.seat.id;
-      keep = p.keep;
+      keep = record { what = p.keep; given = p.given; since = p.since };
       view = pass_in p.seat.me.0;
       room = vec_capacity p.kept - length p.kept.items;
       row_room = vec_capacity p.rows - length p.rows.items;
@@ -90,7 +98,7 @@ impl<P: Drop> Model for Walker<P> {
       freeing = p.freeing.items;
       swap = p.swap;
       drawn = p.drawn;
-      drew_last = p.drew_last;
+      clock = p.clock;
       graces = p.graces;
       base = p.base;
       last = p.last;
@@ -105,8 +113,8 @@ impl<P: Drop> Model for Walker<P> {
         × (row_of p.place ≤ LAST_INCARNATION)
         × (p.granted ≤ length p.rows.items)
         × FitsGrace p.grace p.base (length p.waits.items) × (unwrap_or p.base 0 + 1 < 2 ^ 32)
-        × (p.kept.items ≡ kept_by p.keep (pass_in p.seat.me.0).taker.mine)
-        × (p.drew_last ≤ LAST_STAMP)
+        × HasKept (record { what = p.keep; given = p.given; since = p.since }) p.number (pass_in p.seat.me.0).taker.mine p.clock p.kept.items
+        × (p.clock ≤ LAST_STAMP)
         × FitsSwap p.swap p.turned p.handed p.last
         × (p.post.me.hand ≡ None) × (p.post.me.spare ≡ None) × IsTied p.seat.table_id p.post.me.view.client
         × (unwrap_or p.handed 0 ≤ 2) × (object_begun p.last < 16) };
@@ -179,9 +187,35 @@ impl<P: Drop> Walker<P> {
 
     /// Which of its entries it keeps.
     pub fn keep(&self) -> Keep
-        ensures { result ≡ self.now.keep }
+        ensures { result ≡ self.now.keep.what }
     {
         self.keep
+    }
+
+    /// The stamp above which it draws its next entry. None of its entries has a greater one.
+    pub fn clock(&self) -> u64
+        ensures is { result ≡ self.now.view.taker.clock }
+        ensures small { result ≤ LAST_STAMP }
+        ensures below { EachPlace (λ place entry. entry.stamp ≤ result) self.now.view.taker.mine }
+    {
+        self.clock
+    }
+
+    /// How many of its entries it has given to sections.
+    pub fn given(&self) -> u64
+        ensures is { result ≡ self.now.keep.given }
+        ensures few { result ≤ PASS_ENTRIES }
+        ensures parted { IsParted self.now.keep self.now.view.taker.mine }
+    {
+        self.given
+    }
+
+    /// The clock to which the last section has raised all, which parts what was given from what was drawn since.
+    pub fn since(&self) -> u64
+        ensures is { result ≡ self.now.keep.since }
+        ensures passed { result ≤ self.now.view.taker.clock }
+    {
+        self.since
     }
 
     /// The entries that it keeps, the oldest first.
@@ -195,10 +229,23 @@ impl<P: Drop> Walker<P> {
     /// Gives away the entries that it has kept. It keeps none from now on.
     pub(crate) fn give_kept(&mut self, alloc: Global) -> Vec<Entry>
         ensures given { result.items ≡ kept_by self.old.keep self.old.view.taker.mine }
-        ensures stays { self.new ≡ record self.old { keep = keeps.Nothing; room = 0 } }
+        ensures stays { self.new ≡ with_none self.old }
     {
         self.keep = Keep::Nothing;
         replace(&mut self.kept, Vec::new(alloc))
+    }
+
+    /// Gives away what it has drawn since the last section. The next has what it draws from now on.
+    pub(crate) fn give_rest(&mut self, alloc: Global) -> Vec<Entry>
+        requires { self.old.keep.what ≡ keeps.Sections }
+        ensures given { result.items ≡ drop self.old.keep.given self.old.view.taker.mine }
+        ensures parts { HasParts self.old }
+        ensures stays { self.new ≡ given_all self.old }
+    {
+        let kept = replace(&mut self.kept, Vec::new(alloc));
+        self.given = self.drawn;
+        self.since = self.clock;
+        kept
     }
 
     /// How many graces it has begun.
@@ -315,9 +362,9 @@ impl<P: Drop> Walker<P> {
         ensures same { IsRoomier self.old self.new }
         ensures rows { self.new.row_room ≡ self.old.row_room }
         ensures ok { OnOk result (HasRoom self.new) }
-        ensures none { self.old.keep ≡ keeps.Nothing → IsOk result × (self.new ≡ self.old) }
+        ensures none { self.old.keep.what ≡ keeps.Nothing → IsOk result × (self.new ≡ self.old) }
     {
-        if self.keep == Keep::All {
+        if self.keep != Keep::Nothing {
             self.kept.reserve(1)?;
         }
         Ok(())
@@ -327,7 +374,7 @@ impl<P: Drop> Walker<P> {
     pub fn reserve(&mut self) -> Result<(), Memory>
         ensures same { IsRoomier self.old self.new }
         ensures ok { OnOk result (HasRoom self.new × (1 ≤ self.new.row_room)) }
-        ensures none { self.old.keep ≡ keeps.Nothing → self.new.room ≡ self.old.room }
+        ensures none { self.old.keep.what ≡ keeps.Nothing → self.new.room ≡ self.old.room }
     {
         self.reserve_entry()?;
         self.rows.reserve(1)?;

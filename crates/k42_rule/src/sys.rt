@@ -138,6 +138,13 @@ impl<L: Layout> Sys<L> {
         self.layouts.len() as u32
     }
 
+    /// Which of their entries its passes keep.
+    pub fn keep(&self) -> Keep
+        ensures { result ≡ self.now.keep }
+    {
+        self.keep
+    }
+
     /// The layout with which the object was started.
     pub fn declared(&self, object: u32) -> L
         requires { object < length self.now.layouts }

@@ -1,6 +1,6 @@
 -- What is so of a pass that holds no cell is so of one that is like it.
-use Rattle.std.proofs.Common.{◌≡◌, ◌<◌, length, sym, ◌∙◌, subst}
-use Rattle.k42_board.specs.Seen.{SysSeen, PassSeen}
+use Rattle.std.proofs.Common.{◌≡◌, ◌<◌, length, sym, ap, ◌∙◌, subst}
+use Rattle.k42_board.specs.Seen.{SysSeen, PassSeen, Keeping}
 use Rattle.k42_board.specs.declared.view.PassView.{PassView}
 use Rattle.table_crews.specs.Ready.{HoldsNoCell}
 
@@ -23,7 +23,7 @@ free_alike sys old new is table queue keep alike = record {
     objects = alike.noted ∙ is.ours.objects;
     spans = alike.freeing ∙ is.ours.spans;
     queue = queue ∙ is.ours.queue;
-    keep = keep ∙ is.ours.keep;
+    keep = ap (λ (k : Keeping). k.what) keep ∙ is.ours.keep;
   };
   held = alike.held ∙ is.held;
   notes = alike.notes ∙ is.notes;

@@ -8,7 +8,7 @@ use Rattle.turn_core.specs.Names.{names}
 use Rattle.k42_board.specs.Drawing.{drawn_at, numbers_of, part_in, told_note, told_notes}
 use Rattle.k42_board.specs.Log.{took, logs, put_at}
 use Rattle.k42_board.specs.Phases.{is_served}
-use Rattle.k42_board.specs.Seen.{SysSeen, PassSeen}
+use Rattle.k42_board.specs.Seen.{SysSeen, PassSeen, Keeping}
 use Rattle.k42_board.specs.Taking.{noted, without, unlocked_view, reaching_view, put_view}
 use Rattle.k42_board.specs.Words.{lock_word}
 use Rattle.k42_board.specs.declared.cell.Content.{Content}
@@ -75,7 +75,7 @@ module _ {P : Type 0} where
         objects = ap (λ (x : PassView P). length x.visitor.noted) e ∙ is.ours.objects;
         spans = ap (λ (x : PassView P). length x.visitor.freeing) e ∙ is.ours.spans;
         queue = queue ∙ is.ours.queue;
-        keep = keep ∙ is.ours.keep;
+        keep = ap (λ (k : Keeping). k.what) keep ∙ is.ours.keep;
       };
       held = ap (λ (x : PassView P). x.taker.held) e ∙ ap (λ held. filter (λ m. not (m == n)) (held ++ n ∷ [])) is.held ∙ none_held n;
       notes =

@@ -1,15 +1,18 @@
 -- Lists of passes: those of a system that has started hold no cell, and passes in their places at rest may be finished.
-use Rattle.std.proofs.Common.{◌≡◌, ◌∙◌, ℕ, zero, suc, ◌+◌, ◌==◌, leb, true, List, [], ◌∷◌, ◌++◌, Option, Some, None, length, refl, sym, ap, subst, arith}
+use Rattle.std.proofs.Common.{◌≡◌, ◌∙◌, ℕ, zero, suc, ◌+◌, ◌==◌, leb, true, List, [], ◌∷◌, ◌++◌, Option, Some, None, length, take, drop, refl, sym, ap, subst, arith}
 use Rattle.std.specs.List.{slice_get}
 use Rattle.std.specs.Option.{option_to_list}
 use Rattle.std.specs.Prelude.{IfSome}
 use Rattle.std.proofs.lemmas.Bool.{le-leb, eqb-true, and_parts}
+use Rattle.std.proofs.lemmas.List.{length-map}
 use Rattle.std.proofs.lemmas.Option.{same_Some}
+use Rattle.std.proofs.Math.Seq.{take-append_seam}
 use Rattle.co_any.specs.declared.layout.AnyLayout.{AnyLayout}
 use Rattle.k42_board.specs.Seen.{SysSeen, PassSeen, is_at_rest}
 use Rattle.k42_board.specs.Starting.{IsStarted}
 use Rattle.k42_board.specs.declared.view.PassView.{PassView}
-use Rattle.k42_rule.specs.Finishing.{AreAtRest, IsPassAtRest}
+use Rattle.k42_rule.specs.Finishing.{AreAtRest, IsPassAtRest, with_none_kept}
+use Rattle.k42_rule.proofs.GivenLists.{given_rest}
 use Rattle.k42_rule.specs.Tags.{HaveTags}
 use Rattle.table_crews.specs.Ready.{HoldsNoCell, HoldNoCells, rests_at, rest_from}
 
@@ -66,3 +69,12 @@ module _ {L P : Type 0} (sys : SysSeen L) where
 
   pub at_rest : (passes : List (PassSeen P)) → length passes ≡ length sys.callers → HoldNoCells sys passes → rest_from 0 passes ≡ true → AreAtRest sys passes
   at_rest passes many free rest = record { many = many; each = λ c pass e. subst (λ n. IsPassAtRest sys n pass) (omega arith) (each_rests 0 passes free rest c pass e) }
+
+  -- so may they once they have given away what they kept
+  pub given_at_rest : (n : ℕ) (passes given : List (PassSeen P)) → n ≡ length passes → given ≡ with_none_kept passes → AreAtRest sys passes
+      → AreAtRest sys (take n (given ++ drop (length given) passes))
+  given_at_rest n passes given long is rest =
+      let same : length given ≡ length passes = ap length is ∙ length-map passes _ in
+      let back : take n (given ++ drop (length given) passes) ≡ with_none_kept passes =
+      ap (λ k. take k (given ++ drop (length given) passes)) (long ∙ sym same) ∙ take-append_seam given (drop (length given) passes) ∙ is in
+      subst (AreAtRest sys) (sym back) (given_rest sys passes rest)

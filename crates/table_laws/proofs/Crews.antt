@@ -9,7 +9,7 @@ use Rattle.k42_board.specs.Receipts.{after_first, first_told}
 use Rattle.k42_board.specs.Rule.{Beside, AreApart, KnowsPass, Knows}
 use Rattle.k42_board.specs.declared.view.PassView.{PassView}
 use Rattle.k42_board.specs.declared.view.View.{View}
-use Rattle.k42_board.specs.declared.view.View.TheVariants.{Crew, Kept, Named, Spent}
+use Rattle.k42_board.specs.declared.view.View.TheVariants.{Crew, Drew, Kept, Named, Spent}
 use Rattle.k42_board.proofs.Dealing.{seated_at, names_none}
 use Rattle.k42_board.proofs.Drawers.{untold_known}
 use Rattle.k42_board.proofs.OnePass.{apart_alone, known}
@@ -59,6 +59,7 @@ module _ {S L P : Type 0} (F : Layouts S L P) (declared : List L) (id : ℕ) (v 
               (put_else r.beside.seat v.number (length table.views) x.number (λ same. not (sym k.seat ∙ ap r.beside.seat same ∙ mine.seat)) ∙ k.seat) k.names k,
         )
         other j (Kept told) not theirs = tt
+        other j (Drew stamp) not theirs = theirs
         other j (Named row) not theirs = theirs
         other j Spent not theirs = tt
 
@@ -117,6 +118,7 @@ module _ {L P : Type 0} (tag_of : L → ℕ) (s : Joined L) (beside : Beside P) 
   moved_others : (j : ℕ) (view : View P) → j ≢ other → Knows tag_of s beside j view → Knows tag_of s (beside_joined id other beside) j view
   moved_others j (Crew passes) not knows = (knows.0, λ place x e. moved_pass j j x (put_else (λ n. n) other id j not) (knows.1 place x e))
   moved_others j (Kept told) not knows = tt
+  moved_others j (Drew stamp) not knows = knows
   moved_others j (Named row) not knows = (knows.0, ap (moved other id) knows.1 ∙ put_else (λ n. n) other id j not)
   moved_others j Spent not knows = tt
 

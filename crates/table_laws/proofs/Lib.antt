@@ -12,3 +12,4 @@ mod NewState
 mod NewTable
 mod FirstPasses
 mod Keeping
+mod ClockSeats

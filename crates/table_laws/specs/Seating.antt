@@ -4,6 +4,9 @@ use mathlib.Core.Option.{some}
 use lib.ListN.{get_elem?}
 use Rattle.atomic_table.specs.Table.{State}
 use Rattle.k42_stamp.specs.Layouts.{Layouts}
+use Rattle.k42_joined.specs.Effects.{effect}
+use Rattle.k42_joined.specs.Event.{Event}
+use Rattle.k42_joined.specs.Possible.{IsPossible}
 use Rattle.k42_board.specs.Cells.{Slot}
 use Rattle.k42_board.specs.Rule.{Rule}
 use Rattle.k42_board.specs.declared.view.View.{View}
@@ -40,3 +43,17 @@ module _ {S L P : Type 0} (F : Layouts S L P) (declared : List L) where
       (table : State (Slot P) (View P)) (r : Rule F declared table)
       → get_elem? table.views id ≡ some view → other ≢ id → get_elem? table.views other ≡ some taken
       → ShowsStill r (after_join table id both other Spent)
+
+  -- The other table shows the state that is there after the event, which was possible.
+  pub record ShowsEvent {table : State (Slot P) (View P)} (r : Rule F declared table) (event : Event L) (other : State (Slot P) (View P))
+      : Type 0 where
+    pub possible : IsPossible F declared r.state event
+    pub after : Rule F declared other
+    pub state : after.state ≡ effect r.state event
+
+  -- Whatever state the table shows as the seat takes in another, that is this event.
+  abbrev pub JoinIs : Event L → ℕ → View P → ℕ → View P → View P → Type 0
+  JoinIs event id view other taken both =
+      (table : State (Slot P) (View P)) (r : Rule F declared table)
+      → get_elem? table.views id ≡ some view → other ≢ id → get_elem? table.views other ≡ some taken
+      → ShowsEvent r event (after_join table id both other Spent)

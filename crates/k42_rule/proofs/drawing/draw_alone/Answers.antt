@@ -1,10 +1,11 @@
-use Rattle.std.proofs.Common.{rules, ◌≤◌, vec_capacity, refl, sym, subst}
-use Rattle.k42_limits.specs.declared.TheConstants.{LAST_STAMP}
+use Rattle.std.proofs.Common.{rules, ◌<◌, length, vec_capacity, refl, sym, subst}
 use Rattle.k42_board.specs.Queueing.{IsTied}
+use Rattle.k42_limits.specs.declared.TheConstants.{PASS_ENTRIES}
+use Rattle.turn_core.specs.Stamps.{last_stamp}
+use Rattle.k42_board.specs.Seen.{PassSeen}
 use Rattle.k42_board.specs.Views.{pass_in}
-use Rattle.k42_board.proofs.Noted.{last_push}
 use Rattle.k42_rule.proofs.Entries.{alone_entry}
-use Rattle.k42_rule.proofs.Pushed.{drawer_is, kept_drawn, mirrors_drawn}
+use Rattle.k42_rule.proofs.Pushed.{drawer_is, drawn_later, kept_drawn, mirrors_drawn}
 use Rattle.k42_rule.proofs.drawing.draw_alone.Goals as goal
 
 pub returns-clause-drawer : goal.returns-clause-drawer
@@ -17,12 +18,18 @@ returns-clause-takes g c = λ found.
     refl c.object_begun_in.ensures (search rules) (search rules) in
     rw (← c.pass.view_is, ← c.sys.view_is, ← entry) (c.alone_word.ensures found).takes
 
+pub returns-clause-later : goal.returns-clause-later
+returns-clause-later g c =
+    subst (λ (p : PassSeen _). last_stamp p.view.taker.mine < c.stamp_after-stamp.result) c.pass.view_is
+    (drawn_later _ c.pass.inside.number (pass_in c.pass.inside.seat.me.0).taker.mine c.pass.inside.kept.items c.pass.inside.clock 0 c.stamp_after-stamp.result c.pass.invariant.13
+    c.stamp_after-stamp.ensures)
+
 -- what the pass keeps by itself
 pub invariant_of-pass : goal.invariant_of-pass
 invariant_of-pass g c =
     let old = c.pass.invariant in let v = pass_in c.pass.inside.seat.me.0 in
     let taken = c.alone_word.ensures 0 in
-    let small = subst (λ z. z ≤ LAST_STAMP) (last_push v.taker.mine _) taken.takes.finds in (
+    let few = subst (λ (p : PassSeen _). length p.view.taker.mine < PASS_ENTRIES) (sym c.pass.view_is) c.requires.may.few in (
       mirrors_drawn _ c.pass.inside.seat.me c.alone_word.new.seat.me _ _ old.0 taken.alone refl refl old.0.told,
       old.1,
       old.2,
@@ -36,8 +43,8 @@ invariant_of-pass g c =
       old.10,
       old.11,
       old.12,
-      kept_drawn c.pass.inside.keep c.pass.inside.kept.items c.store.new.kept.items v _ c.alone_word.new.seat.me _ old.13 c.store.ensures.kept taken.alone refl,
-      small,
+      kept_drawn _ c.pass.inside.number c.pass.inside.kept.items c.store.new.kept.items c.pass.inside.clock 0 v _ c.alone_word.new.seat.me _ old.13 c.stamp_after-stamp.ensures refl few c.store.ensures.kept taken.alone refl,
+      taken.takes.finds,
       old.15,
       old.16,
       old.17,

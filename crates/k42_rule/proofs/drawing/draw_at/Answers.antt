@@ -1,41 +1,44 @@
-use Rattle.std.proofs.Common.{rules, ◌≡◌, ◌≤◌, [], ◌∷◌, List, vec_capacity, ap, sym, subst, refl, ◌∙◌}
-use Rattle.k42_limits.specs.declared.TheConstants.{LAST_STAMP}
-use Rattle.k42_board.specs.Drawing.{AreHeld, AreTold, MayDrawAs, entry_call, numbers_of, untold_view}
+use Rattle.std.proofs.Common.{rules, ◌≡◌, ◌<◌, [], ◌∷◌, length, List, vec_capacity, ap, sym, subst, refl, ◌∙◌}
+use Rattle.k42_board.specs.Drawing.{AreHeld, AreTold, MayDrawAs, drawn_at, entry_call, numbers_of, untold_view, stamp_next}
+use Rattle.k42_joined.specs.Drawing.{first_cell}
+use Rattle.k42_board.specs.Log.{took}
+use Rattle.k42_board.specs.Words.{lock_word}
+use Rattle.k42_board.specs.declared.view.PassView.{PassView}
+use Rattle.k42_board.specs.declared.view.StepName.TheVariants as steps
 use Rattle.k42_kinds.specs.declared.entry.Entry.{Entry}
+use Rattle.phase_core.specs.Stages.{object_of, row_of}
 use Rattle.k42_board.specs.Plan.{layouts_on}
 use Rattle.k42_board.specs.Queueing.{IsTied}
-use Rattle.k42_board.specs.Seen.{SysSeen, PassSeen}
+use Rattle.k42_limits.specs.declared.TheConstants.{PASS_ENTRIES}
+use Rattle.turn_core.specs.Stamps.{last_stamp}
+use Rattle.k42_board.specs.Seen.{SysSeen, PassSeen, Own}
 use Rattle.k42_board.specs.Steps.{Seated}
 use Rattle.k42_board.specs.Views.{pass_in}
 use Rattle.k42_board.specs.declared.view.View.TheVariants.{Crew}
 use Rattle.k42_board.specs.declared.view.Note.{Note}
 use Rattle.k42_board.proofs.DrawnCall.{drawn_held, drawn_call}
-use Rattle.k42_board.proofs.Noted.{all_due, last_push}
+use Rattle.k42_board.proofs.Noted.{all_due, call_entry, stamp_held}
 use Rattle.k42_rule.proofs.Drawn.{knows_drawn, takes_drawn}
-use Rattle.k42_rule.proofs.Entries.{last_held_at, may_draw_entry}
-use Rattle.k42_rule.proofs.Pushed.{drawer_is, kept_drawn, mirrors_drawn}
+use Rattle.k42_rule.proofs.Pushed.{call_few, drawer_is, drawn_later, kept_drawn, mirrors_drawn}
 use Rattle.k42_rule.proofs.drawing.draw_at.Goals as goal
-
-pub call_entry-entry-requires-clause-call : goal.call_entry-entry-requires-clause-call
-call_entry-entry-requires-clause-call g c κs within =
-    let F = layouts_on g.L.Kind.object g.L.Layout.tag_of g.L.Layout.ways g.L.Layout.whole g.L.Layout.serves g.L.Layout.admitted g.L.Layout.act_of c.args.sys.now.procs c.args.sys.now.callers in
-    drawn_call F c.args.sys.now.layouts c.args.pass.now.view c.args.cells.now c.args.act c.args.answer c.requires.may
 
 pub call_word-requires-clause-may : goal.call_word-requires-clause-may
 call_word-requires-clause-may g c κs within =
     let F = layouts_on g.L.Kind.object g.L.Layout.tag_of g.L.Layout.ways g.L.Layout.whole g.L.Layout.serves g.L.Layout.admitted g.L.Layout.act_of c.args.sys.now.procs c.args.sys.now.callers in
-    let v = c.args.pass.now.view in let cells = c.args.cells.now in
-    let entry : c.call_entry-entry.result ≡ entry_call v (numbers_of cells) c.args.act c.args.answer =
-    c.call_entry-entry.ensures (numbers_of cells) (last_held_at F c.args.sys.now.layouts v cells c.args.act c.args.answer c.requires.may c.last_at.result c.last_at.ensures.told) c.first_of.ensures.first in
+    let v = pass_in c.pass.inside.seat.me.0 in let cells = c.args.cells.now in let own = c.pass.invariant.0.own_is in
+    let held = subst (λ (p : PassSeen _). AreHeld p.view.notes cells) (sym c.pass.view_is) (drawn_held F c.args.sys.now.layouts c.args.pass.now.view cells c.args.act c.args.answer c.requires.may) in
     record {
       here = search rules;
-      may =
-          subst (λ (z : SysSeen _ × PassSeen _). MayDrawAs
-          (layouts_on g.L.Kind.object g.L.Layout.tag_of g.L.Layout.ways g.L.Layout.whole g.L.Layout.serves g.L.Layout.admitted g.L.Layout.act_of z.0.procs z.0.callers)
-          z.0.layouts cells c.call_entry-entry.result.act c.call_entry-entry.result.answer z.1.view
-          × (c.call_entry-entry.result ≡ entry_call z.1.view (numbers_of cells) c.call_entry-entry.result.act c.call_entry-entry.result.answer))
-          (λ j. (sym c.sys.view_is j, sym c.pass.view_is j))
-          (may_draw_entry F c.args.sys.now.layouts v cells c.args.act c.args.answer c.requires.may c.call_entry-entry.result entry);
+      may = (
+        subst (λ (z : SysSeen _ × PassSeen _). MayDrawAs
+            (layouts_on g.L.Kind.object g.L.Layout.tag_of g.L.Layout.ways g.L.Layout.whole g.L.Layout.serves g.L.Layout.admitted g.L.Layout.act_of z.0.procs z.0.callers)
+            z.0.layouts cells c.args.act c.args.answer z.1.view) (λ j. (sym c.sys.view_is j, sym c.pass.view_is j)) c.requires.may,
+        call_entry v (numbers_of cells) c.args.act c.args.answer c.stamp_after-stamp.result c.pass.inside.number c.pass.inside.drawn c.object_in.result c.row_in.result c.first_of.result c.pass.inside.home c.pass.inside.active
+            (stamp_held v cells c.pass.inside.clock c.stamp_after-stamp.result c.last_at.result held (ap (λ (o : Own). o.clock) own) c.last_at.ensures.told c.stamp_after-stamp.ensures)
+            (ap (λ (o : Own). o.number) own) (ap (λ (o : Own). o.drawn) own) (c.object_in.ensures ∙ ap (λ (o : Own). object_of o.place) own) (c.row_in.ensures ∙ ap (λ (o : Own). row_of o.place) own)
+            c.first_of.ensures.first (ap (λ (o : Own). o.turn.proc) own) (ap (λ (o : Own). o.turn.active) own)
+            (drawn_call F c.args.sys.now.layouts c.args.pass.now.view cells c.args.act c.args.answer c.requires.may),
+      );
     }
 
 pub tell_all-requires-clause-ours : goal.tell_all-requires-clause-ours
@@ -57,33 +60,46 @@ tell_all-requires-clause-due g c κs within =
 pub returns-clause-stamp : goal.returns-clause-stamp
 returns-clause-stamp g c =
     let F = layouts_on g.L.Kind.object g.L.Layout.tag_of g.L.Layout.ways g.L.Layout.whole g.L.Layout.serves g.L.Layout.admitted g.L.Layout.act_of c.args.sys.now.procs c.args.sys.now.callers in
-    let v = c.args.pass.now.view in let cells = c.args.cells.now in
-    let entry : c.call_entry-entry.result ≡ entry_call v (numbers_of cells) c.args.act c.args.answer =
-    c.call_entry-entry.ensures (numbers_of cells) (last_held_at F c.args.sys.now.layouts v cells c.args.act c.args.answer c.requires.may c.last_at.result c.last_at.ensures.told) c.first_of.ensures.first in
-    ap (λ (e : Entry). e.stamp) entry
+    let v = pass_in c.pass.inside.seat.me.0 in let cells = c.args.cells.now in let own = c.pass.invariant.0.own_is in
+    let held = subst (λ (p : PassSeen _). AreHeld p.view.notes cells) (sym c.pass.view_is) (drawn_held F c.args.sys.now.layouts c.args.pass.now.view cells c.args.act c.args.answer c.requires.may) in
+    subst (λ (p : PassSeen _). c.stamp_after-stamp.result ≡ stamp_next p.view (numbers_of cells)) c.pass.view_is
+    (stamp_held v cells c.pass.inside.clock c.stamp_after-stamp.result c.last_at.result held (ap (λ (o : Own). o.clock) own) c.last_at.ensures.told c.stamp_after-stamp.ensures)
 
 pub returns-clause-drawn : goal.returns-clause-drawn
 returns-clause-drawn g c =
     let F = layouts_on g.L.Kind.object g.L.Layout.tag_of g.L.Layout.ways g.L.Layout.whole g.L.Layout.serves g.L.Layout.admitted g.L.Layout.act_of c.args.sys.now.procs c.args.sys.now.callers in
-    let v = c.args.pass.now.view in let cells = c.args.cells.now in
-    let entry : c.call_entry-entry.result ≡ entry_call v (numbers_of cells) c.args.act c.args.answer =
-    c.call_entry-entry.ensures (numbers_of cells) (last_held_at F c.args.sys.now.layouts v cells c.args.act c.args.answer c.requires.may c.last_at.result c.last_at.ensures.told) c.first_of.ensures.first in
+    let seat = c.pass.inside.seat in let v = pass_in seat.me.0 in let cells = c.args.cells.now in let own = c.pass.invariant.0.own_is in
+    let held = subst (λ (p : PassSeen _). AreHeld p.view.notes cells) (sym c.pass.view_is) (drawn_held F c.args.sys.now.layouts c.args.pass.now.view cells c.args.act c.args.answer c.requires.may) in
+    let entry =
+    call_entry v (numbers_of cells) c.args.act c.args.answer c.stamp_after-stamp.result c.pass.inside.number c.pass.inside.drawn c.object_in.result c.row_in.result c.first_of.result c.pass.inside.home c.pass.inside.active
+    (stamp_held v cells c.pass.inside.clock c.stamp_after-stamp.result c.last_at.result held (ap (λ (o : Own). o.clock) own) c.last_at.ensures.told c.stamp_after-stamp.ensures)
+    (ap (λ (o : Own). o.number) own) (ap (λ (o : Own). o.drawn) own) (c.object_in.ensures ∙ ap (λ (o : Own). object_of o.place) own) (c.row_in.ensures ∙ ap (λ (o : Own). row_of o.place) own)
+    c.first_of.ensures.first (ap (λ (o : Own). o.turn.proc) own) (ap (λ (o : Own). o.turn.active) own)
+    (drawn_call F c.args.sys.now.layouts c.args.pass.now.view cells c.args.act c.args.answer c.requires.may) in
+    let after = λ (e : Entry) (w : PassView _). took steps.Draw (lock_word (first_cell (numbers_of cells))) 0 (drawn_at cells e w) in
     let taken = c.call_word.ensures in record {
       drawer = drawer_is _ _ _ c.pass.inside.kept.items c.store.new.kept.items _ (vec_capacity c.pass.inside.kept) (vec_capacity c.store.new.kept) c.pass.view_is c.requires.room (c.tell_all.ensures.ours.0 ∙ (taken 0).table) (c.tell_all.ensures.ours.1 ∙ (taken 0).seat) refl refl refl c.store.ensures.kept c.store.ensures.capacity refl refl refl refl;
-      knows = rw (← entry, ← c.pass.view_is) (knows_drawn _ c.call_word.new.seat.me c.tell_all.new.seat.me (taken 0).alone c.tell_all.ensures.seated);
-      takes = λ found. rw (← entry, ← c.pass.view_is, ← c.sys.view_is) (takes_drawn _ c.call_word.new.seat.me c.tell_all.new.seat.me (taken 0).alone c.tell_all.ensures.seated _ refl found (taken found).takes);
+      knows = knows_drawn _ c.call_word.new.seat.me c.tell_all.new.seat.me (taken 0).alone c.tell_all.ensures.seated ∙ ap (λ (e : Entry). after e v) entry ∙ ap (λ (p : PassSeen _). after (entry_call p.view (numbers_of cells) c.args.act c.args.answer) p.view) c.pass.view_is;
+      takes = λ found. rw (← c.pass.view_is, ← c.sys.view_is, ← entry) (takes_drawn _ c.call_word.new.seat.me c.tell_all.new.seat.me (taken 0).alone c.tell_all.ensures.seated _ refl found (taken found).takes);
     }
 
 pub returns-clause-told : goal.returns-clause-told
 returns-clause-told g c =
     subst (λ (ns : List (Note _)). AreTold ns c.args.cells.now c.tell_all.new.cells) (sym (ap (λ (m : Seated _). (pass_in m.0).notes) c.tell_all.ensures.seated)) c.tell_all.ensures.told
 
+pub returns-clause-later : goal.returns-clause-later
+returns-clause-later g c =
+    subst (λ (p : PassSeen _). last_stamp p.view.taker.mine < c.stamp_after-stamp.result) c.pass.view_is
+    (drawn_later _ c.pass.inside.number (pass_in c.pass.inside.seat.me.0).taker.mine c.pass.inside.kept.items c.pass.inside.clock c.last_at.result c.stamp_after-stamp.result c.pass.invariant.13
+    c.stamp_after-stamp.ensures)
+
 -- what the pass keeps by itself
 pub invariant_of-pass : goal.invariant_of-pass
 invariant_of-pass g c =
     let old = c.pass.invariant in let v = pass_in c.pass.inside.seat.me.0 in
     let taken = c.call_word.ensures 0 in let told = taken.alone in
-    let small = subst (λ z. z ≤ LAST_STAMP) (last_push v.taker.mine _) taken.takes.finds in
+    let F = layouts_on g.L.Kind.object g.L.Layout.tag_of g.L.Layout.ways g.L.Layout.whole g.L.Layout.serves g.L.Layout.admitted g.L.Layout.act_of c.args.sys.now.procs c.args.sys.now.callers in
+    let few = subst (λ (p : PassSeen _). length p.view.taker.mine < PASS_ENTRIES) (sym c.pass.view_is) (call_few F c.args.sys.now.layouts c.args.pass.now.view (c.args.cells.now) c.args.act c.args.answer c.requires.may) in
     let seated = c.tell_all.ensures.seated ∙ (λ i. (Crew (untold_view [] (pass_in (told i).0) ∷ []), [])) in (
       mirrors_drawn _ c.pass.inside.seat.me c.tell_all.new.seat.me _ _ old.0 seated refl refl refl,
       old.1,
@@ -98,8 +114,8 @@ invariant_of-pass g c =
       old.10,
       old.11,
       old.12,
-      kept_drawn c.pass.inside.keep c.pass.inside.kept.items c.store.new.kept.items v _ c.tell_all.new.seat.me _ old.13 c.store.ensures.kept seated refl,
-      small,
+      kept_drawn _ c.pass.inside.number c.pass.inside.kept.items c.store.new.kept.items c.pass.inside.clock c.last_at.result v _ c.tell_all.new.seat.me _ old.13 c.stamp_after-stamp.ensures refl few c.store.ensures.kept seated refl,
+      taken.takes.finds,
       old.15,
       old.16,
       old.17,

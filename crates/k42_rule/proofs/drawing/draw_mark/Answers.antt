@@ -1,16 +1,22 @@
-use Rattle.std.proofs.Common.{rules, ◌≤◌, [], ◌∷◌, vec_capacity, refl, sym, ap, subst, ◌∙◌}
-use Rattle.k42_limits.specs.declared.TheConstants.{LAST_STAMP}
-use Rattle.k42_board.specs.Drawing.{IsHeld, untold_view}
+use Rattle.std.proofs.Common.{rules, ◌<◌, [], ◌∷◌, length, vec_capacity, refl, sym, ap, subst, ◌∙◌}
+use Rattle.k42_board.specs.Drawing.{IsHeld, drawn_at, entry_mark, untold_view}
+use Rattle.k42_board.specs.Log.{took}
+use Rattle.k42_board.specs.Words.{lock_word}
+use Rattle.k42_board.specs.declared.view.PassView.{PassView}
+use Rattle.k42_board.specs.declared.view.StepName.TheVariants as steps
+use Rattle.k42_kinds.specs.declared.entry.Entry.{Entry}
 use Rattle.k42_board.specs.Queueing.{IsTied}
 use Rattle.k42_board.specs.Receipts.{IsDue, after_first}
+use Rattle.k42_limits.specs.declared.TheConstants.{PASS_ENTRIES}
+use Rattle.turn_core.specs.Stamps.{last_stamp}
 use Rattle.k42_board.specs.Seen.{PassSeen}
 use Rattle.k42_board.specs.Steps.{Seated}
 use Rattle.k42_board.specs.Views.{pass_in}
 use Rattle.k42_board.specs.declared.view.View.TheVariants.{Crew}
-use Rattle.k42_board.proofs.Noted.{mark_due, last_push}
+use Rattle.k42_board.proofs.Noted.{mark_due}
 use Rattle.k42_rule.proofs.Drawn.{knows_drawn, takes_drawn}
 use Rattle.k42_rule.proofs.Entries.{mark_entry}
-use Rattle.k42_rule.proofs.Pushed.{drawer_is, kept_drawn, mirrors_drawn}
+use Rattle.k42_rule.proofs.Pushed.{drawer_is, drawn_later, kept_drawn, mirrors_drawn}
 use Rattle.k42_rule.proofs.drawing.draw_mark.Goals as goal
 
 pub tell_cell-requires-clause-ours : goal.tell_cell-requires-clause-ours
@@ -31,22 +37,29 @@ tell_cell-requires-clause-due g c κs within =
 
 pub returns-clause-drawn : goal.returns-clause-drawn
 returns-clause-drawn g c =
-    let taken = c.mark_word.ensures in let seat = c.pass.inside.seat in let v = pass_in seat.me.0 in
+    let taken = c.mark_word.ensures in let seat = c.pass.inside.seat in let v = pass_in seat.me.0 in let cell = c.args.cell.now in
+    let after = λ (e : Entry) (w : PassView _). took steps.Draw (lock_word cell.number) 0 (drawn_at (cell ∷ []) e w) in
     let entry =
     mark_entry v _ c.pass.invariant.0.own_is c.args.act c.args.answer c.requires.may.act_is c.stamp_after-stamp.result c.pass.inside.drawn c.object_begun_in.result c.incarnation_at.result
     refl c.object_begun_in.ensures c.number.result c.args.cell.now.number (search rules) (search rules) (search rules) in
     let told = c.tell_cell.ensures.seated ∙ ap (λ (m : Seated _). (Crew (untold_view (after_first (pass_in m.0).untold) (pass_in c.mark_word.new.seat.me.0) ∷ []), [])) (taken 0).alone in record {
       drawer = drawer_is _ _ _ c.pass.inside.kept.items c.store.new.kept.items _ (vec_capacity c.pass.inside.kept) (vec_capacity c.store.new.kept) c.pass.view_is c.requires.room (c.tell_cell.ensures.ours.0 ∙ (taken 0).table) (c.tell_cell.ensures.ours.1 ∙ (taken 0).seat) refl refl refl c.store.ensures.kept c.store.ensures.capacity refl refl refl refl;
-      knows = rw (← c.pass.view_is, ← entry) (knows_drawn _ c.mark_word.new.seat.me c.tell_cell.new.seat.me (taken 0).alone told);
+      knows = knows_drawn _ c.mark_word.new.seat.me c.tell_cell.new.seat.me (taken 0).alone told ∙ ap (λ (e : Entry). after e v) entry ∙ ap (λ (p : PassSeen _). after (entry_mark p.view c.args.cell.now.number c.args.act c.args.answer) p.view) c.pass.view_is;
       takes = λ found. rw (← c.pass.view_is, ← c.sys.view_is, ← entry) (takes_drawn _ c.mark_word.new.seat.me c.tell_cell.new.seat.me (taken 0).alone told _ refl found (taken found).takes);
     }
+
+pub returns-clause-later : goal.returns-clause-later
+returns-clause-later g c =
+    subst (λ (p : PassSeen _). last_stamp p.view.taker.mine < c.stamp_after-stamp.result) c.pass.view_is
+    (drawn_later _ c.pass.inside.number (pass_in c.pass.inside.seat.me.0).taker.mine c.pass.inside.kept.items c.pass.inside.clock c.last_stamp.result c.stamp_after-stamp.result c.pass.invariant.13
+    c.stamp_after-stamp.ensures)
 
 -- what the pass keeps by itself
 pub invariant_of-pass : goal.invariant_of-pass
 invariant_of-pass g c =
     let old = c.pass.invariant in let v = pass_in c.pass.inside.seat.me.0 in
     let taken = c.mark_word.ensures 0 in let told = taken.alone in
-    let small = subst (λ z. z ≤ LAST_STAMP) (last_push v.taker.mine _) taken.takes.finds in
+    let few = subst (λ (p : PassSeen _). length p.view.taker.mine < PASS_ENTRIES) (sym c.pass.view_is) c.requires.may.few in
     let seated = c.tell_cell.ensures.seated ∙ (λ i. (Crew (untold_view (after_first (pass_in (told i).0).untold) (pass_in (told i).0) ∷ []), [])) in (
       mirrors_drawn _ c.pass.inside.seat.me c.tell_cell.new.seat.me _ _ old.0 seated refl refl refl,
       old.1,
@@ -61,8 +74,8 @@ invariant_of-pass g c =
       old.10,
       old.11,
       old.12,
-      kept_drawn c.pass.inside.keep c.pass.inside.kept.items c.store.new.kept.items v _ c.tell_cell.new.seat.me _ old.13 c.store.ensures.kept seated refl,
-      small,
+      kept_drawn _ c.pass.inside.number c.pass.inside.kept.items c.store.new.kept.items c.pass.inside.clock c.last_stamp.result v _ c.tell_cell.new.seat.me _ old.13 c.stamp_after-stamp.ensures refl few c.store.ensures.kept seated refl,
+      taken.takes.finds,
       old.15,
       old.16,
       old.17,

@@ -1,10 +1,11 @@
 use Rattle.std.proofs.Common.{rules, ◌≡◌, [], ◌∷◌, drop, length, arith, sym, ap, ◌∙◌, subst}
 use Rattle.std.specs.Prelude.{replicate}
 use Rattle.k42_board.specs.Queueing.{IsTied}
-use Rattle.k42_board.specs.Seen.{Own, own_in, kept_by}
+use Rattle.k42_board.specs.Seen.{Own, own_in}
 use Rattle.k42_board.specs.Views.{pass_in}
 use Rattle.k42_board.specs.declared.view.PassView.{PassView}
 use Rattle.k42_board.specs.declared.view.View.TheVariants.{Crew}
+use Rattle.k42_rule.specs.Keeping.{HasKept}
 use Rattle.k42_rule.proofs.RoleTaken.{rows_given, given_own}
 use Rattle.k42_rule.proofs.gracing.give_role.Goals as goal
 
@@ -40,7 +41,7 @@ invariant_of-pass g c =
       omega arith,
       tt,
       old.12,
-      old.13 ∙ ap (λ (x : PassView _). kept_by c.pass.inside.keep x.taker.mine) (sym is),
+      subst (λ (x : PassView _). HasKept (record { what = c.pass.inside.keep; given = c.pass.inside.given; since = c.pass.inside.since }) c.pass.inside.number x.taker.mine c.pass.inside.clock c.pass.inside.kept.items) (sym is) old.13,
       old.14,
       old.15,
       old.16,

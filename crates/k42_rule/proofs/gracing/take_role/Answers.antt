@@ -1,4 +1,4 @@
-use Rattle.std.proofs.Common.{rules, refl, ◌<◌, length, arith, sym, ap, ◌∙◌, subst}
+use Rattle.std.proofs.Common.{rules, refl, ◌<◌, List, length, arith, sym, ap, ◌∙◌, subst}
 use Rattle.phase_core.specs.declared.caller.SwapAt.{SwapAt}
 use Rattle.k42_board.specs.Queueing.{IsTied}
 use Rattle.k42_board.specs.Seen.{Own}
@@ -6,6 +6,8 @@ use Rattle.phase_core.specs.Stages.{object_named}
 use Rattle.k42_board.specs.Swapping.{next_entry}
 use Rattle.std.specs.Option.{unwrap_or}
 use Rattle.k42_board.specs.Views.{pass_in}
+use Rattle.k42_kinds.specs.declared.entry.Entry.{Entry}
+use Rattle.k42_rule.specs.Keeping.{HasKept}
 use Rattle.k42_rule.proofs.Fitting.{fits_draining}
 use Rattle.k42_rule.proofs.RoleTaken.{draining_named, draining_next, noted_anew, role_keeps, role_mirrors}
 use Rattle.k42_rule.proofs.gracing.take_role.Goals as goal
@@ -29,7 +31,7 @@ invariant_of-pass g c =
       omega (arith, many),
       (subst (λ (o : Own). 0 < length o.turn.waits) (sym was.0.own_is) c.take_role_word-found.ensures.takes.finds.procs, λ some. absurd (omega (arith, some))),
       omega arith,
-      was.13 ∙ sym (role_keeps v pass.keep c.take_role_word-found.new.seat.me c.take_role_word-found.result c.take_role_word-found.ensures.alone c.if-found-eq0.true),
+      subst (λ (mine : List Entry). HasKept (record { what = pass.keep; given = pass.given; since = pass.since }) pass.number mine pass.clock pass.kept.items) (sym (role_keeps v c.take_role_word-found.new.seat.me c.take_role_word-found.result c.take_role_word-found.ensures.alone c.if-found-eq0.true)) was.13,
       was.14,
       fits_draining pass.swap pass.turned pass.handed pass.last was.15 c.draining-pass-inside.result swap_is,
       was.16,

@@ -23,7 +23,7 @@ returns g c =
     λ j. record {
       stamp =
           (c.stamp_after-stamp.ensures
-          ∙ (λ k. max (ap (λ (o : Own). o.drew_last) own k) (c.last_at.ensures.told k) + 1)
+          ∙ (λ k. max (ap (λ (o : Own). o.clock) own k) (c.last_at.ensures.told k) + 1)
           ∙ stamp_is F sys.layouts cells c.args.to.now c.args.answer v c.requires.may) j;
       caller = ap (λ (o : Own). o.number) own j;
       index = ap (λ (o : Own). o.drawn) own j;

@@ -1,15 +1,15 @@
-use Rattle.std.proofs.Common.{rules, refl, ◌≡◌, ℕ, ◌≤◌, true, List, ◌++◌, Some, vec_capacity, take, drop, sym, ap, ◌∙◌, subst}
-use Rattle.k42_limits.specs.declared.TheConstants.{LAST_STAMP}
+use Rattle.std.proofs.Common.{rules, refl, ◌≡◌, ℕ, ◌+◌, ◌<◌, ◌≤◌, true, List, ◌++◌, Some, vec_capacity, take, drop, sym, ap, ◌∙◌, subst}
+use Rattle.std.specs.Prelude.{max}
 use Rattle.k42_kinds.specs.declared.entry.Entry.{Entry}
 use Rattle.k42_joined.specs.Drawing.{first_cell}
 use Rattle.phase_core.specs.Stages.{is_moved}
-use Rattle.k42_board.specs.Drawing.{AreTold, numbers_of, HasSmallStamp}
-use Rattle.k42_board.specs.Handing.{hands_at}
+use Rattle.k42_board.specs.Drawing.{AreTold, last_noted, numbers_of, HasSmallStamp}
+use Rattle.k42_board.specs.Handing.{handed_at, hands_at}
 use Rattle.k42_board.specs.Log.{took}
 use Rattle.k42_board.specs.Plan.{layouts_on}
 use Rattle.k42_board.specs.Queueing.{IsTied}
 use Rattle.k42_board.specs.Receipts.{AreDue}
-use Rattle.k42_board.specs.Seen.{IsSeatOf, SysSeen, PassSeen, Own, own_in, kept_by}
+use Rattle.k42_board.specs.Seen.{IsSeatOf, SysSeen, PassSeen, Own, own_in}
 use Rattle.k42_board.specs.Steps.{Seated}
 use Rattle.k42_board.specs.Views.{pass_in}
 use Rattle.k42_board.specs.Words.{lock_word}
@@ -17,12 +17,13 @@ use Rattle.k42_board.specs.declared.cell.Content.{Content}
 use Rattle.k42_board.specs.declared.view.Note.{Note}
 use Rattle.k42_board.specs.declared.view.PassView.{PassView}
 use Rattle.k42_board.specs.declared.view.StepName.TheVariants as steps
-use Rattle.k42_board.proofs.Noted.{last_push}
+use Rattle.k42_rule.specs.Keeping.{HasKept}
 use Rattle.k42_rule.proofs.Drawn.{knows_drawn, takes_drawn}
 use Rattle.k42_rule.proofs.Fitting.{fits_handed}
 use Rattle.k42_rule.proofs.HandedCells.{all_numbers}
 use Rattle.k42_rule.proofs.HandedSeat.{untold_is, due_is, mine_is, mirrors_is, stamp_told}
-use Rattle.k42_rule.proofs.Pushed.{drawer_is, kept_drawn, longer_drawn, last_drawn}
+use Rattle.turn_core.specs.Stamps.{last_stamp}
+use Rattle.k42_rule.proofs.Pushed.{drawer_is, drawn_later, kept_drawn, longer_drawn}
 use Rattle.k42_rule.proofs.handing.hand_at.Goals as goal
 
 -- what the step has told, of the view that the caller sees
@@ -79,7 +80,7 @@ invariant_of-pass g c =
             freeing = c.pass.inside.freeing.items;
             swap = c.pass.inside.swap;
             drawn = longer_drawn v.taker.mine entry c.pass.inside.drawn (ap (λ (o : Own). o.drawn) own) j;
-            drew_last = last_drawn v.taker.mine entry j;
+            clock = entry.stamp;
             graces = c.pass.inside.graces;
             base = c.pass.inside.base;
             last = c.pass.inside.last;
@@ -101,8 +102,9 @@ invariant_of-pass g c =
       old.10,
       old.11,
       old.12,
-      kept_drawn c.pass.inside.keep c.pass.inside.kept.items c.store.new.kept.items v entry c.tell_all.new.seat.me _ (old.13 ∙ ap (λ (x : PassView _). kept_by c.pass.inside.keep x.taker.mine) same) c.store.ensures.kept c.tell_all.ensures.seated mine_now,
-      subst (λ z. z ≤ LAST_STAMP) (last_push v.taker.mine entry) told.1,
+      kept_drawn _ c.pass.inside.number c.pass.inside.kept.items c.store.new.kept.items c.pass.inside.clock (last_noted v.notes (numbers_of cells)) v entry c.tell_all.new.seat.me _ (subst (λ (x : PassView _). HasKept (record { what = c.pass.inside.keep; given = c.pass.inside.given; since = c.pass.inside.since }) c.pass.inside.number x.taker.mine c.pass.inside.clock c.pass.inside.kept.items) same old.13)
+          (stamp_told F sys.layouts cells c.args.to.now c.args.answer v c.requires.may entry tag (g.L.Layout.act_of c.args.to.now) c.done_entry-entry.ensures ∙ ap (λ (o : Own). max o.clock (last_noted v.notes (numbers_of cells)) + 1) (sym own)) (ap (λ (e : Entry). e.caller) c.done_entry-entry.ensures ∙ ap (λ (o : Own). o.number) (sym own)) c.requires.may.few c.store.ensures.kept c.tell_all.ensures.seated mine_now,
+      told.1,
       fits_handed c.pass.inside.swap c.pass.inside.turned c.pass.inside.handed c.pass.inside.last old.15 _
           (ap (λ (o : Own). is_moved o.swap) own ∙ ap is_moved c.requires.may.moved),
       old.16,
@@ -119,6 +121,16 @@ returns-clause-stamp g c =
     stamp_told F sys.layouts c.args.cells.now c.args.to.now c.args.answer c.args.pass.now.view c.requires.may c.done_entry-entry.result (g.L.Layout.tag_of c.args.to.now)
     (g.L.Layout.act_of c.args.to.now) c.done_entry-entry.ensures
 
+pub returns-clause-later : goal.returns-clause-later
+returns-clause-later g c =
+    let sys = c.args.sys.now in let v = c.args.pass.now.view in let cells = c.args.cells.now in let entry = c.done_entry-entry.result in let tag = g.L.Layout.tag_of c.args.to.now in
+    let F = layouts_on g.L.Kind.object g.L.Layout.tag_of g.L.Layout.ways g.L.Layout.whole g.L.Layout.serves g.L.Layout.admitted g.L.Layout.act_of sys.procs sys.callers in
+    let own = c.pass.invariant.0.own_is ∙ ap own_in (ap (λ (p : PassSeen _). p.view) c.pass.view_is) in
+    subst (λ (p : PassSeen _). last_stamp p.view.taker.mine < entry.stamp) c.pass.view_is
+    (drawn_later _ c.pass.inside.number (pass_in c.pass.inside.seat.me.0).taker.mine c.pass.inside.kept.items c.pass.inside.clock (last_noted v.notes (numbers_of cells)) entry.stamp c.pass.invariant.13
+    (stamp_told F sys.layouts cells c.args.to.now c.args.answer v c.requires.may entry tag (g.L.Layout.act_of c.args.to.now) c.done_entry-entry.ensures
+    ∙ ap (λ (o : Own). max o.clock (last_noted v.notes (numbers_of cells)) + 1) (sym own)))
+
 pub returns-clause-told : goal.returns-clause-told
 returns-clause-told g c =
     subst (λ (notes : List (Note _)). AreTold notes c.args.cells.now c.tell_all.new.cells) (sym (ap (λ (m : Seated _). (pass_in m.0).notes) c.tell_all.ensures.seated)) c.tell_all.ensures.told
@@ -128,10 +140,14 @@ returns-clause-drawn g c =
     let sys = c.args.sys.now in let v = c.args.pass.now.view in let cells = c.args.cells.now in let taken = c.hand_word.ensures in
     let F = layouts_on g.L.Kind.object g.L.Layout.tag_of g.L.Layout.ways g.L.Layout.whole g.L.Layout.serves g.L.Layout.admitted g.L.Layout.act_of sys.procs sys.callers in
     let procs : c.sys.inside.board.shared.key.procs ≡ sys.procs = ap (λ (s : SysSeen _). s.procs) c.sys.view_is in
+    let same : pass_in c.pass.inside.seat.me.0 ≡ v = ap (λ (p : PassSeen _). p.view) c.pass.view_is in
+    let after = λ (n : ℕ) (e : Entry) (w : PassView _). took steps.Draw (lock_word (first_cell (numbers_of cells))) 0 (handed_at (take n cells) (drop n cells) e (g.L.Layout.tag_of c.args.to.now) w) in
     let all =
     subst (λ n. numbers_of (take n cells) ++ numbers_of (drop n cells) ≡ numbers_of cells) (sym procs)
     (all_numbers F sys.layouts cells c.args.to.now c.args.answer v c.requires.may) in record {
       drawer = drawer_is _ _ _ c.pass.inside.kept.items c.store.new.kept.items _ (vec_capacity c.pass.inside.kept) (vec_capacity c.store.new.kept) c.pass.view_is c.requires.room (c.tell_all.ensures.ours.0 ∙ (taken 0).table) (c.tell_all.ensures.ours.1 ∙ (taken 0).seat) refl refl refl c.store.ensures.kept c.store.ensures.capacity refl refl refl refl;
-      knows = rw (← c.done_entry-entry.ensures, ← c.pass.view_is, ← c.sys.view_is) (knows_drawn _ c.hand_word.new.seat.me c.tell_all.new.seat.me (taken 0).alone c.tell_all.ensures.seated);
+      knows =
+          knows_drawn _ c.hand_word.new.seat.me c.tell_all.new.seat.me (taken 0).alone c.tell_all.ensures.seated
+          ∙ (λ j. after (procs j) (c.done_entry-entry.ensures j) (same j));
       takes = λ found. rw (← c.done_entry-entry.ensures, ← c.pass.view_is, ← c.sys.view_is) (takes_drawn _ c.hand_word.new.seat.me c.tell_all.new.seat.me (taken 0).alone c.tell_all.ensures.seated _ all found (taken found).takes);
     }

@@ -1,8 +1,7 @@
 use Rattle.std.proofs.Common.{sym, ap, ◌∙◌}
 use Rattle.k42_rule.specs.Finishing.{with_none_kept}
-use Rattle.k42_rule.proofs.GivenLists.{given_at_rest}
 use Rattle.table_crews.specs.Ready.{rest_from}
-use Rattle.table_crews.proofs.PassLists.{at_rest}
+use Rattle.table_crews.proofs.PassLists.{at_rest, given_at_rest}
 use Rattle.table_crews.proofs.crews.finish.Goals as goal
 
 pub finish-requires-after_bounds : goal.finish-requires-after_bounds

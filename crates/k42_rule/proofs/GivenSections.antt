@@ -1,0 +1,31 @@
+-- What a pass has kept once a section has taken it.
+use Rattle.std.proofs.Common.{◌≡◌, ℕ, ◌<◌, ◌≤◌, List, [], Some, drop, length, take, sym, ap, ◌∙◌, subst, arith}
+use Rattle.std.specs.List.{slice_get}
+use Rattle.std.proofs.Math.Seq.{drop-length}
+use Rattle.std.proofs.lemmas.List.{take_all}
+use Rattle.k42_kinds.specs.declared.entry.Entry.{Entry}
+use Rattle.k42_places.specs.Places.{EachPlace}
+use Rattle.k42_board.specs.Seen.{Keeping, kept_of}
+use Rattle.k42_board.specs.declared.keep.Keep.{Keep}
+use Rattle.k42_board.specs.declared.keep.Keep.TheVariants as keeps
+use Rattle.k42_rule.specs.Keeping.{HasKept}
+
+-- none is left behind all
+each_past : (P : Entry → Type 0) (mine : List Entry) (many : ℕ) → many ≡ length mine → EachPlace (λ place entry. P entry) (drop many mine)
+each_past P mine many is =
+    subst (EachPlace (λ place (entry : Entry). P entry)) (sym (ap (λ n. drop n mine) is ∙ drop-length mine)) (λ place entry at. absurd (cc))
+
+pub kept_none : (keep : Keeping) (number : ℕ) (mine kept after : List Entry) (clock drawn : ℕ) → keep.what ≡ keeps.Sections → HasKept keep number mine clock kept → drawn ≡ length mine
+    → after ≡ [] → HasKept (record keep { given = drawn; since = clock }) number mine clock after
+kept_none keep number mine kept after clock drawn what old all none = record {
+  kept_is = none ∙ sym (ap (λ (k : Keep). kept_of k drawn mine) what ∙ ap (λ n. drop n mine) all ∙ drop-length mine);
+  parted = record {
+    few = omega (arith, all);
+    given = λ place entry at. old.below place entry (subst (λ (entries : List Entry). slice_get entries place ≡ Some entry) (take_all drawn mine (omega (arith, all))) at);
+    left = each_past (λ entry. clock < entry.stamp) mine drawn all;
+  };
+  list = old.list;
+  below = old.below;
+  since = omega arith;
+  few = old.few;
+}
