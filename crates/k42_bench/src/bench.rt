@@ -27,7 +27,7 @@ fn is_done(pass: &Pass, load: &Load, calls: u32) -> bool {
     let seen = match (load.keep, pass.kept().last()) {
         (Keep::All, Some(entry)) => entry.incarnation,
         (Keep::All, None) => 0,
-        (Keep::Nothing, _) => load.swaps,
+        (Keep::Sections | Keep::Nothing, _) => load.swaps,
     };
     calls >= load.calls && seen >= load.swaps.min(LAST_INCARNATION)
 }
@@ -246,7 +246,7 @@ pub fn run<R: Threads + Wait + Sync>(
     work_all(rt, alloc, &system, load, passes.as_mut_slice())?;
     match load.keep {
         Keep::All => closed(alloc, system, passes),
-        Keep::Nothing => ended(rt, alloc, system, load, passes),
+        Keep::Sections | Keep::Nothing => ended(rt, alloc, system, load, passes),
     }
 }
 

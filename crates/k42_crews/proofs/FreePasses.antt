@@ -1,13 +1,14 @@
 -- The passes of a system that has started are free, and free passes in order may be closed.
-use Rattle.std.proofs.Common.{◌≡◌, ◌∙◌, ℕ, zero, suc, ◌+◌, true, List, [], ◌∷◌, ◌++◌, Option, Some, None, length, refl, sym, ap, subst, add-zero, zero-add, arith}
-use Rattle.std.specs.List.{slice_get, range_with_len}
+use Rattle.std.proofs.Common.{◌≡◌, ◌↔◌, ◌==◌, ◌∙◌, ℕ, zero, suc, ◌+◌, Bool, ltb, true, get_or, List, [], ◌∷◌, ◌++◌, Option, Some, None, length, map, refl, sym, ap, subst, add-zero, zero-add, arith}
+use Rattle.std.specs.List.{slice_get, list_all, range_with_len}
 use Rattle.std.specs.Option.{option_to_list}
 use Rattle.std.specs.Prelude.{IfSome}
+use Rattle.std.proofs.lemmas.Bool.Decides.{nat_tests}
 use Rattle.std.proofs.lemmas.List.{length-map}
 use Rattle.std.proofs.lemmas.List.FromFn.{length-range_with_len}
 use Rattle.std.proofs.lemmas.Option.{same_Some}
 use Rattle.k42_board.specs.Seen.{is_at_rest}
-use Rattle.k42_board.specs.declared.keep.Keep.TheVariants.{All}
+use Rattle.k42_board.specs.declared.keep.Keep.TheVariants.{All, Sections}
 use Rattle.k42_board.specs.declared.view.PassView.{PassView}
 use Rattle.k42_runtime.specs.Histories.{MayClose, MayEnd}
 use Rattle.k42_runtime.specs.Plans.{PlanSeen}
@@ -15,7 +16,15 @@ use Rattle.k42_runtime.specs.Swaps.{SwapSeen, IsAtStage, is_over}
 use Rattle.k42_runtime.specs.Systems.{SystemSeen, IsAtRest, IsPlanned, HasStarted, SystemPart, SystemPass}
 use Rattle.k42_runtime.specs.declared.swaps.Stage.{Stage}
 use Rattle.k42_runtime.specs.declared.swaps.Stage.TheVariants as stages
-use Rattle.k42_crews.specs.Ready.{IsFree, AreFree, AreAll, callers_of}
+use Rattle.k42_board.specs.Skipping.{greatest_clock}
+use Rattle.k42_kinds.specs.declared.entry.Entry.{Entry}
+use Rattle.k42_places.specs.Places.{EachPlace}
+use Rattle.k42_places.proofs.EachPlaces.{EachPlace-list_all}
+use Rattle.k42_rule.specs.Finishing.{views_of}
+use Rattle.k42_rule.specs.Sections.{AreEven, given_all, last_section, skipped}
+use Rattle.k42_rule.proofs.RaisedClocks.{at_first}
+use Rattle.k42_runtime.specs.Sections.{IsSection, MaySection}
+use Rattle.k42_crews.specs.Ready.{IsFree, AreFree, AreAll, MayGive, callers_of}
 
 -- those in front of the last one are free, and so is that
 pub front_free : (system : SystemSeen) (front back : List SystemPass) → AreFree system (front ++ back) → AreFree system front
@@ -96,6 +105,71 @@ may_close system passes planned keeps free all = record {
   may_end = may_end system passes free all;
   all = λ i pass at. (free_at system passes free i pass at).here.ours.keep ∙ planned.keep ∙ keeps;
 }
+
+pub may_section : (system : SystemSeen) (passes : List SystemPass) → system.sys.keep ≡ Sections → AreFree system passes → AreAll system passes → AreEven passes → MaySection system passes
+may_section system passes keeps free all even = record {
+  may_end = may_end system passes free all;
+  keeps = λ i pass at. (free_at system passes free i pass at).here.ours.keep ∙ keeps;
+  even = even;
+}
+
+-- once they have given a section
+given_free : (system : SystemSeen) (stamp : ℕ) (passes : List SystemPass) → AreFree system passes → AreFree system (map given_all (map (skipped stamp) passes))
+given_free system stamp [] free = tt
+given_free system stamp (pass ∷ passes) free =
+    let here = free.0.here in (
+      record {
+        here = record {
+          ours = record {
+            table = here.ours.table;
+            proc = here.ours.proc;
+            waits = here.ours.waits;
+            objects = here.ours.objects;
+            spans = here.ours.spans;
+            queue = here.ours.queue;
+            keep = here.ours.keep;
+          };
+          out = here.out;
+          held = here.held;
+          notes = here.notes;
+        };
+        rests = free.0.rests;
+      },
+      given_free system stamp passes free.1,
+    )
+
+given_callers : (stamp : ℕ) (passes : List SystemPass) → callers_of (map given_all (map (skipped stamp) passes)) ≡ callers_of passes
+given_callers stamp [] = refl
+given_callers stamp (pass ∷ passes) = ap (λ numbers. pass.view.number ∷ numbers) (given_callers stamp passes)
+
+-- of that only the clocks are others, and what is given
+module _ (system : SystemSeen) (old new : List SystemPass) (section : List Entry) (is : IsSection old new section) where
+  pub section_free : AreFree system old → AreFree system new
+  section_free free = subst (AreFree system) (sym is.passes) (given_free system (greatest_clock (views_of old)) old free)
+
+  pub section_callers : callers_of new ≡ callers_of old
+  section_callers = ap callers_of is.passes ∙ given_callers (greatest_clock (views_of old)) old
+
+  pub give_again : MaySection system new → MayGive system old → MayGive system new
+  give_again again may = record { all = section_callers ∙ may.all; keeps = may.keeps; even = again.even }
+
+-- whether the last section was one of all, place by place
+all_since : (passes : List SystemPass) (since : ℕ) → EachPlace (λ c pass. pass.keep.since ≡ since) passes → list_all (λ pass. pass.keep.since == since) passes ≡ true
+all_since [] since each = refl
+all_since (pass ∷ passes) since each =
+    let here = each 0 pass refl in let others = all_since passes since (λ i x at. each (suc i) x at) in grind (arith, nat_tests, here, others)
+
+is_since : (pass : SystemPass) (since : ℕ) → (pass.keep.since == since) ≡ true → pass.keep.since ≡ since
+is_since pass since tested = grind (arith, nat_tests, tested)
+
+pub even_tested : (passes : List SystemPass) (first : SystemPass) (since : ℕ) (even : Bool) → true ≡ ltb 0 (length passes) → first ≡ get_or passes 0 first → since ≡ first.keep.since
+    → even ≡ list_all (λ pass. pass.keep.since == since) passes → (even ≡ true) ↔ AreEven passes
+even_tested passes first since even some is same tests =
+    let at = at_first passes first some is in
+    let last : last_section passes ≡ since = ap last_section at.1 ∙ sym same in (
+      λ yes i pass here. is_since pass since (EachPlace-list_all (λ x. x.keep.since == since) passes (sym tests ∙ yes) i pass here) ∙ sym last,
+      λ each. tests ∙ all_since passes since (λ i pass here. each i pass here ∙ last),
+    )
 
 -- a swap that is over has left its pass with nothing under way
 pub over_rests : (stage : Stage) (objects : ℕ) (swap : SwapSeen) (pass : SystemPass) → is_over stage ≡ true → IsAtStage stage objects swap pass → IsAtRest pass.view

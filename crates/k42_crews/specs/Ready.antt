@@ -1,6 +1,8 @@
 -- Passes between two of their calls.
 use Rattle.std.specs.Prelude.{◌≡◌, ℕ, ⊤, List, [], ◌∷◌, length, map}
 use Rattle.std.specs.List.{range_with_len}
+use Rattle.k42_board.specs.declared.keep.Keep.TheVariants.{Sections}
+use Rattle.k42_rule.specs.Sections.{AreEven}
 use Rattle.k42_runtime.specs.Systems.{SystemSeen, IsPassHere, IsAtRest, IsAtWork, SystemPass}
 
 -- the pass is one of the system, and has nothing under way
@@ -18,10 +20,11 @@ pub record IsIn (system : SystemSeen) (pass : SystemPass) : Type 0 where
   pub here : IsPassHere system pass
   pub works : IsAtWork pass.view
 
--- it is free, and that of the same caller
+-- it is free, that of the same caller, and has given nothing more to a section
 pub record StaysFree (system : SystemSeen) (old new : SystemPass) : Type 0 where
   pub free : IsFree system new
   pub caller : new.view.number ≡ old.view.number
+  pub keep : new.keep ≡ old.keep
 
 -- whose passes they are
 abbrev pub callers_of : List SystemPass → List ℕ
@@ -30,3 +33,9 @@ callers_of passes = map (λ pass. pass.view.number) passes
 -- they are those of all callers of the system, in order
 abbrev pub AreAll : SystemSeen → List SystemPass → Type 0
 AreAll system passes = callers_of passes ≡ range_with_len 0 (length system.plan.callers)
+
+-- they are all, of a system that keeps sections, and the last section was one of them all
+pub record MayGive (system : SystemSeen) (passes : List SystemPass) : Type 0 where
+  pub all : AreAll system passes
+  pub keeps : system.plan.keep ≡ Sections
+  pub even : AreEven passes

@@ -3,8 +3,10 @@
 
 mod crews;
 mod once;
+mod sections;
 mod threads;
 
 pub use crews::{close, end, last, start};
 pub use once::{call_once, swap_once};
+pub use sections::section;
 pub use threads::{Work, work_all};

@@ -40,7 +40,7 @@ use Rattle.k42_board.proofs.RowCells.{row_once, place_in_row}
 use Rattle.k42_rule.proofs.PartsDue.{part_reached, parts_whole}
 use Rattle.k42_mediator.specs.Parts.{parts_from}
 use Rattle.k42_mediator.specs.Taken.{released}
-use Rattle.k42_mediator.proofs.AfterMark.{later_stamp}
+use Rattle.turn_core.specs.Stamps.{last_stamp}
 use Rattle.k42_mediator.proofs.GivenBack.{held_due, released_drawn}
 use Rattle.k42_mediator.proofs.Logs.{log_now}
 use Rattle.k42_mediator.proofs.NotesHanded.{part_at_once}
@@ -333,12 +333,12 @@ module _ {S L P : Type 0} (F : Layouts S L P) (laws : AreLaws F) (declared : Lis
               };
         }
 
-    pub has_made : (word : ℕ) (new : PassView P) → new ≡ took steps.Draw word 0 w → HasMade (numbers_of cells) op reply v new
-    has_made word new e =
+    pub has_made : (word : ℕ) (new : PassView P) → last_stamp v.taker.mine < entry.stamp → new ≡ took steps.Draw word 0 w → HasMade (numbers_of cells) op reply v new
+    has_made word new later e =
         let log = step_at steps.Draw word 0 ∷ v.log in
         record {
           entry = entry;
-          next = record { later = later_stamp v (numbers_of news); whole = refl };
+          next = record { later = later; whole = refl };
           knows =
               log_now (record (released (numbers_of cells) v) {
                 taker = caller_drawn entry (released (numbers_of cells) v).taker;

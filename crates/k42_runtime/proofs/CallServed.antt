@@ -159,7 +159,7 @@ module _ {P : Type 0} (object : ℕ) (op : Op) (p0 p1 : PassView P) (goes : Goes
     keeps = goes.keeps;
     held = ap (λ (x : Caller). x.held) goes.taker;
     notes = goes.notes;
-    told = (ap (λ (x : Caller). x.mine) goes.taker, is.1);
+    told = (ap (λ (x : Caller). x.mine) goes.taker, ap (λ (x : Caller). x.clock) goes.taker, is.1);
   }
 
   pub tried_nothing : is_out p1.visitor.place ≡ true → Extends p0.log p1.log → HasTried steps.Memory object op p0 p1
@@ -168,15 +168,15 @@ module _ {P : Type 0} (object : ℕ) (op : Op) (p0 p1 : PassView P) (goes : Goes
     keeps = goes.keeps;
     held = ap (λ (x : Caller). x.held) goes.taker;
     notes = goes.notes;
-    told = (ap (λ (x : Caller). x.mine) goes.taker, log);
+    told = (ap (λ (x : Caller). x.mine) goes.taker, ap (λ (x : Caller). x.clock) goes.taker, log);
   }
 
   -- and once it was served and has ended the call
   module _ (inside : GoesIn None object p0 p1) (p2 p3 : PassView P) (ended : p3 ≡ with_log p3.log (ended_view p2)) (last : Extends p2.log p3.log) where
-    kept : (mine : List Entry) → own_in p3 ≡ record (own_in p1) { place = Out; layout = None; drawn = length mine; drew_last = last_stamp mine } → KeepsElse p0 p3
-    kept mine is =
-        is ∙ ap (λ (own : Own). record own { place = Out; layout = None; drawn = length mine; drew_last = last_stamp mine }) goes.keeps
-        ∙ (λ j. record (own_in p0) { place = (sym is j).place; layout = (sym is j).layout; drawn = (sym is j).drawn; drew_last = (sym is j).drew_last })
+    kept : (mine : List Entry) (clock : ℕ) → own_in p3 ≡ record (own_in p1) { place = Out; layout = None; drawn = length mine; clock = clock } → KeepsElse p0 p3
+    kept mine clock is =
+        is ∙ ap (λ (own : Own). record own { place = Out; layout = None; drawn = length mine; clock = clock }) goes.keeps
+        ∙ (λ j. record (own_in p0) { place = (sym is j).place; layout = (sym is j).layout; drawn = (sym is j).drawn; clock = (sym is j).clock })
 
     still : p2 ≡ with_log p2.log p1 → p3 ≡ with_log p3.log (ended_view p1)
     still same = ended ∙ ap (λ (v : PassView P). with_log p3.log (ended_view v)) same
@@ -186,7 +186,7 @@ module _ {P : Type 0} (object : ℕ) (op : Op) (p0 p1 : PassView P) (goes : Goes
         let entry = is.entry in
         let knows : p3 ≡ with_log p3.log (ended_view (record p1 { taker = caller_drawn entry p1.taker; found = None })) =
         ended ∙ ap (λ (v : PassView P). with_log p3.log (ended_view v)) is.comes.knows in
-        let keeps = kept (p1.taker.mine ++ entry ∷ []) (ap (λ (v : PassView P). own_in v) knows) in
+        let keeps = kept (p1.taker.mine ++ entry ∷ []) entry.stamp (ap (λ (v : PassView P). own_in v) knows) in
         record {
           out = ap (λ (v : PassView P). is_out v.visitor.place) knows;
           keeps = keeps;
@@ -197,6 +197,7 @@ module _ {P : Type 0} (object : ℕ) (op : Op) (p0 p1 : PassView P) (goes : Goes
               entry = entry;
               drawn = ap (λ (v : PassView P). v.taker.mine) knows ∙ ap (λ (x : Caller). x.mine ++ entry ∷ []) goes.taker;
               later = subst (λ (x : Caller). last_stamp x.mine < entry.stamp) goes.taker is.next.later;
+              clock = ap (λ (v : PassView P). v.taker.clock) knows;
               whole =
                   is.next.whole
                   ∙ (λ j. record {
@@ -224,11 +225,12 @@ module _ {P : Type 0} (object : ℕ) (op : Op) (p0 p1 : PassView P) (goes : Goes
         let held : WasHeld object holder p0 p2 = held_before object (object_inside p1) holder p0 p1 p2 (ap (λ (own : Own). own.number) goes.keeps) inside.0.of inside.1 is.1 in
         record {
           out = ap (λ (v : PassView P). is_out v.visitor.place) knows;
-          keeps = kept p1.taker.mine (ap (λ (v : PassView P). own_in v) knows);
+          keeps = kept p1.taker.mine p1.taker.clock (ap (λ (v : PassView P). own_in v) knows);
           held = ap (λ (v : PassView P). v.taker.held) knows ∙ ap (λ (x : Caller). x.held) goes.taker;
           notes = ap (λ (v : PassView P). v.notes) knows ∙ goes.notes;
           told = (
             ap (λ (v : PassView P). v.taker.mine) knows ∙ ap (λ (x : Caller). x.mine) goes.taker,
+            ap (λ (v : PassView P). v.taker.clock) knows ∙ ap (λ (x : Caller). x.clock) goes.taker,
             record {
               incarnation = held.incarnation;
               place = held.place;
@@ -246,11 +248,12 @@ module _ {P : Type 0} (object : ℕ) (op : Op) (p0 p1 : PassView P) (goes : Goes
         let knows = still is.knows in
         record {
           out = ap (λ (v : PassView P). is_out v.visitor.place) knows;
-          keeps = kept p1.taker.mine (ap (λ (v : PassView P). own_in v) knows);
+          keeps = kept p1.taker.mine p1.taker.clock (ap (λ (v : PassView P). own_in v) knows);
           held = ap (λ (v : PassView P). v.taker.held) knows ∙ ap (λ (x : Caller). x.held) goes.taker;
           notes = ap (λ (v : PassView P). v.notes) knows ∙ goes.notes;
           told = (
             ap (λ (v : PassView P). v.taker.mine) knows ∙ ap (λ (x : Caller). x.mine) goes.taker,
+            ap (λ (v : PassView P). v.taker.clock) knows ∙ ap (λ (x : Caller). x.clock) goes.taker,
             extends_on inside.1 (extends_on is.log last),
           );
         }

@@ -41,7 +41,7 @@ module _ {P : Type 0} where
     table = two.table ∙ one.table;
     seat = two.seat ∙ one.seat;
     keep = two.keep ∙ one.keep;
-    room = λ none. two.room (one.keep ∙ none) ∙ one.room none;
+    room = λ none. two.room ((λ i. (one.keep i).what) ∙ none) ∙ one.room none;
     row_room = two.row_room ∙ one.row_room;
     queue = two.queue ∙ one.queue;
   }
@@ -49,20 +49,21 @@ module _ {P : Type 0} where
   pub keeps_on : (u v w : PassView P) → KeepsElse u v → KeepsElse v w → KeepsElse u w
   keeps_on u v w first second =
       second
-      ∙ ap (λ (own : Own). record own { place = w.visitor.place; layout = w.layout; drawn = length w.taker.mine; drew_last = last_stamp w.taker.mine })
+      ∙ ap (λ (own : Own). record own { place = w.visitor.place; layout = w.layout; drawn = length w.taker.mine; clock = w.taker.clock })
       first
 
   pub not_called : (v : PassView P) → HasNotCalled v v
-  not_called v = record { same = refl; keeps = refl }
+  not_called v = record { same = refl; clock = refl; keeps = refl }
 
   pub not_called_on : (u v w : PassView P) → HasNotCalled u v → HasNotCalled v w → HasNotCalled u w
-  not_called_on u v w first second = record { same = second.same ∙ first.same; keeps = keeps_on u v w first.keeps second.keeps }
+  not_called_on u v w first second = record { same = second.same ∙ first.same; clock = second.clock ∙ first.clock; keeps = keeps_on u v w first.keeps second.keeps }
 
   pub called_on : (u v w : PassView P) (object : ℕ) (op : Op) (reply : Reply) → HasNotCalled u v → HasCalled object op reply v w → HasCalled object op reply u w
   called_on u v w object op reply first then = record {
     entry = then.entry;
     drawn = then.drawn ∙ ap (λ mine. mine ++ then.entry ∷ []) first.same;
     later = subst (λ mine. last_stamp mine < then.entry.stamp) first.same then.later;
+    clock = then.clock;
     whole =
         then.whole
         ∙ (λ j. record {

@@ -1,10 +1,11 @@
 -- The one history of a system that is closed.
-use Rattle.std.proofs.Common.{inl, inr, ◌≡◌, ℕ, zero, suc, ◌<◌, true, List, [], ◌∷◌, ◌++◌, Some, length, map, take, drop, slice_index_or, refl, sym, ap, ◌∙◌, subst, arith}
+use Rattle.std.proofs.Common.{inl, inr, ◌≡◌, ℕ, zero, suc, ◌<◌, ◌≤◌, true, List, [], ◌∷◌, ◌++◌, Some, length, map, take, drop, slice_index_or, refl, sym, ap, ◌∙◌, subst, arith}
 use Rattle.std.specs.List.{slice_get, AllByRecursion, All}
 use Rattle.std.proofs.Math.Seq.{take-append_seam}
 use Rattle.std.proofs.lemmas.List.Elements.{All-from_recursion}
 use Rattle.std.proofs.lemmas.List.{length-map}
 use Rattle.std.proofs.lemmas.Option.{same_Some, slice_get_within, slice_get-get_or}
+use Rattle.k42_limits.specs.declared.TheConstants.{CALLERS}
 use Rattle.k42_kinds.specs.declared.entry.Entry.{Entry}
 use Rattle.k42_places.specs.Places.{EachPlace}
 use Rattle.k42_stamp.specs.Lists.{IsListOf, AreLists, IsMerged, numbered_from}
@@ -37,7 +38,7 @@ mine_at (x ∷ callers) zero list at = same_Some x.mine list at
 mine_at (x ∷ callers) (suc c) list at = mine_at callers c list at
 
 -- so its stamps rise, and its entries are its own
-each_all : (P : Entry → Type 0) (entries : List Entry) → EachPlace (λ i entry. P entry) entries → AllByRecursion P entries
+pub each_all : (P : Entry → Type 0) (entries : List Entry) → EachPlace (λ i entry. P entry) entries → AllByRecursion P entries
 each_all P [] each = tt
 each_all P (entry ∷ entries) each = (each 0 entry refl, each_all P entries (λ i. each (suc i)))
 
@@ -105,6 +106,10 @@ TraceLaw procs =
 -- the table asks it of its own callers, which are the plan's
 pub at_rest : (system : SystemSeen) (passes : List SystemPass) → IsPlanned system → MayEnd system passes → AreAtRest system.sys passes
 at_rest system passes planned may = record { many = may.many ∙ ap length (sym planned.callers); each = may.each }
+
+-- so there are not too many
+pub few_passes : (system : SystemSeen) (passes : List SystemPass) → IsPlanned system → MayEnd system passes → length passes ≤ CALLERS
+few_passes system passes planned may = let few = planned.sound.turns.limits.few_callers in let many = may.many in omega (arith, few, many)
 
 -- and so it asks of its passes that have given their lists away, as a slice of them leaves them in their vector
 pub come_back : (passes given : List SystemPass) (len : ℕ) → given ≡ with_none_kept passes → len ≡ length passes

@@ -20,3 +20,6 @@ pub mod CallMade
 pub mod CallServed
 pub mod CallWaited
 pub mod AloneLists
+pub mod MergedTotals
+pub mod SectionLists
+pub mod SectionLaws

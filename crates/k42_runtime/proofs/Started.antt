@@ -7,7 +7,7 @@ use Rattle.k42_kinds.specs.declared.operation.LayoutName.{LayoutName}
 use Rattle.k42_kinds.specs.declared.operation.LayoutName.TheVariants.{Shared, Spread}
 use Rattle.k42_places.specs.Places.{EachPlace}
 use Rattle.phase_core.specs.Stages.{is_out}
-use Rattle.k42_board.specs.Seen.{SysSeen}
+use Rattle.k42_board.specs.Seen.{SysSeen, keeping}
 use Rattle.k42_board.specs.Starting.{IsStart, IsStarted}
 use Rattle.k42_board.specs.Views.{new_pass}
 use Rattle.k42_board.specs.declared.view.PassView.{PassView}
@@ -61,4 +61,5 @@ started plan sys passes sound is keeps opened = record {
         };
         new = dealt.new ∙ ap (λ n. new_pass plan.procs n c (slice_index plan.callers c)) (length-map plan.objects layout_of);
         rows = dealt.rows;
+        keep = dealt.keeps ∙ ap keeping keeps;
       }

@@ -1,10 +1,11 @@
 -- A swap that has tried to begin.
-use Rattle.std.proofs.Common.{◌≡◌, ◌↔◌, ℕ, ◌+◌, ◌≤◌, Bool, true, false, List, ◌∷◌, None, refl, sym, ap, ◌∙◌, subst, arith}
+use Rattle.std.proofs.Common.{◌≡◌, ◌↔◌, ℕ, ◌+◌, ◌<◌, ◌≤◌, Bool, true, false, List, [], ◌∷◌, None, refl, sym, ap, ◌∙◌, subst, arith}
 use Rattle.k42_kinds.specs.declared.entry.Act.TheVariants.{Swap}
 use Rattle.k42_kinds.specs.declared.entry.Answer.TheVariants as answers
+use Rattle.turn_core.specs.Stamps.{last_stamp}
 use Rattle.k42_stamp.specs.Layouts.{Layouts}
 use Rattle.k42_board.proofs.Gained.{extends_as, extends_on, extends_one}
-use Rattle.k42_board.specs.Drawing.{IsDrawer, entry_alone, alone_view}
+use Rattle.k42_board.specs.Drawing.{IsDrawer, entry_alone, alone_view, stamp_next}
 use Rattle.k42_board.specs.Log.{ComesTo, Extends, step_at, took, with_log}
 use Rattle.k42_board.specs.Seen.{PassSeen, IsRoomier, IsSamePass}
 use Rattle.k42_board.specs.Views.{object_begun, word_begun}
@@ -35,6 +36,7 @@ pub record IsRefused {P : Type 0} (o number : ℕ) (to : To) (old new : PassSeen
   pub graces : new.view.graces ≡ old.view.graces
   pub log : Extends old.view.log new.view.log
   pub seat : new.seat ≡ old.seat
+  pub keep : new.keep ≡ old.keep
   pub told : IsEndBy (word_begun new.view.last) (ends.Busy number)
 
 module _ {S L P : Type 0} (F : Layouts S L P) (declared : List L) (o : ℕ) (old roomy new : PassSeen P) (room : IsRoomier old roomy) (same : IsSamePass roomy new)
@@ -51,6 +53,9 @@ module _ {S L P : Type 0} (F : Layouts S L P) (declared : List L) (o : ℕ) (old
 
   begun_seat : new.seat ≡ old.seat
   begun_seat = same.seat ∙ room.seat
+
+  begun_keep : new.keep ≡ old.keep
+  begun_keep = same.keep ∙ room.keep
 
   begun_drawn : new.view.taker.mine ≡ old.view.taker.mine
   begun_drawn = ap (λ (u : PassView P). u.taker.mine) since
@@ -72,6 +77,7 @@ module _ {S L P : Type 0} (F : Layouts S L P) (declared : List L) (o : ℕ) (old
     object = object;
     to = to;
     seat = begun_seat;
+    keep = begun_keep;
     caller = begun_caller;
     drawn = begun_drawn;
     log = begun_log;
@@ -90,6 +96,7 @@ module _ {S L P : Type 0} (F : Layouts S L P) (declared : List L) (o : ℕ) (old
     object = object;
     to = to;
     seat = next_same.seat ∙ begun_seat;
+    keep = next_same.keep ∙ begun_keep;
     caller = record {
       number = ap (λ (u : PassView P). u.number) leads.knows ∙ begun_caller.number;
       proc = ap (λ (u : PassView P). u.turn.proc) leads.knows ∙ begun_caller.proc;
@@ -106,11 +113,12 @@ module _ {S L P : Type 0} (F : Layouts S L P) (declared : List L) (o : ℕ) (old
 
   -- another swap is under way
   module _ (drawn : PassSeen P) (to : To) (number : ℕ) (draws : IsDrawer new drawn)
+      (later : last_stamp new.view.taker.mine < stamp_next new.view [])
       (is : drawn.view ≡ took names.Draw role_word 0 (alone_view (entry_alone new.view (Swap to) (answers.Busy number)) new.view)) where
     pub refused_by : (answer : Begun) (phase : Phase) → answer ≡ begun_in (word_begun new.view.last) → answer ≡ begins.Busy number phase
         → IsRefused o number to old drawn
     refused_by answer phase found busy = record {
-      swapped = swapped_before old.view new.view drawn.view begun_caller begun_drawn o to (ends.Busy number) (refused o number to new.view drawn.view begun_object is);
+      swapped = swapped_before old.view new.view drawn.view begun_caller begun_drawn o to (ends.Busy number) (refused o number to new.view drawn.view begun_object later is);
       caller = record {
         number = ap (λ (u : PassView P). u.number) is ∙ begun_caller.number;
         proc = ap (λ (u : PassView P). u.turn.proc) is ∙ begun_caller.proc;
@@ -120,6 +128,7 @@ module _ {S L P : Type 0} (F : Layouts S L P) (declared : List L) (o : ℕ) (old
           extends_on begun_log (extends_as (ap (λ (u : PassView P). u.log) is)
           (extends_one (step_at names.Draw role_word 0) new.view.log refl));
       seat = draws.seat ∙ begun_seat;
+      keep = draws.keep ∙ begun_keep;
       told =
           subst (λ (word : ℕ). IsEndBy word (ends.Busy number)) (sym (ap (λ (u : PassView P). word_begun u.last) is))
           (subst (λ (b : Begun). IsEndTo b (word_begun new.view.last) (ends.Busy number)) (sym busy ∙ found) refl);

@@ -1,5 +1,5 @@
 -- What a pass has drawn that ends its swap.
-use Rattle.std.proofs.Common.{◌≡◌, ℕ, ◌+◌, ◌-◌, ◌≤◌, Bool, true, false, ◌||◌, cond, eqb, List, [], ◌∷◌, Some, None, Result, Ok, Err, length, refl, sym, ap, ◌∙◌, subst, arith}
+use Rattle.std.proofs.Common.{◌≡◌, ℕ, ◌+◌, ◌-◌, ◌<◌, ◌≤◌, Bool, true, false, ◌||◌, cond, eqb, List, [], ◌∷◌, Some, None, Result, Ok, Err, length, refl, sym, ap, ◌∙◌, subst, arith}
 use Rattle.std.specs.Result.{OnErr, OnOk, is_err}
 use Rattle.std.proofs.lemmas.Bool.{ne_eqb}
 use Rattle.std.proofs.lemmas.Option.{same_Some}
@@ -14,7 +14,7 @@ use Rattle.k42_stamp.specs.Layouts.{Layouts}
 use Rattle.phase_core.specs.declared.caller.SwapAt.TheVariants.{Idle, Opened, Reopening}
 use Rattle.k42_joined.specs.Numbers.{cell_of}
 use Rattle.k42_board.proofs.Gained.{extends_as, extends_one, extends_on, extends_follows}
-use Rattle.k42_board.specs.Drawing.{entry_alone, alone_view, number_told}
+use Rattle.k42_board.specs.Drawing.{entry_alone, alone_view, number_told, stamp_next}
 use Rattle.k42_board.specs.Log.{ComesTo, Extends, last_found, step_at, took, with_log}
 use Rattle.phase_core.specs.Stages.{is_moved}
 use Rattle.k42_board.specs.Plan.{LayoutWords}
@@ -33,7 +33,7 @@ use Rattle.k42_mediator.specs.Marks.{HasMarked, IsHeldBy, IsMarkAnswer, cell_mar
 use Rattle.k42_mediator.specs.declared.answers.Marked.{Marked}
 use Rattle.k42_mediator.specs.declared.answers.Marked.TheVariants as marks
 use Rattle.k42_mediator.specs.Swaps.{abandoned_view, HasGivenUp}
-use Rattle.k42_mediator.proofs.AfterMark.{later_stamp}
+use Rattle.turn_core.specs.Stamps.{last_stamp}
 use Rattle.k42_runtime.specs.Phases.{end_in}
 use Rattle.k42_runtime.specs.Swaps.{HasFoundFree, IsSameCaller, HasSwapped, HasAbandoned, IsCellHeld, IsEndBy, answer_told, incarnation_told, cell_told}
 use Rattle.k42_runtime.specs.declared.swaps.Swapped.TheVariants as ends
@@ -44,11 +44,11 @@ on_error (Err error) failed is = is
 on_error (Ok value) failed is = absurd (cc)
 
 -- an entry that is drawn at no cell
-alone_next : {P : Type 0} (v : PassView P) (act : Act) (answer : Answer) (object incarnation : ℕ) → is_call act ≡ false
+alone_next : {P : Type 0} (v : PassView P) (act : Act) (answer : Answer) (object incarnation : ℕ) → last_stamp v.taker.mine < stamp_next v [] → is_call act ≡ false
     → object_begun v.last ≡ object → number_told answer - 1 ≡ incarnation
     → IsNext v object incarnation 0 act answer (entry_alone v act answer)
-alone_next v act answer object incarnation act_is o i = record {
-  later = later_stamp v [];
+alone_next v act answer object incarnation later act_is o i = record {
+  later = later;
   whole = λ j. record {
     stamp = (entry_alone v act answer).stamp;
     caller = v.number;
@@ -66,8 +66,8 @@ alone_next v act answer object incarnation act_is o i = record {
 -- the swap was given up
 pub gave_up : {S L P : Type 0} (F : Layouts S L P) (declared : List L) (id object : ℕ) (to : To) (v w x : PassView P) → ComesTo v v w
     → x ≡ with_log x.log (abandoned_view (Swap to) w) → object_begun v.last ≡ object → HasFoundFree v → v.turned ≡ false
-    → object_swapped w ≡ object → (act : Act) → act ≡ Swap to → HasGivenUp F declared id act w x → HasAbandoned object to v x
-gave_up F declared id object to v w x kept knows begun free unturned swapped act same given =
+    → object_swapped w ≡ object → (act : Act) → act ≡ Swap to → last_stamp w.taker.mine < stamp_next w [] → HasGivenUp F declared id act w x → HasAbandoned object to v x
+gave_up F declared id object to v w x kept knows begun free unturned swapped act same later given =
     let up = subst (λ (a : Act). HasGivenUp F declared id a w x) same given in
     let is : x ≡ with_log x.log (abandoned_view (Swap to) v) =
     knows ∙ ap (λ (u : PassView _). with_log x.log (abandoned_view (Swap to) u)) kept.knows in
@@ -83,7 +83,7 @@ gave_up F declared id object to v w x kept knows begun free unturned swapped act
       entry = entry;
       next =
           subst (λ l. IsNext v object (incarnation_in (word_begun l)) 0 (Swap to) (Abandoned (incarnation_in (word_begun l) + 1)) entry) (sym last)
-          (alone_next v (Swap to) (Abandoned (k + 1)) object k refl begun (less k));
+          (alone_next v (Swap to) (Abandoned (k + 1)) object k (subst (λ (u : PassView _). last_stamp u.taker.mine < stamp_next u []) kept.knows later) refl begun (less k));
       drawn = ap (λ (u : PassView _). u.taker.mine) is;
       log = up.log;
       since = extends_follows (extends_on kept.log up.since);
@@ -100,12 +100,12 @@ gave_up F declared id object to v w x kept knows begun free unturned swapped act
     less n = omega arith
 
 -- another swap was under way
-pub refused : {P : Type 0} (object number : ℕ) (to : To) (w x : PassView P) → object_begun w.last ≡ object
+pub refused : {P : Type 0} (object number : ℕ) (to : To) (w x : PassView P) → object_begun w.last ≡ object → last_stamp w.taker.mine < stamp_next w []
     → x ≡ took names.Draw role_word 0 (alone_view (entry_alone w (Swap to) (Busy number)) w) → HasSwapped object to (ends.Busy number) w x
-refused object number to w x begun knows = record {
+refused object number to w x begun later knows = record {
   begun = ap (λ (u : PassView _). object_begun u.last) knows ∙ begun;
   entry = entry_alone w (Swap to) (Busy number);
-  next = alone_next w (Swap to) (Busy number) object (number - 1) refl begun refl;
+  next = alone_next w (Swap to) (Busy number) object (number - 1) later refl begun refl;
   drawn = ap (λ (u : PassView _). u.taker.mine) knows;
 }
 

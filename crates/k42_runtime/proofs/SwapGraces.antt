@@ -105,7 +105,7 @@ module _ {P : Type 0} (objects : ℕ) (s t : SwapSeen) (old new : PassSeen P) (s
       subst (λ stage. IsAtStage stage objects t new) (sym (stays ∙ first)) (
         record {
           there = subst (λ o. o < objects) (sym object) way.there;
-          entry = subst (λ (z : Keep × ℕ). room_due z.0 ≤ z.1) (λ j. (sym same.keep j, sym same.room j)) way.entry;
+          entry = subst (λ (z : Keep × ℕ). room_due z.0 ≤ z.1) (λ j. ((sym same.keep j).what, sym same.room j)) way.entry;
           row = subst (λ n. 0 < n) (sym same.row_room) way.row;
           few = subst (λ (x : turns.Caller). length x.mine < PASS_ENTRIES) (sym taker) way.few;
         },

@@ -66,6 +66,7 @@ moves_on {P} s old new found shut same knows answer counted = record {
   object = refl;
   to = refl;
   seat = same.seat;
+  keep = same.keep;
   caller = record { number = stays (λ u. u.number) refl refl; proc = stays (λ u. u.turn.proc) refl refl };
   drawn = stays (λ u. u.taker.mine) refl refl;
   log = extends_as (stays_log ∙ ap (λ log. step ∷ log) (at_log (eqb found (blocked_word old.view)))) (extends_one step old.view.log met);

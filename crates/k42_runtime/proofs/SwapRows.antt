@@ -19,15 +19,16 @@ use Rattle.k42_runtime.proofs.SwapWaits.{not_begun}
 -- it has other rows, and nothing else is changed
 pub record HasRows {P : Type 0} (old new : PassSeen P) : Type 0 where
   pub seat : new.seat ≡ old.seat
+  pub keep : new.keep ≡ old.keep
   pub rows : List Row
   pub granted : ℕ
   pub knows : new.view ≡ record old.view { rows = rows; granted = granted }
 
 pub has_collected : {P : Type 0} (rows : List Row) (old new : PassSeen P) → HasCollected rows old new → HasRows old new
-has_collected rows old new is = record { seat = is.seat; rows = old.view.rows ++ rows; granted = old.view.granted; knows = is.knows }
+has_collected rows old new is = record { seat = is.seat; keep = is.keep; rows = old.view.rows ++ rows; granted = old.view.granted; knows = is.knows }
 
 pub has_handed : {P : Type 0} (old new : PassSeen P) → HasHandedOver old new → HasRows old new
-has_handed old new is = record { seat = is.seat; rows = _; granted = _; knows = is.knows }
+has_handed old new is = record { seat = is.seat; keep = is.keep; rows = _; granted = _; knows = is.knows }
 
 pub handed_here : (system : SystemSeen) (mid new : SystemPass) → HasHandedOver mid new → IsPassHere system mid → IsPassHere system new
 handed_here system mid new handed here = record {
@@ -38,7 +39,7 @@ handed_here system mid new handed here = record {
     objects = ap (λ (v : PassView SystemPart). length v.visitor.noted) handed.knows ∙ here.ours.objects;
     spans = ap (λ (v : PassView SystemPart). length v.visitor.freeing) handed.knows ∙ here.ours.spans;
     queue = handed.queue ∙ here.ours.queue;
-    keep = handed.keep ∙ here.ours.keep;
+    keep = (λ i. (handed.keep i).what) ∙ here.ours.keep;
   };
   out = ap (λ (v : PassView SystemPart). is_out v.visitor.place) handed.knows ∙ here.out;
   held = ap (λ (v : PassView SystemPart). v.taker.held) handed.knows ∙ here.held;
@@ -103,6 +104,7 @@ ended_still system object to (Ok end) p0 p1 p2 p3 first last here is = record {
   here = here;
   rests = still_rests p0 p1 p2 p3 first last is.rests;
   seat = last.seat ∙ is.seat ∙ first.seat;
+  keep = last.keep ∙ is.keep ∙ first.keep;
   caller = still_caller p0 p1 p2 p3 first last is.caller;
   graces = still_few p0 p1 p2 p3 first last is.graces;
   told = still_told p0 p1 p2 p3 first last end is.told;
@@ -115,6 +117,7 @@ ended_still system object to (Err error) p0 p1 p2 p3 first last here is = record
   here = here;
   rests = still_rests p0 p1 p2 p3 first last is.rests;
   seat = last.seat ∙ is.seat ∙ first.seat;
+  keep = last.keep ∙ is.keep ∙ first.keep;
   caller = still_caller p0 p1 p2 p3 first last is.caller;
   graces = still_few p0 p1 p2 p3 first last is.graces;
   told = tt;

@@ -92,6 +92,7 @@ pub record HasComeOn {P : Type 0} (s t : SwapSeen) (old new : PassSeen P) : Type
   pub object : t.object ≡ s.object
   pub to : t.to ≡ s.to
   pub seat : new.seat ≡ old.seat
+  pub keep : new.keep ≡ old.keep
   pub caller : IsSameCaller old.view new.view
   pub drawn : new.view.taker.mine ≡ old.view.taker.mine
   pub log : Follows old.view.log new.view.log
@@ -104,6 +105,7 @@ come_on s t old new goes = record {
   object = goes.object;
   to = goes.to;
   seat = goes.seat;
+  keep = goes.keep;
   caller = goes.caller;
   drawn = goes.drawn;
   log = extends_follows goes.log;
@@ -141,6 +143,7 @@ module _ (system : SystemSeen) (s m t : SwapSeen) (old mid new : SystemPass) (co
     to = is.to ∙ comes.to;
     over = is.over;
     seat = is.seat ∙ comes.seat;
+    keep = is.keep ∙ comes.keep;
     caller = same_caller old.view mid.view new.view comes.caller is.caller;
     graces =
         let first = comes.graces in let second = is.graces in

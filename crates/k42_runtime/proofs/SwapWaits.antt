@@ -35,6 +35,7 @@ not_stepped system s new here stage going = record {
     object = refl;
     to = refl;
     seat = refl;
+    keep = refl;
     caller = record { number = refl; proc = refl };
     drawn = refl;
     log = follows_same new.view.log;
@@ -55,6 +56,7 @@ stepped_again system s m t old mid new cause is step =
         object = step.object ∙ is.comes.object;
         to = step.to ∙ is.comes.to;
         seat = step.seat ∙ is.comes.seat;
+        keep = step.keep ∙ is.comes.keep;
         caller = same_caller old.view mid.view new.view is.comes.caller step.caller;
         drawn = step.brought.0 ∙ is.comes.drawn;
         log = follows_on is.comes.log (held_follows cause mid.view new.view step.brought.1);
@@ -106,6 +108,7 @@ module _ (system : SystemSeen) (s m t : SwapSeen) (old mid new : SystemPass) (fi
     here = step.here;
     rests = rests_over t.stage (length system.plan.objects) t new step.over step.stage;
     seat = step.seat ∙ is.comes.seat;
+    keep = step.keep ∙ is.comes.keep;
     caller = same_caller old.view mid.view new.view is.comes.caller step.caller;
     graces = few (Ended end) step;
     told = step.told;
@@ -118,6 +121,7 @@ module _ (system : SystemSeen) (s m t : SwapSeen) (old mid new : SystemPass) (fi
     here = step.here;
     rests = rests_over t.stage (length system.plan.objects) t new step.over step.stage;
     seat = step.seat ∙ is.comes.seat;
+    keep = step.keep ∙ is.comes.keep;
     caller = same_caller old.view mid.view new.view is.comes.caller step.caller;
     graces = few Memory step;
     told = tt;
@@ -132,6 +136,7 @@ module _ (system : SystemSeen) (s m t : SwapSeen) (old mid new : SystemPass) (fi
         here = step.here;
         rests = rests_over t.stage (length system.plan.objects) t new step.over step.stage;
         seat = step.seat ∙ is.comes.seat;
+        keep = step.keep ∙ is.comes.keep;
         caller = same_caller old.view mid.view new.view is.comes.caller step.caller;
         graces = few Worn step;
         told = tt;

@@ -51,6 +51,7 @@ pub record HasCalled {P : Type 0} (object : ℕ) (op : Op) (reply : Reply) (old 
   pub entry : Entry
   pub drawn : new.taker.mine ≡ old.taker.mine ++ entry ∷ []
   pub later : last_stamp old.taker.mine < entry.stamp
+  pub clock : new.taker.clock ≡ entry.stamp
   pub whole :
       entry
       ≡ record {
@@ -70,6 +71,7 @@ pub record HasCalled {P : Type 0} (object : ℕ) (op : Op) (reply : Reply) (old 
 -- It has drawn nothing, so that no part of an object has changed: these are what the entries make of them.
 pub record HasNotCalled {P : Type 0} (old new : PassView P) : Type 0 where
   pub same : new.taker.mine ≡ old.taker.mine
+  pub clock : new.taker.clock ≡ old.taker.clock
   pub keeps : KeepsElse old new
 
 -- What a step of a call found that held it up.

@@ -37,4 +37,4 @@ pub record MayEnd (system : SystemSeen) (passes : List SystemPass) : Type 0 wher
 -- and each has kept all its entries
 pub record MayClose (system : SystemSeen) (passes : List SystemPass) : Type 0 where
   pub may_end : MayEnd system passes
-  pub all : EachPlace (λ c pass. pass.keep ≡ All) passes
+  pub all : EachPlace (λ c pass. pass.keep.what ≡ All) passes

@@ -8,4 +8,5 @@ pub mod Swaps
 pub mod Phases
 pub mod Reclaims
 pub mod Histories
+pub mod Sections
 pub mod Closing

@@ -66,6 +66,7 @@ pub record HasGoneOn {P : Type 0} (s t : SwapSeen) (old new : PassSeen P) : Type
   pub object : t.object ≡ s.object
   pub to : t.to ≡ s.to
   pub seat : new.seat ≡ old.seat
+  pub keep : new.keep ≡ old.keep
   pub caller : IsSameCaller old.view new.view
   pub drawn : new.view.taker.mine ≡ old.view.taker.mine
   pub log : Extends old.view.log new.view.log

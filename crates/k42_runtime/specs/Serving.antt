@@ -58,7 +58,7 @@ pub record IsSameSeat {P : Type 0} (old new : PassSeen P) : Type 0 where
   pub table : new.table ≡ old.table
   pub seat : new.seat ≡ old.seat
   pub keep : new.keep ≡ old.keep
-  pub room : old.keep ≡ keeps.Nothing → new.room ≡ old.room
+  pub room : old.keep.what ≡ keeps.Nothing → new.room ≡ old.room
   pub row_room : new.row_room ≡ old.row_room
   pub queue : new.queue ≡ old.queue
 
@@ -153,8 +153,9 @@ IsServedBy steps.Worn op old new = ⊥
 abbrev pub TellsTry : {P : Type 0} → CallStep → ℕ → Op → PassView P → PassView P → Type 0
 TellsTry (steps.Ended reply) object op old new = HasCalled object op reply old new × Extends old.log new.log
 TellsTry (steps.Again cause) object op old new =
-    (new.taker.mine ≡ old.taker.mine) × HoldsUp cause object old new
-TellsTry steps.Memory object op old new = (new.taker.mine ≡ old.taker.mine) × Extends old.log new.log
+    (new.taker.mine ≡ old.taker.mine) × (new.taker.clock ≡ old.taker.clock) × HoldsUp cause object old new
+TellsTry steps.Memory object op old new =
+    (new.taker.mine ≡ old.taker.mine) × (new.taker.clock ≡ old.taker.clock) × Extends old.log new.log
 TellsTry steps.Worn object op old new = ⊥
 
 -- how one try of a call has come out: the pass is inside no call, and holds what it held

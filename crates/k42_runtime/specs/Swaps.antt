@@ -248,6 +248,7 @@ pub record HasStepped (system : SystemSeen) (result : Step) (s t : SwapSeen) (ol
   pub object : t.object ≡ s.object
   pub to : t.to ≡ s.to
   pub seat : new.seat ≡ old.seat
+  pub keep : new.keep ≡ old.keep
   pub caller : IsSameCaller old.view new.view
   pub graces :
       new.view.graces + graces_due t.stage t.holder ≤ old.view.graces + graces_due s.stage s.holder
@@ -261,6 +262,7 @@ pub record HasEnded (system : SystemSeen) (object : ℕ) (to : To) (result : Res
   pub here : IsPassHere system new
   pub rests : IsAtRest new.view
   pub seat : new.seat ≡ old.seat
+  pub keep : new.keep ≡ old.keep
   pub caller : IsSameCaller old.view new.view
   pub graces : new.view.graces ≤ old.view.graces + 1
   pub told : IfOk result (IsEndBy (word_begun new.view.last))

@@ -9,7 +9,6 @@ use Rattle.k42_kinds.specs.declared.entry.Act.{Act}
 use Rattle.k42_kinds.specs.declared.watch.WatchState.{WatchState}
 use Rattle.k42_places.specs.Places.{EachPlace}
 use Rattle.phase_core.specs.Stages as swaps
-use Rattle.turn_core.specs.Stamps.{last_stamp}
 use Rattle.phase_core.specs.Stages.{is_out}
 use Rattle.k42_stamp.specs.Layouts.{Layouts, layouts_with}
 use Rattle.co_any.specs.Layouts.{ways_of, whole_of, serves_of, admitted_of, act_of, tag_named}
@@ -19,7 +18,7 @@ use Rattle.k42_watch.specs.WatchedRows.{watched_ways, IsWatchedRow, ServesWatche
 use Rattle.k42_watch.specs.declared.watch.Layer.TheVariants.{Keep}
 use Rattle.k42_watch.specs.declared.watch.Watch.{Watch}
 use Rattle.k42_watch.specs.declared.watch.WatchPart.{WatchPart}
-use Rattle.k42_board.specs.Seen.{SysSeen, PassSeen, IsPassOf, is_at_rest, own_in}
+use Rattle.k42_board.specs.Seen.{SysSeen, PassSeen, IsPassOf, is_at_rest, keeping, own_in}
 use Rattle.k42_board.specs.Views.{new_pass}
 use Rattle.k42_board.specs.declared.view.PassView.{PassView}
 use Rattle.k42_rule.specs.Opened.{IsOpened}
@@ -110,14 +109,14 @@ pub record IsAtWork {P : Type 0} (v : PassView P) : Type 0 where
 abbrev pub IsAtRest : {P : Type 0} → PassView P → Type 0
 IsAtRest v = is_at_rest v ≡ true
 
--- of what a pass keeps by itself, only its entries, its place and the layout that it last learned may be others
+-- of what a pass keeps by itself, only its entries, its clock, its place and the layout that it last learned may be others
 abbrev pub KeepsElse : {P : Type 0} → PassView P → PassView P → Type 0
 KeepsElse old new =
     own_in new ≡ record (own_in old) {
       place = new.visitor.place;
       layout = new.layout;
       drawn = length new.taker.mine;
-      drew_last = last_stamp new.taker.mine;
+      clock = new.taker.clock;
     }
 
 -- a pass that has done nothing
@@ -125,6 +124,7 @@ pub record IsFirst (system : SystemSeen) (c home : ℕ) (pass : SystemPass) : Ty
   pub here : IsPassHere system pass
   pub new : pass.view ≡ new_pass system.plan.procs (length system.plan.objects) c home
   pub rows : pass.row_room ≡ 64
+  pub keep : pass.keep ≡ keeping system.plan.keep
 
 -- a system of the plan, and its passes in the order of callers; the table was opened with all objects empty and at their
 -- first incarnation, and nobody has done anything

@@ -1,7 +1,8 @@
 //! A system is closed.
-ghost use Rattle.std.specs.Prelude.{◌≡◌, true, map, vec_items, IfOk, IfErr, IfSome};
-ghost use Rattle.k42_rule.specs.Finishing.{lists_in};
-ghost use Rattle.k42_stamp.specs.Lists.{AreLists, IsMerged};
+ghost use Rattle.std.specs.Prelude.{◌≡◌, ◌+◌, ◌*◌, ◌≤◌, ◌^◌, true, length, map, vec_items, IfOk, IfErr, IfSome};
+ghost use Rattle.k42_limits.specs.declared.TheConstants.{CALLERS, PASS_ENTRIES};
+ghost use Rattle.k42_rule.specs.Finishing.{kept_in, lists_in};
+ghost use Rattle.k42_stamp.specs.Lists.{AreLists, IsMergedFrom};
 ghost use Rattle.k42_stamp.specs.Merging.{AreEmpty, IsAlone, entries_in};
 ghost use Rattle.k42_runtime.specs.Closing.{Fits};
 ghost use Rattle.k42_runtime.specs.Histories.{IsClosed, HasHistory, MayClose, MayEnd};
@@ -12,72 +13,75 @@ use k42_joined::trace_at_rest_is_a_history;
 use k42_kinds::Entry;
 use k42_memory::Memory;
 use k42_rule::{give_lists, layouts_are_lawful};
-use k42_stamp::{Room, lists_have_a_merge, merge_into, take_alone};
+use k42_stamp::{Room, lists_have_a_merge, merge_from, take_alone_from};
 use std::alloc::Global;
 
-/// How many entries the passes have drawn, where a number is so large.
-fn total_of(passes: &[Pass]) -> Option<usize>
-    ensures { IfSome result (λ total. total ≡ entries_in (lists_in passes.now)) }
+/// How many entries the passes have kept.
+fn total_of(passes: &[Pass]) -> usize
+    requires { length passes.now ≤ CALLERS }
+    ensures is { result ≡ entries_in (kept_in passes.now) }
+    ensures few { result ≤ length passes.now * PASS_ENTRIES }
 {
     let Some((pass, others)) = passes.split_first() else {
-        return Some(0);
+        return 0;
     };
-    total_of(others)?.checked_add(pass.drawn() as usize)
+    total_of(others) + pass.kept().len()
 }
 
-/// Whether no pass has entries.
+/// Whether no pass has kept any.
 fn are_empty(passes: &[Pass]) -> bool
-    ensures { result ≡ true → AreEmpty (lists_in passes.now) }
+    ensures { result ≡ true → AreEmpty (kept_in passes.now) }
 {
     let Some((pass, others)) = passes.split_first() else {
         return true;
     };
-    pass.drawn() == 0 && are_empty(others)
+    pass.kept().is_empty() && are_empty(others)
 }
 
-/// The place of the pass that alone has entries.
+/// The place of the pass that alone has kept some.
 fn only_place(passes: &[Pass]) -> Option<usize>
-    ensures { IfSome result (λ place. IsAlone (lists_in passes.now) place) }
+    ensures { IfSome result (λ place. IsAlone (kept_in passes.now) place) }
 {
     let (pass, others) = passes.split_first()?;
     if are_empty(others) {
         return Some(0);
     }
-    if pass.drawn() != 0 {
+    if !pass.kept().is_empty() {
         return None;
     }
     Some(only_place(others)? + 1)
 }
 
-/// How the passes' lists become one: the list of one pass is it, or all are merged.
+/// How the lists that the passes have kept become one: that of one pass is it, or all are merged.
 #[derive(Drop)]
-enum Way {
+pub(crate) enum Way {
     Alone(usize),
     Merged(Room),
 }
 
-/// It needs room for all entries only where several passes have some.
-fn way_for(alloc: Global, passes: &[Pass]) -> Result<Way, Memory>
-    ensures { IfOk result (Fits (lists_in passes.now)) }
+/// It needs room for all entries only where several passes have kept some.
+pub(crate) fn way_for(alloc: Global, passes: &[Pass]) -> Result<Way, Memory>
+    requires { length passes.now ≤ CALLERS }
+    ensures fits { IfOk result (Fits (kept_in passes.now)) }
+    ensures few { IfOk result (λ way. entries_in (kept_in passes.now) ≤ length passes.now * PASS_ENTRIES) }
 {
-    let Some(total) = total_of(passes) else {
-        return Err(Memory);
-    };
+    let total = total_of(passes);
     match only_place(passes) {
         Some(place) => Ok(Way::Alone(place)),
         None => Ok(Way::Merged(Room::new(alloc, passes.len(), total)?)),
     }
 }
 
-/// The lists as one.
-fn merged(way: Way, lists: Vec<Vec<Entry>>) -> Vec<Entry>
+/// The lists as one, numbered from the first number.
+pub(crate) fn merged(first: u64, way: Way, lists: Vec<Vec<Entry>>) -> Vec<Entry>
     requires lists { AreLists (map vec_items lists.items) }
     requires way { Fits (map vec_items lists.items) way }
-    ensures { IsMerged (map vec_items lists.items) result.items }
+    requires few { first + entries_in (map vec_items lists.items) ≤ 2 ^ 64 }
+    ensures { IsMergedFrom first (map vec_items lists.items) result.items }
 {
     match way {
-        Way::Alone(place) => take_alone(place, lists),
-        Way::Merged(room) => merge_into(room, lists),
+        Way::Alone(place) => take_alone_from(first, place, lists),
+        Way::Merged(room) => merge_from(first, room, lists),
     }
 }
 
@@ -118,7 +122,7 @@ impl System {
         let System { sys, plan } = self;
         sys.finish(passes);
         Ok(History {
-            entries: merged(way, lists),
+            entries: merged(1, way, lists),
             plan,
         })
     }

@@ -9,6 +9,8 @@ mod history;
 mod laws;
 mod phases;
 mod plan;
+mod section_laws;
+mod sections;
 mod serving;
 mod stepping;
 mod swaps;
@@ -25,5 +27,8 @@ pub use laws::{
     traces_are_legal,
 };
 pub use plan::{ObjectPlan, Plan, PlanFault};
+pub use section_laws::{
+    sections_are_legal, sections_lie_end_to_end, the_last_section_ends_the_history,
+};
 pub use swaps::{Cause, NoSwap, Step, Swap, Swapped};
 pub use system::{Pass, System};

@@ -96,7 +96,8 @@ impl System {
 
     /// Which of its entries each of its passes keeps.
     pub fn keep(&self) -> Keep
-        ensures { result ≡ self.now.plan.keep }
+        ensures plan { result ≡ self.now.plan.keep }
+        ensures table { result ≡ self.now.sys.keep }
     {
         self.plan.keep
     }

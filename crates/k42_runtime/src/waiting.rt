@@ -135,6 +135,7 @@ impl System {
         ensures here { IsPassHere self.now pass.new }
         ensures rests { IsAtRest pass.new.view }
         ensures seat { pass.new.seat ≡ pass.old.seat }
+        ensures keep { pass.new.keep ≡ pass.old.keep }
         ensures caller { IsSameCaller pass.old.view pass.new.view }
         ensures graces { pass.new.view.graces ≡ pass.old.view.graces + 1 }
         ensures entries { pass.new.view.taker.mine ≡ pass.old.view.taker.mine }

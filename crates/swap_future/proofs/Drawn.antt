@@ -1,5 +1,5 @@
 -- What a pass of a roll has drawn.
-use Rattle.std.proofs.Common.{◌≡◌, ⊎_elim, inl, inr, ◌⊎◌, ℕ, ◌+◌, ◌<◌, List, [], ◌∷◌, ◌++◌, Option, Some, None, Result, Ok, Err, IsSomeAnd, length, replicate, refl, sym, ap, subst, ◌∙◌, arith}
+use Rattle.std.proofs.Common.{◌≡◌, ⊎_elim, inl, inr, ℕ, ◌<◌, List, [], ◌∷◌, ◌++◌, Option, Some, None, Result, Ok, Err, IsSomeAnd, length, replicate, refl, sym, ap, subst, ◌∙◌, arith}
 use Rattle.std.specs.Prelude.{slice_get}
 use Rattle.std.proofs.lemmas.List.{append-nil, append_assoc, length-replicate}
 use Rattle.std.proofs.lemmas.Option.{slice_get_within}
@@ -79,6 +79,7 @@ module _ (system : SystemSeen) (plan : List (ℕ × To)) (answers : List (Result
       let more = one_more asked items told.0 old mid new told.2 rest.drawn in
       record {
         seat = rest.seat ∙ told.2.seat;
+        keep = rest.keep ∙ told.2.keep;
         caller = same_caller old.view mid.view new.view told.2.caller rest.caller;
         graces = let first = told.2.graces in let others = rest.graces in omega (arith, first, others);
         drawn = (
@@ -92,6 +93,7 @@ module _ (system : SystemSeen) (plan : List (ℕ × To)) (answers : List (Result
   nothing_more : (pass : SystemPass) → HasBroughtBack plan answers [] pass pass
   nothing_more pass = record {
     seat = refl;
+    keep = refl;
     caller = record { number = refl; proc = refl };
     graces = omega arith;
     drawn = ([], sym (append-nil pass.view.taker.mine), refl);

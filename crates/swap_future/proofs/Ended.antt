@@ -22,6 +22,7 @@ module _ (system : SystemSeen) (object : ℕ) (to : To) (old new : SystemPass) w
     here = is.here;
     rests = is.rests;
     seat = is.seat;
+    keep = is.keep;
     caller = is.caller;
     graces = is.graces;
     told = is.told;
@@ -34,6 +35,7 @@ module _ (system : SystemSeen) (object : ℕ) (to : To) (old new : SystemPass) w
     here = is.here;
     rests = is.rests;
     seat = is.seat;
+    keep = is.keep;
     caller = is.caller;
     graces = is.graces;
     told = tt;

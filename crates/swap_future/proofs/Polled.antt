@@ -1,14 +1,13 @@
 -- A swap that is stepped at polls: how it goes on, and what its last step brings.
-use Rattle.std.proofs.Common.{◌≡◌, ◌↔◌, ℕ, ◌+◌, ◌≤◌, Option, Result, Ok, Err, refl, ◌∙◌, arith}
+use Rattle.std.proofs.Common.{ℕ, ◌+◌, ◌≤◌, Option, Result, Ok, Err, refl, ◌∙◌, arith}
 use Rattle.k42_runtime.specs.Phases.{last_step}
-use Rattle.k42_runtime.specs.Swaps.{SwapSeen, HasStepped, IsWornOut, graces_due}
+use Rattle.k42_runtime.specs.Swaps.{SwapSeen, HasStepped, graces_due}
 use Rattle.k42_runtime.specs.Systems.{SystemSeen, SystemPass}
 use Rattle.k42_runtime.specs.declared.swaps.Cause.{Cause}
 use Rattle.k42_runtime.specs.declared.swaps.NoSwap.{NoSwap}
 use Rattle.k42_runtime.specs.declared.swaps.NoSwap.TheVariants as reasons
 use Rattle.k42_runtime.specs.declared.swaps.Stage.{Stage}
-use Rattle.k42_runtime.specs.declared.swaps.Stage.TheVariants.{New}
-use Rattle.k42_runtime.specs.declared.swaps.Step.TheVariants.{Again, Worn}
+use Rattle.k42_runtime.specs.declared.swaps.Step.TheVariants.{Again}
 use Rattle.k42_runtime.specs.declared.swaps.Swapped.{Swapped}
 use Rattle.k42_runtime.proofs.SwapSteps.{HasComeOn, same_caller, fewer, swapped_since, memory_since, worn_before}
 use Rattle.k42_runtime.proofs.SwapWaits.{not_stepped, stepped_again, rests_over}
@@ -24,6 +23,7 @@ module _ (system : SystemSeen) (s t : SwapSeen) (old new : SystemPass) where
     here = step.here;
     rests = rests_over t.stage _ t new step.over step.stage;
     seat = step.seat;
+    keep = step.keep;
     caller = step.caller;
     graces = fewer_due new.view.graces old.view.graces (graces_due s.stage s.holder) t.stage t.holder step.graces;
     told = step.told;
@@ -36,6 +36,7 @@ module _ (system : SystemSeen) (s t : SwapSeen) (old new : SystemPass) where
     here = step.here;
     rests = rests_over t.stage _ t new step.over step.stage;
     seat = step.seat;
+    keep = step.keep;
     caller = step.caller;
     graces = fewer_due new.view.graces old.view.graces (graces_due s.stage s.holder) t.stage t.holder step.graces;
     told = tt;
@@ -48,6 +49,7 @@ module _ (system : SystemSeen) (s t : SwapSeen) (old new : SystemPass) where
     here = step.here;
     rests = rests_over t.stage _ t new step.over step.stage;
     seat = step.seat;
+    keep = step.keep;
     caller = step.caller;
     graces = fewer_due new.view.graces old.view.graces (graces_due s.stage s.holder) t.stage t.holder step.graces;
     told = tt;
@@ -68,6 +70,7 @@ module _ (system : SystemSeen) (s m : SwapSeen) (old mid new : SystemPass) (come
     here = is.here;
     rests = is.rests;
     seat = is.seat ∙ comes.seat;
+    keep = is.keep ∙ comes.keep;
     caller = same_caller old.view mid.view new.view comes.caller is.caller;
     graces = graces_before is.graces;
     told = is.told;
@@ -80,6 +83,7 @@ module _ (system : SystemSeen) (s m : SwapSeen) (old mid new : SystemPass) (come
     here = is.here;
     rests = is.rests;
     seat = is.seat ∙ comes.seat;
+    keep = is.keep ∙ comes.keep;
     caller = same_caller old.view mid.view new.view comes.caller is.caller;
     graces = graces_before is.graces;
     told = tt;

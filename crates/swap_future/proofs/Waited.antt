@@ -20,6 +20,7 @@ not_come s old = record {
   object = refl;
   to = refl;
   seat = refl;
+  keep = refl;
   caller = record { number = refl; proc = refl };
   drawn = refl;
   log = follows_same old.view.log;
@@ -34,6 +35,7 @@ comes_again system s m t old mid new cause comes step = record {
   object = step.object ∙ comes.object;
   to = step.to ∙ comes.to;
   seat = step.seat ∙ comes.seat;
+  keep = step.keep ∙ comes.keep;
   caller = same_caller old.view mid.view new.view comes.caller step.caller;
   drawn = step.brought.0 ∙ comes.drawn;
   log = follows_on comes.log (held_follows cause mid.view new.view step.brought.1);

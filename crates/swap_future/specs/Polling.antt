@@ -28,6 +28,7 @@ pub record Ends (system : SystemSeen) (swap : SwapSeen) (old : SystemPass) (resu
   pub here : IsPassHere system new
   pub rests : IsAtRest new.view
   pub seat : new.seat ≡ old.seat
+  pub keep : new.keep ≡ old.keep
   pub caller : IsSameCaller old.view new.view
   pub graces : new.view.graces ≤ old.view.graces + graces_due swap.stage swap.holder
   pub told : IfOk result (IsEndBy (word_begun new.view.last))

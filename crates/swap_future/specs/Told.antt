@@ -1,5 +1,5 @@
 -- The entries that a roll leaves with a pass.
-use Rattle.std.specs.Prelude.{◌≡◌, ℕ, ◌+◌, ◌≤◌, ◌⊎◌, List, [], ◌∷◌, ◌++◌, length, Option, Result, Ok, Err, IsSomeAnd, slice_get}
+use Rattle.std.specs.Prelude.{◌≡◌, ℕ, ◌+◌, ◌≤◌, ◌⊎◌, List, [], ◌∷◌, ◌++◌, length, Result, Ok, Err, IsSomeAnd, slice_get}
 use Rattle.k42_kinds.specs.declared.entry.Act.TheVariants as acts
 use Rattle.k42_kinds.specs.declared.entry.Answer.{Answer}
 use Rattle.k42_kinds.specs.declared.entry.Answer.TheVariants.{Abandoned}
@@ -46,6 +46,7 @@ HasDrawnFor plan answers items old new =
 -- their entries.
 pub record HasBroughtBack (plan : List (ℕ × To)) (answers : List (Result Swapped NoSwap)) (items : List ℕ) (old new : SystemPass) : Type 0 where
   pub seat : new.seat ≡ old.seat
+  pub keep : new.keep ≡ old.keep
   pub caller : IsSameCaller old.view new.view
   pub graces : new.view.graces ≤ old.view.graces + length items
   pub drawn : HasDrawnFor plan answers items old new

@@ -3,13 +3,14 @@ use Rattle.k42_kinds.specs.declared.entry.Act.TheVariants.{Call}
 use Rattle.k42_kinds.specs.declared.entry.Answer.TheVariants.{Replied}
 use Rattle.k42_kinds.specs.declared.entry.Reach.TheVariants.{All}
 use Rattle.k42_joined.specs.Drawing.{first_cell}
-use Rattle.k42_board.specs.Drawing.{AreTold, MayDrawCall, numbers_of, entry_call, drawn_at}
+use Rattle.k42_board.specs.Drawing.{AreTold, MayDrawCall, numbers_of, entry_call, drawn_at, stamp_next}
 use Rattle.k42_board.specs.Log.{took}
 use Rattle.k42_board.specs.Words.{lock_word}
 use Rattle.k42_board.specs.declared.cell.Content.{Content}
 use Rattle.k42_board.specs.declared.view.PassView.{PassView}
 use Rattle.k42_board.specs.declared.view.StepName.TheVariants as steps
 use Rattle.k42_mediator.specs.Parts.{parts_from}
+use Rattle.k42_mediator.proofs.AfterMark.{later_stamp}
 use Rattle.k42_mediator.proofs.RowReady.{written_back, told_numbers}
 use Rattle.k42_runtime.specs.Reaching.{MayGiveBack}
 use Rattle.k42_runtime.specs.Stepping.{MayStepRow, HasSteppedCells}
@@ -115,4 +116,5 @@ returns-clause-makes c =
     let knows : view ≡ w =
     c.draw_call.ensures.drawn.knows
     ∙ ap (λ (xs : List (Content _)). took steps.Draw (lock_word (first_cell (numbers_of xs))) 0 (drawn_at xs (entry_call v (numbers_of xs) (Call op) (Replied reply)) v)) back in
-    has_made F laws declared agrees v layout All op items has few reply new made (lock_word (first_cell (numbers_of new))) view knows
+    has_made F laws declared agrees v layout All op items has few reply new made (lock_word (first_cell (numbers_of new))) view
+    (later_stamp v (numbers_of new) c.draw_call.result (c.draw_call.ensures.stamp ∙ ap (λ (xs : List (Content _)). stamp_next v (numbers_of xs)) back) c.draw_call.ensures.later) knows

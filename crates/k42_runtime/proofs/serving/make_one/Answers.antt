@@ -10,6 +10,7 @@ use Rattle.k42_board.specs.declared.cell.Content.{Content}
 use Rattle.k42_board.specs.declared.view.PassView.{PassView}
 use Rattle.k42_board.specs.declared.view.StepName.TheVariants as steps
 use Rattle.k42_mediator.specs.Taken.{MayPutBack}
+use Rattle.k42_mediator.proofs.AfterMark.{later_stamp}
 use Rattle.k42_runtime.specs.Stepping.{due_in, HasSteppedCells}
 use Rattle.k42_runtime.specs.Systems.{any_layouts}
 use Rattle.k42_runtime.proofs.Agreed.{watched_agrees}
@@ -77,4 +78,5 @@ returns-clause-makes c =
     let made : HasSteppedCells (F.ways_of layout) procs op (One p) reply (cell ∷ []) (new ∷ []) =
     subst (λ (k : ℕ). HasSteppedCells (F.ways_of layout) k op (One p) reply (cell ∷ []) (new ∷ [])) is
     (c.in-Ok.ensures.replied, ap (λ (x : Content _). x ∷ []) c.in-Ok.ensures.moved) in
-    has_made F laws declared watched_agrees v layout (One p) op (cell ∷ []) has few reply (new ∷ []) made (lock_word new.number) c.draw_one.new.pass.view c.draw_one.ensures.drawn.knows
+    has_made F laws declared watched_agrees v layout (One p) op (cell ∷ []) has few reply (new ∷ []) made (lock_word new.number) c.draw_one.new.pass.view
+    (later_stamp v (new.number ∷ []) c.draw_one.result c.draw_one.ensures.stamp c.draw_one.ensures.later) c.draw_one.ensures.drawn.knows

@@ -1,10 +1,11 @@
-use Rattle.std.proofs.Common.{rules, ◌≡◌, ℕ, refl, sym, ap, ◌∙◌, subst}
+use Rattle.std.proofs.Common.{rules, ◌≡◌, ℕ, [], refl, sym, ap, ◌∙◌, subst}
 use Rattle.k42_board.specs.Drawing.{entry_alone, alone_view}
 use Rattle.k42_board.specs.Log.{took}
 use Rattle.k42_board.specs.Words.{role_word}
 use Rattle.k42_board.specs.declared.view.StepName.TheVariants as names
 use Rattle.k42_kinds.specs.declared.entry.Act.TheVariants.{Swap}
 use Rattle.k42_kinds.specs.declared.entry.Answer.TheVariants as answers
+use Rattle.k42_mediator.proofs.AfterMark.{later_stamp}
 use Rattle.k42_runtime.specs.Swaps.{SwapSeen, HasStepped, IsWornOut, graces_due}
 use Rattle.k42_runtime.specs.Systems.{IsPassHere, IsAtRest}
 use Rattle.k42_runtime.specs.declared.swaps.Stage.TheVariants.{New, Waiting, Marking, Over}
@@ -39,7 +40,7 @@ returns-in-Busy c =
     let rests : IsAtRest new.view = search rules in
     let told =
     refused_by _ _ s.object old c.reserve.new.self c.begin.new.pass c.reserve.ensures.same c.begin.ensures.same c.begin.ensures.knows c.begin.ensures.begun new s.to number
-    c.draw_alone.ensures.drawer drawn c.begin.result c.in-Busy.phase c.begin.ensures.answer c.in-Busy.is in
+    c.draw_alone.ensures.drawer (later_stamp c.begin.new.pass.view [] c.draw_alone.result c.draw_alone.ensures.stamp c.draw_alone.ensures.later) drawn c.begin.result c.in-Busy.phase c.begin.ensures.answer c.in-Busy.is in
     subst (λ s. HasStepped c.args.system.now c.over.result s c.over.new.self old new) is
     (subst (λ t. HasStepped c.args.system.now c.over.result s t old new) (sym (c.over.ensures.over ∙ ap (λ (x : SwapSeen). record x { stage = Over }) (sym is)))
     (subst (λ answer. HasStepped c.args.system.now answer s (record s { stage = Over }) old new) (sym c.over.ensures.ended)
@@ -51,6 +52,7 @@ returns-in-Busy c =
       to = refl;
       over = refl;
       seat = told.seat;
+      keep = told.keep;
       caller = told.caller;
       graces = few new.view.graces old.view.graces (graces_due s.stage s.holder) told.graces;
       told = told.told;

@@ -33,6 +33,7 @@ returns-in-InFlight c =
       object = refl;
       to = refl;
       seat = moved.same.seat;
+      keep = moved.same.keep;
       caller = search rules;
       graces = search rules;
       told = search rules;

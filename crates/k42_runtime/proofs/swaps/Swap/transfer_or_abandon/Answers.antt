@@ -34,11 +34,12 @@ returns-then-is_err c =
       to = ap (λ (x : SwapSeen). x.to) is;
       over = refl;
       seat = c.abandon.ensures.same.seat ∙ kept.same.seat;
+      keep = c.abandon.ensures.same.keep ∙ kept.same.keep;
       caller = abandoned_caller (Swap c.args.self.now.to) v mid.view new.view kept.comes.knows knows;
       graces = few new.view.graces old.view.graces (graces_due c.args.self.now.stage c.args.self.now.holder) (abandoned_graces (Swap c.args.self.now.to) v mid.view new.view kept.comes.knows knows);
       told = tt;
       worn = (λ e. absurd (cc), λ w. absurd (never (sym c.requires.stage ∙ w.0)));
-      brought = inr (gave_up _ _ mid.seat c.args.self.now.object c.args.self.now.to v mid.view new.view kept.comes knows begun c.requires.found unturned swapped _ c.layout-to.ensures.act c.abandon.ensures.up);
+      brought = inr (gave_up _ _ mid.seat c.args.self.now.object c.args.self.now.to v mid.view new.view kept.comes knows begun c.requires.found unturned swapped _ c.layout-to.ensures.act c.abandon.ensures.later c.abandon.ensures.up);
     }
 
 pub returns : goal.returns

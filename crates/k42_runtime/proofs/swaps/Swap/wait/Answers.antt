@@ -47,6 +47,7 @@ returns-in-Again c =
       to = refl;
       over = ap is_over first;
       seat = same.seat;
+      keep = same.keep;
       caller = up.caller;
       graces = up.graces;
       told = up.told;
@@ -75,6 +76,7 @@ returns-in-Quiet c =
       object = refl;
       to = refl;
       seat = c.block.ensures.same.seat ∙ c.reclaim.ensures.same.seat ∙ c.step.ensures.same.seat;
+      keep = c.block.ensures.same.keep ∙ c.reclaim.ensures.same.keep ∙ c.step.ensures.same.keep;
       caller =
           same_caller old.view c.step.new.pass.view mid.view has.caller (record {
             number = ap (λ (v : PassView _). v.number) blocked ∙ ap (λ (v : PassView _). v.number) reclaimed;

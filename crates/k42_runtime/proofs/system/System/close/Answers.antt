@@ -1,12 +1,21 @@
-use Rattle.std.proofs.Common.{◌≡◌, ◌++◌, List, length, map, vec_items, sym, ap, ◌∙◌, subst}
+use Rattle.std.proofs.Common.{◌≡◌, ◌++◌, ◌≤◌, List, length, map, vec_items, sym, ap, ◌∙◌, subst, arith}
+use Rattle.k42_limits.specs.declared.TheConstants.{CALLERS}
 use Rattle.k42_rule.specs.Finishing.{AreAtRest, AreLastLists, kept_in, lists_in, with_none_kept}
 use Rattle.k42_rule.proofs.GivenLists.{given_rest, given_lists, all_kept}
 use Rattle.k42_stamp.specs.Lists.{AreLists, IsMerged}
+use Rattle.k42_stamp.specs.Merging.{entries_in}
 use Rattle.k42_runtime.specs.Closing.{Fits}
 use Rattle.k42_runtime.specs.Histories.{MayEnd}
 use Rattle.k42_runtime.specs.Systems.{SystemSeen, SystemPass, layouts_in}
-use Rattle.k42_runtime.proofs.Closed.{TraceLaw, at_rest, come_back, lists_are, closed}
+use Rattle.k42_runtime.proofs.Closed.{TraceLaw, at_rest, few_passes, come_back, lists_are, closed}
 use Rattle.k42_runtime.proofs.system.System.close.Goals as goal
+
+pub way_for-requires : goal.way_for-requires
+way_for-requires c =
+    let system : SystemSeen = record { sys = c.self.inside.sys; plan = c.self.inside.plan } in
+    let passes = c.args.passes.items in
+    let may : MayEnd system passes = subst (λ s. MayEnd s passes) (sym c.self.view_is) c.requires.may_end in
+    subst (λ (ps : List SystemPass). length ps ≤ CALLERS) (sym c.as_slice.ensures.value) (few_passes system passes c.self.invariant may)
 
 pub finish-requires-after_bounds : goal.finish-requires-after_bounds
 finish-requires-after_bounds c κs =
@@ -34,12 +43,20 @@ merged-requires-clause-lists c =
 
 pub merged-requires-clause-way : goal.merged-requires-clause-way
 merged-requires-clause-way c =
+    let same : map vec_items c.give_lists.new.lists.items ≡ kept_in c.args.passes.items =
+    c.give_lists.ensures.lists ∙ (λ j. map vec_items (c.in-Ok-with_capacity.ensures.items j) ++ kept_in (c.as_mut_slice.ensures.value j)) in
+    subst (λ ls. Fits ls c.in-Ok.way) (ap (λ (ps : List SystemPass). kept_in ps) c.as_slice.ensures.value ∙ sym same) c.in-Ok.ensures.fits
+
+pub merged-requires-clause-few : goal.merged-requires-clause-few
+merged-requires-clause-few c =
+    let system : SystemSeen = record { sys = c.self.inside.sys; plan = c.self.inside.plan } in
     let passes = c.args.passes.items in
-    let same : map vec_items c.give_lists.new.lists.items ≡ lists_in passes =
-    c.give_lists.ensures.lists
-    ∙ (λ j. map vec_items (c.in-Ok-with_capacity.ensures.items j) ++ kept_in (c.as_mut_slice.ensures.value j))
-    ∙ all_kept passes c.requires.all in
-    subst (λ ls. Fits ls c.in-Ok.way) (ap (λ (ps : List SystemPass). lists_in ps) c.as_slice.ensures.value ∙ sym same) c.in-Ok.ensures
+    let may : MayEnd system passes = subst (λ s. MayEnd s passes) (sym c.self.view_is) c.requires.may_end in
+    let same : map vec_items c.give_lists.new.lists.items ≡ kept_in passes =
+    c.give_lists.ensures.lists ∙ (λ j. map vec_items (c.in-Ok-with_capacity.ensures.items j) ++ kept_in (c.as_mut_slice.ensures.value j)) in
+    let kept = ap entries_in same ∙ ap (λ (ps : List SystemPass). entries_in (kept_in ps)) (sym c.as_slice.ensures.value) in
+    let many = ap (λ (ps : List SystemPass). length ps) c.as_slice.ensures.value in
+    omega (arith, kept, many, c.in-Ok.ensures.few, few_passes system passes c.self.invariant may)
 
 pub returns-clause-ok : goal.returns-clause-ok
 returns-clause-ok c =

@@ -1,0 +1,46 @@
+//! A running system gives its history in sections.
+ghost use Rattle.std.specs.Prelude.{◌≡◌, ◌≤◌, ◌*◌, length, IfOk, OnErr};
+ghost use Rattle.k42_limits.specs.declared.TheConstants.{CALLERS, PASS_ENTRIES};
+ghost use Rattle.k42_rule.specs.Sections.{fronts_in};
+ghost use Rattle.k42_stamp.specs.Merging.{entries_in};
+ghost use Rattle.k42_runtime.specs.Sections.{IsSection, MaySection};
+
+use crate::closing::{merged, way_for};
+use crate::system::{Pass, System};
+use k42_kinds::Entry;
+use k42_memory::Memory;
+use k42_rule::give_section;
+use k42_stamp::{lists_have_a_merge, sections_merge_to_the_whole};
+use std::alloc::Global;
+
+/// How many entries the passes have given to sections.
+fn given_of(passes: &[Pass]) -> u64
+    requires { length passes.now ≤ CALLERS }
+    ensures is { result ≡ entries_in (fronts_in passes.now) }
+    ensures few { result ≤ length passes.now * PASS_ENTRIES }
+{
+    let Some((pass, others)) = passes.split_first() else {
+        return 0;
+    };
+    given_of(others) + pass.given()
+}
+
+impl System {
+    /// What its passes have drawn since the last section, as one list in order, which goes on where that ended; and the
+    /// system goes on. Whatever they draw from now on is later. Out of memory nothing is done.
+    pub fn section(&self, alloc: Global, passes: &mut [Pass]) -> Result<Vec<Entry>, Memory>
+        requires { MaySection self.now passes.old }
+        ensures ok { IfOk result (λ section. IsSection passes.old passes.new section.items) }
+        ensures memory { OnErr result (passes.new ≡ passes.old) }
+        ensures again { MaySection self.now passes.new }
+    {
+        let sys = &self.sys;
+        lists_have_a_merge();
+        sections_merge_to_the_whole();
+        let way = way_for(alloc, passes)?;
+        let mut lists = Vec::with_capacity(alloc, passes.len())?;
+        let first = given_of(passes) + 1;
+        give_section(sys, alloc, passes, &mut lists);
+        Ok(merged(first, way, lists))
+    }
+}
