@@ -1,19 +1,24 @@
 //! Plans that are refused, and calls, swaps and destroys that meet on one thread.
-use crate::tests::crews::{Three, closed, counters, ended, forgetting, on_two};
+use crate::tests::crews::{
+    Three, closed, counters, ended, forgetting, in_sections, listed, on_two,
+};
 use crate::tests::ending::{
     add_two_million, destroy_once, find_gone, free_once, swap_and_keep_none, swap_twice,
 };
+use crate::tests::sections::{add_thrice, add_with_last, take_section};
 use crate::tests::waiting::{find, free_in_turn, swap_beside};
 use crate::tests::watching::{
     Deed, call_of, called, find_layout, follow, refuse_beside, swap_and_call, swapped,
     watch_and_call,
 };
+use k42_crews::{end, last, section};
 use k42_kinds::{Act, Answer, Entry, KindName, LayoutName, Op, Reply, To};
 use k42_runtime::{Keep, ObjectPlan, Plan, PlanFault};
 use std::test::Fail;
 
 mod crews;
 mod ending;
+mod sections;
 mod steps;
 mod waiting;
 mod watching;
@@ -313,5 +318,42 @@ fn each_kind_is_watched_in_both_layouts(rt: HostRuntime) -> Result<(), Fail> {
             assert!(rt; history.is_some());
         }
     }
+    Ok(())
+}
+
+#[test]
+fn a_section_has_what_was_drawn_since_the_last_one(rt: HostRuntime) -> Result<(), Fail> {
+    let alloc = rt.alloc();
+    let Some((system, crew)) = in_sections(alloc)? else {
+        return Err("no system")?;
+    };
+    let Three {
+        mut zero,
+        mut one,
+        two,
+    } = crew;
+    add_thrice(&rt, alloc, &system, &mut zero, &mut one)?;
+    let mut passes = listed(alloc, &system, zero, one, two)?;
+    take_section(&rt, alloc, &system, &mut passes, 1, &[0, 1, 0])?;
+    let mut more = add_with_last(&rt, alloc, &system, passes)?;
+    take_section(&rt, alloc, &system, &mut more, 4, &[2])?;
+    take_section(&rt, alloc, &system, &mut more, 5, &[])?;
+    assert!(rt; end(system, more));
+    Ok(())
+}
+
+#[test]
+fn a_section_asks_for_all_passes(rt: HostRuntime) -> Result<(), Fail> {
+    let alloc = rt.alloc();
+    let Some((system, crew)) = in_sections(alloc)? else {
+        return Err("no system")?;
+    };
+    let Three { zero, one, two } = crew;
+    let mut passes = listed(alloc, &system, zero, one, two)?;
+    let Some(_) = last(&system, &mut passes) else {
+        return Err("no pass")?;
+    };
+    let given = section(alloc, &system, passes.as_mut_slice())?;
+    assert!(rt; given.is_none());
     Ok(())
 }

@@ -13,9 +13,9 @@ at_rest system c pass other free number same =
     subst (λ (p : SystemPass). IsPassAtRest system.sys c p) same (record { ours = free.here.ours.table; number = number; rests = free.rests })
 
 keeps_all : (system : SystemSeen) (pass other : SystemPass) → IsPlanned system → system.plan.keep ≡ All → IsFree system pass → pass ≡ other
-    → other.keep ≡ All
+    → other.keep.what ≡ All
 keeps_all system pass other planned keeps free same =
-    subst (λ (p : SystemPass). p.keep ≡ All) same (free.here.ours.keep ∙ planned.keep ∙ keeps)
+    subst (λ (p : SystemPass). p.keep.what ≡ All) same (free.here.ours.keep ∙ planned.keep ∙ keeps)
 
 each_rests : (system : SystemSeen) (first second third : SystemPass) → IsFree system first → IsFree system second → IsFree system third
     → first.view.number ≡ 0 → second.view.number ≡ 1 → third.view.number ≡ 2
@@ -28,7 +28,7 @@ each_rests system first second third one two three is_0 is_1 is_2 (suc (suc zero
 each_rests system first second third one two three is_0 is_1 is_2 (suc (suc (suc i))) pass at = absurd (cc)
 
 each_keeps : (system : SystemSeen) (first second third : SystemPass) → IsPlanned system → system.plan.keep ≡ All → IsFree system first
-    → IsFree system second → IsFree system third → (i : ℕ) (pass : SystemPass) → slice_get (first ∷ second ∷ third ∷ []) i ≡ Some pass → pass.keep ≡ All
+    → IsFree system second → IsFree system third → (i : ℕ) (pass : SystemPass) → slice_get (first ∷ second ∷ third ∷ []) i ≡ Some pass → pass.keep.what ≡ All
 each_keeps system first second third planned keeps one two three zero pass at = keeps_all system first pass planned keeps one (same_Some first pass at)
 each_keeps system first second third planned keeps one two three (suc zero) pass at = keeps_all system second pass planned keeps two (same_Some second pass at)
 each_keeps system first second third planned keeps one two three (suc (suc zero)) pass at =

@@ -37,7 +37,7 @@ free_left sys old new ours table queue keep left = record {
     objects = ap (λ (visitor : Visitor). length visitor.noted) left.visitor ∙ ours.objects;
     spans = ap (λ (visitor : Visitor). length visitor.freeing) left.visitor ∙ ours.spans;
     queue = queue ∙ ours.queue;
-    keep = keep ∙ ours.keep;
+    keep = (λ i. (keep i).what) ∙ ours.keep;
   };
   held = left.held;
   notes = left.notes;

@@ -40,7 +40,7 @@ fn started(
 }
 
 /// Takes the passes of the last three callers.
-fn take_three(system: &System, passes: &mut Vec<Pass>) -> Option<Three>
+pub(super) fn take_three(system: &System, passes: &mut Vec<Pass>) -> Option<Three>
     requires { AreFree system.now passes.old.items }
     ensures zero { IfSome result (λ crew. IsFree system.now crew.zero) }
     ensures one { IfSome result (λ crew. IsFree system.now crew.one) }
@@ -111,8 +111,21 @@ pub(super) fn forgetting(alloc: Global) -> Result<Option<(System, Three)>, Memor
     apart(alloc, object, 1, 1, Keep::Nothing)
 }
 
+/// Two shared counters on one processor, and passes that keep sections.
+pub(super) fn in_sections(alloc: Global) -> Result<Option<(System, Three)>, Memory>
+    ensures zero { IfOk result (λ made. IfSome made (λ crew. IsFree crew.0 crew.1.zero)) }
+    ensures one { IfOk result (λ made. IfSome made (λ crew. IsFree crew.0 crew.1.one)) }
+    ensures two { IfOk result (λ made. IfSome made (λ crew. IsFree crew.0 crew.1.two)) }
+{
+    let object = ObjectPlan {
+        kind: KindName::Counter,
+        layout: LayoutName::Shared,
+    };
+    apart(alloc, object, 2, 1, Keep::Sections)
+}
+
 /// The three in one list.
-fn listed(
+pub(super) fn listed(
     alloc: Global,
     system: &System,
     zero: Pass,

@@ -52,6 +52,7 @@ impl LongStay {
         requires { IsIn system.now pass.old }
         ensures inside { IsIn system.now pass.new }
         ensures caller { pass.new.view.number ≡ pass.old.view.number }
+        ensures keep { pass.new.keep ≡ pass.old.keep }
     {
         for _ in 0..CALLS {
             if !system.takes(0, &Op::Add(1)) {

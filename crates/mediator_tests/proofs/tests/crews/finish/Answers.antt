@@ -1,6 +1,6 @@
 use Rattle.std.proofs.Common.{rules, ◌≡◌, true, [], ◌∷◌, ◌++◌, sym, ap, ◌∙◌, subst}
 use Rattle.k42_rule.specs.Finishing.{AreAtRest, with_none_kept}
-use Rattle.k42_rule.proofs.GivenLists.{given_at_rest}
+use Rattle.table_crews.proofs.PassLists.{given_at_rest}
 use Rattle.mediator_tests.proofs.Crews.{at_rest}
 use Rattle.mediator_tests.proofs.tests.crews.finish.Goals as goal
 

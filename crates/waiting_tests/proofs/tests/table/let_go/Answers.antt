@@ -20,7 +20,7 @@ returns c =
           objects = ap (λ (v : PassView _). length v.visitor.noted) knows ∙ was.ours.objects;
           spans = ap (λ (v : PassView _). length v.visitor.freeing) knows ∙ was.ours.spans;
           queue = is.same.queue ∙ was.ours.queue;
-          keep = is.same.keep ∙ was.ours.keep;
+          keep = (λ i. (is.same.keep i).what) ∙ was.ours.keep;
         };
         active = ap (λ (v : PassView _). is_some v.turn.active) knows ∙ was.active;
         grace = ap (λ (v : PassView _). graces.is_idle v.turn.grace) knows ∙ was.grace;
