@@ -1,0 +1,157 @@
+//! Two callers count hits and swap the counter, and the journal gets what they have done in three sections, between which
+//! the system goes on. What is written is one record, that of `examples/journal.k42`.
+#![tactic(auto)]
+
+use k42_crews::{Work, call_once, end, section, start, swap_once, work_all};
+use k42_runtime::{
+    Act, Answer, Entry, Keep, KindName, LayoutName, Memory, ObjectPlan, Op, Pass, Plan, Reply,
+    System, To,
+};
+use std::alloc::Global;
+use std::fmt;
+use std::process::ExitCode;
+use std::sync::Wait;
+use std::thread::Threads;
+
+/// The number of the only object.
+const HITS: u32 = 0;
+
+/// The lines of the script that the callers answer, in their order.
+const LINES: [[u32; 3]; 2] = [[5, 6, 7], [9, 10, 11]];
+
+/// Which caller does what in the next turn.
+#[derive(Drop)]
+struct Turn {
+    caller: u32,
+    act: Act,
+}
+
+impl Work for Turn {
+    /// The caller whose turn it is calls or swaps.
+    fn work<R: Wait>(
+        &self,
+        rt: &R,
+        alloc: Global,
+        system: &System,
+        pass: &mut Pass,
+    ) -> Result<(), Memory> {
+        if pass.caller() != self.caller {
+            return Ok(());
+        }
+        // No pass is worn so soon.
+        match self.act {
+            Act::Call(op) => {
+                call_once(rt, alloc, system, pass, HITS, op).map_err(|_| Memory)?;
+            }
+            Act::Swap(To::Layout(layout)) => {
+                swap_once(rt, alloc, system, pass, HITS, layout).map_err(|_| Memory)?;
+            }
+            _ => {}
+        }
+        Ok(())
+    }
+}
+
+/// What the callers do, one after the other.
+fn turns() -> [Turn; 6] {
+    let spread = To::Layout(LayoutName::Spread);
+    let shared = To::Layout(LayoutName::Shared);
+    [
+        Turn::of(0, Act::Call(Op::Add(5))),
+        Turn::of(1, Act::Call(Op::Add(2))),
+        Turn::of(0, Act::Swap(spread)),
+        Turn::of(1, Act::Call(Op::Add(3))),
+        Turn::of(0, Act::Call(Op::Get)),
+        Turn::of(1, Act::Swap(shared)),
+    ]
+}
+
+impl Turn {
+    fn of(caller: u32, act: Act) -> Turn {
+        Turn { caller, act }
+    }
+}
+
+/// An entry as a line of a record.
+#[derive(Drop)]
+struct Line(Entry);
+
+impl Line {
+    /// The number of the script's line that it answers.
+    fn number(&self) -> u32 {
+        LINES
+            .get(self.0.caller as usize)
+            .and_then(|lines| lines.get(self.0.index as usize))
+            .map_or(0, |line| *line)
+    }
+}
+
+impl fmt::Display for Line {
+    fn fmt<W: fmt::Write>(&self, f: &mut fmt::Formatter<W>) -> fmt::Result {
+        let Entry {
+            stamp,
+            incarnation,
+            ..
+        } = self.0;
+        let worker = if self.0.caller == 0 { "a" } else { "b" };
+        let number = self.number();
+        write!(f, "{stamp} {worker} {number} ")?;
+        match self.0.act {
+            Act::Call(Op::Add(amount)) => write!(f, "hits add {amount}")?,
+            Act::Swap(To::Layout(LayoutName::Spread)) => write!(f, "swap hits spread")?,
+            Act::Swap(_) => write!(f, "swap hits shared")?,
+            Act::Call(_) => write!(f, "hits get")?,
+        }
+        match self.0.answer {
+            Answer::Replied(Reply::Number(number)) => write!(f, " = {number}")?,
+            Answer::Swapped(number) => write!(f, " = done {number}")?,
+            _ => write!(f, " = ok")?,
+        }
+        write!(f, " @{incarnation}")
+    }
+}
+
+/// One counter under two callers, each on a processor of its own.
+fn plan(alloc: Global) -> Result<Option<Plan>, Memory> {
+    let objects = vec![in alloc;
+        ObjectPlan {
+            kind: KindName::Counter,
+            layout: LayoutName::Shared
+        },
+    ]?;
+    let processors = vec![in alloc; 0u32, 1u32]?;
+    Ok(Plan::new(2, objects, processors, Keep::Sections).ok())
+}
+
+/// Writes the journal, two turns at a time, and answers whether it was written whole.
+fn run<R: Threads + Wait + Sync + Print>(rt: &R, alloc: Global) -> Result<bool, Memory> {
+    let Some(plan) = plan(alloc)? else {
+        return Ok(false);
+    };
+    let (system, mut passes) = start(alloc, plan)?;
+    let mut written = println!(rt; "k42 record 1").is_ok();
+    let mut lines = 0;
+    for (place, turn) in turns().iter().enumerate() {
+        work_all(rt, alloc, &system, turn, passes.as_mut_slice())?;
+        if place % 2 == 0 {
+            continue;
+        }
+        let Some(entries) = section(alloc, &system, passes.as_mut_slice())? else {
+            return Ok(false);
+        };
+        for entry in entries {
+            lines = entry.stamp;
+            let line = Line(entry);
+            written &= println!(rt; "{line}").is_ok();
+        }
+    }
+    written &= println!(rt; "end {lines}").is_ok();
+    Ok(end(system, passes) && written)
+}
+
+fn main(rt: HostRuntime) -> ExitCode {
+    match run(&rt, rt.alloc()) {
+        Ok(written) => ExitCode::from(u8::from(!written)),
+        Err(Memory) => ExitCode::from(6),
+    }
+}
