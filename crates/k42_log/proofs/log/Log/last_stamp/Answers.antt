@@ -1,0 +1,11 @@
+use Rattle.std.proofs.Common.{◌∙◌, ◌-◌, length, ap}
+use Rattle.std.specs.List.{slice_get}
+use Rattle.k42_log.proofs.Lasts.{head_stamp}
+use Rattle.k42_log.proofs.Pushed.{stamp_seen}
+use Rattle.k42_log.proofs.log.Log.last_stamp.Goals as goal
+
+pub returns-in-Some : goal.returns-in-Some
+returns-in-Some c =
+    rw (← c.self.view_is)
+    (ap head_stamp (c.in-Some.ensures.value ∙ ap (λ heads. slice_get heads (length heads - 1)) c.deref.ensures.value)
+    ∙ stamp_seen c.self.inside)

@@ -1,0 +1,6 @@
+use Rattle.std.proofs.Common.{sym, ◌∙◌, ap, length}
+use Rattle.k42_log.proofs.Appended.{length-entries_back}
+use Rattle.k42_log.proofs.unread.Unread.len.Goals as goal
+
+pub returns : goal.returns
+returns c = rw (← c.self.view_is) (sym (length-entries_back _ _ _ _))
