@@ -1,14 +1,13 @@
 -- One more head, and the details of its entry behind the others, give one more entry.
-use Rattle.std.proofs.Common.{◌≡◌, ◌∙◌, ℕ, suc, ◌+◌, ◌-◌, ◌<◌, ◌≤◌, List, [], ◌∷◌, ◌++◌, length, refl, ap, sym, subst, arith, length-append, length-drop}
-use Rattle.std.specs.List.{sum_by}
-use Rattle.std.proofs.lemmas.List.Sums.{sum_by-cons, sum_by_push}
+use Rattle.std.proofs.Common.{◌≡◌, ◌∙◌, ℕ, suc, ◌+◌, ◌<◌, List, [], ◌∷◌, ◌++◌, length, refl, ap, arith, length-drop}
+use Rattle.std.proofs.lemmas.List.Sums.{sum_by-cons}
 use Rattle.k42_limits.specs.declared.TheConstants.{OBJECTS}
 use Rattle.k42_kinds.specs.declared.entry.Entry.{Entry}
 use Rattle.k42_kinds.specs.Histories.{is_call}
 use Rattle.k42_log.specs.declared.head.Head.{Head}
-use Rattle.k42_log.specs.Names.{act_name, answer_name, is_reply}
-use Rattle.k42_log.specs.Details.{Counts, Details, HasSoMany, act_counts, act_details, answer_counts, answer_details, behind, joined, no_details}
-use Rattle.k42_log.specs.Heads.{act_back, answer_back, head_of}
+use Rattle.k42_log.specs.Names.{is_reply}
+use Rattle.k42_log.specs.Details.{Details, HasSoMany, act_counts, act_details, answer_counts, answer_details, behind, joined, no_details}
+use Rattle.k42_log.specs.Heads.{answer_back, head_of}
 use Rattle.k42_log.specs.Entries.{AreWhole, Owner, behind_act, behind_entry, entries_back, entry_back}
 use Rattle.k42_log.proofs.Joining.{act_back-joined, answer_back-joined, behind-joined}
 use Rattle.k42_log.proofs.BackAgain.{ActHasPage, entry_again}

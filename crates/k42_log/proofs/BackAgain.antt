@@ -1,5 +1,5 @@
 -- An entry comes back from its own head and details.
-use Rattle.std.proofs.Common.{◌≡◌, ◌∙◌, ℕ, ◌+◌, ◌*◌, ◌/◌, ◌%◌, ◌<◌, true, false, List, [], ◌∷◌, Option, Some, None, length, refl, ap, sym, arith}
+use Rattle.std.proofs.Common.{◌≡◌, ◌∙◌, ℕ, ◌+◌, ◌*◌, ◌%◌, ◌<◌, Option, Some, None, refl, ap, sym, arith}
 use Rattle.k42_limits.specs.declared.TheConstants.{OBJECTS}
 use Rattle.k42_kinds.specs.declared.operation.LayoutName.TheVariants as layouts
 use Rattle.k42_kinds.specs.declared.operation.Op.{Op}
@@ -14,7 +14,7 @@ use Rattle.k42_kinds.specs.declared.entry.Answer.TheVariants.{Replied, Swapped, 
 use Rattle.k42_kinds.specs.declared.entry.Entry.{Entry}
 use Rattle.k42_kinds.specs.Histories.{is_call}
 use Rattle.k42_log.specs.Names.{act_name, answer_name, is_reply, op_name, reply_name}
-use Rattle.k42_log.specs.Details.{Counts, Details, act_counts, act_details, answer_counts, answer_details, behind, joined, no_details}
+use Rattle.k42_log.specs.Details.{Details, act_counts, act_details, answer_details, behind, joined}
 use Rattle.k42_log.specs.Heads.{HasPage, act_back, answer_back, cell_at, generation_at, generation_or_0, object_at, op_small, place_of, small_of, head_of}
 use Rattle.k42_log.specs.Entries.{Owner, entry_back}
 

@@ -1,11 +1,9 @@
 -- Details that others follow: what comes first stays, and what is behind it.
-use Rattle.std.proofs.Common.{◌≡◌, ℕ, ◌%◌, ◌≤◌, List, [], ◌∷◌, ◌++◌, length, refl, arith}
+use Rattle.std.proofs.Common.{◌≡◌, ℕ, ◌%◌, ◌≤◌, [], length, refl, arith}
 use Rattle.std.proofs.lemmas.List.{append-nil, append_assoc, drop-append-le}
 use Rattle.std.proofs.Math.ListN.{get_or-append}
-use Rattle.k42_kinds.specs.declared.operation.Op.{Op}
 use Rattle.k42_kinds.specs.declared.operation.Op.TheVariants as ops
-use Rattle.k42_kinds.specs.declared.entry.Act.TheVariants.{Call, Swap}
-use Rattle.k42_kinds.specs.declared.entry.Act.{Act}
+use Rattle.k42_kinds.specs.declared.entry.Act.TheVariants.{Call}
 use Rattle.k42_kinds.specs.declared.operation.Reply.TheVariants as replies
 use Rattle.k42_kinds.specs.declared.entry.Answer.TheVariants.{Replied}
 use Rattle.k42_log.specs.declared.name.ActName.{ActName}

@@ -1,8 +1,6 @@
 -- What the last head tells of the last entry.
 use Rattle.std.proofs.Common.{◌≡◌, ℕ, zero, suc, ◌+◌, List, [], ◌∷◌, Option, Some, None, refl}
 use Rattle.std.specs.List.{slice_get}
-use Rattle.std.specs.Option.{option_map}
-use Rattle.k42_kinds.specs.declared.entry.Entry.{Entry}
 use Rattle.k42_log.specs.declared.head.Head.{Head}
 use Rattle.k42_log.specs.Details.{Details}
 use Rattle.k42_log.specs.Entries.{Owner, behind_entry, entries_back}

@@ -4,3 +4,4 @@ pub mod Appended
 pub mod Lasts
 pub mod Sizes
 pub mod Pushed
+mod ExampleLogs

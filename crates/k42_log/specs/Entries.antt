@@ -1,7 +1,6 @@
 -- The entries for which heads and details stand, one after the other.
 use Rattle.std.specs.Prelude.{◌≡◌, ℕ, ◌+◌, List, [], ◌∷◌, length}
 use Rattle.std.specs.List.{sum_by}
-use Rattle.k42_kinds.specs.declared.entry.Act.TheVariants as acting
 use Rattle.k42_kinds.specs.declared.entry.Entry.{Entry}
 use Rattle.k42_log.specs.declared.head.Head.{Head}
 use Rattle.k42_log.specs.Details.{Details, Counts, act_counts, answer_counts, behind, sum_of}

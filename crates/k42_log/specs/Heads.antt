@@ -1,5 +1,5 @@
 -- The head of an entry: its tags, where it was drawn, and what is small.
-use Rattle.std.specs.Prelude.{◌≡◌, ℕ, ◌+◌, ◌*◌, ◌/◌, ◌%◌, ◌<◌, ◌==◌, if◌then◌else◌, Option, Some, None}
+use Rattle.std.specs.Prelude.{ℕ, ◌+◌, ◌*◌, ◌/◌, ◌%◌, ◌<◌, ◌==◌, if◌then◌else◌, Option, Some, None}
 use Rattle.k42_limits.specs.declared.TheConstants.{OBJECTS}
 use Rattle.k42_kinds.specs.declared.operation.LayoutName.TheVariants as layouts
 use Rattle.k42_kinds.specs.declared.operation.Op.{Op}

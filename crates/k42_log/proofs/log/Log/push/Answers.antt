@@ -1,4 +1,4 @@
-use Rattle.std.proofs.Common.{◌≡◌, ◌∙◌, [], ◌∷◌, ◌++◌, ap, sym, subst}
+use Rattle.std.proofs.Common.{◌∙◌, [], ◌∷◌, ◌++◌, ap, sym, subst}
 use Rattle.k42_log.specs.Logs.{IsNextOf, LogSeen}
 use Rattle.k42_log.proofs.Pushed.{swap_pushed}
 use Rattle.k42_log.proofs.log.Log.push.Goals as goal

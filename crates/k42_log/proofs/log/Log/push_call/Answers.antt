@@ -2,7 +2,7 @@ use Rattle.std.proofs.Common.{◌∙◌, ◌+◌, ◌<◌, ◌≤◌, [], ◌∷
 use Rattle.k42_limits.specs.declared.TheConstants.{PASS_ENTRIES}
 use Rattle.k42_log.specs.declared.log.Log.TheInside.{Inside}
 use Rattle.k42_log.specs.Names.{op_name, reply_name}
-use Rattle.k42_log.specs.Details.{act_counts, answer_counts, less_by}
+use Rattle.k42_log.specs.Details.{answer_counts, less_by}
 use Rattle.k42_log.specs.Stored.{details_in}
 use Rattle.k42_log.specs.Logs.{LogSeen, call_entry, next_index}
 use Rattle.k42_log.specs.LogFields.{room_in, seen}

@@ -1,4 +1,4 @@
-use Rattle.std.proofs.Common.{◌==◌, sym, ◌∙◌, ap, length}
+use Rattle.std.proofs.Common.{◌==◌, sym, ◌∙◌, ap}
 use Rattle.k42_log.proofs.Appended.{length-entries_back}
 use Rattle.k42_log.proofs.unread.Unread.is_empty.Goals as goal
 

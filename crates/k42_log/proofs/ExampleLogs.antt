@@ -1,0 +1,120 @@
+-- Heads and details, and the entries for which they stand: accepted and refused.
+use Rattle.std.proofs.Common.{◌≡◌, ℕ, [], ◌∷◌, Option, Some, None, refl, arith}
+use Rattle.k42_kinds.specs.declared.operation.Op.TheVariants.{Add, Bind}
+use Rattle.k42_kinds.specs.declared.operation.Reply.TheVariants.{Done, Number}
+use Rattle.k42_kinds.specs.declared.entry.Act.TheVariants.{Call, Swap}
+use Rattle.k42_kinds.specs.declared.entry.To.TheVariants.{Watch}
+use Rattle.k42_kinds.specs.declared.entry.Answer.TheVariants.{Replied, Busy}
+use Rattle.k42_kinds.specs.declared.entry.Entry.{Entry}
+use Rattle.k42_log.specs.declared.head.Head.{Head}
+use Rattle.k42_log.specs.declared.name.ActName.TheVariants as acts
+use Rattle.k42_log.specs.declared.name.AnswerName.TheVariants as answers
+use Rattle.k42_log.specs.Details.{Details}
+use Rattle.k42_log.specs.Heads.{head_of}
+use Rattle.k42_log.specs.Entries.{AreWhole, Owner, entries_back, entry_back}
+use Rattle.k42_log.specs.Logs.{IsNextOf, LogSeen}
+
+abbrev owner : Owner
+owner = record { caller = 2; proc = 1 }
+
+-- `bind a 9` at cell 17, which is replied 8
+abbrev bind : Entry
+bind = record {
+  stamp = 5;
+  index = 40;
+  caller = 2;
+  object = 3;
+  incarnation = 4;
+  cell = 17;
+  act = Call (Bind (97 ∷ []) 9);
+  answer = Replied (Number 8);
+  proc = 1;
+  generation = Some 6;
+}
+
+-- a watch that another's swap refuses, which is number 7
+abbrev watch : Entry
+watch = record {
+  stamp = 11;
+  index = 41;
+  caller = 2;
+  object = 3;
+  incarnation = 6;
+  cell = 0;
+  act = Swap Watch;
+  answer = Busy 7;
+  proc = 1;
+  generation = None;
+}
+
+abbrev bind_head : Head
+bind_head = record {
+  stamp = 5;
+  incarnation = 4;
+  generation = 6;
+  small = 0;
+  place = 551;
+  act = acts.Bind;
+  answer = answers.Number;
+}
+
+abbrev watch_head : Head
+watch_head = record {
+  stamp = 11;
+  incarnation = 6;
+  generation = 0;
+  small = 7;
+  place = 6;
+  act = acts.Watch;
+  answer = answers.Busy;
+}
+
+abbrev details : Details
+details = record { names = (97 ∷ []) ∷ []; texts = []; numbers = 9 ∷ 8 ∷ [] }
+
+heads_are : head_of bind ∷ head_of watch ∷ [] ≡ bind_head ∷ watch_head ∷ []
+heads_are = refl
+
+whole : AreWhole (bind_head ∷ watch_head ∷ []) details
+whole = record { names = refl; texts = refl; numbers = refl }
+
+read_back : entries_back owner 40 (bind_head ∷ watch_head ∷ []) details ≡ bind ∷ watch ∷ []
+read_back = refl
+
+-- without the last number, the details are not whole
+not_whole : ¬ AreWhole (bind_head ∷ watch_head ∷ []) (record details { numbers = 9 ∷ [] })
+not_whole short = omega (arith, short.numbers)
+
+-- a place that tells of no generation gives another entry
+no_generation : ¬ (entry_back owner 40 (record bind_head { place = 550 }) details ≡ bind)
+no_generation same = let other : ◌≡◌ {A = Option ℕ} None (Some 6) = λ i. (same i).generation in cc
+
+-- so do numbers in another order
+other_order : ¬ (entry_back owner 40 bind_head (record details { numbers = 8 ∷ 9 ∷ [] }) ≡ bind)
+other_order same = let other : Call (Bind (97 ∷ []) 8) ≡ Call (Bind (97 ∷ []) 9) = λ i. (same i).act in cc
+
+abbrev log : LogSeen
+log = record { owner = owner; first = 40; entries = bind ∷ []; room = 1 }
+
+next : IsNextOf log watch
+next = record {
+  caller = refl;
+  proc = refl;
+  index = refl;
+  few = omega arith;
+  object = omega arith;
+  cell = omega arith;
+  answered = refl;
+}
+
+-- an index too high
+late : ¬ IsNextOf log (record watch { index = 42 })
+late next = omega (arith, next.index)
+
+-- a call is not answered as a swap is
+mixed : ¬ IsNextOf log (record watch { act = Call (Add 1) })
+mixed next = let both = next.answered in cc
+
+-- nor a swap as a call is
+mixed_too : ¬ IsNextOf log (record watch { answer = Replied Done })
+mixed_too next = let both = next.answered in cc
