@@ -12,35 +12,41 @@ use Rattle.k42_log.specs.Entries.{AreWhole, Owner, behind_act, behind_entry, ent
 use Rattle.k42_log.proofs.Joining.{act_back-joined, answer_back-joined, behind-joined}
 use Rattle.k42_log.proofs.BackAgain.{ActHasPage, entry_again}
 
-pub length-entries_back : (owner : Owner) (first : ℕ) (heads : List Head) (details : Details) → length (entries_back owner first heads details) ≡ length heads
+pub length-entries_back : (owner : Owner) (first : ℕ) (heads : List Head) (details : Details)
+    → length (entries_back owner first heads details) ≡ length heads
 length-entries_back owner first [] details = refl
 length-entries_back owner first (head ∷ heads) details =
     ap (λ n. suc n) (length-entries_back owner (first + 1) heads (behind_entry head details))
 
 -- the details of the first entry are there, and those of the others behind them
 
-act_has : (head : Head) (heads : List Head) (details : Details) → AreWhole (head ∷ heads) details → HasSoMany (act_counts head.act) details
+act_has : (head : Head) (heads : List Head) (details : Details) → AreWhole (head ∷ heads) details
+    → HasSoMany (act_counts head.act) details
 act_has head heads details whole = record {
   names = omega (arith, whole.names, sum_by-cons {X = Head});
   texts = omega (arith, whole.texts, sum_by-cons {X = Head});
   numbers = omega (arith, whole.numbers, sum_by-cons {X = Head});
 }
 
-answer_has : (head : Head) (heads : List Head) (details : Details) → AreWhole (head ∷ heads) details → HasSoMany (answer_counts head.answer) (behind_act head details)
+answer_has : (head : Head) (heads : List Head) (details : Details) → AreWhole (head ∷ heads) details
+    → HasSoMany (answer_counts head.answer) (behind_act head details)
 answer_has head heads details whole = record {
   names = omega (arith, whole.names, sum_by-cons {X = Head}, length-drop {A = List ℕ});
   texts = omega (arith, whole.texts, sum_by-cons {X = Head}, length-drop {A = List ℕ});
   numbers = omega (arith, whole.numbers, sum_by-cons {X = Head}, length-drop {A = ℕ});
 }
 
-rest_whole : (head : Head) (heads : List Head) (details : Details) → AreWhole (head ∷ heads) details → AreWhole heads (behind_entry head details)
+rest_whole : (head : Head) (heads : List Head) (details : Details) → AreWhole (head ∷ heads) details
+    → AreWhole heads (behind_entry head details)
 rest_whole head heads details whole = record {
   names = omega (arith, whole.names, sum_by-cons {X = Head}, length-drop {A = List ℕ});
   texts = omega (arith, whole.texts, sum_by-cons {X = Head}, length-drop {A = List ℕ});
   numbers = omega (arith, whole.numbers, sum_by-cons {X = Head}, length-drop {A = ℕ});
 }
 
-entry_back-joined : (owner : Owner) (index : ℕ) (head : Head) (heads : List Head) (details more : Details) → AreWhole (head ∷ heads) details → entry_back owner index head (joined details more) ≡ entry_back owner index head details
+entry_back-joined : (owner : Owner) (index : ℕ) (head : Head) (heads : List Head) (details more : Details)
+    → AreWhole (head ∷ heads) details
+    → entry_back owner index head (joined details more) ≡ entry_back owner index head details
 entry_back-joined owner index head heads details more whole =
     let here = act_has head heads details whole in
     let told =
@@ -48,7 +54,9 @@ entry_back-joined owner index head heads details more whole =
     ∙ answer_back-joined head.answer head.small (behind_act head details) more (answer_has head heads details whole) in
     λ i. record (entry_back owner index head details) { act = act_back-joined head.act head.small details more here i; answer = told i }
 
-behind_entry-joined : (head : Head) (heads : List Head) (details more : Details) → AreWhole (head ∷ heads) details → behind_entry head (joined details more) ≡ joined (behind_entry head details) more
+behind_entry-joined :
+    (head : Head) (heads : List Head) (details more : Details) → AreWhole (head ∷ heads) details
+    → behind_entry head (joined details more) ≡ joined (behind_entry head details) more
 behind_entry-joined head heads details more whole =
     ap (behind (answer_counts head.answer)) (behind-joined (act_counts head.act) details more (act_has head heads details whole))
     ∙ behind-joined (answer_counts head.answer) (behind_act head details) more (answer_has head heads details whole)

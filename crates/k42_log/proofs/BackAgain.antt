@@ -26,7 +26,8 @@ ActHasPage (Swap to) = Unit {0}
 page_again : (page : ℕ) → page < 65_536 → page % 65_536 ≡ page
 page_again page small = omega arith
 
-pub op_again : (op : Op) (more : Details) → HasPage op → act_back (op_name op) (op_small op) (joined (act_details (Call op)) more) ≡ Call op
+pub op_again : (op : Op) (more : Details) → HasPage op
+    → act_back (op_name op) (op_small op) (joined (act_details (Call op)) more) ≡ Call op
 op_again (ops.Write page text) more small = λ i. Call (ops.Write (page_again page small i) text)
 op_again (ops.Read page) more small = λ i. Call (ops.Read (page_again page small i))
 op_again (ops.Add amount) more small = refl
@@ -40,7 +41,8 @@ op_again ops.Dirty more small = refl
 op_again ops.Clean more small = refl
 op_again ops.Seen more small = refl
 
-pub act_again : (act : Act) (answer : Answer) (more : Details) → ActHasPage act → act_back (act_name act) (small_of act answer) (joined (act_details act) more) ≡ act
+pub act_again : (act : Act) (answer : Answer) (more : Details) → ActHasPage act
+    → act_back (act_name act) (small_of act answer) (joined (act_details act) more) ≡ act
 act_again (Call op) answer more small = op_again op more small
 act_again (Swap (tos.Layout layouts.Shared)) answer more small = refl
 act_again (Swap (tos.Layout layouts.Spread)) answer more small = refl
@@ -48,7 +50,8 @@ act_again (Swap tos.Dead) answer more small = refl
 act_again (Swap tos.Watch) answer more small = refl
 act_again (Swap tos.Unwatch) answer more small = refl
 
-reply_again : (reply : Reply) (small : ℕ) → answer_back (reply_name reply) small (answer_details (Replied reply)) ≡ Replied reply
+reply_again : (reply : Reply) (small : ℕ)
+    → answer_back (reply_name reply) small (answer_details (Replied reply)) ≡ Replied reply
 reply_again replies.Done small = refl
 reply_again replies.Taken small = refl
 reply_again replies.None small = refl
@@ -57,7 +60,8 @@ reply_again (replies.Text text) small = refl
 reply_again replies.Zero small = refl
 reply_again replies.Gone small = refl
 
-pub answer_again : (act : Act) (answer : Answer) → is_call act ≡ is_reply answer → answer_back (answer_name answer) (small_of act answer) (answer_details answer) ≡ answer
+pub answer_again : (act : Act) (answer : Answer) → is_call act ≡ is_reply answer
+    → answer_back (answer_name answer) (small_of act answer) (answer_details answer) ≡ answer
 answer_again act (Replied reply) pair = reply_again reply (small_of act (Replied reply))
 answer_again (Swap to) (Swapped number) pair = refl
 answer_again (Swap to) (Busy number) pair = refl
@@ -71,7 +75,8 @@ answer_again (Call op) Gone pair = refl
 answer_again (Call op) (Abandoned number) pair = cc
 
 -- behind the details of an act stand those of its answer
-pub behind-act : (act : Act) (more : Details) → behind (act_counts (act_name act)) (joined (act_details act) more) ≡ more
+pub behind-act :
+    (act : Act) (more : Details) → behind (act_counts (act_name act)) (joined (act_details act) more) ≡ more
 behind-act (Call (ops.Add amount)) more = refl
 behind-act (Call ops.Get) more = refl
 behind-act (Call ops.Drain) more = refl
@@ -90,11 +95,13 @@ behind-act (Swap tos.Dead) more = refl
 behind-act (Swap tos.Watch) more = refl
 behind-act (Swap tos.Unwatch) more = refl
 
-cell_again : (cell object : ℕ) (generation : Option ℕ) → object < OBJECTS → cell_at (place_of cell object generation) ≡ cell
+cell_again : (cell object : ℕ) (generation : Option ℕ) → object < OBJECTS
+    → cell_at (place_of cell object generation) ≡ cell
 cell_again cell object None few = omega arith
 cell_again cell object (Some generation) few = omega arith
 
-object_again : (cell object : ℕ) (generation : Option ℕ) → object < OBJECTS → object_at (place_of cell object generation) ≡ object
+object_again : (cell object : ℕ) (generation : Option ℕ) → object < OBJECTS
+    → object_at (place_of cell object generation) ≡ object
 object_again cell object None few = omega arith
 object_again cell object (Some generation) few = omega arith
 
@@ -104,11 +111,14 @@ is_odd n = omega arith
 is_even : (n : ℕ) → (n * 2) % 2 ≡ 0
 is_even n = omega arith
 
-generation_again : (cell object : ℕ) (generation : Option ℕ) → generation_at (place_of cell object generation) (generation_or_0 generation) ≡ generation
+generation_again : (cell object : ℕ) (generation : Option ℕ)
+    → generation_at (place_of cell object generation) (generation_or_0 generation) ≡ generation
 generation_again cell object None = rw is_even refl
 generation_again cell object (Some generation) = rw is_odd refl
 
-pub entry_again : (owner : Owner) (entry : Entry) → entry.caller ≡ owner.caller → entry.proc ≡ owner.proc → entry.object < OBJECTS → ActHasPage entry.act → is_call entry.act ≡ is_reply entry.answer → entry_back owner entry.index (head_of entry) (joined (act_details entry.act) (answer_details entry.answer)) ≡ entry
+pub entry_again : (owner : Owner) (entry : Entry) → entry.caller ≡ owner.caller → entry.proc ≡ owner.proc
+    → entry.object < OBJECTS → ActHasPage entry.act → is_call entry.act ≡ is_reply entry.answer
+    → entry_back owner entry.index (head_of entry) (joined (act_details entry.act) (answer_details entry.answer)) ≡ entry
 entry_again owner entry caller proc few page pair i = record {
   stamp = entry.stamp;
   index = entry.index;

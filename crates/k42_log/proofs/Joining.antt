@@ -27,30 +27,38 @@ joined-none details i = record {
   numbers = append-nil details.numbers i;
 }
 
-pub behind-joined : (counts : Counts) (details more : Details) → HasSoMany counts details → behind counts (joined details more) ≡ joined (behind counts details) more
+pub behind-joined : (counts : Counts) (details more : Details) → HasSoMany counts details
+    → behind counts (joined details more) ≡ joined (behind counts details) more
 behind-joined counts details more has i = record {
   names = drop-append-le counts.names details.names more.names has.names i;
   texts = drop-append-le counts.texts details.texts more.texts has.texts i;
   numbers = drop-append-le counts.numbers details.numbers more.numbers has.numbers i;
 }
 
-first_name-joined : (details more : Details) → 1 ≤ length details.names → first_name (joined details more) ≡ first_name details
+first_name-joined :
+    (details more : Details) → 1 ≤ length details.names → first_name (joined details more) ≡ first_name details
 first_name-joined details more some = get_or-append details.names more.names [] 0 (omega arith)
 
-first_text-joined : (details more : Details) → 1 ≤ length details.texts → first_text (joined details more) ≡ first_text details
+first_text-joined :
+    (details more : Details) → 1 ≤ length details.texts → first_text (joined details more) ≡ first_text details
 first_text-joined details more some = get_or-append details.texts more.texts [] 0 (omega arith)
 
-first_number-joined : (details more : Details) → 1 ≤ length details.numbers → first_number (joined details more) ≡ first_number details
+first_number-joined : (details more : Details) → 1 ≤ length details.numbers
+    → first_number (joined details more) ≡ first_number details
 first_number-joined details more some = get_or-append details.numbers more.numbers 0 0 (omega arith)
 
-pub act_back-joined : (name : ActName) (small : ℕ) (details more : Details) → HasSoMany (act_counts name) details → act_back name small (joined details more) ≡ act_back name small details
+pub act_back-joined :
+    (name : ActName) (small : ℕ) (details more : Details) → HasSoMany (act_counts name) details
+    → act_back name small (joined details more) ≡ act_back name small details
 act_back-joined acts.Bind small details more has = λ i. Call (ops.Bind (first_name-joined details more has.names i) (first_number-joined details more has.numbers i))
 act_back-joined acts.Find small details more has = λ i. Call (ops.Find (first_name-joined details more has.names i))
 act_back-joined acts.Unbind small details more has = λ i. Call (ops.Unbind (first_name-joined details more has.names i))
 act_back-joined acts.Write small details more has = λ i. Call (ops.Write (small % 65_536) (first_text-joined details more has.texts i))
 act_back-joined _ small details more has = refl
 
-pub answer_back-joined : (name : AnswerName) (small : ℕ) (details more : Details) → HasSoMany (answer_counts name) details → answer_back name small (joined details more) ≡ answer_back name small details
+pub answer_back-joined :
+    (name : AnswerName) (small : ℕ) (details more : Details) → HasSoMany (answer_counts name) details
+    → answer_back name small (joined details more) ≡ answer_back name small details
 answer_back-joined answers.Number small details more has = λ i. Replied (replies.Number (first_number-joined details more has.numbers i))
 answer_back-joined answers.Text small details more has = λ i. Replied (replies.Text (first_text-joined details more has.texts i))
 answer_back-joined _ small details more has = refl

@@ -14,12 +14,14 @@ abbrev pub head_incarnation : Option Head → ℕ
 head_incarnation None = 0
 head_incarnation (Some head) = head.incarnation
 
-pub stamp_at : (owner : Owner) (first : ℕ) (heads : List Head) (details : Details) (place : ℕ) → stamp_or_0 (slice_get (entries_back owner first heads details) place) ≡ head_stamp (slice_get heads place)
+pub stamp_at : (owner : Owner) (first : ℕ) (heads : List Head) (details : Details) (place : ℕ)
+    → stamp_or_0 (slice_get (entries_back owner first heads details) place) ≡ head_stamp (slice_get heads place)
 stamp_at owner first [] details place = refl
 stamp_at owner first (head ∷ heads) details zero = refl
 stamp_at owner first (head ∷ heads) details (suc place) = stamp_at owner (first + 1) heads (behind_entry head details) place
 
-pub incarnation_at : (owner : Owner) (first : ℕ) (heads : List Head) (details : Details) (place : ℕ) → incarnation_or_0 (slice_get (entries_back owner first heads details) place) ≡ head_incarnation (slice_get heads place)
+pub incarnation_at : (owner : Owner) (first : ℕ) (heads : List Head) (details : Details) (place : ℕ)
+    → incarnation_or_0 (slice_get (entries_back owner first heads details) place) ≡ head_incarnation (slice_get heads place)
 incarnation_at owner first [] details place = refl
 incarnation_at owner first (head ∷ heads) details zero = refl
 incarnation_at owner first (head ∷ heads) details (suc place) = incarnation_at owner (first + 1) heads (behind_entry head details) place

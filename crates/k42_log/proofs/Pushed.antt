@@ -37,12 +37,14 @@ length_seen log = length-entries_back (owner_in log) log.first log.heads.items (
 last_place : (log : Inside) → length (entries_in log) - 1 ≡ length log.heads.items - 1
 last_place log = ap (λ n. n - 1) (length_seen log)
 
-pub stamp_seen : (log : Inside) → head_stamp (slice_get log.heads.items (length log.heads.items - 1)) ≡ stamp_or_0 (last_entry (entries_in log))
+pub stamp_seen : (log : Inside)
+    → head_stamp (slice_get log.heads.items (length log.heads.items - 1)) ≡ stamp_or_0 (last_entry (entries_in log))
 stamp_seen log =
     sym (ap (λ n. stamp_or_0 (slice_get (entries_in log) n)) (last_place log)
     ∙ stamp_at (owner_in log) log.first log.heads.items (details_in log.stored) (length log.heads.items - 1))
 
-pub incarnation_seen : (log : Inside) → head_incarnation (slice_get log.heads.items (length log.heads.items - 1)) ≡ incarnation_or_0 (last_entry (entries_in log))
+pub incarnation_seen : (log : Inside)
+    → head_incarnation (slice_get log.heads.items (length log.heads.items - 1)) ≡ incarnation_or_0 (last_entry (entries_in log))
 incarnation_seen log =
     sym (ap (λ n. incarnation_or_0 (slice_get (entries_in log) n)) (last_place log)
     ∙ incarnation_at (owner_in log) log.first log.heads.items (details_in log.stored) (length log.heads.items - 1))
@@ -52,14 +54,16 @@ pub record Gives (log : Inside) (heads : List Head) (details : Details) (entry :
   pub entries : entries_back (owner_in log) log.first heads details ≡ entries_in log ++ entry ∷ []
   pub whole : AreWhole heads details
 
-gives : (log : Inside) (entry : Entry) → IsSound log → IsKeepable (owner_in log) entry → entry.index ≡ next_index (seen log)
+gives : (log : Inside) (entry : Entry) → IsSound log → IsKeepable (owner_in log) entry
+    → entry.index ≡ next_index (seen log)
     → Gives log (log.heads.items ++ head_of entry ∷ []) (joined (details_in log.stored) (entry_details entry)) entry
 gives log entry sound keeps at = record {
   entries = entries_back-push (owner_in log) log.first log.heads.items (details_in log.stored) entry sound.whole keeps (at ∙ ap (λ n. log.first + n) (length_seen log));
   whole = whole_then log.heads.items (details_in log.stored) entry sound.whole;
 }
 
-pub call_pushed : (log : Inside) (stamp object row cell : ℕ) (generation : Option ℕ) (op : Op) (reply : Reply) (head : Head) (heads : List Head) (between details : Details)
+pub call_pushed :
+    (log : Inside) (stamp object row cell : ℕ) (generation : Option ℕ) (op : Op) (reply : Reply) (head : Head) (heads : List Head) (between details : Details)
     → IsSound log → object < OBJECTS → HasPage op
     → head ≡ head_of (call_entry (seen log) stamp object row cell generation op reply)
     → heads ≡ log.heads.items ++ head ∷ []
@@ -75,7 +79,8 @@ call_pushed log stamp object row cell generation op reply head heads between det
     subst (λ d. Gives log heads d entry) due (subst (λ hs. Gives log hs (joined (details_in log.stored) (entry_details entry)) entry) longer (gives log entry sound keeps refl))
 
 -- no swap has details
-swap_plain : (to : To) (act : Act) (answer : Answer) → act ≡ Swap to → is_call act ≡ is_reply answer → joined (act_details act) (answer_details answer) ≡ no_details
+swap_plain : (to : To) (act : Act) (answer : Answer) → act ≡ Swap to → is_call act ≡ is_reply answer
+    → joined (act_details act) (answer_details answer) ≡ no_details
 swap_plain to act (Replied reply) is pair = absurd (let call = sym (ap is_call is) ∙ pair in cc)
 swap_plain to act (Swapped number) is pair = ap (λ a. joined (act_details a) no_details) is
 swap_plain to act (Busy number) is pair = ap (λ a. joined (act_details a) no_details) is
@@ -134,7 +139,8 @@ room_pushed log new head act answer more same less =
     let heads : vec_capacity log.heads - length log.heads.items - 1 ≡ vec_capacity new.heads - length new.heads.items = omega arith in
     subst (λ n. room_in log ≤ min n (entries_fitting (spare_in new.stored)) + 1) heads (least_room _ _ _ left)
 
-pub fits_pushed : (log : Inside) (head : Head) (heads : List Head) → next_index (seen log) < PASS_ENTRIES → heads ≡ log.heads.items ++ head ∷ [] → log.first + length heads < 2 ^ 64
+pub fits_pushed : (log : Inside) (head : Head) (heads : List Head) → next_index (seen log) < PASS_ENTRIES
+    → heads ≡ log.heads.items ++ head ∷ [] → log.first + length heads < 2 ^ 64
 fits_pushed log head heads few more =
     let long = length_seen log in
     let longer = ap length more ∙ length-append log.heads.items (head ∷ []) in

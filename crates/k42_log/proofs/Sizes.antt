@@ -61,10 +61,12 @@ answer_sized Gone = record { names = refl; texts = refl; numbers = refl }
 answer_sized (Abandoned number) = record { names = refl; texts = refl; numbers = refl }
 
 -- three lists, joined, have the sum of their lengths
-joined_length : {A : Type 0} (x a b : List A) (n p q : ℕ) → length x ≡ n → length a ≡ p → length b ≡ q → length (x ++ (a ++ b)) ≡ n + (p + q)
+joined_length : {A : Type 0} (x a b : List A) (n p q : ℕ) → length x ≡ n → length a ≡ p → length b ≡ q
+    → length (x ++ (a ++ b)) ≡ n + (p + q)
 joined_length {A} x a b n p q one two three = omega (arith, length-append {A = A} x (a ++ b), length-append {A = A} a b)
 
-pub whole_then : (heads : List Head) (details : Details) (entry : Entry) → AreWhole heads details → AreWhole (heads ++ head_of entry ∷ []) (joined details (entry_details entry))
+pub whole_then : (heads : List Head) (details : Details) (entry : Entry) → AreWhole heads details
+    → AreWhole (heads ++ head_of entry ∷ []) (joined details (entry_details entry))
 whole_then heads details entry whole =
     let act = act_sized entry.act in
     let answer = answer_sized entry.answer in
@@ -105,7 +107,8 @@ answer_unnamed answers.Number = refl
 answer_unnamed answers.Text = refl
 answer_unnamed _ = refl
 
-pub room_left : (spare : Counts) (act : ActName) (answer : AnswerName) → entries_fitting spare ≤ entries_fitting (less_by (less_by spare (act_counts act)) (answer_counts answer)) + 1
+pub room_left : (spare : Counts) (act : ActName) (answer : AnswerName)
+    → entries_fitting spare ≤ entries_fitting (less_by (less_by spare (act_counts act)) (answer_counts answer)) + 1
 room_left spare act answer =
     let a = act_few act in
     let b = answer_few answer in
