@@ -10,6 +10,3 @@ mod rows;
 pub use k42_kinds::{AnyState, DirectoryState, PagesState};
 pub use layout::AnyLayout;
 pub use part::AnyPart;
-
-#[cfg(test)]
-mod tests;

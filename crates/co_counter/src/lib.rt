@@ -6,6 +6,3 @@ mod spread;
 
 pub use shared::SharedCounter;
 pub use spread::SpreadCounter;
-
-#[cfg(test)]
-mod tests;

@@ -10,6 +10,3 @@ pub use copies::copied;
 pub use indexed::IndexedNames;
 pub use shared::SharedDirectory;
 pub use spread::SpreadDirectory;
-
-#[cfg(test)]
-mod tests;

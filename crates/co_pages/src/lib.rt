@@ -8,6 +8,3 @@ mod spread;
 pub use places::Places;
 pub use shared::{SharedPages, copied};
 pub use spread::SpreadPages;
-
-#[cfg(test)]
-mod tests;

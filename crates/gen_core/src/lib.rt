@@ -13,6 +13,3 @@ pub use laws::{
 };
 pub use machine::{apply, has_room};
 pub use state::{GenCaller, GenProc, GenState, GraceAt};
-
-#[cfg(test)]
-mod tests;

@@ -21,6 +21,3 @@ pub use sink::Sink;
 pub use source::{Failed, Source};
 pub use standard::{InputSource, OutputSink};
 pub use writing::write_all;
-
-#[cfg(test)]
-mod tests;

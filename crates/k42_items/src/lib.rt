@@ -79,6 +79,3 @@ impl<T> Items<T> {
         Ok(())
     }
 }
-
-#[cfg(test)]
-mod tests;

@@ -111,21 +111,3 @@ pub fn step_directory(names: &mut DirectoryState, op: &Op) -> Result<Reply, Memo
         _ => Ok(Reply::Gone),
     }
 }
-
-#[cfg(test)]
-mod tests {
-    use super::*;
-    use std::test::Fail;
-
-    #[test]
-    fn a_directory_shows_names_in_the_order_of_their_bytes(rt: HostRuntime) -> Result<(), Fail> {
-        let texts: [&[u8]; 4] = [b"b", b"a_", b"aa", b"a"];
-        let mut places = DirectoryState::new(rt.alloc());
-        for (place, bytes) in texts.iter().enumerate() {
-            places.insert(&Name::of(bytes).ok_or("no name")?, place as u64)?;
-        }
-        let in_order: [u64; 4] = [3, 1, 2, 0];
-        assert!(rt; places.iter().map(|(_, place)| *place).eq(in_order));
-        Ok(())
-    }
-}

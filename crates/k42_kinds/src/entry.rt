@@ -83,34 +83,3 @@ pub enum Reach {
     One(u32),
     All,
 }
-
-#[cfg(test)]
-mod tests {
-    use super::*;
-    use std::test::Fail;
-
-    // All entries are kept until a system is closed.
-    const _: () = prove!(size_of::<Entry>() == 144);
-
-    #[test]
-    fn an_entry_stands_behind_the_others(rt: HostRuntime) -> Result<(), Fail> {
-        let mut entries = Vec::new(rt.alloc());
-        for stamp in [1, 2, 3] {
-            let entry = Entry {
-                stamp,
-                index: 0,
-                caller: 0,
-                object: 0,
-                incarnation: 0,
-                cell: 0,
-                act: Act::Swap(To::Dead),
-                answer: Answer::Gone,
-                proc: 0,
-                generation: None,
-            };
-            entry.push_onto(&mut entries)?;
-        }
-        assert!(rt; entries.iter().map(|entry| entry.stamp).eq([1, 2, 3]));
-        Ok(())
-    }
-}

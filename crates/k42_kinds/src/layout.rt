@@ -158,6 +158,3 @@ pub trait Layout: Kind + Copy + Send + Sync {
         → Self.object layout ≡ Self.object other → tag_of layout ≡ tag_of other
         → Agree (ways layout) (ways other) (whole layout) (whole other) (serves layout) (serves other) };
 }
-
-#[cfg(test)]
-mod tests;

@@ -119,25 +119,3 @@ pub fn step_pages(pages: &mut PagesState, op: &Op) -> Result<Reply, Memory>
         _ => Ok(Reply::Gone),
     }
 }
-
-#[cfg(test)]
-mod tests {
-    use super::*;
-    use crate::text::Text;
-    use std::test::Fail;
-
-    #[test]
-    fn pages_show_in_the_order_of_their_numbers(rt: HostRuntime) -> Result<(), Fail> {
-        let text = Text::of(b"hi").ok_or("no text")?;
-        let dirty = true;
-        let page = Page { text, dirty };
-        let mut pages = PagesState::new(rt.alloc());
-        for number in [1023, 5, 0] {
-            pages.insert(number, &page)?;
-        }
-        let in_order: [u16; 3] = [0, 5, 1023];
-        assert!(rt; pages.iter().map(|(number, _)| *number).eq(in_order));
-        assert_eq!(rt; pages.dirty(), 3);
-        Ok(())
-    }
-}

@@ -45,6 +45,3 @@ impl Kind for Plain {
         }
     }
 }
-
-#[cfg(test)]
-mod tests;

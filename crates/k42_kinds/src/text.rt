@@ -125,26 +125,3 @@ fn spells_text(bytes: &[u8]) -> bool
 {
     !bytes.is_empty() && bytes.len() <= TEXT_BYTES && all_visible(bytes)
 }
-
-#[cfg(test)]
-mod tests {
-    use super::*;
-
-    #[test]
-    fn a_text_has_1_to_32_visible_bytes(rt: HostRuntime) {
-        let texts: [&[u8]; 4] = [b"!", b"~", b"#A_9", b"abcdefghijklmnopqrstuvwxyz012345"];
-        for bytes in texts {
-            assert!(rt; Text::of(bytes).is_some(), "{bytes:?}");
-        }
-        let others: [&[u8]; 5] = [
-            b"",
-            b"a b",
-            b"\x7f",
-            b"\xe9",
-            b"abcdefghijklmnopqrstuvwxyz0123456",
-        ];
-        for bytes in others {
-            assert!(rt; Text::of(bytes).is_none(), "{bytes:?}");
-        }
-    }
-}

@@ -49,6 +49,3 @@ pub const LINE_FEED: u8 = b'\n';
 
 /// Tokens are parted by it.
 pub const SPACE: u8 = b' ';
-
-#[cfg(test)]
-mod tests;

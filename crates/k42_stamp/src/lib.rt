@@ -10,6 +10,3 @@ pub use laws::{
     sections_merge_to_the_whole,
 };
 pub use merging::{Room, merge, merge_from, merge_into, take_alone, take_alone_from};
-
-#[cfg(test)]
-mod tests;

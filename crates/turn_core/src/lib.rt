@@ -20,6 +20,3 @@ pub use laws::{
 };
 pub use machine::apply;
 pub use state::{TurnCaller, TurnCell, TurnState};
-
-#[cfg(test)]
-mod tests;

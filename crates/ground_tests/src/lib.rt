@@ -1,0 +1,5 @@
+//! Tests of limits, items and streams. They stand apart, so that what they test is proved once.
+#![tactic(auto)]
+
+#[cfg(test)]
+mod tests;

@@ -1,0 +1,4 @@
+//! Limits, items, and sources and sinks.
+mod items;
+mod limits;
+mod streams;
