@@ -17,6 +17,3 @@ pub use refusal::refusal_line;
 pub use separation::{Parts, separate};
 pub use status::Status;
 pub use verdict::{SPELLING_RULE, Verdict};
-
-#[cfg(test)]
-mod tests;

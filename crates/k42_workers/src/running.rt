@@ -46,6 +46,3 @@ pub fn run_script<R: Threads + Wait + Sync, G: Gate + Sync>(
     )?;
     end_run(alloc, script, system, passes)
 }
-
-#[cfg(test)]
-mod tests;

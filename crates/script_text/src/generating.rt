@@ -175,6 +175,3 @@ fn numbered_text(alloc: Global, letter: u8, number: u32) -> Result<Text, Memory>
     let bytes = numbered(alloc, letter, number)?;
     Ok(Text::of(&bytes).unwrap())
 }
-
-#[cfg(test)]
-mod tests;

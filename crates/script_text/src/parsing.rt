@@ -70,6 +70,3 @@ fn finish(reading: Reading, last: u32) -> Result<Script, ParseEnd>
     }
     Ok(reading.into_script()?)
 }
-
-#[cfg(test)]
-mod tests;

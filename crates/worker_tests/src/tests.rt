@@ -1,12 +1,10 @@
 //! Scripts that are run: their answers, their numbers, and what their gate is told.
 ghost use Rattle.script_text.specs.Sound.{IsSound};
 
-use super::run_script;
-use crate::gate::{FreeGate, Gate};
 use crossbeam_utils::Backoff;
 use k42_kinds::{Answer, Reply};
 use k42_runtime::History;
-use load_totals::{Summary, summary};
+use k42_workers::{FreeGate, Gate, Summary, run_script, summary};
 use script_text::{ParseEnd, Script, generate, parse};
 use std::alloc::Global;
 use std::process::Abort;

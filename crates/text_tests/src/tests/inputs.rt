@@ -1,8 +1,5 @@
 //! Inputs that are cut, records that are found in them, the words of programs, and the numbers of the statuses.
-use crate::command_line::words_of;
-use crate::judging::{RecordFound, record_in};
-use crate::separation::{line_count, separate};
-use crate::status::Status;
+use k42_input::{RecordFound, Status, record_in, separate, words_of};
 use k42_limits::INPUT_BYTES;
 use script_text::parse;
 use std::alloc::Global;
@@ -32,15 +29,6 @@ fn the_first_line_of_three_dashes_separates(rt: HostRuntime) -> Result<(), Fail>
         let parts = separate(input);
         assert_eq!(rt; parts.script, script, "the script in {input:?}");
         assert_eq!(rt; parts.text, text, "the record in {input:?}");
-    }
-    Ok(())
-}
-
-#[test]
-fn a_last_piece_without_a_line_feed_is_a_line(rt: HostRuntime) -> Result<(), Fail> {
-    let cases: [(&[u8], usize); 5] = [(b"", 0), (b"a", 1), (b"a\n", 1), (b"a\nb", 2), (b"\n\n", 2)];
-    for (text, lines) in cases {
-        assert_eq!(rt; line_count(text), lines, "the lines of {text:?}");
     }
     Ok(())
 }

@@ -1,7 +1,7 @@
 //! Generated scripts beside texts that are spelled out by the same rule.
-use super::*;
-use crate::parsing::parse;
-use std::alloc::AllocError;
+use k42_kinds::{Act, LayoutName, Op, To};
+use script_text::{CallLine, Item, Script, generate, parse};
+use std::alloc::{AllocError, Global};
 use std::process::Abort;
 use std::test::Fail;
 

@@ -1,8 +1,7 @@
 //! Scripts with what they say, and others with the line and the cause by which they are refused.
-use super::*;
-use crate::script::{CallLine, Item, ObjectLine};
 use k42_kinds::{Act, KindName, LayoutName, Name, Op, Text, To};
-use std::alloc::AllocError;
+use script_text::{CallLine, Item, ObjectLine, ParseEnd, ScriptCause, ScriptFault, parse};
+use std::alloc::{AllocError, Global};
 use std::process::Abort;
 use std::test::Fail;
 

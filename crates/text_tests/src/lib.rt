@@ -1,0 +1,5 @@
+//! Tests of scripts and inputs. They stand apart, so that what they test is proved once.
+#![tactic(auto)]
+
+#[cfg(test)]
+mod tests;

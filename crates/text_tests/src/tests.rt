@@ -1,0 +1,4 @@
+//! Scripts as text and as values, and the inputs of programs.
+mod generating;
+mod inputs;
+mod parsing;
