@@ -1,0 +1,32 @@
+use Rattle.std.proofs.Common.{inl, ap, ◌∙◌}
+use Rattle.turn_core.specs.Names.{names}
+use Rattle.k42_mediator.proofs.GivenBack.{comes_taken, locked_home}
+use Rattle.k42_runtime.specs.Systems.{any_layouts}
+use Rattle.k42_runtime.proofs.CallTaken.{was_refused, has_taken_next}
+use Rattle.k42_runtime.proofs.cells.take_if_free.Goals as goal
+
+pub lock-found-requires-after_bounds : goal.lock-found-requires-after_bounds
+lock-found-requires-after_bounds c κs = record {
+  ours = c.requires.ours;
+  may = record {
+    cell = c.requires.few;
+    unheld = ap (λ held. names held c.args.number) c.requires.held ∙ c.requires.another;
+    touches = inl c.requires.inside;
+  };
+}
+
+pub take-cell-requires-clause-may : goal.take-cell-requires-clause-may
+take-cell-requires-clause-may c κs =
+    locked_home _ _ _ _ c.requires.few c.if-found-ne0.false c.lock-found.ensures.takes.knows c.lock-found.ensures.takes.finds.unnoted
+
+pub returns-then-found-ne0-clause-takes : goal.returns-then-found-ne0-clause-takes
+returns-then-found-ne0-clause-takes c =
+    was_refused (any_layouts c.args.sys.now.procs c.args.sys.now.callers) c.args.sys.now.layouts c.args.number c.lock-found.result c.args.pass.now.view
+    c.lock-found.new.pass.view c.args.cells.now.items c.if-found-ne0.true c.lock-found.ensures.takes.knows c.lock-found.ensures.takes.finds
+
+pub returns-clause-takes : goal.returns-clause-takes
+returns-clause-takes c =
+    has_taken_next (any_layouts c.args.sys.now.procs c.args.sys.now.callers) c.args.sys.now.layouts c.args.number c.args.pass.now.view c.take-cell.new.pass.view
+    c.take-cell.result c.args.cells.now.items c.push_reserved.new.self.items
+    (comes_taken c.args.number c.lock-found.result c.take-cell.result c.args.pass.now.view _ _ c.if-found-ne0.false c.lock-found.ensures.takes.knows c.take-cell.ensures.moved.back.knows)
+    c.take-cell.ensures.number c.requires.held c.requires.another c.requires.taken c.lock-found.ensures.takes.finds.unnoted c.take-cell.ensures.row c.push_reserved.ensures.items
