@@ -11,6 +11,3 @@ mod unread;
 pub use head::CELLS;
 pub use log::Log;
 pub use unread::{Standing, Unread};
-
-#[cfg(test)]
-mod tests;

@@ -3,8 +3,8 @@ ghost use Rattle.std.specs.Prelude.{◌≡◌, ◌<◌, ◌+◌, None, Some, fal
 ghost use Rattle.k42_log.specs.Names.{is_reply};
 ghost use Rattle.k42_log.specs.Logs.{next_index};
 
-use crate::*;
 use k42_kinds::{Act, Answer, Entry, LayoutName, Name, Op, Reply, Text, To};
+use k42_log::Log;
 use k42_memory::Memory;
 use std::alloc::Global;
 use std::test::Fail;

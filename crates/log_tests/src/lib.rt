@@ -1,0 +1,5 @@
+//! Tests of logs. They stand apart, so that what they test is proved once.
+#![tactic(auto)]
+
+#[cfg(test)]
+mod tests;
