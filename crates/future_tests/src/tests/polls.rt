@@ -40,22 +40,20 @@ pub(super) fn waits<'a, R: Abort + Wait + RandomSource + AllocGlobal>(
     system: &System,
     mut future: SwapFuture<'a>,
     due: Cause,
-) -> io::Result<SwapFuture<'a>>
+) -> SwapFuture<'a>
     requires system { future.system.now ≡ system.now }
     requires going { IsSomeAnd future.pass (IsGoing system.now future.swap) }
-    ensures system { IfOk result (λ future. future.system.now ≡ system.now) }
-    ensures going { IfOk result (λ future. IsSomeAnd future.pass (IsGoing system.now future.swap)) }
+    ensures system { result.system.now ≡ system.now }
+    ensures going { IsSomeAnd result.pass (IsGoing system.now result.swap) }
 {
-    let queue = Queue::new(rt, Doorbell::spinning())?;
-    queue.add()?.schedule();
-    let Some(mut cx) = queue.next(rt) else {
-        panic!(rt; "no task");
-    };
+    let queue = Queue::new(rt, Doorbell::spinning()).expect(rt, "a queue");
+    queue.add().expect(rt, "a task").schedule();
+    let mut cx = queue.next(rt).expect(rt, "a task");
     let polled = future.poll(&mut cx);
     cx.end(&polled);
     assert!(rt; polled.is_pending());
     assert_eq!(rt; future.cause(), Some(due));
-    Ok(future)
+    future
 }
 
 /// Both swaps until they have ended.
@@ -91,11 +89,11 @@ pub(super) fn swapped<R: Abort + Wait + RandomSource + AllocGlobal>(
     pass: Pass,
     object: u32,
     to: To,
-) -> io::Result<SwapEnd>
+) -> SwapEnd
     requires free { IsFree system.now pass }
-    ensures ended { IfOk result (λ end. HasEnded system.now object to end.result pass end.pass) }
-    ensures free { IfOk result (λ end. IsFree system.now end.pass) }
+    ensures ended { HasEnded system.now object to result.result pass result.pass }
+    ensures free { IsFree system.now result.pass }
 {
     assert!(rt; object < system.objects());
-    block_on(rt, SwapFuture::new(alloc, system, pass, object, to))
+    block_on(rt, SwapFuture::new(alloc, system, pass, object, to)).expect(rt, "an end")
 }
