@@ -48,7 +48,7 @@ fn run<R: Threads + Wait + Sync>(rt: &R, alloc: Global) -> Result<usize, Memory>
     let (system, mut passes) = start(alloc, plan)?;
     work_all(rt, alloc, &system, &Hits, passes.as_mut_slice())?;
     let history = close(alloc, system, passes)?;
-    Ok(history.map_or(0, |history| history.entries().len()))
+    Ok(history.map_or(0, |history| history.len()))
 }
 
 fn main(rt: HostRuntime) -> ExitCode {

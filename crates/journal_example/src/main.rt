@@ -136,10 +136,10 @@ fn run<R: Threads + Wait + Sync + Print>(rt: &R, alloc: Global) -> Result<bool, 
         if place % 2 == 0 {
             continue;
         }
-        let Some(entries) = section(alloc, &system, passes.as_mut_slice())? else {
+        let Some(journal) = section(alloc, &system, passes.as_mut_slice())? else {
             return Ok(false);
         };
-        for entry in entries {
+        for entry in journal.collect(alloc)? {
             lines = entry.stamp;
             let line = Line(entry);
             written &= println!(rt; "{line}").is_ok();

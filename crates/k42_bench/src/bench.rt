@@ -24,10 +24,9 @@ pub struct Done {
 
 /// Whether the pass has made its calls, the last of them after all swaps, where its entries tell so.
 fn is_done(pass: &Pass, load: &Load, calls: u32) -> bool {
-    let seen = match (load.keep, pass.kept().last()) {
-        (Keep::All, Some(entry)) => entry.incarnation,
-        (Keep::All, None) => 0,
-        (Keep::Sections | Keep::Nothing, _) => load.swaps,
+    let seen = match load.keep {
+        Keep::All => pass.log().last_incarnation(),
+        Keep::Sections | Keep::Nothing => load.swaps,
     };
     calls >= load.calls && seen >= load.swaps.min(LAST_INCARNATION)
 }
@@ -108,20 +107,21 @@ impl Work for Load {
 }
 
 /// What the history tells of so many entries.
-fn told_by(history: &History, entries: usize) -> Done {
+fn told_by(alloc: Global, history: &History, entries: usize) -> Result<Done, Memory> {
     let mut done = Done {
         calls: 0,
         swaps: 0,
-        whole: history.entries().len() == entries,
+        whole: history.len() == entries,
     };
-    for entry in history.entries() {
+    let mut reader = history.read(alloc)?;
+    while let Some(entry) = reader.next() {
         match entry.answer {
             Answer::Replied(_) => done.calls = done.calls.saturating_add(1),
             Answer::Swapped(_) => done.swaps = done.swaps.saturating_add(1),
             _ => (),
         }
     }
-    done
+    Ok(done)
 }
 
 /// A system of one object, with a processor for each thread and a pass more that swaps.
@@ -157,8 +157,10 @@ fn closed(alloc: Global, system: System, passes: Vec<Pass>) -> Result<Option<Don
     requires keeps { system.plan.keep ≡ All }
 {
     let entries = entries_of(passes.as_slice());
-    let history = close(alloc, system, passes)?;
-    Ok(history.map(|history| told_by(&history, entries)))
+    match close(alloc, system, passes)? {
+        Some(history) => Ok(Some(told_by(alloc, &history, entries)?)),
+        None => Ok(None),
+    }
 }
 
 /// What was done, as the passes tell by what they have drawn.

@@ -11,11 +11,6 @@ use Rattle.gen_core.specs.Sound.{IsOfStep, generation_of, is_flipped}
 use Rattle.gen_core.specs.State as gens
 use Rattle.k42_kinds.specs.Rows.{Ways, part_at, changed_at, cells_of, row_moved, row_replied, IsWithin}
 use Rattle.k42_kinds.specs.LayoutLaws.{StepsRow}
-use Rattle.k42_kinds.specs.Histories.{is_call}
-use Rattle.k42_kinds.specs.declared.entry.Act.{Act}
-use Rattle.k42_kinds.specs.declared.entry.Act.TheVariants.{Call}
-use Rattle.k42_kinds.specs.declared.entry.Answer.{Answer}
-use Rattle.k42_kinds.specs.declared.entry.Answer.TheVariants.{Replied}
 use Rattle.k42_kinds.specs.declared.entry.Entry.{Entry}
 use Rattle.k42_kinds.specs.declared.entry.Reach.{Reach}
 use Rattle.k42_kinds.specs.declared.entry.Reach.TheVariants.{One, All}
@@ -51,7 +46,7 @@ use Rattle.k42_joined.proofs.CellNumbers.{object_of-cell, place_of-cell, named_i
 use Rattle.k42_joined.proofs.OneChain.{rows_are_one}
 use Rattle.k42_joined.proofs.SafeStates.{inside_there, handed_alone, read_row_kept}
 use Rattle.k42_board.specs.Cells.{Slot, cells_noted}
-use Rattle.k42_board.specs.Drawing.{AgreeOn, MayDrawCall, MayDrawAs, AreHeld, IsStepped, entry_call, draws_at, part_in, part_noted, part_due, parts_due, numbers_of, HaveParts}
+use Rattle.k42_board.specs.Drawing.{AgreeOn, MayDrawCall, AreHeld, IsStepped, entry_at, draws_at, part_in, part_noted, part_due, parts_due, numbers_of, HaveParts}
 use Rattle.k42_board.specs.Parts.{HasDue}
 use Rattle.k42_board.specs.Rule.{KnowsPass, Rule}
 use Rattle.k42_board.specs.Trace.{IsOfTime}
@@ -121,7 +116,7 @@ module _ {S L P : Type 0} (F : Layouts S L P) (laws : AreLaws F) (agree : AgreeO
   i = row_of v.visitor.place
 
   abbrev entry : Entry
-  entry = entry_call v cells (Call op) (Replied reply)
+  entry = entry_at contents op reply v
 
   abbrev fresh : ℕ → Option P
   fresh = part_in contents
@@ -484,35 +479,9 @@ module _ {S L P : Type 0} (F : Layouts S L P) (laws : AreLaws F) (agree : AgreeO
       }) word in
       (after.0, after.1, possible)
 
-call_moves : {S L P : Type 0} (F : Layouts S L P) → AreLaws F → AgreeOn F → (declared : List L) (id : ℕ) (v : PassView P) (contents : List (Content P)) (op : Op) (reply : Reply)
+pub drawn_moves : {S L P : Type 0} (F : Layouts S L P) → AreLaws F → AgreeOn F → (declared : List L) (id : ℕ) (v : PassView P) (contents : List (Content P)) (op : Op) (reply : Reply)
     → MayDrawCall F declared contents op reply v
-    → Moves F declared (AtCells (Draw v.number (numbers_of contents) (entry_call v (numbers_of contents) (Call op) (Replied reply))))
-    (lock_word (first_cell (numbers_of contents))) (λ word. word) (λ found. draws_at contents (entry_call v (numbers_of contents) (Call op) (Replied reply))) id v
-call_moves F laws agree declared id v contents op reply may =
+    → Moves F declared (AtCells (Draw v.number (numbers_of contents) (entry_at contents op reply v)))
+    (lock_word (first_cell (numbers_of contents))) (λ word. word) (λ found. draws_at contents (entry_at contents op reply v)) id v
+drawn_moves F laws agree declared id v contents op reply may =
     record { from = λ table r at. call_draws F laws agree declared table r id v at contents op reply may (lock_word (first_cell (numbers_of contents))) }
-
--- by its act and its answer
-moves_as : {S L P : Type 0} (F : Layouts S L P) → AreLaws F → AgreeOn F → (declared : List L) (id : ℕ) (v : PassView P) (contents : List (Content P)) (act : Act) (answer : Answer)
-    → MayDrawAs F declared contents act answer v
-    → Moves F declared (AtCells (Draw v.number (numbers_of contents) (entry_call v (numbers_of contents) act answer)))
-    (lock_word (first_cell (numbers_of contents))) (λ word. word) (λ found. draws_at contents (entry_call v (numbers_of contents) act answer)) id v
-moves_as F laws agree declared id v contents (Call op) (Replied reply) may = call_moves F laws agree declared id v contents op reply may
-moves_as F laws agree declared id v contents act answer may = absurd may
-
-pub drawn_moves : {S L P : Type 0} (F : Layouts S L P) → AreLaws F → AgreeOn F → (declared : List L) (id : ℕ) (v : PassView P) (contents : List (Content P)) (entry : Entry)
-    → MayDrawAs F declared contents entry.act entry.answer v × (entry ≡ entry_call v (numbers_of contents) entry.act entry.answer)
-    → Moves F declared (AtCells (Draw v.number (numbers_of contents) entry)) (lock_word (first_cell (numbers_of contents))) (λ word. word) (λ found. draws_at contents entry) id v
-drawn_moves F laws agree declared id v contents entry may =
-    subst (λ (e : Entry). Moves F declared (AtCells (Draw v.number (numbers_of contents) e)) (lock_word (first_cell (numbers_of contents))) (λ word. word) (λ found. draws_at contents e) id v)
-    (sym may.1) (moves_as F laws agree declared id v contents entry.act entry.answer may.0)
-
--- the cells that it draws at are held, and it is a call
-pub drawn_held : {S L P : Type 0} (F : Layouts S L P) (declared : List L) (v : PassView P) (contents : List (Content P)) (act : Act) (answer : Answer)
-    → MayDrawAs F declared contents act answer v → AreHeld v.notes contents
-drawn_held F declared v contents (Call op) (Replied reply) may = may.held
-drawn_held F declared v contents act answer may = absurd may
-
-pub drawn_call : {S L P : Type 0} (F : Layouts S L P) (declared : List L) (v : PassView P) (contents : List (Content P)) (act : Act) (answer : Answer)
-    → MayDrawAs F declared contents act answer v → is_call act ≡ true
-drawn_call F declared v contents (Call op) (Replied reply) may = refl
-drawn_call F declared v contents act answer may = absurd may

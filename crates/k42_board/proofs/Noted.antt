@@ -6,17 +6,18 @@ use Rattle.std.proofs.lemmas.Bool.{eqb-true, eq-eqb, and_parts, not-true}
 use Rattle.std.proofs.lemmas.List.{length_push}
 use Rattle.std.proofs.lemmas.Option.{same_Some}
 use Rattle.k42_limits.specs.declared.TheConstants.{LAST_STAMP}
-use Rattle.k42_kinds.specs.Histories.{is_call}
-use Rattle.k42_kinds.specs.declared.entry.Act.{Act}
-use Rattle.k42_kinds.specs.declared.entry.Answer.{Answer}
+use Rattle.k42_kinds.specs.declared.entry.Act.TheVariants.{Call}
+use Rattle.k42_kinds.specs.declared.entry.Answer.TheVariants.{Replied}
 use Rattle.k42_kinds.specs.declared.entry.Entry.{Entry}
+use Rattle.k42_kinds.specs.declared.operation.Op.{Op}
+use Rattle.k42_kinds.specs.declared.operation.Reply.{Reply}
 use Rattle.phase_core.specs.Stages.{object_of, row_of}
 use Rattle.k42_joined.specs.Drawing.{first_cell}
 use Rattle.k42_places.specs.Places.{EachPlace}
 use Rattle.turn_core.specs.Names.{names, names_once}
 use Rattle.turn_core.specs.Stamps.{last_stamp, stamp_of}
 use Rattle.k42_board.specs.Cells.{cells_noted}
-use Rattle.k42_board.specs.Drawing.{history_noted, closed_noted, part_noted, last_noted, last_told, numbers_of, part_in, IsHeld, AreHeld, told_note, told_notes, draws_at, untold_view, HasSmallStamp, entry_call, stamp_next}
+use Rattle.k42_board.specs.Drawing.{history_noted, closed_noted, part_noted, last_noted, last_told, numbers_of, part_in, IsHeld, AreHeld, told_note, told_notes, draws_at, untold_view, HasSmallStamp, entry_at, stamp_next}
 use Rattle.k42_board.specs.Log.{took}
 use Rattle.k42_board.specs.Receipts.{IsDue, AreDue, closed_due}
 use Rattle.k42_board.specs.Seen.{IsSeatOf}
@@ -231,22 +232,22 @@ view_back word v contents entry me seated is cells told =
     ∙ ap (λ (m : Seated _). untold_view (numbers_of contents) (pass_in m.0)) is ∙ sym (ap (λ (m : Seated _). pass_in m.0) is)
 
 -- the entry of a call, field by field
-pub call_entry : {P : Type 0} (v : PassView P) (cells : List ℕ) (act : Act) (answer : Answer) (stamp caller index object incarnation cell proc : ℕ) (generation : Option ℕ)
-    → stamp ≡ stamp_next v cells → caller ≡ v.number → index ≡ length v.taker.mine → object ≡ object_of v.visitor.place → incarnation ≡ row_of v.visitor.place
-    → cell ≡ first_cell cells → proc ≡ v.turn.proc → generation ≡ v.turn.active → is_call act ≡ true
-    → record { stamp = stamp; caller = caller; index = index; object = object; incarnation = incarnation; cell = cell; act = act; answer = answer; proc = proc; generation = generation }
-    ≡ entry_call v cells act answer
-call_entry v cells act answer stamp caller index object incarnation cell proc generation e1 e2 e3 e4 e5 e6 e7 e8 call = λ i. record {
+pub call_entry : {P : Type 0} (v : PassView P) (contents : List (Content P)) (op : Op) (reply : Reply) (stamp caller index object incarnation cell proc : ℕ) (generation : Option ℕ)
+    → stamp ≡ stamp_next v (numbers_of contents) → caller ≡ v.number → index ≡ length v.taker.mine → object ≡ object_of v.visitor.place → incarnation ≡ row_of v.visitor.place
+    → cell ≡ first_cell (numbers_of contents) → proc ≡ v.turn.proc → generation ≡ v.turn.active
+    → record { stamp = stamp; caller = caller; index = index; object = object; incarnation = incarnation; cell = cell; act = Call op; answer = Replied reply; proc = proc; generation = generation }
+    ≡ entry_at contents op reply v
+call_entry v contents op reply stamp caller index object incarnation cell proc generation e1 e2 e3 e4 e5 e6 e7 e8 = λ i. record {
   stamp = e1 i;
   caller = e2 i;
   index = e3 i;
   object = e4 i;
   incarnation = e5 i;
   cell = e6 i;
-  act = act;
-  answer = answer;
+  act = Call op;
+  answer = Replied reply;
   proc = e7 i;
-  generation = (e8 ∙ sym (ap (λ b. cond b v.turn.active None) call)) i;
+  generation = e8 i;
 }
 
 pub stamp_held : {P : Type 0} (v : PassView P) (contents : List (Content P)) (clock stamp last : ℕ) → AreHeld v.notes contents → clock ≡ v.taker.clock

@@ -26,7 +26,7 @@ module _ {S L P : Type 0} (words : LayoutWords S L P) (key : Setup L) (step : Pa
   F = layouts_by words key
 
   -- by what the step tells its pass, where that comes to what the row says of this pass
-  has_taken_by : IsSeatOf old.me before → new.table_id ≡ old.table_id → new.id ≡ old.id → (changed : ℕ → PassView P → PassView P)
+  pub has_taken_by : IsSeatOf old.me before → new.table_id ≡ old.table_id → new.id ≡ old.id → (changed : ℕ → PassView P → PassView P)
       → (at : Step (Slot P)) (found : ℕ) → changed found before ≡ (step before).after found
       → Tells changed at old.me found new.me → (step before).Finds found
       → ((new_is : (step before).after found ≡ pass_in new.me.0) → DoesEvent F key.layouts.items (step before).event (step before).word (step before).changed

@@ -27,7 +27,7 @@ use Rattle.k42_joined.specs.Refusals.{tells_abandoned}
 use Rattle.k42_joined.specs.Rows.{cells_reached}
 use Rattle.k42_board.specs.Cells.{cells_noted}
 use Rattle.k42_board.specs.Seats.{told_by}
-use Rattle.k42_board.specs.Seen.{PassSeen, room_due}
+use Rattle.k42_board.specs.Seen.{PassSeen, IsRoomLeft}
 use Rattle.k42_board.specs.Values.{layout_in, incarnation_in}
 use Rattle.k42_board.specs.Views.{word_begun, object_begun}
 use Rattle.k42_board.specs.declared.cell.Content.{Content}
@@ -108,6 +108,10 @@ entry_hand v from onto act answer =
 
 abbrev pub numbers_of : {P : Type 0} → List (Content P) → List ℕ
 numbers_of contents = map (λ content. content.number) contents
+
+-- the entry of a call that was made at these cells
+abbrev pub entry_at : {P : Type 0} → List (Content P) → Op → Reply → PassView P → Entry
+entry_at contents op reply v = entry_call v (numbers_of contents) (Call op) (Replied reply)
 
 -- the part of the cell with this number
 abbrev pub part_in : {P : Type 0} → List (Content P) → ℕ → Option P
@@ -197,12 +201,12 @@ drawn_at contents entry v = untold_view [] (drawn_view (numbers_of contents) ent
 abbrev pub HasSmallStamp : {P : Type 0} → PassView P → Type 0
 HasSmallStamp v = v.taker.clock ≤ LAST_STAMP
 
--- the pass that has drawn has the same seat, and room for one entry less where it keeps them
+-- the pass that has drawn has the same seat, and at most one entry less room where it keeps them
 pub record IsDrawer {P : Type 0} (old new : PassSeen P) : Type 0 where
   pub table : new.table ≡ old.table
   pub seat : new.seat ≡ old.seat
   pub keep : new.keep ≡ old.keep
-  pub room : new.room + room_due new.keep.what ≡ old.room
+  pub room : IsRoomLeft old.keep.what old.room new.room
   pub row_room : new.row_room ≡ old.row_room
   pub queue : new.queue ≡ old.queue
   pub pushed : new.pushed ≡ old.pushed
@@ -273,10 +277,6 @@ module _ {S L P : Type 0} (F : Layouts S L P) (declared : List L) where
     pub stepped :
         IsStepped layout v.notes object row contents op ((F.ways_of layout).reach F.procs op v.turn.proc) reply
     pub few : length v.taker.mine < PASS_ENTRIES
-
-  abbrev pub MayDrawAs : List (Content P) → Act → Answer → PassView P → Type 0
-  MayDrawAs contents (Call op) (Replied reply) v = MayDrawCall contents op reply v
-  MayDrawAs contents act answer v = ⊥
 
   -- the parts that are due in the row which the pass moves
   abbrev pub parts_moved : L → PassView P → ℕ → List P

@@ -6,9 +6,11 @@ use Rattle.phase_core.specs.Event as phases
 use Rattle.phase_core.specs.Stages.{object_of}
 use Rattle.turn_core.specs.declared.event.TurnEvent.TheVariants as cells
 use Rattle.k42_kinds.specs.declared.entry.Entry.{Entry}
+use Rattle.k42_kinds.specs.declared.operation.Op.{Op}
+use Rattle.k42_kinds.specs.declared.operation.Reply.{Reply}
 use Rattle.k42_joined.specs.Drawing.{first_cell}
 use Rattle.k42_joined.specs.Event.{AtPhases, AtCells, HandWith}
-use Rattle.k42_board.specs.Drawing.{MayDrawAlone, MayDrawMark, MayDrawAs, MayHandOn, HasSmallStamp, entry_alone, entry_mark, entry_call, entry_hand, numbers_of, alone_view, draws_at}
+use Rattle.k42_board.specs.Drawing.{MayDrawAlone, MayDrawMark, MayDrawCall, MayHandOn, HasSmallStamp, entry_alone, entry_mark, entry_at, entry_hand, numbers_of, alone_view, draws_at}
 use Rattle.k42_board.specs.Freeing.{MayFree, number_noted, freed_view, MarkFound}
 use Rattle.k42_board.specs.Generating.{MayEnter, entered_view, EnteredFound, MayLeave, left_view}
 use Rattle.k42_board.specs.Gracing.{MayTakeRole, role_view, RoleFound, MayAskGeneration, asked_view, GenerationFound, MayLook, look_event, looked_view, ExitsFound, MayFlip, flip_word, flipped_view, MayGiveRole, given_view, RowsGiven}
@@ -314,17 +316,16 @@ module _ {S L P : Type 0} where
   }
 
   -- draws a call that was stepped, at the cells that its layout names
-  abbrev pub draw_call : List (Content P) → Entry → PassView P → WordStep S L P
-  draw_call contents entry v = record {
-    event = Some (AtCells (cells.Draw v.number (numbers_of contents) entry));
-    word = lock_word (first_cell (numbers_of contents));
-    changed = λ word. word;
-    May = λ F declared.
-        MayDrawAs F declared contents entry.act entry.answer v
-        × (entry ≡ entry_call v (numbers_of contents) entry.act entry.answer);
-    Finds = λ found. HasSmallStamp (draws_at contents entry v);
-    after = λ found. took steps.Draw (lock_word (first_cell (numbers_of contents))) 0 (draws_at contents entry v);
-  }
+  abbrev pub draw_call : List (Content P) → Op → Reply → PassView P → WordStep S L P
+  draw_call contents op reply v =
+      let entry = entry_at contents op reply v in record {
+        event = Some (AtCells (cells.Draw v.number (numbers_of contents) entry));
+        word = lock_word (first_cell (numbers_of contents));
+        changed = λ word. word;
+        May = λ F declared. MayDrawCall F declared contents op reply v;
+        Finds = λ found. HasSmallStamp (draws_at contents entry v);
+        after = λ found. took steps.Draw (lock_word (first_cell (numbers_of contents))) 0 (draws_at contents entry v);
+      }
 
   -- closes the first cells, those of the present row on so many processors, and begins with the others the row of the new
   -- layout, by its tag

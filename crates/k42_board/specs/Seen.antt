@@ -66,6 +66,12 @@ room_due keeps.All = 1
 room_due keeps.Sections = 1
 room_due keeps.Nothing = 0
 
+-- the room that is left once one more was drawn, which is for any entry: a small one may leave more
+abbrev pub IsRoomLeft : Keep → ℕ → ℕ → Type 0
+IsRoomLeft keeps.All old new = old ≤ new + 1
+IsRoomLeft keeps.Sections old new = old ≤ new + 1
+IsRoomLeft keeps.Nothing old new = new ≡ old
+
 -- the entries that were given bear no stamp above that of the last section, and all others bear a greater one
 pub record IsParted (keep : Keeping) (mine : List Entry) : Type 0 where
   pub few : keep.given ≤ length mine

@@ -1,15 +1,16 @@
 //! The steps that draw entries, for a seat alone.
 ghost use Rattle.std.specs.Prelude.{◌≡◌, ℕ, ◌<◌, [], ◌∷◌};
 ghost use Rattle.k42_joined.specs.Drawing.{first_cell};
-ghost use Rattle.k42_board.specs.Drawing.{AgreeOn, numbers_of, alone_view, draws_at};
+ghost use Rattle.k42_board.specs.Drawing.{AgreeOn, numbers_of, alone_view, draws_at, entry_at};
 ghost use Rattle.k42_board.specs.Protocol as protocol;
 ghost use Rattle.k42_board.specs.Stepping.{MayTake, HasTaken, layouts_by};
+ghost use Rattle.k42_board.specs.Views.{pass_in};
 
 use crate::board::{Board, BoardSeat};
 use crate::cell::{Cell, Content};
 use crate::draw_plays::{Draw, Said};
 use crate::encoding::{ROLE_WORD, lock_word};
-use k42_kinds::{Entry, Layout};
+use k42_kinds::{Entry, Layout, Op, Reply};
 
 pub fn alone_word<L: Layout, K: Said<L::Part>>(
     board: &Board<L>,
@@ -37,17 +38,19 @@ pub fn mark_word<L: Layout, K: Said<L::Part>>(
     board.shared.load::<Draw<K>>(seat, lock_word(number));
 }
 
+/// The entry is the pass's next one, of this operation with this reply. Nothing is made of them here.
 #[inline(always)]
 pub fn call_word<L: Layout, K: Said<L::Part>>(
     board: &Board<L>,
     seat: &mut BoardSeat<L>,
     cells: &[Cell<L>],
-    entry: &Entry,
+    op: &Op,
+    reply: &Reply,
 )
     requires agree { AgreeOn (layouts_by L.Layout board.now.shared.key) }
-    requires says { K.becomes ≡ draws_at cells.now entry.now }
-    requires may { MayTake L.Layout board.now.shared.table_id board.now.shared.key (protocol.draw_call cells.now entry.now) seat.old }
-    ensures { (found : ℕ) → HasTaken L.Layout board.now.shared.key (protocol.draw_call cells.now entry.now) seat.old found seat.new }
+    requires says { K.becomes ≡ draws_at cells.now (entry_at cells.now op.now reply.now (pass_in seat.old.me.0)) }
+    requires may { MayTake L.Layout board.now.shared.table_id board.now.shared.key (protocol.draw_call cells.now op.now reply.now) seat.old }
+    ensures { (found : ℕ) → HasTaken L.Layout board.now.shared.key (protocol.draw_call cells.now op.now reply.now) seat.old found seat.new }
 {
     let number = first_of(cells) as usize;
     board.shared.load::<Draw<K>>(seat, lock_word(number));
@@ -59,12 +62,13 @@ pub fn one_word<L: Layout, K: Said<L::Part>>(
     board: &Board<L>,
     seat: &mut BoardSeat<L>,
     cell: &Cell<L>,
-    entry: &Entry,
+    op: &Op,
+    reply: &Reply,
 )
     requires agree { AgreeOn (layouts_by L.Layout board.now.shared.key) }
-    requires says { K.becomes ≡ draws_at (cell.now ∷ []) entry.now }
-    requires may { MayTake L.Layout board.now.shared.table_id board.now.shared.key (protocol.draw_call (cell.now ∷ []) entry.now) seat.old }
-    ensures { (found : ℕ) → HasTaken L.Layout board.now.shared.key (protocol.draw_call (cell.now ∷ []) entry.now) seat.old found seat.new }
+    requires says { K.becomes ≡ draws_at (cell.now ∷ []) (entry_at (cell.now ∷ []) op.now reply.now (pass_in seat.old.me.0)) }
+    requires may { MayTake L.Layout board.now.shared.table_id board.now.shared.key (protocol.draw_call (cell.now ∷ []) op.now reply.now) seat.old }
+    ensures { (found : ℕ) → HasTaken L.Layout board.now.shared.key (protocol.draw_call (cell.now ∷ []) op.now reply.now) seat.old found seat.new }
 {
     let number = cell.number as usize;
     board.shared.load::<Draw<K>>(seat, lock_word(number));

@@ -55,7 +55,8 @@ pub fn load<R: Threads + Wait + Sync, G: Gate + Sync>(
 {
     let script = generate(alloc, steps)?;
     let history = run_script(rt, alloc, &script, gate)?;
-    let sums = summary(alloc, &script, history.entries())?;
+    let entries = history.collect(alloc)?;
+    let sums = summary(alloc, &script, &entries)?;
     Ok(Output {
         status: Status::Ok,
         text: load_line(alloc, steps, &sums)?,

@@ -70,7 +70,7 @@ fn words_in(alloc: Global, line: &str) -> Result<Vec<String>, Fail> {
 
 /// How many entries there are, where a history is kept.
 fn kept_entries(kept: &Option<History>) -> Option<usize> {
-    kept.as_ref().map(|history| history.entries().len())
+    kept.as_ref().map(|history| history.len())
 }
 
 /// Runs over a source and a sink of this piece that fail at these reads and writes.

@@ -52,7 +52,8 @@ fn record<R: Threads + Wait + Sync, G: Gate + Sync>(
 {
     let history = history_of(rt, alloc, script, way, gate)?;
     let version = way.version();
-    let text = print_history(alloc, script, history.entries(), version)?;
+    let entries = history.collect(alloc)?;
+    let text = print_history(alloc, script, &entries, version)?;
     Ok(Output {
         status: Status::Ok,
         text,

@@ -7,7 +7,7 @@ ghost use Rattle.k42_runtime.specs.Sections.{IsSection};
 
 use crate::crews::are_all;
 use k42_memory::Memory;
-use k42_runtime::{Entry, Keep, Pass, System};
+use k42_runtime::{Journal, Keep, Pass, System};
 use std::alloc::Global;
 
 /// Whether this was the last section of each.
@@ -35,10 +35,10 @@ pub fn section(
     alloc: Global,
     system: &System,
     passes: &mut [Pass],
-) -> Result<Option<Vec<Entry>>, Memory>
+) -> Result<Option<Journal>, Memory>
     requires { AreFree system.now passes.old }
     ensures whole { IfOk result (λ section. IsSome section ↔ MayGive system.now passes.old) }
-    ensures given { IfOk result (λ section. IfSome section (λ entries. IsSection passes.old passes.new entries.items)) }
+    ensures given { IfOk result (λ section. IfSome section (IsSection passes.old passes.new)) }
     ensures again { IfOk result (λ section. IfSome section (λ _. MayGive system.now passes.new)) }
     ensures kept { IfOk result (λ section. IfNone section (passes.new ≡ passes.old)) }
     ensures memory { OnErr result (passes.new ≡ passes.old) }

@@ -1,10 +1,13 @@
 -- The entries that a pass draws, field by field.
-use Rattle.std.proofs.Common.{◌≡◌, ℕ, ◌+◌, ◌-◌, false, cond, [], ◌∷◌, None, sym, ap, ◌∙◌}
+use Rattle.std.proofs.Common.{◌≡◌, ℕ, ◌+◌, ◌-◌, true, false, cond, [], ◌∷◌, None, refl, sym, ap, ◌∙◌}
 use Rattle.std.specs.Prelude.{max}
 use Rattle.k42_kinds.specs.Histories.{is_call}
 use Rattle.k42_kinds.specs.declared.entry.Act.{Act}
 use Rattle.k42_kinds.specs.declared.entry.Answer.{Answer}
-use Rattle.k42_board.specs.Drawing.{entry_alone, entry_mark, number_told, stamp_next}
+use Rattle.k42_kinds.specs.declared.entry.Answer.TheVariants.{Replied, Swapped, Busy, Spent, Gone, Abandoned}
+use Rattle.k42_joined.specs.Found.{tells_over}
+use Rattle.k42_log.specs.Names.{is_reply}
+use Rattle.k42_board.specs.Drawing.{IsAnswerAlone, entry_alone, entry_mark, number_told, stamp_next}
 use Rattle.k42_board.specs.Seen.{Own, own_in}
 use Rattle.k42_board.specs.Values.{incarnation_in}
 use Rattle.k42_board.specs.Views.{object_begun, word_begun}
@@ -65,3 +68,21 @@ module _ {P : Type 0} (v : PassView P) (own : Own) (own_is : own ≡ own_in v) (
     proc = ap (λ (o : Own). o.turn.proc) own_is i;
     generation = ap (λ b. cond b v.turn.active None) (sym is) i;
   }
+
+-- what tells of a swap is no reply to a call
+
+pub alone_told : {P : Type 0} (v : PassView P) (answer : Answer) → IsAnswerAlone v answer → is_reply answer ≡ false
+alone_told v (Busy number) may = refl
+alone_told v (Abandoned number) may = refl
+alone_told v (Replied reply) may = absurd may
+alone_told v (Swapped number) may = absurd may
+alone_told v Spent may = absurd may
+alone_told v Gone may = absurd may
+
+pub over_told : (answer : Answer) → tells_over answer ≡ true → is_reply answer ≡ false
+over_told Spent over = refl
+over_told Gone over = refl
+over_told (Replied reply) over = absurd (cc)
+over_told (Swapped number) over = absurd (cc)
+over_told (Busy number) over = absurd (cc)
+over_told (Abandoned number) over = absurd (cc)

@@ -8,17 +8,21 @@ use Rattle.k42_places.specs.Places.{EachPlace}
 use Rattle.k42_board.specs.Seen.{Keeping, kept_of}
 use Rattle.k42_board.specs.declared.keep.Keep.{Keep}
 use Rattle.k42_board.specs.declared.keep.Keep.TheVariants as keeps
-use Rattle.k42_rule.specs.Keeping.{HasKept}
+use Rattle.k42_log.specs.Logs.{LogSeen}
+use Rattle.k42_rule.specs.Keeping.{HasKept, first_of}
 
 -- none is left behind all
 each_past : (P : Entry → Type 0) (mine : List Entry) (many : ℕ) → many ≡ length mine → EachPlace (λ place entry. P entry) (drop many mine)
 each_past P mine many is =
     subst (EachPlace (λ place (entry : Entry). P entry)) (sym (ap (λ n. drop n mine) is ∙ drop-length mine)) (λ place entry at. absurd (cc))
 
-pub kept_none : (keep : Keeping) (number : ℕ) (mine kept after : List Entry) (clock drawn : ℕ) → keep.what ≡ keeps.Sections → HasKept keep number mine clock kept → drawn ≡ length mine
-    → after ≡ [] → HasKept (record keep { given = drawn; since = clock }) number mine clock after
-kept_none keep number mine kept after clock drawn what old all none = record {
-  kept_is = none ∙ sym (ap (λ (k : Keep). kept_of k drawn mine) what ∙ ap (λ n. drop n mine) all ∙ drop-length mine);
+pub kept_none : (keep : Keeping) (number home : ℕ) (mine : List Entry) (kept after : LogSeen) (clock drawn : ℕ) → keep.what ≡ keeps.Sections → HasKept keep number home mine clock kept
+    → drawn ≡ length mine → after ≡ record { owner = record { caller = number; proc = home }; first = drawn; entries = []; room = 0 }
+    → HasKept (record keep { given = drawn; since = clock }) number home mine clock after
+kept_none keep number home mine kept after clock drawn what old all none = record {
+  owner = ap (λ (l : LogSeen). l.owner) none;
+  first = ap (λ (l : LogSeen). l.first) none ∙ sym (ap (λ (k : Keep). first_of k drawn) what);
+  kept_is = ap (λ (l : LogSeen). l.entries) none ∙ sym (ap (λ (k : Keep). kept_of k drawn mine) what ∙ ap (λ n. drop n mine) all ∙ drop-length mine);
   parted = record {
     few = omega (arith, all);
     given = λ place entry at. old.below place entry (subst (λ (entries : List Entry). slice_get entries place ≡ Some entry) (take_all drawn mine (omega (arith, all))) at);

@@ -18,3 +18,4 @@ pub mod CutLists
 pub mod RaisedClocks
 pub mod Showing
 pub mod Plans
+pub mod KeptNext

@@ -8,16 +8,11 @@ use Rattle.k42_kinds.specs.declared.entry.Entry.{Entry}
 use Rattle.k42_limits.specs.declared.TheConstants.{PASS_ENTRIES}
 use Rattle.k42_places.specs.Places.{EachPlace}
 use Rattle.k42_places.proofs.Appended.{at_push}
-use Rattle.k42_kinds.specs.declared.entry.Act.{Act}
-use Rattle.k42_kinds.specs.declared.entry.Act.TheVariants.{Call}
-use Rattle.k42_kinds.specs.declared.entry.Answer.{Answer}
-use Rattle.k42_kinds.specs.declared.entry.Answer.TheVariants.{Replied}
 use Rattle.turn_core.specs.Stamps.{last_stamp, stamp_of}
-use Rattle.k42_stamp.specs.Layouts.{Layouts}
 use Rattle.k42_stamp.proofs.Listed.{list_push}
-use Rattle.k42_board.specs.Drawing.{IsDrawer, MayDrawAs}
-use Rattle.k42_board.specs.declared.cell.Content.{Content}
-use Rattle.k42_board.specs.Seen.{PassSeen, HasRoom, IsParted, IsSeatOf, Keeping, Mirrors, Own, own_in, kept_of, kept_with, room_due}
+use Rattle.k42_log.specs.Logs.{LogSeen}
+use Rattle.k42_board.specs.Drawing.{IsDrawer}
+use Rattle.k42_board.specs.Seen.{PassSeen, IsParted, IsRoomLeft, IsSeatOf, Keeping, Mirrors, Own, own_in, kept_of, kept_with}
 use Rattle.k42_board.specs.Steps.{Seated}
 use Rattle.k42_board.specs.Views.{pass_in}
 use Rattle.k42_board.specs.declared.keep.Keep.{Keep}
@@ -60,55 +55,43 @@ low_stamp mine clock below = go (slice_get mine (length mine - 1)) refl where
   go (Some entry) there = below (length mine - 1) entry there
 
 -- so a draw is later than them all
-pub drawn_later : (keep : Keeping) (number : ℕ) (mine kept : List Entry) (clock last stamp : ℕ) → HasKept keep number mine clock kept → stamp ≡ max clock last + 1
-    → last_stamp mine < stamp
-drawn_later keep number mine kept clock last stamp has is =
+pub drawn_later : (keep : Keeping) (number home : ℕ) (mine : List Entry) (kept : LogSeen) (clock last stamp : ℕ) → HasKept keep number home mine clock kept
+    → stamp ≡ max clock last + 1 → last_stamp mine < stamp
+drawn_later keep number home mine kept clock last stamp has is =
     let low = low_stamp mine clock has.below in let most = le-max_left clock last in omega (arith, low, most, is)
 
-pub kept_drawn : {P : Type 0} (keep : Keeping) (number : ℕ) (kept after : List Entry) (clock last : ℕ) (v : PassView P) (e : Entry) (seated : Seated P) (w : PassView P)
-    → HasKept keep number v.taker.mine clock kept → e.stamp ≡ max clock last + 1 → e.caller ≡ number → length v.taker.mine < PASS_ENTRIES
-    → after ≡ kept_with keep.what kept e → IsSeatOf seated w → w.taker.mine ≡ v.taker.mine ++ e ∷ []
-    → HasKept keep number (pass_in seated.0).taker.mine e.stamp after
-kept_drawn keep number kept after clock last v e seated w old stamp own few is seat drew =
-    subst (λ mine. HasKept keep number mine e.stamp after) (sym drew ∙ ap (λ (m : Seated _). (pass_in m.0).taker.mine) (sym seat))
+pub kept_drawn : {P : Type 0} (keep : Keeping) (number home : ℕ) (kept after : LogSeen) (clock last : ℕ) (v : PassView P) (e : Entry) (stamp : ℕ) (seated : Seated P) (w : PassView P)
+    → HasKept keep number home v.taker.mine clock kept → e.stamp ≡ stamp → stamp ≡ max clock last + 1 → e.caller ≡ number → length v.taker.mine < PASS_ENTRIES
+    → after.entries ≡ kept_with keep.what kept.entries e → after.owner ≡ kept.owner → after.first ≡ kept.first → IsSeatOf seated w → w.taker.mine ≡ v.taker.mine ++ e ∷ []
+    → HasKept keep number home (pass_in seated.0).taker.mine stamp after
+kept_drawn keep number home kept after clock last v e stamp seated w old bears next own few is owner first seat drew =
+    subst (λ mine. HasKept keep number home mine stamp after) (sym drew ∙ ap (λ (m : Seated _). (pass_in m.0).taker.mine) (sym seat))
     (record {
       kept_is = is ∙ ap (λ xs. kept_with keep.what xs e) old.kept_is ∙ kept_push keep.what keep.given mine e old.parted.few;
-      list = (list_push number clock mine e (record { is = old.list; few = each_all (λ (f : Entry). f.stamp ≤ clock) mine old.below }) own above).is;
-      parted = parted_push keep mine e old.parted (let since = old.since in omega (arith, since, above));
-      below = each_push (λ (f : Entry). f.stamp ≤ e.stamp) mine e (λ place f at. let low = old.below place f at in omega (arith, low, above)) (omega arith);
+      owner = owner ∙ old.owner;
+      first = first ∙ old.first;
+      list = (list_push number clock mine e (record { is = old.list; few = each_all (λ (f : Entry). f.stamp ≤ clock) mine old.below }) own (subst (λ n. clock < n) (sym bears) above)).is;
+      parted = parted_push keep mine e old.parted (let since = old.since in omega (arith, since, above, bears));
+      below = each_push (λ (f : Entry). f.stamp ≤ stamp) mine e (λ place f at. let low = old.below place f at in omega (arith, low, above)) (omega (arith, bears));
       since = let since = old.since in omega (arith, since, above);
       few = let longer = length_push mine e in omega (arith, longer, few);
     }) where
       mine : List Entry
       mine = v.taker.mine
 
-      above : clock < e.stamp
-      above = let most = le-max_left clock last in omega (arith, most, stamp)
+      above : clock < stamp
+      above = let most = le-max_left clock last in omega (arith, most, next)
 
--- the room that is left
-room_after : (keep : Keep) (kept after : List Entry) (e : Entry) (cap cap' : ℕ) → after ≡ kept_with keep kept e → cap' ≡ cap → room_due keep ≤ cap - length kept
-    → cap' - length after + room_due keep ≡ cap - length kept
-room_after keeps.All kept after e cap cap' is same room =
-    let long = ap length is ∙ length_push kept e in omega (arith, long, same, room)
-room_after keeps.Sections kept after e cap cap' is same room =
-    let long = ap length is ∙ length_push kept e in omega (arith, long, same, room)
-room_after keeps.Nothing kept after e cap cap' is same room = let long = ap length is in omega (arith, long, same)
-
-pub drawer_is : {P : Type 0} (inside old new : PassSeen P) (kept after : List Entry) (e : Entry) (cap cap' : ℕ) → inside ≡ old → HasRoom old
-    → new.table ≡ inside.table → new.seat ≡ inside.seat → new.keep ≡ inside.keep → inside.room ≡ cap - length kept → new.room ≡ cap' - length after
-    → after ≡ kept_with inside.keep.what kept e → cap' ≡ cap → new.row_room ≡ inside.row_room → new.queue ≡ inside.queue → new.pushed ≡ inside.pushed
-    → new.popped ≡ inside.popped → IsDrawer old new
-drawer_is {P} inside old new kept after e cap cap' seen has table seat keep was is stored same row_room queue pushed popped =
+pub drawer_is : {P : Type 0} (inside old new : PassSeen P) (kept after : LogSeen) → inside ≡ old → new.table ≡ inside.table → new.seat ≡ inside.seat → new.keep ≡ inside.keep
+    → inside.room ≡ kept.room → new.room ≡ after.room → IsRoomLeft inside.keep.what kept.room after.room → new.row_room ≡ inside.row_room → new.queue ≡ inside.queue
+    → new.pushed ≡ inside.pushed → new.popped ≡ inside.popped → IsDrawer old new
+drawer_is {P} inside old new kept after seen table seat keep was is left row_room queue pushed popped =
     subst (λ (p : PassSeen P). IsDrawer p new) seen
     (record {
       table = table;
       seat = seat;
       keep = keep;
-      room =
-          (λ i. is i + room_due (keep i).what)
-          ∙ room_after inside.keep.what kept after e cap cap' stored same
-          (subst (λ n. room_due inside.keep.what ≤ n) was (subst (λ (p : PassSeen P). HasRoom p) (sym seen) has))
-          ∙ sym was;
+      room = subst (λ (rooms : ℕ × ℕ). IsRoomLeft inside.keep.what rooms.0 rooms.1) (λ i. (sym was i, sym is i)) left;
       row_room = row_room;
       queue = queue;
       pushed = pushed;
@@ -119,25 +102,19 @@ pub longer_drawn : (mine : List Entry) (e : Entry) (drawn : ℕ) → drawn ≡ l
 longer_drawn mine e drawn same = let longer = length_push mine e in omega (arith, longer, same)
 
 -- the pass mirrors its view, which has the entry too
-pub mirrors_drawn : {P : Type 0} (own : Own) (me seated : Seated P) (w : PassView P) (e : Entry) → Mirrors me own → IsSeatOf seated w
+pub mirrors_drawn : {P : Type 0} (own : Own) (me seated : Seated P) (w : PassView P) (e : Entry) (stamp : ℕ) → Mirrors me own → IsSeatOf seated w
     → own_in w ≡ record (own_in (pass_in me.0)) { drawn = length ((pass_in me.0).taker.mine ++ e ∷ []); clock = e.stamp }
-    → w.out ≡ (pass_in me.0).out → w.untold ≡ [] → Mirrors seated (record own { drawn = own.drawn + 1; clock = e.stamp })
-mirrors_drawn own me seated w e old is same out untold =
+    → w.out ≡ (pass_in me.0).out → w.untold ≡ [] → e.stamp ≡ stamp → Mirrors seated (record own { drawn = own.drawn + 1; clock = stamp })
+mirrors_drawn own me seated w e stamp old is same out untold bears =
     let here : pass_in seated.0 ≡ w = ap (λ (m : Seated _). pass_in m.0) is in
     let mine = (pass_in me.0).taker.mine in
     let longer = longer_drawn mine e own.drawn (ap (λ (o : Own). o.drawn) old.own_is) in
     record {
       seat = is ∙ (λ j. (Crew (sym here j ∷ []), []));
       own_is =
-          (λ j. record own { drawn = longer j; clock = e.stamp })
+          (λ j. record own { drawn = longer j; clock = sym bears j })
           ∙ ap (λ (o : Own). record o { drawn = length (mine ++ e ∷ []); clock = e.stamp }) old.own_is
           ∙ sym same ∙ ap own_in (sym here);
       out = ap (λ (z : PassView _). z.out) here ∙ out ∙ old.out;
       told = ap (λ (z : PassView _). z.untold) here ∙ untold;
     }
-
--- who may draw a call has room in its numbers for one more
-pub call_few : {S L P : Type 0} (F : Layouts S L P) (declared : List L) (v : PassView P) (contents : List (Content P)) (act : Act) (answer : Answer)
-    → MayDrawAs F declared contents act answer v → length v.taker.mine < PASS_ENTRIES
-call_few F declared v contents (Call op) (Replied reply) may = may.few
-call_few F declared v contents act answer may = absurd may

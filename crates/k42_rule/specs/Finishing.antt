@@ -7,6 +7,7 @@ use Rattle.gen_core.specs.State.{caller_at}
 use Rattle.k42_kinds.specs.declared.entry.Entry.{Entry}
 use Rattle.phase_core.specs.Stages.{is_out, is_idle}
 use Rattle.phase_core.specs.State.{visitor_at}
+use Rattle.k42_log.specs.Logs.{LogSeen}
 use Rattle.k42_stamp.specs.Layouts.{Layouts}
 use Rattle.k42_joined.specs.Fitting.{lists_of}
 use Rattle.k42_joined.specs.Plain.{Joined}
@@ -26,7 +27,11 @@ views_of passes = map (λ pass. pass.view) passes
 abbrev pub lists_in : {P : Type 0} → List (PassSeen P) → List (List Entry)
 lists_in passes = map (λ pass. pass.view.taker.mine) passes
 
--- of these, what the passes have kept
+-- what the logs say
+abbrev pub logged_in : List LogSeen → List (List Entry)
+logged_in logs = map (λ log. log.entries) logs
+
+-- of their entries, what the passes have kept
 abbrev pub kept_in : {P : Type 0} → List (PassSeen P) → List (List Entry)
 kept_in passes = map (λ pass. kept_by pass.keep pass.view.taker.mine) passes
 

@@ -1,13 +1,13 @@
 //! The steps that draw entries.
 ghost use Rattle.std.specs.Prelude.{◌≡◌, ◌<◌, ℕ, [], ◌∷◌};
 ghost use Rattle.turn_core.specs.Stamps.{last_stamp};
-ghost use Rattle.k42_board.specs.Drawing.{AgreeOn, MayDrawAlone, MayDrawMark, MayDrawAs, IsDrawer, IsTold, AreTold, entry_alone, entry_mark, entry_call, numbers_of, number_told, stamp_next};
+ghost use Rattle.k42_board.specs.Drawing.{AgreeOn, MayDrawAlone, MayDrawMark, MayDrawCall, IsDrawer, IsTold, AreTold, entry_alone, entry_mark, numbers_of, number_told, stamp_next};
 ghost use Rattle.k42_board.specs.Protocol as protocol;
 ghost use Rattle.k42_board.specs.Seen.{HasRoom, IsOf};
 ghost use Rattle.k42_board.specs.Stepping.{HasDrawn, TakesIn, layouts_in};
 
 use crate::begun::{incarnation_at, object_begun_in};
-use crate::keeping::store;
+use crate::keeping::{store, store_call};
 use crate::pass::Pass;
 use crate::sys::Sys;
 use crate::tabling::{object_in, row_in};
@@ -15,7 +15,7 @@ use k42_board::{
     Cell, LastBegin, alone_word, call_word, first_of, last_at, mark_word, one_word, stamp_after,
     tell_all, tell_cell,
 };
-use k42_kinds::{Act, Answer, Entry, Layout};
+use k42_kinds::{Act, Answer, Entry, Layout, Op, Reply};
 use std::marker::Brand;
 
 /// The number of the swap that was refused or given up.
@@ -54,7 +54,7 @@ pub fn draw_alone<L: Layout>(sys: &Sys<L>, pass: &mut Pass<L>, act: Act, answer:
     alone_word::<L, Brand>(&sys.board, &mut pass.seat, &entry);
     pass.drawn += 1;
     pass.clock = stamp;
-    store(pass.keep, &mut pass.kept, entry);
+    store(pass.keep, &mut pass.kept, &entry);
     stamp
 }
 
@@ -92,7 +92,7 @@ pub fn draw_mark<L: Layout>(
     tell_cell(&sys.board, &mut pass.seat, cell, closed, stamp);
     pass.drawn += 1;
     pass.clock = stamp;
-    store(pass.keep, &mut pass.kept, entry);
+    store(pass.keep, &mut pass.kept, &entry);
     stamp
 }
 
@@ -102,36 +102,37 @@ fn draw_at<L: Layout>(
     sys: &Sys<L>,
     pass: &mut Pass<L>,
     cells: &mut [Cell<L>],
-    act: Act,
-    answer: Answer,
+    op: &Op,
+    reply: &Reply,
 ) -> u64
     requires ours { IsOf sys.now pass.old }
     requires agree { AgreeOn (layouts_in L.Layout sys.now) }
     requires room { HasRoom pass.old }
-    requires may { MayDrawAs (layouts_in L.Layout sys.now) sys.now.layouts cells.old act answer pass.old.view }
+    requires may { MayDrawCall (layouts_in L.Layout sys.now) sys.now.layouts cells.old op.now reply.now pass.old.view }
     ensures stamp { result ≡ stamp_next pass.old.view (numbers_of cells.old) }
     ensures later { last_stamp pass.old.view.taker.mine < result }
-    ensures drawn { HasDrawn L.Layout sys.now (protocol.draw_call cells.old (entry_call pass.old.view (numbers_of cells.old) act answer)) (numbers_of cells.old) pass.old pass.new }
+    ensures drawn { HasDrawn L.Layout sys.now (protocol.draw_call cells.old op.now reply.now) (numbers_of cells.old) pass.old pass.new }
     ensures told { AreTold pass.new.view.notes cells.old cells.new }
 {
     let stamp = stamp_after(pass.clock, last_at(cells));
-    let entry = Entry {
-        stamp,
-        caller: pass.number,
-        index: pass.drawn,
-        object: object_in(&pass.place),
-        incarnation: row_in(&pass.place),
-        cell: first_of(cells),
-        act,
-        answer,
-        proc: pass.home,
-        generation: pass.active,
-    };
-    call_word::<L, Brand>(&sys.board, &mut pass.seat, cells, &entry);
+    let number = first_of(cells);
+    call_word::<L, Brand>(&sys.board, &mut pass.seat, cells, op, reply);
     tell_all(&sys.board, &mut pass.seat, cells, 0, false, stamp);
     pass.drawn += 1;
     pass.clock = stamp;
-    store(pass.keep, &mut pass.kept, entry);
+    let object = object_in(&pass.place);
+    let row = row_in(&pass.place);
+    store_call(
+        pass.keep,
+        &mut pass.kept,
+        stamp,
+        object,
+        row,
+        number,
+        pass.active,
+        op,
+        reply,
+    );
     stamp
 }
 
@@ -141,36 +142,37 @@ pub fn draw_one<L: Layout>(
     sys: &Sys<L>,
     pass: &mut Pass<L>,
     cell: &mut Cell<L>,
-    act: Act,
-    answer: Answer,
+    op: &Op,
+    reply: &Reply,
 ) -> u64
     requires ours { IsOf sys.now pass.old }
     requires room { HasRoom pass.old }
-    requires may { MayDrawAs (layouts_in L.Layout sys.now) sys.now.layouts (cell.old ∷ []) act answer pass.old.view }
+    requires may { MayDrawCall (layouts_in L.Layout sys.now) sys.now.layouts (cell.old ∷ []) op.now reply.now pass.old.view }
     ensures stamp { result ≡ stamp_next pass.old.view (cell.old.number ∷ []) }
     ensures later { last_stamp pass.old.view.taker.mine < result }
-    ensures drawn { HasDrawn L.Layout sys.now (protocol.draw_call (cell.old ∷ []) (entry_call pass.old.view (cell.old.number ∷ []) act answer)) (cell.old.number ∷ []) pass.old pass.new }
+    ensures drawn { HasDrawn L.Layout sys.now (protocol.draw_call (cell.old ∷ []) op.now reply.now) (cell.old.number ∷ []) pass.old pass.new }
     ensures told { IsTold pass.new.view.notes cell.old cell.new }
 {
     let stamp = stamp_after(pass.clock, cell.last_stamp());
-    let entry = Entry {
-        stamp,
-        caller: pass.number,
-        index: pass.drawn,
-        object: object_in(&pass.place),
-        incarnation: row_in(&pass.place),
-        cell: cell.number(),
-        act,
-        answer,
-        proc: pass.home,
-        generation: pass.active,
-    };
-    one_word::<L, Brand>(&sys.board, &mut pass.seat, cell, &entry);
+    one_word::<L, Brand>(&sys.board, &mut pass.seat, cell, op, reply);
     let closed = cell.is_closed();
     tell_cell(&sys.board, &mut pass.seat, cell, closed, stamp);
+    let number = cell.number();
     pass.drawn += 1;
     pass.clock = stamp;
-    store(pass.keep, &mut pass.kept, entry);
+    let object = object_in(&pass.place);
+    let row = row_in(&pass.place);
+    store_call(
+        pass.keep,
+        &mut pass.kept,
+        stamp,
+        object,
+        row,
+        number,
+        pass.active,
+        op,
+        reply,
+    );
     stamp
 }
 
@@ -179,16 +181,16 @@ pub fn draw_call<L: Layout>(
     sys: &Sys<L>,
     pass: &mut Pass<L>,
     cells: &mut Vec<Cell<L>>,
-    act: Act,
-    answer: Answer,
+    op: &Op,
+    reply: &Reply,
 ) -> u64
     requires ours { IsOf sys.now pass.old }
     requires room { HasRoom pass.old }
-    requires may { MayDrawAs (layouts_in L.Layout sys.now) sys.now.layouts cells.old.items act answer pass.old.view }
+    requires may { MayDrawCall (layouts_in L.Layout sys.now) sys.now.layouts cells.old.items op.now reply.now pass.old.view }
     ensures stamp { result ≡ stamp_next pass.old.view (numbers_of cells.old.items) }
     ensures later { last_stamp pass.old.view.taker.mine < result }
-    ensures drawn { HasDrawn L.Layout sys.now (protocol.draw_call cells.old.items (entry_call pass.old.view (numbers_of cells.old.items) act answer)) (numbers_of cells.old.items) pass.old pass.new }
+    ensures drawn { HasDrawn L.Layout sys.now (protocol.draw_call cells.old.items op.now reply.now) (numbers_of cells.old.items) pass.old pass.new }
     ensures told { AreTold pass.new.view.notes cells.old.items cells.new.items }
 {
-    draw_at(sys, pass, cells.as_mut_slice(), act, answer)
+    draw_at(sys, pass, cells.as_mut_slice(), op, reply)
 }

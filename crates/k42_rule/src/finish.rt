@@ -1,10 +1,12 @@
 //! How a system ends.
-ghost use Rattle.std.specs.Prelude.{◌≡◌, ◌+◌, ◌≤◌, [], ◌++◌, length, map, vec_items, vec_len, vec_capacity};
+ghost use Rattle.std.specs.Prelude.{◌≡◌, ◌+◌, ◌*◌, ◌≤◌, [], ◌++◌, length, vec_len, vec_capacity};
+ghost use Rattle.k42_limits.specs.declared.TheConstants.{PASS_ENTRIES};
 ghost use Rattle.atomic_table.specs.Table.{State, Seen};
 ghost use Rattle.k42_places.specs.Places.{EachPlace};
+ghost use Rattle.k42_stamp.specs.Merging.{entries_in};
 ghost use Rattle.k42_board.specs.Cells.{Slot};
 ghost use Rattle.k42_board.specs.Dealing.{crew_in, IsCrew};
-ghost use Rattle.k42_rule.specs.Finishing.{kept_in, views_of, with_none_kept};
+ghost use Rattle.k42_rule.specs.Finishing.{kept_in, logged_in, views_of, with_none_kept};
 ghost use Rattle.k42_board.specs.Stepping.{layouts_by};
 ghost use Rattle.k42_board.specs.Rule.{Ruled};
 ghost use Rattle.k42_board.specs.Words.{many_words};
@@ -13,18 +15,20 @@ ghost use Rattle.k42_board.specs.declared.view.View.TheVariants.{Crew};
 
 use crate::pass::{Pass, Walker};
 use k42_board::{Board, BoardSeat, Gather};
-use k42_kinds::{Entry, Layout};
+use k42_kinds::Layout;
+use k42_log::Log;
 use std::alloc::Global;
 
-/// The passes give away the lists that they have kept, in their order.
-pub fn give_lists<L: Layout>(alloc: Global, passes: &mut [Pass<L>], lists: &mut Vec<Vec<Entry>>)
-    requires room { vec_len lists.old + length passes.old ≤ vec_capacity lists.old }
-    ensures lists { map vec_items lists.new.items ≡ map vec_items lists.old.items ++ kept_in passes.old }
+/// The passes give away the logs of what they have kept, in their order.
+pub fn give_logs<L: Layout>(alloc: Global, passes: &mut [Pass<L>], logs: &mut Vec<Log>)
+    requires room { vec_len logs.old + length passes.old ≤ vec_capacity logs.old }
+    ensures logs { logged_in logs.new.items ≡ logged_in logs.old.items ++ kept_in passes.old }
+    ensures few { entries_in (kept_in passes.old) ≤ length passes.old * PASS_ENTRIES }
     ensures passes { passes.new ≡ with_none_kept passes.old }
 {
     if let Some((pass, others)) = passes.split_first_mut() {
-        lists.push_reserved(pass.give_kept(alloc));
-        give_lists::<L>(alloc, others, lists);
+        logs.push_reserved(pass.give_kept(alloc));
+        give_logs::<L>(alloc, others, logs);
     }
 }
 

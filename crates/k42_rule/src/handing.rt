@@ -25,7 +25,8 @@ fn done_entry<L: Layout>(
     answer: Answer,
 ) -> Entry
     requires may { MayHandAt (layouts_in L.Layout sys.now) sys.now.layouts cells.now to.now answer pass.now.view }
-    ensures { result ≡ entry_done sys.now.procs cells.now (L.act_of to.now) answer pass.now.view }
+    ensures is { result ≡ entry_done sys.now.procs cells.now (L.act_of to.now) answer pass.now.view }
+    ensures few { result.cell < 320 }
 {
     let stamp = stamp_after(pass.clock, last_at(cells));
     Entry {
@@ -68,7 +69,7 @@ fn hand_at<L: Layout>(
     pass.handed = Some(to.tag());
     pass.drawn += 1;
     pass.clock = stamp;
-    store(pass.keep, &mut pass.kept, entry);
+    store(pass.keep, &mut pass.kept, &entry);
     stamp
 }
 

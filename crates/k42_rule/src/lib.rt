@@ -22,7 +22,7 @@ mod tabling;
 mod taking;
 
 pub use drawing::{draw_alone, draw_call, draw_mark, draw_one};
-pub use finish::give_lists;
+pub use finish::give_logs;
 pub use freeing::free;
 pub use generating::{enter_step, leave_step};
 pub use gracing::{flip, generation_step, give_role, look, take_role};

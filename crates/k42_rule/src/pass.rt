@@ -19,7 +19,8 @@ use atomic_table::Seat;
 use crossbeam_queue::SegPass;
 use gen_core::GraceAt;
 use k42_board::{Carried, Content, Inside, Keep, LastBegin, Row, Slip, View, layout_in};
-use k42_kinds::{Entry, Layout};
+use k42_kinds::Layout;
+use k42_log::Log;
 use k42_memory::Memory;
 use phase_core::{Place, SwapAt};
 use std::alloc::Global;
@@ -48,7 +49,7 @@ pub struct Walker<P: Drop> {
     /// How many of its entries sections have taken, and the clock to which the last of these raised all.
     pub(crate) given: u64,
     pub(crate) since: u64,
-    pub(crate) kept: Vec<Entry>,
+    pub(crate) kept: Log,
     pub(crate) graces: u32,
     pub(crate) base: Option<u32>,
     pub(crate) last: Option<LastBegin>,
@@ -83,7 +84,7 @@ impl<P: Drop> Model for Walker<P> {
       seat = p.seat.id;
       keep = record { what = p.keep; given = p.given; since = p.since };
       view = pass_in p.seat.me.0;
-      room = vec_capacity p.kept - length p.kept.items;
+      room = p.kept.room;
       row_room = vec_capacity p.rows - length p.rows.items;
       queue = record { web = p.post.web; heap = p.post.heap };
       pushed = p.post.me.view.client.pushed;
@@ -113,7 +114,7 @@ impl<P: Drop> Model for Walker<P> {
         × (row_of p.place ≤ LAST_INCARNATION)
         × (p.granted ≤ length p.rows.items)
         × FitsGrace p.grace p.base (length p.waits.items) × (unwrap_or p.base 0 + 1 < 2 ^ 32)
-        × HasKept (record { what = p.keep; given = p.given; since = p.since }) p.number (pass_in p.seat.me.0).taker.mine p.clock p.kept.items
+        × HasKept (record { what = p.keep; given = p.given; since = p.since }) p.number p.home (pass_in p.seat.me.0).taker.mine p.clock p.kept
         × (p.clock ≤ LAST_STAMP)
         × FitsSwap p.swap p.turned p.handed p.last
         × (p.post.me.hand ≡ None) × (p.post.me.spare ≡ None) × IsTied p.seat.table_id p.post.me.view.client
@@ -218,31 +219,34 @@ impl<P: Drop> Walker<P> {
         self.since
     }
 
-    /// The entries that it keeps, the oldest first.
-    pub fn kept(&self) -> &[Entry]
-        ensures kept { result.now ≡ kept_by self.now.keep self.now.view.taker.mine }
-        ensures last { result.now ≡ drop (length self.now.view.taker.mine - length result.now) self.now.view.taker.mine }
+    /// The log of the entries that it keeps, the oldest first.
+    pub fn log(&self) -> &Log
+        ensures kept { result.now.entries ≡ kept_by self.now.keep self.now.view.taker.mine }
+        ensures last { result.now.entries ≡ drop (length self.now.view.taker.mine - length result.now.entries) self.now.view.taker.mine }
     {
-        self.kept.as_slice()
+        &self.kept
     }
 
-    /// Gives away the entries that it has kept. It keeps none from now on.
-    pub(crate) fn give_kept(&mut self, alloc: Global) -> Vec<Entry>
-        ensures given { result.items ≡ kept_by self.old.keep self.old.view.taker.mine }
+    /// Gives away the log of what it has kept. It keeps none from now on.
+    pub(crate) fn give_kept(&mut self, alloc: Global) -> Log
+        ensures given { result.entries ≡ kept_by self.old.keep self.old.view.taker.mine }
+        ensures few { length result.entries ≤ PASS_ENTRIES }
         ensures stays { self.new ≡ with_none self.old }
     {
         self.keep = Keep::Nothing;
-        replace(&mut self.kept, Vec::new(alloc))
+        replace(&mut self.kept, Log::new(alloc, self.number, self.home, 0))
     }
 
     /// Gives away what it has drawn since the last section. The next has what it draws from now on.
-    pub(crate) fn give_rest(&mut self, alloc: Global) -> Vec<Entry>
+    pub(crate) fn give_rest(&mut self, alloc: Global) -> Log
         requires { self.old.keep.what ≡ keeps.Sections }
-        ensures given { result.items ≡ drop self.old.keep.given self.old.view.taker.mine }
+        ensures given { result.entries ≡ drop self.old.keep.given self.old.view.taker.mine }
+        ensures few { length result.entries ≤ PASS_ENTRIES }
         ensures parts { HasParts self.old }
         ensures stays { self.new ≡ given_all self.old }
     {
-        let kept = replace(&mut self.kept, Vec::new(alloc));
+        let log = Log::new(alloc, self.number, self.home, self.drawn);
+        let kept = replace(&mut self.kept, log);
         self.given = self.drawn;
         self.since = self.clock;
         kept
@@ -365,7 +369,7 @@ impl<P: Drop> Walker<P> {
         ensures none { self.old.keep.what ≡ keeps.Nothing → IsOk result × (self.new ≡ self.old) }
     {
         if self.keep != Keep::Nothing {
-            self.kept.reserve(1)?;
+            self.kept.reserve()?;
         }
         Ok(())
     }

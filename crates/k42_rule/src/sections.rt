@@ -1,17 +1,20 @@
 //! The history in sections: the passes give what they have kept, once their clocks are raised to one stamp.
-ghost use Rattle.std.specs.Prelude.{◌≡◌, ◌+◌, ◌≤◌, ◌++◌, length, map, max, vec_items, vec_len, vec_capacity, MatchOption};
+ghost use Rattle.std.specs.Prelude.{◌≡◌, ◌+◌, ◌*◌, ◌≤◌, ◌++◌, length, map, max, vec_len, vec_capacity, MatchOption};
+ghost use Rattle.k42_limits.specs.declared.TheConstants.{PASS_ENTRIES};
 ghost use Rattle.k42_places.specs.Places.{EachPlace};
+ghost use Rattle.k42_stamp.specs.Merging.{entries_in};
 ghost use Rattle.k42_board.specs.Seen.{IsOf};
 ghost use Rattle.k42_board.specs.Skipping.{greatest_clock};
 ghost use Rattle.k42_board.specs.declared.keep.Keep.TheVariants as keeps;
-ghost use Rattle.k42_rule.specs.Finishing.{views_of};
+ghost use Rattle.k42_rule.specs.Finishing.{logged_in, views_of};
 ghost use Rattle.k42_rule.specs.Sections.{AreCut, HasParts, MayGiveSection, TellsStamp, given_all, rests_in, sectioned, skipped, skipped_on};
 
 use crate::pass::Pass;
 use crate::sys::Sys;
 use atomic_table::Seat;
 use k42_board::{Content, View, skip_to, tell_clock};
-use k42_kinds::{Entry, Layout};
+use k42_kinds::Layout;
+use k42_log::Log;
 use std::alloc::Global;
 
 /// A seat that tells of a stamp.
@@ -87,16 +90,17 @@ fn raise_clocks<L: Layout>(sys: &Sys<L>, passes: &mut [Pass<L>])
 }
 
 /// The passes give what they have drawn since the last section, in their order.
-fn give_rests<L: Layout>(alloc: Global, passes: &mut [Pass<L>], lists: &mut Vec<Vec<Entry>>)
+fn give_rests<L: Layout>(alloc: Global, passes: &mut [Pass<L>], logs: &mut Vec<Log>)
     requires keeps { EachPlace (λ c pass. pass.keep.what ≡ keeps.Sections) passes.old }
-    requires room { vec_len lists.old + length passes.old ≤ vec_capacity lists.old }
-    ensures lists { map vec_items lists.new.items ≡ map vec_items lists.old.items ++ rests_in passes.old }
+    requires room { vec_len logs.old + length passes.old ≤ vec_capacity logs.old }
+    ensures logs { logged_in logs.new.items ≡ logged_in logs.old.items ++ rests_in passes.old }
+    ensures few { entries_in (rests_in passes.old) ≤ length passes.old * PASS_ENTRIES }
     ensures parts { EachPlace (λ c pass. HasParts pass) passes.old }
     ensures passes { passes.new ≡ map given_all passes.old }
 {
     if let Some((pass, others)) = passes.split_first_mut() {
-        lists.push_reserved(pass.give_rest(alloc));
-        give_rests::<L>(alloc, others, lists);
+        logs.push_reserved(pass.give_rest(alloc));
+        give_rests::<L>(alloc, others, logs);
     }
 }
 
@@ -106,14 +110,15 @@ pub fn give_section<L: Layout>(
     sys: &Sys<L>,
     alloc: Global,
     passes: &mut [Pass<L>],
-    lists: &mut Vec<Vec<Entry>>,
+    logs: &mut Vec<Log>,
 )
     requires may { MayGiveSection sys.now passes.old }
-    requires room { vec_len lists.old + length passes.old ≤ vec_capacity lists.old }
-    ensures lists { map vec_items lists.new.items ≡ map vec_items lists.old.items ++ rests_in passes.old }
+    requires room { vec_len logs.old + length passes.old ≤ vec_capacity logs.old }
+    ensures logs { logged_in logs.new.items ≡ logged_in logs.old.items ++ rests_in passes.old }
+    ensures few { entries_in (rests_in passes.old) ≤ length passes.old * PASS_ENTRIES }
     ensures cut { AreCut passes.old }
     ensures passes { passes.new ≡ sectioned passes.old }
 {
     raise_clocks(sys, passes);
-    give_rests::<L>(alloc, passes, lists);
+    give_rests::<L>(alloc, passes, logs);
 }

@@ -14,6 +14,7 @@ use crate::pass::{Pass, Walker};
 use gen_core::GraceAt;
 use k42_board::{Another, Board, BoardSeat, Deal, Keep, Line, Post};
 use k42_kinds::Layout;
+use k42_log::Log;
 use k42_memory::Memory;
 use phase_core::SwapAt;
 use std::alloc::Global;
@@ -62,7 +63,7 @@ fn deal<L: Layout>(
         keep,
         given: 0,
         since: 0,
-        kept: Vec::new(alloc),
+        kept: Log::new(alloc, number, home, 0),
         graces: 0,
         base: None,
         last: None,

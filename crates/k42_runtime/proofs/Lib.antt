@@ -19,7 +19,6 @@ pub mod Agreed
 pub mod CallMade
 pub mod CallServed
 pub mod CallWaited
-pub mod AloneLists
 pub mod MergedTotals
 pub mod SectionLists
 pub mod SectionLaws

@@ -1,13 +1,12 @@
 -- A section of the passes' lists, and the passes after it.
-use Rattle.std.proofs.Common.{◌≡◌, ℕ, suc, ◌+◌, List, [], ◌∷◌, ◌++◌, length, map, refl, sym, ap, ◌∙◌, subst}
+use Rattle.std.proofs.Common.{◌≡◌, ℕ, ◌+◌, List, ◌++◌, length, map, sym, ap, ◌∙◌, subst}
 use Rattle.std.proofs.lemmas.List.{length-map}
 use Rattle.k42_kinds.specs.declared.entry.Entry.{Entry}
 use Rattle.k42_places.specs.Places.{EachPlace}
 use Rattle.k42_places.proofs.EachPlaces.{EachPlace-map}
-use Rattle.k42_board.specs.Seen.{kept_of}
 use Rattle.k42_board.specs.Skipping.{greatest_clock}
 use Rattle.k42_board.specs.declared.keep.Keep.TheVariants.{Sections}
-use Rattle.k42_rule.specs.Finishing.{IsPassAtRest, kept_in, lists_in, views_of}
+use Rattle.k42_rule.specs.Finishing.{IsPassAtRest, lists_in, views_of}
 use Rattle.k42_rule.specs.Sections.{AreCut, fronts_in, given_all, last_section, rests_in, sectioned, skipped}
 use Rattle.k42_rule.proofs.CutLists.{sectioned_lists, since_even}
 use Rattle.k42_rule.proofs.RaisedClocks.{all_even}
@@ -18,12 +17,6 @@ use Rattle.k42_runtime.specs.Sections.{IsSection, MaySection}
 use Rattle.k42_runtime.specs.Systems.{SystemSeen, SystemPass}
 use Rattle.k42_runtime.proofs.Closed.{MergeLaw}
 use Rattle.k42_runtime.proofs.MergedTotals.{merged_total}
-
--- where sections are kept, that is what was not given
-pub all_rests : (passes : List SystemPass) → EachPlace (λ c pass. pass.keep.what ≡ Sections) passes → kept_in passes ≡ rests_in passes
-all_rests [] keeps = refl
-all_rests (pass ∷ passes) keeps =
-    λ i. kept_of (keeps 0 pass refl i) pass.keep.given pass.view.taker.mine ∷ all_rests passes (λ c other at. keeps (suc c) other at) i
 
 -- the next section may be given at once
 pub may_again : (system : SystemSeen) (passes : List SystemPass) → MaySection system passes → MaySection system (sectioned passes)

@@ -9,4 +9,3 @@ pub mod Phases
 pub mod Reclaims
 pub mod Histories
 pub mod Sections
-pub mod Closing

@@ -19,6 +19,7 @@ mod waiting;
 
 pub use calls::{Call, CallCause, CallStep, NoCall};
 pub use history::{History, Unclosed};
+pub use k42_journal::{Journal, Reader};
 pub use k42_kinds::{Act, Answer, Entry, KindName, LayoutName, Name, Op, Reply, Text, To};
 pub use k42_memory::Memory;
 pub use k42_rule::Keep;

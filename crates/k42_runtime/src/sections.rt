@@ -5,9 +5,8 @@ ghost use Rattle.k42_rule.specs.Sections.{fronts_in};
 ghost use Rattle.k42_stamp.specs.Merging.{entries_in};
 ghost use Rattle.k42_runtime.specs.Sections.{IsSection, MaySection};
 
-use crate::closing::{merged, way_for};
 use crate::system::{Pass, System};
-use k42_kinds::Entry;
+use k42_journal::Journal;
 use k42_memory::Memory;
 use k42_rule::give_section;
 use k42_stamp::{lists_have_a_merge, sections_merge_to_the_whole};
@@ -28,19 +27,18 @@ fn given_of(passes: &[Pass]) -> u64
 impl System {
     /// What its passes have drawn since the last section, as one list in order, which goes on where that ended; and the
     /// system goes on. Whatever they draw from now on is later. Out of memory nothing is done.
-    pub fn section(&self, alloc: Global, passes: &mut [Pass]) -> Result<Vec<Entry>, Memory>
+    pub fn section(&self, alloc: Global, passes: &mut [Pass]) -> Result<Journal, Memory>
         requires { MaySection self.now passes.old }
-        ensures ok { IfOk result (λ section. IsSection passes.old passes.new section.items) }
+        ensures ok { IfOk result (IsSection passes.old passes.new) }
         ensures memory { OnErr result (passes.new ≡ passes.old) }
         ensures again { MaySection self.now passes.new }
     {
         let sys = &self.sys;
         lists_have_a_merge();
         sections_merge_to_the_whole();
-        let way = way_for(alloc, passes)?;
-        let mut lists = Vec::with_capacity(alloc, passes.len())?;
+        let mut logs = Vec::with_capacity(alloc, passes.len())?;
         let first = given_of(passes) + 1;
-        give_section(sys, alloc, passes, &mut lists);
-        Ok(merged(first, way, lists))
+        give_section(sys, alloc, passes, &mut logs);
+        Ok(Journal::of(first, logs))
     }
 }

@@ -18,7 +18,7 @@ use crate::cells::{give_back, give_next, take_row};
 use crate::stepping::{step_part, step_row};
 use crate::system::{Pass, SystemLayout};
 use k42_board::cell_number;
-use k42_kinds::{Act, Answer, Layout, Op, Reach};
+use k42_kinds::{Layout, Op, Reach};
 use k42_mediator::{Knocked, knock};
 use k42_memory::Memory;
 use k42_rule::{Cell, Sys, draw_call, draw_one, layouts_are_lawful, lock, take};
@@ -112,8 +112,7 @@ fn make_one(
     let Ok(reply) = step_part(alloc, layout, procs, place, op, cell) else {
         return CallStep::Memory;
     };
-    let told = Answer::Replied(*&reply);
-    draw_one(sys, pass, cell, Act::Call(*op), told);
+    draw_one(sys, pass, cell, op, &reply);
     CallStep::Ended(reply)
 }
 
@@ -175,8 +174,7 @@ fn make_all(
     let Ok(reply) = step_row(alloc, layout, procs, op, cells.as_mut_slice()) else {
         return CallStep::Memory;
     };
-    let told = Answer::Replied(*&reply);
-    draw_call(sys, pass, cells, Act::Call(*op), told);
+    draw_call(sys, pass, cells, op, &reply);
     CallStep::Ended(reply)
 }
 

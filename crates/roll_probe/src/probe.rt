@@ -59,15 +59,19 @@ fn tells_of_giving_up(entry: &Entry) -> bool {
 }
 
 /// Whether there is an entry for each answer, and besides at most one for each other item, which tells that it was given up.
-fn is_told(history: &History, answers: &[Result<Swapped, NoSwap>]) -> bool {
-    let entries = history.entries();
+fn is_told(
+    alloc: Global,
+    history: &History,
+    answers: &[Result<Swapped, NoSwap>],
+) -> Result<bool, Memory> {
+    let entries = history.collect(alloc)?;
     let answered = answers.iter().filter(|answer| answer.is_ok()).count();
     let given_up = entries
         .iter()
         .filter(|entry| tells_of_giving_up(entry))
         .count();
     let told = answered.saturating_add(given_up);
-    entries.len() == told && told <= answers.len()
+    Ok(entries.len() == told && told <= answers.len())
 }
 
 /// One request was refused: where that was in the roll, none is refused to the close.
@@ -77,14 +81,14 @@ fn of_rolled(alloc: Global, system: System, end: Rolled) -> Found
 {
     let Rolled { answers, passes } = end;
     let is_whole = answers.iter().all(|answer| answer.is_ok());
-    match close(alloc, system, passes) {
-        Ok(Some(history)) if is_told(&history, answers.as_slice()) => {
-            if is_whole {
-                Found::Whole
-            } else {
-                Found::Memory
-            }
-        }
+    let told = match close(alloc, system, passes) {
+        Ok(Some(history)) => is_told(alloc, &history, answers.as_slice()),
+        Ok(None) => Ok(false),
+        Err(Memory) => Err(Memory),
+    };
+    match told {
+        Ok(true) if is_whole => Found::Whole,
+        Ok(true) => Found::Memory,
         Err(Memory) if is_whole => Found::Memory,
         _ => Found::Wrong,
     }
@@ -96,7 +100,7 @@ fn of_unrolled(alloc: Global, system: System, back: Unrolled) -> Found
     requires free { AreFree system back.passes.items }
 {
     match close(alloc, system, back.passes) {
-        Ok(Some(history)) if history.entries().is_empty() => Found::Memory,
+        Ok(Some(history)) if history.is_empty() => Found::Memory,
         _ => Found::Wrong,
     }
 }

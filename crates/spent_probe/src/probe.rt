@@ -131,7 +131,8 @@ pub fn probe<R: Wait>(rt: &R, alloc: Global) -> Result<Option<Told>, Memory> {
     match (history, found) {
         (Some(history), Ok(Some(Reply::Number(value))))
             if done == Ok(true) && added == Ok(Some(Reply::Done)) => {
-            Ok(told_by(history.entries(), value))
+            let entries = history.collect(alloc)?;
+            Ok(told_by(entries.as_slice(), value))
         }
         _ => Ok(None),
     }

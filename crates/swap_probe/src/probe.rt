@@ -157,7 +157,8 @@ fn find_done<R: Wait>(
         due(found == done)?;
         return Ok(0);
     }
-    due(are_answered(pass.kept(), &[], 1))?;
+    let drawn = pass.log().unread().collect(alloc)?;
+    due(are_answered(drawn.as_slice(), &[], 1))?;
     find(rt, alloc, system, other)?;
     let (swap, found) = begun(alloc, system, pass)?;
     due(found == done)?;
@@ -211,5 +212,6 @@ pub fn probe<R: Wait>(rt: &R, alloc: Global) -> Result<(), Fault> {
     let given_up = swap_beside(rt, alloc, &system, &mut crew)?;
     let Three { zero, one, two } = crew;
     let history = closed(alloc, system, zero, one, two)?;
-    due(is_told(history.entries(), given_up))
+    let entries = history.collect(alloc)?;
+    due(is_told(entries.as_slice(), given_up))
 }

@@ -16,7 +16,7 @@ returns g c =
       due = record {
         history = history;
         ran = subst (λ (s : Script). IsRun s history) c.in_ok-script.ensures.script ran;
-        sums = sym (rw c.entries.ensures at c.in_ok-sums.ensures.exact) ∙ due;
+        sums = sym (rw c.in_ok-entries.ensures at c.in_ok-sums.ensures.exact) ∙ due;
         text = c.in_ok-load_line.ensures ∙ ap (load_line c.args.steps) due;
         held = refl;
       };

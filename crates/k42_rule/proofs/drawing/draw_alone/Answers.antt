@@ -1,15 +1,24 @@
-use Rattle.std.proofs.Common.{rules, ◌<◌, length, vec_capacity, refl, sym, subst}
+use Rattle.std.proofs.Common.{rules, ◌<◌, length, refl, sym, ap, ◌∙◌, subst, arith}
 use Rattle.k42_board.specs.Queueing.{IsTied}
 use Rattle.k42_limits.specs.declared.TheConstants.{PASS_ENTRIES}
 use Rattle.turn_core.specs.Stamps.{last_stamp}
-use Rattle.k42_board.specs.Seen.{PassSeen}
+use Rattle.k42_board.specs.Drawing.{MayDrawAlone}
+use Rattle.k42_board.specs.Seen.{PassSeen, Own}
 use Rattle.k42_board.specs.Views.{pass_in}
-use Rattle.k42_rule.proofs.Entries.{alone_entry}
+use Rattle.k42_rule.proofs.Entries.{alone_entry, alone_told}
+use Rattle.k42_rule.proofs.KeptNext.{may_keep}
 use Rattle.k42_rule.proofs.Pushed.{drawer_is, drawn_later, kept_drawn, mirrors_drawn}
 use Rattle.k42_rule.proofs.drawing.draw_alone.Goals as goal
 
+pub store-requires-clause-may : goal.store-requires-clause-may
+store-requires-clause-may g c κs within =
+    let old = c.pass.invariant in
+    let may = subst (λ (p : PassSeen _). MayDrawAlone c.args.act c.args.answer p.view) (sym c.pass.view_is) c.requires.may in
+    may_keep _ c.pass.inside.number c.pass.inside.home _ c.pass.inside.clock c.pass.inside.kept old.13 _ refl refl (ap (λ (o : Own). o.drawn) old.0.own_is) may.few
+    (subst (λ n. n < 16) (sym c.object_begun_in.ensures) old.20) (omega arith) (may.act_is ∙ sym (alone_told _ c.args.answer may.answer_is))
+
 pub returns-clause-drawer : goal.returns-clause-drawer
-returns-clause-drawer g c = let taken = c.alone_word.ensures 0 in drawer_is _ _ _ c.pass.inside.kept.items c.store.new.kept.items _ (vec_capacity c.pass.inside.kept) (vec_capacity c.store.new.kept) c.pass.view_is c.requires.room taken.table taken.seat refl refl refl c.store.ensures.kept c.store.ensures.capacity refl refl refl refl
+returns-clause-drawer g c = let taken = c.alone_word.ensures 0 in drawer_is _ _ _ c.pass.inside.kept c.store.new.kept c.pass.view_is taken.table taken.seat refl refl refl c.store.ensures.room refl refl refl refl
 
 pub returns-clause-takes : goal.returns-clause-takes
 returns-clause-takes g c = λ found.
@@ -21,7 +30,7 @@ returns-clause-takes g c = λ found.
 pub returns-clause-later : goal.returns-clause-later
 returns-clause-later g c =
     subst (λ (p : PassSeen _). last_stamp p.view.taker.mine < c.stamp_after-stamp.result) c.pass.view_is
-    (drawn_later _ c.pass.inside.number (pass_in c.pass.inside.seat.me.0).taker.mine c.pass.inside.kept.items c.pass.inside.clock 0 c.stamp_after-stamp.result c.pass.invariant.13
+    (drawn_later _ c.pass.inside.number c.pass.inside.home (pass_in c.pass.inside.seat.me.0).taker.mine c.pass.inside.kept c.pass.inside.clock 0 c.stamp_after-stamp.result c.pass.invariant.13
     c.stamp_after-stamp.ensures)
 
 -- what the pass keeps by itself
@@ -30,7 +39,7 @@ invariant_of-pass g c =
     let old = c.pass.invariant in let v = pass_in c.pass.inside.seat.me.0 in
     let taken = c.alone_word.ensures 0 in
     let few = subst (λ (p : PassSeen _). length p.view.taker.mine < PASS_ENTRIES) (sym c.pass.view_is) c.requires.may.few in (
-      mirrors_drawn _ c.pass.inside.seat.me c.alone_word.new.seat.me _ _ old.0 taken.alone refl refl old.0.told,
+      mirrors_drawn _ c.pass.inside.seat.me c.alone_word.new.seat.me _ _ _ old.0 taken.alone refl refl old.0.told refl,
       old.1,
       old.2,
       old.3,
@@ -43,7 +52,7 @@ invariant_of-pass g c =
       old.10,
       old.11,
       old.12,
-      kept_drawn _ c.pass.inside.number c.pass.inside.kept.items c.store.new.kept.items c.pass.inside.clock 0 v _ c.alone_word.new.seat.me _ old.13 c.stamp_after-stamp.ensures refl few c.store.ensures.kept taken.alone refl,
+      kept_drawn _ c.pass.inside.number c.pass.inside.home c.pass.inside.kept c.store.new.kept c.pass.inside.clock 0 v _ _ c.alone_word.new.seat.me _ old.13 refl c.stamp_after-stamp.ensures refl few c.store.ensures.entries c.store.ensures.owner c.store.ensures.first taken.alone refl,
       taken.takes.finds,
       old.15,
       old.16,

@@ -1,4 +1,4 @@
-use Rattle.std.proofs.Common.{rules, ◌<◌, [], ◌∷◌, length, vec_capacity, refl, sym, ap, subst, ◌∙◌}
+use Rattle.std.proofs.Common.{rules, ◌<◌, [], ◌∷◌, length, refl, sym, ap, subst, ◌∙◌, arith}
 use Rattle.k42_board.specs.Drawing.{IsHeld, drawn_at, entry_mark, untold_view}
 use Rattle.k42_board.specs.Log.{took}
 use Rattle.k42_board.specs.Words.{lock_word}
@@ -9,13 +9,14 @@ use Rattle.k42_board.specs.Queueing.{IsTied}
 use Rattle.k42_board.specs.Receipts.{IsDue, after_first}
 use Rattle.k42_limits.specs.declared.TheConstants.{PASS_ENTRIES}
 use Rattle.turn_core.specs.Stamps.{last_stamp}
-use Rattle.k42_board.specs.Seen.{PassSeen}
+use Rattle.k42_board.specs.Seen.{PassSeen, Own}
 use Rattle.k42_board.specs.Steps.{Seated}
 use Rattle.k42_board.specs.Views.{pass_in}
 use Rattle.k42_board.specs.declared.view.View.TheVariants.{Crew}
 use Rattle.k42_board.proofs.Noted.{mark_due}
 use Rattle.k42_rule.proofs.Drawn.{knows_drawn, takes_drawn}
-use Rattle.k42_rule.proofs.Entries.{mark_entry}
+use Rattle.k42_rule.proofs.Entries.{mark_entry, over_told}
+use Rattle.k42_rule.proofs.KeptNext.{may_keep}
 use Rattle.k42_rule.proofs.Pushed.{drawer_is, drawn_later, kept_drawn, mirrors_drawn}
 use Rattle.k42_rule.proofs.drawing.draw_mark.Goals as goal
 
@@ -35,6 +36,14 @@ tell_cell-requires-clause-due g c κs within =
     (mark_due _ (pass_in c.pass.inside.seat.me.0) c.args.cell.now _ c.mark_word.new.seat.me taken.alone taken.takes.finds
     (subst (λ (p : PassSeen _). IsHeld p.view.notes c.args.cell.now) (sym c.pass.view_is) c.requires.may.held))
 
+pub store-requires-clause-may : goal.store-requires-clause-may
+store-requires-clause-may g c κs within =
+    let old = c.pass.invariant in
+    let few = subst (λ (p : PassSeen _). length p.view.taker.mine < PASS_ENTRIES) (sym c.pass.view_is) c.requires.may.few in
+    may_keep _ c.pass.inside.number c.pass.inside.home _ c.pass.inside.clock c.pass.inside.kept old.13 _ refl refl (ap (λ (o : Own). o.drawn) old.0.own_is) few
+    (subst (λ n. n < 16) (sym c.object_begun_in.ensures) old.20) (let small = c.args.cell.now.few in let is = c.number.ensures in omega (arith, small, is))
+    (c.requires.may.act_is ∙ sym (over_told c.args.answer c.requires.may.over))
+
 pub returns-clause-drawn : goal.returns-clause-drawn
 returns-clause-drawn g c =
     let taken = c.mark_word.ensures in let seat = c.pass.inside.seat in let v = pass_in seat.me.0 in let cell = c.args.cell.now in
@@ -43,7 +52,7 @@ returns-clause-drawn g c =
     mark_entry v _ c.pass.invariant.0.own_is c.args.act c.args.answer c.requires.may.act_is c.stamp_after-stamp.result c.pass.inside.drawn c.object_begun_in.result c.incarnation_at.result
     refl c.object_begun_in.ensures c.number.result c.args.cell.now.number (search rules) (search rules) (search rules) in
     let told = c.tell_cell.ensures.seated ∙ ap (λ (m : Seated _). (Crew (untold_view (after_first (pass_in m.0).untold) (pass_in c.mark_word.new.seat.me.0) ∷ []), [])) (taken 0).alone in record {
-      drawer = drawer_is _ _ _ c.pass.inside.kept.items c.store.new.kept.items _ (vec_capacity c.pass.inside.kept) (vec_capacity c.store.new.kept) c.pass.view_is c.requires.room (c.tell_cell.ensures.ours.0 ∙ (taken 0).table) (c.tell_cell.ensures.ours.1 ∙ (taken 0).seat) refl refl refl c.store.ensures.kept c.store.ensures.capacity refl refl refl refl;
+      drawer = drawer_is _ _ _ c.pass.inside.kept c.store.new.kept c.pass.view_is (c.tell_cell.ensures.ours.0 ∙ (taken 0).table) (c.tell_cell.ensures.ours.1 ∙ (taken 0).seat) refl refl refl c.store.ensures.room refl refl refl refl;
       knows = knows_drawn _ c.mark_word.new.seat.me c.tell_cell.new.seat.me (taken 0).alone told ∙ ap (λ (e : Entry). after e v) entry ∙ ap (λ (p : PassSeen _). after (entry_mark p.view c.args.cell.now.number c.args.act c.args.answer) p.view) c.pass.view_is;
       takes = λ found. rw (← c.pass.view_is, ← c.sys.view_is, ← entry) (takes_drawn _ c.mark_word.new.seat.me c.tell_cell.new.seat.me (taken 0).alone told _ refl found (taken found).takes);
     }
@@ -51,7 +60,7 @@ returns-clause-drawn g c =
 pub returns-clause-later : goal.returns-clause-later
 returns-clause-later g c =
     subst (λ (p : PassSeen _). last_stamp p.view.taker.mine < c.stamp_after-stamp.result) c.pass.view_is
-    (drawn_later _ c.pass.inside.number (pass_in c.pass.inside.seat.me.0).taker.mine c.pass.inside.kept.items c.pass.inside.clock c.last_stamp.result c.stamp_after-stamp.result c.pass.invariant.13
+    (drawn_later _ c.pass.inside.number c.pass.inside.home (pass_in c.pass.inside.seat.me.0).taker.mine c.pass.inside.kept c.pass.inside.clock c.last_stamp.result c.stamp_after-stamp.result c.pass.invariant.13
     c.stamp_after-stamp.ensures)
 
 -- what the pass keeps by itself
@@ -61,7 +70,7 @@ invariant_of-pass g c =
     let taken = c.mark_word.ensures 0 in let told = taken.alone in
     let few = subst (λ (p : PassSeen _). length p.view.taker.mine < PASS_ENTRIES) (sym c.pass.view_is) c.requires.may.few in
     let seated = c.tell_cell.ensures.seated ∙ (λ i. (Crew (untold_view (after_first (pass_in (told i).0).untold) (pass_in (told i).0) ∷ []), [])) in (
-      mirrors_drawn _ c.pass.inside.seat.me c.tell_cell.new.seat.me _ _ old.0 seated refl refl refl,
+      mirrors_drawn _ c.pass.inside.seat.me c.tell_cell.new.seat.me _ _ _ old.0 seated refl refl refl refl,
       old.1,
       old.2,
       old.3,
@@ -74,7 +83,7 @@ invariant_of-pass g c =
       old.10,
       old.11,
       old.12,
-      kept_drawn _ c.pass.inside.number c.pass.inside.kept.items c.store.new.kept.items c.pass.inside.clock c.last_stamp.result v _ c.tell_cell.new.seat.me _ old.13 c.stamp_after-stamp.ensures refl few c.store.ensures.kept seated refl,
+      kept_drawn _ c.pass.inside.number c.pass.inside.home c.pass.inside.kept c.store.new.kept c.pass.inside.clock c.last_stamp.result v _ _ c.tell_cell.new.seat.me _ old.13 refl c.stamp_after-stamp.ensures refl few c.store.ensures.entries c.store.ensures.owner c.store.ensures.first seated refl,
       taken.takes.finds,
       old.15,
       old.16,

@@ -1,7 +1,6 @@
-use Rattle.std.proofs.Common.{rules, ◌≡◌, ◌<◌, [], ◌∷◌, length, vec_capacity, ap, sym, subst, refl, ◌∙◌, arith}
+use Rattle.std.proofs.Common.{rules, ◌≡◌, ◌<◌, [], ◌∷◌, length, ap, sym, subst, refl, ◌∙◌, arith}
 use Rattle.std.specs.Prelude.{max}
-use Rattle.phase_core.specs.Stages.{object_of, row_of}
-use Rattle.k42_board.specs.Drawing.{AreHeld, MayDrawAs, drawn_at, entry_call, numbers_of, untold_view, stamp_next}
+use Rattle.k42_board.specs.Drawing.{AreHeld, MayDrawCall, drawn_at, entry_at, numbers_of, untold_view, stamp_next}
 use Rattle.k42_joined.specs.Drawing.{first_cell}
 use Rattle.k42_board.specs.Log.{took}
 use Rattle.k42_board.specs.Words.{lock_word}
@@ -17,10 +16,10 @@ use Rattle.k42_board.specs.Seen.{SysSeen, PassSeen, Own}
 use Rattle.k42_board.specs.Steps.{Seated}
 use Rattle.k42_board.specs.Views.{pass_in}
 use Rattle.k42_board.specs.declared.view.View.TheVariants.{Crew}
-use Rattle.k42_board.proofs.DrawnCall.{drawn_held, drawn_call}
-use Rattle.k42_board.proofs.Noted.{mark_due, call_entry, stamp_held}
+use Rattle.k42_board.proofs.Noted.{mark_due, stamp_held}
 use Rattle.k42_rule.proofs.Drawn.{knows_drawn, takes_drawn}
-use Rattle.k42_rule.proofs.Pushed.{call_few, drawer_is, drawn_later, kept_drawn, mirrors_drawn}
+use Rattle.k42_rule.proofs.KeptNext.{index_few, kept_call}
+use Rattle.k42_rule.proofs.Pushed.{drawer_is, drawn_later, kept_drawn, mirrors_drawn}
 use Rattle.k42_rule.proofs.drawing.draw_one.Goals as goal
 
 pub one_word-requires-clause-agree : goal.one_word-requires-clause-agree
@@ -29,25 +28,13 @@ one_word-requires-clause-agree g c κs within =
     λ layout other same tag. (met.agrees layout other same tag).ways
 
 pub one_word-requires-clause-may : goal.one_word-requires-clause-may
-one_word-requires-clause-may g c κs within =
-    let F = layouts_on g.L.Kind.object g.L.Layout.tag_of g.L.Layout.ways g.L.Layout.whole g.L.Layout.serves g.L.Layout.admitted g.L.Layout.act_of c.args.sys.now.procs c.args.sys.now.callers in
-    let v = pass_in c.pass.inside.seat.me.0 in let cells = c.args.cell.now ∷ [] in let own = c.pass.invariant.0.own_is in
-    let held = subst (λ (p : PassSeen _). AreHeld p.view.notes cells) (sym c.pass.view_is) (drawn_held F c.args.sys.now.layouts c.args.pass.now.view cells c.args.act c.args.answer c.requires.may) in
-    let last : c.last_stamp.result ≡ max c.args.cell.now.last 0 = let is = c.last_stamp.ensures.is in omega (arith, is) in
-    let stamped : c.stamp_after-stamp.result ≡ stamp_next v (numbers_of cells) =
-    stamp_held v cells c.pass.inside.clock c.stamp_after-stamp.result c.last_stamp.result held (ap (λ (o : Own). o.clock) own) last c.stamp_after-stamp.ensures in
-    record {
-      here = search rules;
-      may = (
-        subst (λ (z : SysSeen _ × PassSeen _). MayDrawAs
-            (layouts_on g.L.Kind.object g.L.Layout.tag_of g.L.Layout.ways g.L.Layout.whole g.L.Layout.serves g.L.Layout.admitted g.L.Layout.act_of z.0.procs z.0.callers)
-            z.0.layouts cells c.args.act c.args.answer z.1.view) (λ j. (sym c.sys.view_is j, sym c.pass.view_is j)) c.requires.may,
-        call_entry v (numbers_of cells) c.args.act c.args.answer c.stamp_after-stamp.result c.pass.inside.number c.pass.inside.drawn c.object_in.result c.row_in.result c.number.result c.pass.inside.home c.pass.inside.active
-            stamped (ap (λ (o : Own). o.number) own) (ap (λ (o : Own). o.drawn) own) (c.object_in.ensures ∙ ap (λ (o : Own). object_of o.place) own) (c.row_in.ensures ∙ ap (λ (o : Own). row_of o.place) own)
-            c.number.ensures (ap (λ (o : Own). o.turn.proc) own) (ap (λ (o : Own). o.turn.active) own)
-            (drawn_call F c.args.sys.now.layouts c.args.pass.now.view cells c.args.act c.args.answer c.requires.may),
-      );
-    }
+one_word-requires-clause-may g c κs within = record {
+  here = search rules;
+  may =
+      subst (λ (z : SysSeen _ × PassSeen _). MayDrawCall
+          (layouts_on g.L.Kind.object g.L.Layout.tag_of g.L.Layout.ways g.L.Layout.whole g.L.Layout.serves g.L.Layout.admitted g.L.Layout.act_of z.0.procs z.0.callers)
+          z.0.layouts (c.args.cell.now ∷ []) c.args.op.now c.args.reply.now z.1.view) (λ j. (sym c.sys.view_is j, sym c.pass.view_is j)) c.requires.may;
+}
 
 pub tell_cell-requires-clause-ours : goal.tell_cell-requires-clause-ours
 tell_cell-requires-clause-ours g c κs within = let taken = c.one_word.ensures 0 in search (rules, taken)
@@ -60,18 +47,30 @@ tell_cell-requires-clause-first g c κs within = let taken = c.one_word.ensures 
 
 pub tell_cell-requires-clause-due : goal.tell_cell-requires-clause-due
 tell_cell-requires-clause-due g c κs within =
-    let F = layouts_on g.L.Kind.object g.L.Layout.tag_of g.L.Layout.ways g.L.Layout.whole g.L.Layout.serves g.L.Layout.admitted g.L.Layout.act_of c.args.sys.now.procs c.args.sys.now.callers in
     let v = pass_in c.pass.inside.seat.me.0 in let cells = c.args.cell.now ∷ [] in let own = c.pass.invariant.0.own_is in
-    let held = subst (λ (p : PassSeen _). AreHeld p.view.notes cells) (sym c.pass.view_is) (drawn_held F c.args.sys.now.layouts c.args.pass.now.view cells c.args.act c.args.answer c.requires.may) in
+    let held = subst (λ (p : PassSeen _). AreHeld p.view.notes cells) (sym c.pass.view_is) c.requires.may.held in
+    let last : c.last_stamp.result ≡ max c.args.cell.now.last 0 = let is = c.last_stamp.ensures.is in omega (arith, is) in
+    let stamped : c.stamp_after-stamp.result ≡ stamp_next v (numbers_of cells) =
+    stamp_held v cells c.pass.inside.clock c.stamp_after-stamp.result c.last_stamp.result held (ap (λ (o : Own). o.clock) own) last c.stamp_after-stamp.ensures in
     let taken = c.one_word.ensures 0 in
-    subst (λ shut. IsDue (pass_in c.one_word.new.seat.me.0).notes c.args.cell.now.number shut c.stamp_after-stamp.result) (sym c.is_closed-closed.ensures)
+    subst (λ (z : Bool × ℕ). IsDue (pass_in c.one_word.new.seat.me.0).notes c.args.cell.now.number z.0 z.1) (λ i. (sym c.is_closed-closed.ensures i, sym stamped i))
     (mark_due _ v c.args.cell.now _ c.one_word.new.seat.me taken.alone taken.takes.finds (held 0 c.args.cell.now refl))
+
+pub store_call-requires-clause-few : goal.store_call-requires-clause-few
+store_call-requires-clause-few g c κs within =
+    let few = subst (λ (p : PassSeen _). length p.view.taker.mine < PASS_ENTRIES) (sym c.pass.view_is) c.requires.may.few in
+    index_few _ c.pass.inside.number c.pass.inside.home _ c.pass.inside.clock c.pass.inside.kept c.pass.invariant.13 few
+
+pub store_call-requires-clause-object : goal.store_call-requires-clause-object
+store_call-requires-clause-object g c κs within = subst (λ n. n < 16) (sym c.object_in-object.ensures) c.pass.invariant.2
+
+pub store_call-requires-clause-cell : goal.store_call-requires-clause-cell
+store_call-requires-clause-cell g c κs within = ?
 
 pub returns-clause-stamp : goal.returns-clause-stamp
 returns-clause-stamp g c =
-    let F = layouts_on g.L.Kind.object g.L.Layout.tag_of g.L.Layout.ways g.L.Layout.whole g.L.Layout.serves g.L.Layout.admitted g.L.Layout.act_of c.args.sys.now.procs c.args.sys.now.callers in
     let v = pass_in c.pass.inside.seat.me.0 in let cells = c.args.cell.now ∷ [] in let own = c.pass.invariant.0.own_is in
-    let held = subst (λ (p : PassSeen _). AreHeld p.view.notes cells) (sym c.pass.view_is) (drawn_held F c.args.sys.now.layouts c.args.pass.now.view cells c.args.act c.args.answer c.requires.may) in
+    let held = subst (λ (p : PassSeen _). AreHeld p.view.notes cells) (sym c.pass.view_is) c.requires.may.held in
     let last : c.last_stamp.result ≡ max c.args.cell.now.last 0 = let is = c.last_stamp.ensures.is in omega (arith, is) in
     let stamped : c.stamp_after-stamp.result ≡ stamp_next v (numbers_of cells) =
     stamp_held v cells c.pass.inside.clock c.stamp_after-stamp.result c.last_stamp.result held (ap (λ (o : Own). o.clock) own) last c.stamp_after-stamp.ensures in
@@ -79,40 +78,37 @@ returns-clause-stamp g c =
 
 pub returns-clause-drawn : goal.returns-clause-drawn
 returns-clause-drawn g c =
-    let F = layouts_on g.L.Kind.object g.L.Layout.tag_of g.L.Layout.ways g.L.Layout.whole g.L.Layout.serves g.L.Layout.admitted g.L.Layout.act_of c.args.sys.now.procs c.args.sys.now.callers in
-    let v = pass_in c.pass.inside.seat.me.0 in let cells = c.args.cell.now ∷ [] in let own = c.pass.invariant.0.own_is in
-    let held = subst (λ (p : PassSeen _). AreHeld p.view.notes cells) (sym c.pass.view_is) (drawn_held F c.args.sys.now.layouts c.args.pass.now.view cells c.args.act c.args.answer c.requires.may) in
-    let last : c.last_stamp.result ≡ max c.args.cell.now.last 0 = let is = c.last_stamp.ensures.is in omega (arith, is) in
-    let stamped : c.stamp_after-stamp.result ≡ stamp_next v (numbers_of cells) =
-    stamp_held v cells c.pass.inside.clock c.stamp_after-stamp.result c.last_stamp.result held (ap (λ (o : Own). o.clock) own) last c.stamp_after-stamp.ensures in
-    let entry =
-    call_entry v (numbers_of cells) c.args.act c.args.answer c.stamp_after-stamp.result c.pass.inside.number c.pass.inside.drawn c.object_in.result c.row_in.result c.number.result c.pass.inside.home c.pass.inside.active
-    stamped (ap (λ (o : Own). o.number) own) (ap (λ (o : Own). o.drawn) own) (c.object_in.ensures ∙ ap (λ (o : Own). object_of o.place) own) (c.row_in.ensures ∙ ap (λ (o : Own). row_of o.place) own)
-    c.number.ensures (ap (λ (o : Own). o.turn.proc) own) (ap (λ (o : Own). o.turn.active) own)
-    (drawn_call F c.args.sys.now.layouts c.args.pass.now.view cells c.args.act c.args.answer c.requires.may) in
-    let after = λ (e : Entry) (w : PassView _). took steps.Draw (lock_word (first_cell (numbers_of cells))) 0 (drawn_at cells e w) in
+    let cells = c.args.cell.now ∷ [] in
+    let after = λ (w : PassView _). took steps.Draw (lock_word (first_cell (numbers_of cells))) 0 (drawn_at cells (entry_at cells c.args.op.now c.args.reply.now w) w) in
     let taken = c.one_word.ensures in
-    let told = c.tell_cell.ensures.seated ∙ ap (λ (m : Seated _). (Crew (untold_view (after_first (pass_in m.0).untold) (pass_in c.one_word.new.seat.me.0) ∷ []), [])) (taken 0).alone in record {
-      drawer = drawer_is _ _ _ c.pass.inside.kept.items c.store.new.kept.items _ (vec_capacity c.pass.inside.kept) (vec_capacity c.store.new.kept) c.pass.view_is c.requires.room (c.tell_cell.ensures.ours.0 ∙ (taken 0).table) (c.tell_cell.ensures.ours.1 ∙ (taken 0).seat) refl refl refl c.store.ensures.kept c.store.ensures.capacity refl refl refl refl;
-      knows = knows_drawn _ c.one_word.new.seat.me c.tell_cell.new.seat.me (taken 0).alone told ∙ ap (λ (e : Entry). after e v) entry ∙ ap (λ (p : PassSeen _). after (entry_call p.view (numbers_of cells) c.args.act c.args.answer) p.view) c.pass.view_is;
-      takes = λ found. rw (← c.pass.view_is, ← c.sys.view_is, ← entry) (takes_drawn _ c.one_word.new.seat.me c.tell_cell.new.seat.me (taken 0).alone told _ refl found (taken found).takes);
+    let told = c.tell_cell.ensures.seated ∙ ap (λ (m : Seated _). (Crew (untold_view (after_first (pass_in m.0).untold) (pass_in c.one_word.new.seat.me.0) ∷ []), [])) (taken 0).alone in
+    record {
+      drawer = drawer_is _ _ _ c.pass.inside.kept c.store_call.new.kept c.pass.view_is (c.tell_cell.ensures.ours.0 ∙ (taken 0).table) (c.tell_cell.ensures.ours.1 ∙ (taken 0).seat) refl refl refl c.store_call.ensures.room refl refl refl refl;
+      knows = knows_drawn _ c.one_word.new.seat.me c.tell_cell.new.seat.me (taken 0).alone told ∙ ap (λ (p : PassSeen _). after p.view) c.pass.view_is;
+      takes = λ found. rw (← c.pass.view_is, ← c.sys.view_is) (takes_drawn _ c.one_word.new.seat.me c.tell_cell.new.seat.me (taken 0).alone told _ refl found (taken found).takes);
     }
 
 pub returns-clause-later : goal.returns-clause-later
 returns-clause-later g c =
     subst (λ (p : PassSeen _). last_stamp p.view.taker.mine < c.stamp_after-stamp.result) c.pass.view_is
-    (drawn_later _ c.pass.inside.number (pass_in c.pass.inside.seat.me.0).taker.mine c.pass.inside.kept.items c.pass.inside.clock c.last_stamp.result c.stamp_after-stamp.result c.pass.invariant.13
+    (drawn_later _ c.pass.inside.number c.pass.inside.home (pass_in c.pass.inside.seat.me.0).taker.mine c.pass.inside.kept c.pass.inside.clock c.last_stamp.result c.stamp_after-stamp.result c.pass.invariant.13
     c.stamp_after-stamp.ensures)
 
 -- what the pass keeps by itself
 pub invariant_of-pass : goal.invariant_of-pass
 invariant_of-pass g c =
-    let old = c.pass.invariant in let v = pass_in c.pass.inside.seat.me.0 in
-    let taken = c.one_word.ensures 0 in let told = taken.alone in
-    let F = layouts_on g.L.Kind.object g.L.Layout.tag_of g.L.Layout.ways g.L.Layout.whole g.L.Layout.serves g.L.Layout.admitted g.L.Layout.act_of c.args.sys.now.procs c.args.sys.now.callers in
-    let few = subst (λ (p : PassSeen _). length p.view.taker.mine < PASS_ENTRIES) (sym c.pass.view_is) (call_few F c.args.sys.now.layouts c.args.pass.now.view (c.args.cell.now ∷ []) c.args.act c.args.answer c.requires.may) in
+    let v = pass_in c.pass.inside.seat.me.0 in let cells = c.args.cell.now ∷ [] in let own = c.pass.invariant.0.own_is in
+    let held = subst (λ (p : PassSeen _). AreHeld p.view.notes cells) (sym c.pass.view_is) c.requires.may.held in
+    let last : c.last_stamp.result ≡ max c.args.cell.now.last 0 = let is = c.last_stamp.ensures.is in omega (arith, is) in
+    let stamped : c.stamp_after-stamp.result ≡ stamp_next v (numbers_of cells) =
+    stamp_held v cells c.pass.inside.clock c.stamp_after-stamp.result c.last_stamp.result held (ap (λ (o : Own). o.clock) own) last c.stamp_after-stamp.ensures in
+    let old = c.pass.invariant in let taken = c.one_word.ensures 0 in let told = taken.alone in
+    let few = subst (λ (p : PassSeen _). length p.view.taker.mine < PASS_ENTRIES) (sym c.pass.view_is) c.requires.may.few in
+    let kept = c.store_call.ensures.entries
+    ∙ kept_call _ c.pass.inside.number c.pass.inside.home v.taker.mine c.pass.inside.clock c.pass.inside.kept old.13 v _ cells c.args.op.now c.args.reply.now c.stamp_after-stamp.result
+    c.object_in-object.result c.row_in-row.result c.number.result c.pass.inside.active own refl refl refl stamped c.object_in-object.ensures c.row_in-row.ensures c.number.ensures refl in
     let seated = c.tell_cell.ensures.seated ∙ (λ i. (Crew (untold_view (after_first (pass_in (told i).0).untold) (pass_in (told i).0) ∷ []), [])) in (
-      mirrors_drawn _ c.pass.inside.seat.me c.tell_cell.new.seat.me _ _ old.0 seated refl refl refl,
+      mirrors_drawn _ c.pass.inside.seat.me c.tell_cell.new.seat.me _ _ _ old.0 seated refl refl refl (sym stamped),
       old.1,
       old.2,
       old.3,
@@ -125,7 +121,7 @@ invariant_of-pass g c =
       old.10,
       old.11,
       old.12,
-      kept_drawn _ c.pass.inside.number c.pass.inside.kept.items c.store.new.kept.items c.pass.inside.clock c.last_stamp.result v _ c.tell_cell.new.seat.me _ old.13 c.stamp_after-stamp.ensures refl few c.store.ensures.kept seated refl,
+      kept_drawn _ c.pass.inside.number c.pass.inside.home c.pass.inside.kept c.store_call.new.kept c.pass.inside.clock c.last_stamp.result v _ _ c.tell_cell.new.seat.me _ old.13 (sym stamped) c.stamp_after-stamp.ensures (sym (ap (λ (o : Own). o.number) own)) few kept c.store_call.ensures.owner c.store_call.ensures.first seated refl,
       taken.takes.finds,
       old.15,
       old.16,

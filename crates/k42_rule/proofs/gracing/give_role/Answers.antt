@@ -41,7 +41,7 @@ invariant_of-pass g c =
       omega arith,
       tt,
       old.12,
-      subst (λ (x : PassView _). HasKept (record { what = c.pass.inside.keep; given = c.pass.inside.given; since = c.pass.inside.since }) c.pass.inside.number x.taker.mine c.pass.inside.clock c.pass.inside.kept.items) (sym is) old.13,
+      subst (λ (x : PassView _). HasKept (record { what = c.pass.inside.keep; given = c.pass.inside.given; since = c.pass.inside.since }) c.pass.inside.number c.pass.inside.home x.taker.mine c.pass.inside.clock c.pass.inside.kept) (sym is) old.13,
       old.14,
       old.15,
       old.16,

@@ -31,7 +31,7 @@ invariant_of-pass g c =
       omega (arith, many),
       (subst (λ (o : Own). 0 < length o.turn.waits) (sym was.0.own_is) c.take_role_word-found.ensures.takes.finds.procs, λ some. absurd (omega (arith, some))),
       omega arith,
-      subst (λ (mine : List Entry). HasKept (record { what = pass.keep; given = pass.given; since = pass.since }) pass.number mine pass.clock pass.kept.items) (sym (role_keeps v c.take_role_word-found.new.seat.me c.take_role_word-found.result c.take_role_word-found.ensures.alone c.if-found-eq0.true)) was.13,
+      subst (λ (mine : List Entry). HasKept (record { what = pass.keep; given = pass.given; since = pass.since }) pass.number pass.home mine pass.clock pass.kept) (sym (role_keeps v c.take_role_word-found.new.seat.me c.take_role_word-found.result c.take_role_word-found.ensures.alone c.if-found-eq0.true)) was.13,
       was.14,
       fits_draining pass.swap pass.turned pass.handed pass.last was.15 c.draining-pass-inside.result swap_is,
       was.16,

@@ -10,8 +10,8 @@ use Rattle.k42_board.specs.Views.{word_begun}
 use Rattle.k42_rule.proofs.HandedCells.{stamp_is}
 use Rattle.k42_rule.proofs.handing.done_entry.Goals as goal
 
-pub returns : goal.returns
-returns g c =
+pub returns-clause-is : goal.returns-clause-is
+returns-clause-is g c =
     let v = c.args.pass.now.view in
     let sys = c.args.sys.now in
     let cells = c.args.cells.now in

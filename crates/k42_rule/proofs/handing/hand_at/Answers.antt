@@ -1,8 +1,11 @@
-use Rattle.std.proofs.Common.{rules, refl, ◌≡◌, ℕ, ◌+◌, ◌<◌, ◌≤◌, true, List, ◌++◌, Some, vec_capacity, take, drop, sym, ap, ◌∙◌, subst}
+use Rattle.std.proofs.Common.{rules, refl, ◌≡◌, ℕ, ◌+◌, ◌<◌, ◌≤◌, true, List, ◌++◌, Some, length, take, drop, sym, ap, ◌∙◌, subst, arith}
 use Rattle.std.specs.Prelude.{max}
 use Rattle.k42_kinds.specs.declared.entry.Entry.{Entry}
 use Rattle.k42_joined.specs.Drawing.{first_cell}
-use Rattle.phase_core.specs.Stages.{is_moved}
+use Rattle.phase_core.specs.Stages.{is_moved, object_named}
+use Rattle.k42_kinds.specs.Histories.{is_call}
+use Rattle.k42_limits.specs.declared.TheConstants.{PASS_ENTRIES}
+use Rattle.k42_log.specs.Names.{is_reply}
 use Rattle.k42_board.specs.Drawing.{AreTold, last_noted, numbers_of, HasSmallStamp}
 use Rattle.k42_board.specs.Handing.{handed_at, hands_at}
 use Rattle.k42_board.specs.Log.{took}
@@ -23,6 +26,7 @@ use Rattle.k42_rule.proofs.Fitting.{fits_handed}
 use Rattle.k42_rule.proofs.HandedCells.{all_numbers}
 use Rattle.k42_rule.proofs.HandedSeat.{untold_is, due_is, mine_is, mirrors_is, stamp_told}
 use Rattle.turn_core.specs.Stamps.{last_stamp}
+use Rattle.k42_rule.proofs.KeptNext.{may_keep}
 use Rattle.k42_rule.proofs.Pushed.{drawer_is, drawn_later, kept_drawn, longer_drawn}
 use Rattle.k42_rule.proofs.handing.hand_at.Goals as goal
 
@@ -59,6 +63,19 @@ tell_all-requires-clause-due g c κs within =
     procs (ap (λ (p : PassSeen _). p.view) c.pass.view_is) (taken.alone, taken.takes.finds) in
     subst (λ n. AreDue (pass_in c.hand_word.new.seat.me.0).notes n true entry.stamp cells) (sym (c.sys.invariant.3 ∙ procs))
     (due_is F sys.layouts cells c.args.to.now c.args.answer v c.requires.may entry tag c.hand_word.new.seat.me (lock_word (first_cell (numbers_of cells))) told.0 (subst (λ n. n ≤ 8) procs c.sys.invariant.7) told.1)
+
+pub store-requires-clause-may : goal.store-requires-clause-may
+store-requires-clause-may g c κs within =
+    let v = c.args.pass.now.view in let old = c.pass.invariant in let entry = c.done_entry-entry.result in
+    let met = g.met.L.Layout g.world.𝓛 g.world.𝓜 g.world.𝓡 ((λ s x. x), (λ x. x), (λ x. x), λ x. x) in
+    let own = old.0.own_is ∙ ap own_in (ap (λ (p : PassSeen _). p.view) c.pass.view_is) in let is = c.done_entry-entry.ensures.is in
+    let few = subst (λ (p : PassSeen _). length p.view.taker.mine < PASS_ENTRIES) (sym c.pass.view_is) c.requires.may.few in
+    let object = subst (λ n. n < 16) (ap (λ (o : Own). object_named o.swap) own ∙ sym (ap (λ (e : Entry). e.object) is)) old.4 in
+    let cell = c.done_entry-entry.ensures.few in
+    may_keep _ c.pass.inside.number c.pass.inside.home _ c.pass.inside.clock c.pass.inside.kept old.13 entry
+    (ap (λ (e : Entry). e.caller) is ∙ sym (ap (λ (o : Own). o.number) own)) (ap (λ (e : Entry). e.proc) is ∙ sym (ap (λ (o : Own). o.turn.proc) own))
+    (ap (λ (e : Entry). e.index) is ∙ ap (λ (p : PassSeen _). length p.view.taker.mine) (sym c.pass.view_is)) few object (omega (arith, cell))
+    (ap (λ (e : Entry). is_call e.act) is ∙ met.asks c.args.to.now ∙ sym (ap is_reply (ap (λ (e : Entry). e.answer) is ∙ c.requires.may.answer_is)))
 
 pub invariant_of-pass : goal.invariant_of-pass
 invariant_of-pass g c =
@@ -102,8 +119,8 @@ invariant_of-pass g c =
       old.10,
       old.11,
       old.12,
-      kept_drawn _ c.pass.inside.number c.pass.inside.kept.items c.store.new.kept.items c.pass.inside.clock (last_noted v.notes (numbers_of cells)) v entry c.tell_all.new.seat.me _ (subst (λ (x : PassView _). HasKept (record { what = c.pass.inside.keep; given = c.pass.inside.given; since = c.pass.inside.since }) c.pass.inside.number x.taker.mine c.pass.inside.clock c.pass.inside.kept.items) same old.13)
-          (stamp_told F sys.layouts cells c.args.to.now c.args.answer v c.requires.may entry tag (g.L.Layout.act_of c.args.to.now) c.done_entry-entry.ensures ∙ ap (λ (o : Own). max o.clock (last_noted v.notes (numbers_of cells)) + 1) (sym own)) (ap (λ (e : Entry). e.caller) c.done_entry-entry.ensures ∙ ap (λ (o : Own). o.number) (sym own)) c.requires.may.few c.store.ensures.kept c.tell_all.ensures.seated mine_now,
+      kept_drawn _ c.pass.inside.number c.pass.inside.home c.pass.inside.kept c.store.new.kept c.pass.inside.clock (last_noted v.notes (numbers_of cells)) v entry entry.stamp c.tell_all.new.seat.me _ (subst (λ (x : PassView _). HasKept (record { what = c.pass.inside.keep; given = c.pass.inside.given; since = c.pass.inside.since }) c.pass.inside.number c.pass.inside.home x.taker.mine c.pass.inside.clock c.pass.inside.kept) same old.13) refl
+          (stamp_told F sys.layouts cells c.args.to.now c.args.answer v c.requires.may entry tag (g.L.Layout.act_of c.args.to.now) c.done_entry-entry.ensures.is ∙ ap (λ (o : Own). max o.clock (last_noted v.notes (numbers_of cells)) + 1) (sym own)) (ap (λ (e : Entry). e.caller) c.done_entry-entry.ensures.is ∙ ap (λ (o : Own). o.number) (sym own)) c.requires.may.few c.store.ensures.entries c.store.ensures.owner c.store.ensures.first c.tell_all.ensures.seated mine_now,
       told.1,
       fits_handed c.pass.inside.swap c.pass.inside.turned c.pass.inside.handed c.pass.inside.last old.15 _
           (ap (λ (o : Own). is_moved o.swap) own ∙ ap is_moved c.requires.may.moved),
@@ -119,7 +136,7 @@ returns-clause-stamp g c =
     let sys = c.args.sys.now in
     let F = layouts_on g.L.Kind.object g.L.Layout.tag_of g.L.Layout.ways g.L.Layout.whole g.L.Layout.serves g.L.Layout.admitted g.L.Layout.act_of sys.procs sys.callers in
     stamp_told F sys.layouts c.args.cells.now c.args.to.now c.args.answer c.args.pass.now.view c.requires.may c.done_entry-entry.result (g.L.Layout.tag_of c.args.to.now)
-    (g.L.Layout.act_of c.args.to.now) c.done_entry-entry.ensures
+    (g.L.Layout.act_of c.args.to.now) c.done_entry-entry.ensures.is
 
 pub returns-clause-later : goal.returns-clause-later
 returns-clause-later g c =
@@ -127,8 +144,8 @@ returns-clause-later g c =
     let F = layouts_on g.L.Kind.object g.L.Layout.tag_of g.L.Layout.ways g.L.Layout.whole g.L.Layout.serves g.L.Layout.admitted g.L.Layout.act_of sys.procs sys.callers in
     let own = c.pass.invariant.0.own_is ∙ ap own_in (ap (λ (p : PassSeen _). p.view) c.pass.view_is) in
     subst (λ (p : PassSeen _). last_stamp p.view.taker.mine < entry.stamp) c.pass.view_is
-    (drawn_later _ c.pass.inside.number (pass_in c.pass.inside.seat.me.0).taker.mine c.pass.inside.kept.items c.pass.inside.clock (last_noted v.notes (numbers_of cells)) entry.stamp c.pass.invariant.13
-    (stamp_told F sys.layouts cells c.args.to.now c.args.answer v c.requires.may entry tag (g.L.Layout.act_of c.args.to.now) c.done_entry-entry.ensures
+    (drawn_later _ c.pass.inside.number c.pass.inside.home (pass_in c.pass.inside.seat.me.0).taker.mine c.pass.inside.kept c.pass.inside.clock (last_noted v.notes (numbers_of cells)) entry.stamp c.pass.invariant.13
+    (stamp_told F sys.layouts cells c.args.to.now c.args.answer v c.requires.may entry tag (g.L.Layout.act_of c.args.to.now) c.done_entry-entry.ensures.is
     ∙ ap (λ (o : Own). max o.clock (last_noted v.notes (numbers_of cells)) + 1) (sym own)))
 
 pub returns-clause-told : goal.returns-clause-told
@@ -145,9 +162,9 @@ returns-clause-drawn g c =
     let all =
     subst (λ n. numbers_of (take n cells) ++ numbers_of (drop n cells) ≡ numbers_of cells) (sym procs)
     (all_numbers F sys.layouts cells c.args.to.now c.args.answer v c.requires.may) in record {
-      drawer = drawer_is _ _ _ c.pass.inside.kept.items c.store.new.kept.items _ (vec_capacity c.pass.inside.kept) (vec_capacity c.store.new.kept) c.pass.view_is c.requires.room (c.tell_all.ensures.ours.0 ∙ (taken 0).table) (c.tell_all.ensures.ours.1 ∙ (taken 0).seat) refl refl refl c.store.ensures.kept c.store.ensures.capacity refl refl refl refl;
+      drawer = drawer_is _ _ _ c.pass.inside.kept c.store.new.kept c.pass.view_is (c.tell_all.ensures.ours.0 ∙ (taken 0).table) (c.tell_all.ensures.ours.1 ∙ (taken 0).seat) refl refl refl c.store.ensures.room refl refl refl refl;
       knows =
           knows_drawn _ c.hand_word.new.seat.me c.tell_all.new.seat.me (taken 0).alone c.tell_all.ensures.seated
-          ∙ (λ j. after (procs j) (c.done_entry-entry.ensures j) (same j));
-      takes = λ found. rw (← c.done_entry-entry.ensures, ← c.pass.view_is, ← c.sys.view_is) (takes_drawn _ c.hand_word.new.seat.me c.tell_all.new.seat.me (taken 0).alone c.tell_all.ensures.seated _ all found (taken found).takes);
+          ∙ (λ j. after (procs j) (c.done_entry-entry.ensures.is j) (same j));
+      takes = λ found. rw (← c.done_entry-entry.ensures.is, ← c.pass.view_is, ← c.sys.view_is) (takes_drawn _ c.hand_word.new.seat.me c.tell_all.new.seat.me (taken 0).alone c.tell_all.ensures.seated _ all found (taken found).takes);
     }

@@ -31,8 +31,8 @@ invariant_of-self g c =
       old.10,
       old.11,
       old.12,
-      kept_none _ self.number _ self.kept.items _ self.clock self.drawn (ap (λ (p : PassSeen _). p.keep.what) c.self.view_is ∙ c.requires) old.13 (ap (λ (o : Own). o.drawn) old.0.own_is)
-          (ap (λ v. v.items) c.replace-kept.ensures.after ∙ c.new.ensures.items),
+      kept_none _ self.number self.home _ self.kept _ self.clock self.drawn (ap (λ (p : PassSeen _). p.keep.what) c.self.view_is ∙ c.requires) old.13 (ap (λ (o : Own). o.drawn) old.0.own_is)
+          (c.replace-kept.ensures.after ∙ c.new-log.ensures),
       old.14,
       old.15,
       old.16,

@@ -1,76 +1,62 @@
-use Rattle.std.proofs.Common.{◌≡◌, ◌++◌, ◌≤◌, List, length, map, vec_items, sym, ap, ◌∙◌, subst, arith}
-use Rattle.k42_limits.specs.declared.TheConstants.{CALLERS}
-use Rattle.k42_rule.specs.Finishing.{AreAtRest, AreLastLists, kept_in, lists_in, with_none_kept}
+use Rattle.std.proofs.Common.{◌≡◌, ◌++◌, List, length, sym, ap, ◌∙◌, subst, arith}
+use Rattle.k42_kinds.specs.declared.entry.Entry.{Entry}
+use Rattle.k42_rule.specs.Finishing.{AreAtRest, AreLastLists, kept_in, lists_in, logged_in, with_none_kept}
 use Rattle.k42_rule.proofs.GivenLists.{given_rest, given_lists, all_kept}
 use Rattle.k42_stamp.specs.Lists.{AreLists, IsMerged}
 use Rattle.k42_stamp.specs.Merging.{entries_in}
-use Rattle.k42_runtime.specs.Closing.{Fits}
 use Rattle.k42_runtime.specs.Histories.{MayEnd}
 use Rattle.k42_runtime.specs.Systems.{SystemSeen, SystemPass, layouts_in}
 use Rattle.k42_runtime.proofs.Closed.{TraceLaw, at_rest, few_passes, come_back, lists_are, closed}
 use Rattle.k42_runtime.proofs.system.System.close.Goals as goal
-
-pub way_for-requires : goal.way_for-requires
-way_for-requires c =
-    let system : SystemSeen = record { sys = c.self.inside.sys; plan = c.self.inside.plan } in
-    let passes = c.args.passes.items in
-    let may : MayEnd system passes = subst (λ s. MayEnd s passes) (sym c.self.view_is) c.requires.may_end in
-    subst (λ (ps : List SystemPass). length ps ≤ CALLERS) (sym c.as_slice.ensures.value) (few_passes system passes c.self.invariant may)
 
 pub finish-requires-after_bounds : goal.finish-requires-after_bounds
 finish-requires-after_bounds c κs =
     let system : SystemSeen = record { sys = c.self.inside.sys; plan = c.self.inside.plan } in
     let passes = c.args.passes.items in
     let may : MayEnd system passes = subst (λ s. MayEnd s passes) (sym c.self.view_is) c.requires.may_end in
-    let given : c.give_lists.new.passes ≡ with_none_kept passes = c.give_lists.ensures.passes ∙ ap (λ (ps : List SystemPass). with_none_kept ps) c.as_mut_slice.ensures.value in
-    subst (AreAtRest system.sys) (sym (come_back passes c.give_lists.new.passes c.args.passes.len given c.args.passes.ok.0))
+    let given : c.give_logs.new.passes ≡ with_none_kept passes = c.give_logs.ensures.passes ∙ ap (λ (ps : List SystemPass). with_none_kept ps) c.as_mut_slice.ensures.value in
+    subst (AreAtRest system.sys) (sym (come_back passes c.give_logs.new.passes c.args.passes.len given c.args.passes.ok.0))
     (given_rest system.sys passes (at_rest system passes c.self.invariant may))
 
-pub merged-requires-clause-lists : goal.merged-requires-clause-lists
-merged-requires-clause-lists c =
+pub of-journal-requires-clause-lists : goal.of-journal-requires-clause-lists
+of-journal-requires-clause-lists c =
     let system : SystemSeen = record { sys = c.self.inside.sys; plan = c.self.inside.plan } in
     let passes = c.args.passes.items in
-    let given : c.give_lists.new.passes ≡ with_none_kept passes = c.give_lists.ensures.passes ∙ ap (λ (ps : List SystemPass). with_none_kept ps) c.as_mut_slice.ensures.value in
+    let given : c.give_logs.new.passes ≡ with_none_kept passes = c.give_logs.ensures.passes ∙ ap (λ (ps : List SystemPass). with_none_kept ps) c.as_mut_slice.ensures.value in
     let drawn =
-    ap (λ (ps : List SystemPass). lists_in ps) (come_back passes c.give_lists.new.passes c.args.passes.len given c.args.passes.ok.0) ∙ given_lists passes in
-    let same : map vec_items c.give_lists.new.lists.items ≡ lists_in passes =
-    c.give_lists.ensures.lists
-    ∙ (λ j. map vec_items (c.in-Ok-with_capacity.ensures.items j) ++ kept_in (c.as_mut_slice.ensures.value j))
+    ap (λ (ps : List SystemPass). lists_in ps) (come_back passes c.give_logs.new.passes c.args.passes.len given c.args.passes.ok.0) ∙ given_lists passes in
+    let same : logged_in c.give_logs.new.logs.items ≡ lists_in passes =
+    c.give_logs.ensures.logs
+    ∙ (λ j. logged_in (c.in-Ok-with_capacity.ensures.items j) ++ kept_in (c.as_mut_slice.ensures.value j))
     ∙ all_kept passes c.requires.all in
     let last : AreLastLists (layouts_in system) system.sys.layouts (length system.sys.callers) (lists_in passes) =
     subst (AreLastLists (layouts_in system) system.sys.layouts (length system.sys.callers)) drawn c.finish.ensures in
     subst AreLists (sym same) (lists_are (layouts_in system) system.sys.layouts (length system.sys.callers) (lists_in passes) last)
 
-pub merged-requires-clause-way : goal.merged-requires-clause-way
-merged-requires-clause-way c =
-    let same : map vec_items c.give_lists.new.lists.items ≡ kept_in c.args.passes.items =
-    c.give_lists.ensures.lists ∙ (λ j. map vec_items (c.in-Ok-with_capacity.ensures.items j) ++ kept_in (c.as_mut_slice.ensures.value j)) in
-    subst (λ ls. Fits ls c.in-Ok.way) (ap (λ (ps : List SystemPass). kept_in ps) c.as_slice.ensures.value ∙ sym same) c.in-Ok.ensures.fits
-
-pub merged-requires-clause-few : goal.merged-requires-clause-few
-merged-requires-clause-few c =
+pub of-journal-requires-clause-fits : goal.of-journal-requires-clause-fits
+of-journal-requires-clause-fits c =
     let system : SystemSeen = record { sys = c.self.inside.sys; plan = c.self.inside.plan } in
     let passes = c.args.passes.items in
     let may : MayEnd system passes = subst (λ s. MayEnd s passes) (sym c.self.view_is) c.requires.may_end in
-    let same : map vec_items c.give_lists.new.lists.items ≡ kept_in passes =
-    c.give_lists.ensures.lists ∙ (λ j. map vec_items (c.in-Ok-with_capacity.ensures.items j) ++ kept_in (c.as_mut_slice.ensures.value j)) in
-    let kept = ap entries_in same ∙ ap (λ (ps : List SystemPass). entries_in (kept_in ps)) (sym c.as_slice.ensures.value) in
-    let many = ap (λ (ps : List SystemPass). length ps) c.as_slice.ensures.value in
-    omega (arith, kept, many, c.in-Ok.ensures.few, few_passes system passes c.self.invariant may)
+    let same : logged_in c.give_logs.new.logs.items ≡ kept_in c.as_mut_slice.result.now =
+    c.give_logs.ensures.logs ∙ ap (λ logs. logged_in logs ++ kept_in c.as_mut_slice.result.now) c.in-Ok-with_capacity.ensures.items in
+    let kept = ap entries_in same in
+    let many = ap (λ (ps : List SystemPass). length ps) c.as_mut_slice.ensures.value in
+    omega (arith, kept, many, c.give_logs.ensures.few, few_passes system passes c.self.invariant may)
 
 pub returns-clause-ok : goal.returns-clause-ok
 returns-clause-ok c =
     let system : SystemSeen = record { sys = c.self.inside.sys; plan = c.self.inside.plan } in
     let passes = c.args.passes.items in
-    let given : c.give_lists.new.passes ≡ with_none_kept passes = c.give_lists.ensures.passes ∙ ap (λ (ps : List SystemPass). with_none_kept ps) c.as_mut_slice.ensures.value in
+    let given : c.give_logs.new.passes ≡ with_none_kept passes = c.give_logs.ensures.passes ∙ ap (λ (ps : List SystemPass). with_none_kept ps) c.as_mut_slice.ensures.value in
     let drawn =
-    ap (λ (ps : List SystemPass). lists_in ps) (come_back passes c.give_lists.new.passes c.args.passes.len given c.args.passes.ok.0) ∙ given_lists passes in
-    let same : map vec_items c.give_lists.new.lists.items ≡ lists_in passes =
-    c.give_lists.ensures.lists
-    ∙ (λ j. map vec_items (c.in-Ok-with_capacity.ensures.items j) ++ kept_in (c.as_mut_slice.ensures.value j))
+    ap (λ (ps : List SystemPass). lists_in ps) (come_back passes c.give_logs.new.passes c.args.passes.len given c.args.passes.ok.0) ∙ given_lists passes in
+    let same : logged_in c.give_logs.new.logs.items ≡ lists_in passes =
+    c.give_logs.ensures.logs
+    ∙ (λ j. logged_in (c.in-Ok-with_capacity.ensures.items j) ++ kept_in (c.as_mut_slice.ensures.value j))
     ∙ all_kept passes c.requires.all in
     let last : AreLastLists (layouts_in system) system.sys.layouts (length system.sys.callers) (lists_in passes) =
     subst (AreLastLists (layouts_in system) system.sys.layouts (length system.sys.callers)) drawn c.finish.ensures in
-    let merged : IsMerged (lists_in passes) c.merged.result.items = subst (λ ls. IsMerged ls c.merged.result.items) same c.merged.ensures in
+    let merged : IsMerged (lists_in passes) c.of-journal.result = subst (λ ls. IsMerged ls c.of-journal.result) same c.of-journal.ensures in
     rw (← c.self.view_is)
-    (closed system c.self.invariant (subst TraceLaw c.procs.ensures.is c.trace_at_rest_is_a_history.ensures) (lists_in passes) c.merged.result.items last merged)
+    (closed system c.self.invariant (subst TraceLaw c.procs.ensures.is c.trace_at_rest_is_a_history.ensures) (lists_in passes) c.of-journal.result last merged)

@@ -1,0 +1,4 @@
+pub mod Below
+pub mod Placing
+pub mod Merges
+pub mod Queueing

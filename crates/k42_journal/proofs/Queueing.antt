@@ -1,0 +1,296 @@
+-- The queue of first entries: its end is the next one, and what is taken and entered keeps it.
+use Rattle.std.proofs.Common.{◌≡◌, ◌≢◌, ℕ, zero, suc, ◌+◌, ◌<◌, ◌≤◌, Bool, true, false, List, [], ◌∷◌, ◌++◌, length, take, drop, get_or, refl, sym, ap, ◌∙◌, subst, inl, inr, ◌⊎◌, ⊎_elim, arith}
+use Rattle.std.specs.Prelude.{Some, None, ◌==◌, slice_get, slice_set}
+use Rattle.std.specs.List.{AllByRecursion, AllWithin}
+use Rattle.std.specs.Option.{option_map}
+use Rattle.std.specs.List.Sorted.{IsPartitionedBy}
+use Rattle.std.proofs.lemmas.List.{take-append-drop}
+use Rattle.std.proofs.lemmas.Bool.{ne_eqb}
+use Rattle.std.proofs.lemmas.Bool.Decides.{eqb_tells}
+use Rattle.std.proofs.lemmas.Option.{same_Some, slice_get_within}
+use Rattle.k42_kinds.specs.declared.operation.Op.TheVariants.{Get}
+use Rattle.k42_kinds.specs.declared.entry.Act.TheVariants.{Call}
+use Rattle.k42_kinds.specs.declared.entry.Answer.TheVariants.{Gone}
+use Rattle.k42_kinds.specs.declared.entry.Entry.{Entry}
+use Rattle.k42_places.proofs.Written.{slice_get-set_here, slice_get-set_else}
+use Rattle.k42_places.proofs.Appended.{at_push, slice_get-append_left}
+use Rattle.k42_log.specs.declared.unread.Standing.{Standing}
+use Rattle.k42_log.specs.Standing.{standing_of}
+use Rattle.k42_stamp.specs.Orders.{IsBelow, IsBefore, key_of, Ordered, In}
+use Rattle.k42_stamp.specs.Lists.{AreLists, IsListOf}
+use Rattle.k42_stamp.specs.Merging.{IsNext, AreEmpty, entries_in}
+use Rattle.k42_stamp.proofs.NextEntries.{one_fewer}
+use Rattle.k42_stamp.proofs.Totals.{total_empty}
+use Rattle.k42_stamp.proofs.Elements.{all_at, all_in, all_front, in_left, in_right, in-append}
+use Rattle.k42_stamp.proofs.Ordering.{before-trans, before-irreflexive, below_or, Ordered-inserted}
+use Rattle.k42_journal.specs.Keys.{key_at, stands_before}
+use Rattle.k42_journal.specs.Queues.{IsBehind, IsFirstOf, IsQueueOf, IsPlaceIn, HasEntered, HasEnteredFirst, IsTaken}
+use Rattle.k42_journal.proofs.Below.{stands_decides}
+
+-- an entry that stands so
+entry_at : Standing → Entry
+entry_at standing = record {
+  stamp = standing.stamp;
+  index = 0;
+  caller = standing.caller;
+  object = standing.object;
+  incarnation = 0;
+  cell = standing.cell;
+  act = Call Get;
+  answer = Gone;
+  proc = 0;
+  generation = None;
+}
+
+before_of : (one other : Standing) → IsBehind one other → IsBefore (entry_at other) (entry_at one)
+before_of one other is = (stands_decides other one).0 is
+
+behind_of : (one other : Standing) → IsBefore (entry_at other) (entry_at one) → IsBehind one other
+behind_of one other is = (stands_decides other one).1 is
+
+behind-trans : (x y z : Standing) → IsBehind x y → IsBehind y z → IsBehind x z
+behind-trans x y z is then = behind_of x z (before-trans (entry_at z) (entry_at y) (entry_at x) (before_of y z then) (before_of x y is))
+
+behind-irreflexive : (x : Standing) → IsBehind x x → ⊥
+behind-irreflexive x is = before-irreflexive (entry_at x) (before_of x x is)
+
+-- those of other callers are on one side
+other_side : (one other : Standing) → one.caller ≢ other.caller → stands_before one other ≡ false → IsBehind one other
+other_side one other differ late = elim (below_or (key_at other) (key_at one) refl) [
+  | inl before ↦ (stands_decides other one).1 before
+  | inr (inl same) ↦ let callers : other.caller ≡ one.caller = cc in absurd (differ (sym callers))
+  | inr (inr behind) ↦ let told = (stands_decides one other).1 behind in absurd (cc)
+]
+
+-- the place at which one enters
+
+all_get : (P : Standing → Type 0) (xs : List Standing) (i : ℕ) (d : Standing) → AllByRecursion P xs → i < length xs → P (get_or xs i d)
+all_get P [] i d all within = absurd (omega arith)
+all_get P (x ∷ xs) zero d all within = all.0
+all_get P (x ∷ xs) (suc i) d all within = all_get P xs i d all.1 (omega arith)
+
+pub parted : (standing : Standing) (queue : List Standing) → Ordered IsBehind queue → IsPartitionedBy (λ one. stands_before standing one) queue
+parted standing [] up i j d upto within is = absurd (omega arith)
+parted standing (x ∷ xs) up zero zero d upto within is = is
+parted standing (x ∷ xs) up zero (suc j) d upto within is = behind-trans x (get_or xs j d) standing (all_get (IsBehind x) xs j d up.0 (omega arith)) is
+parted standing (x ∷ xs) up (suc i) zero d upto within is = absurd (omega arith)
+parted standing (x ∷ xs) up (suc i) (suc j) d upto within is = parted standing xs up.1 i j d (omega arith) (omega arith) is
+
+pub all_front_of : (P : Standing → Type 0) (xs : List Standing) (i : ℕ) → AllWithin P xs 0 i → AllByRecursion P (take i xs)
+all_front_of P [] zero all = tt
+all_front_of P [] (suc i) all = tt
+all_front_of P (x ∷ xs) zero all = tt
+all_front_of P (x ∷ xs) (suc i) all = (all 0 x (omega arith) (omega arith), all_front_of P xs i (λ k d low high. all (suc k) d (omega arith) (omega arith)))
+
+pub all_back_of : (P : Standing → Type 0) (xs : List Standing) (i : ℕ) → AllWithin P xs i (length xs) → AllByRecursion P (drop i xs)
+all_back_of P [] zero all = tt
+all_back_of P [] (suc i) all = tt
+all_back_of P (x ∷ xs) zero all = (all 0 x (omega arith) (omega arith), all_back_of P xs zero (λ k d low high. all (suc k) d (omega arith) (omega arith)))
+all_back_of P (x ∷ xs) (suc i) all = all_back_of P xs i (λ k d low high. all (suc k) d (omega arith) (omega arith))
+
+-- which are there once one has entered
+
+in_split : (e : Standing) (i : ℕ) (xs : List Standing) → In e xs → In e (take i xs) ⊎ In e (drop i xs)
+in_split e i xs has = in-append e (take i xs) (drop i xs) (subst (In e) (sym (take-append-drop i xs)) has)
+
+of_split : (e : Standing) (i : ℕ) (xs : List Standing) → In e (take i xs) ⊎ In e (drop i xs) → In e xs
+of_split e i xs has = subst (In e) (take-append-drop i xs) (elim has [ inl front ↦ in_left e (take i xs) (drop i xs) front | inr back ↦ in_right e (take i xs) (drop i xs) back ])
+
+in_entered : (e standing : Standing) (old new : List Standing) → HasEntered standing old new → In e new → (e ≡ standing) ⊎ In e old
+in_entered e standing old new is has =
+    let place = is.place in
+    elim (in-append e (take place old) (standing ∷ drop place old) (subst (In e) is.entered has)) [
+      | inl front ↦ inr (of_split e place old (inl front))
+      | inr (inl same) ↦ inl same
+      | inr (inr back) ↦ inr (of_split e place old (inr back))
+    ]
+
+entered_in : (e standing : Standing) (old new : List Standing) → HasEntered standing old new → (e ≡ standing) ⊎ In e old → In e new
+entered_in e standing old new is has = subst (In e) (sym is.entered) (among (elim has [ inl same ↦ inl same | inr there ↦ inr (in_split e is.place old there) ])) where
+  front = take is.place old
+  back = drop is.place old
+  among : (e ≡ standing) ⊎ (In e front ⊎ In e back) → In e (front ++ standing ∷ back)
+  among which = elim which [
+    | inl same ↦ in_right e front (standing ∷ back) (inl same)
+    | inr (inl there) ↦ in_left e front (standing ∷ back) there
+    | inr (inr there) ↦ in_right e front (standing ∷ back) (inr there)
+  ]
+
+-- a queue of the lists but one
+pub record IsQueueBut (lists : List (List Entry)) (but : ℕ) (queue : List Standing) : Type 0 where
+  pub ordered : Ordered IsBehind queue
+  pub all : (place : ℕ) (entry : Entry) (others : List Entry) → place ≢ but → slice_get lists place ≡ Some (entry ∷ others) → In (standing_of entry) queue
+  pub only : (standing : Standing) → In standing queue → (standing.caller ≢ but) × IsFirstOf lists standing
+
+same_or : (m n : ℕ) → (m ≡ n) ⊎ (m ≢ n)
+same_or m n = elim (eqb_tells m n) [ inl same ↦ inl same.1 | inr other ↦ inr other.1 ]
+
+same_list : (xs ys : List Entry) → Some xs ≡ Some ys → xs ≡ ys
+same_list xs ys is = same_Some xs ys is
+
+same_first : (x y : Entry) (xs ys : List Entry) → x ∷ xs ≡ y ∷ ys → x ≡ y
+same_first x y xs ys is = cc
+
+same_there : (lists : List (List Entry)) (place at : ℕ) (one other : List Entry) → slice_get lists place ≡ Some one → slice_get lists at ≡ Some other → place ≡ at → one ≡ other
+same_there lists place at one other is there same = same_list one other (sym is ∙ (ap (slice_get lists) same ∙ there))
+
+-- that list is empty
+pub none_enters : (lists : List (List Entry)) (but : ℕ) (queue : List Standing) → IsQueueBut lists but queue → slice_get lists but ≡ Some [] → IsQueueOf lists queue
+none_enters lists but queue is none = record {
+  ordered = is.ordered;
+  all = λ place entry others at. elim (same_or place but) [
+    | inl same ↦ let no : entry ∷ others ≡ [] = same_there lists place but (entry ∷ others) [] at none same in absurd (cc)
+    | inr differ ↦ is.all place entry others differ at
+  ];
+  only = λ standing has. (is.only standing has).1;
+}
+
+-- or its first entry has entered
+pub first_enters : (lists : List (List Entry)) (but : ℕ) (old new : List Standing) (first : Entry) (more : List Entry) → IsQueueBut lists but old → slice_get lists but ≡ Some (first ∷ more) → first.caller ≡ but
+    → HasEntered (standing_of first) old new → IsQueueOf lists new
+first_enters lists but old new first more is there own entered = record {
+  ordered = subst (Ordered IsBehind) (sym entered.entered) (Ordered-inserted IsBehind behind-trans standing (take place old) (drop place old)
+      (subst (Ordered IsBehind) (sym (take-append-drop place old)) is.ordered) entered.is.behind
+      (all_in (IsBehind standing) (drop place old) later));
+  all = λ at entry others has. elim (same_or at but) [
+    | inl same ↦
+        let one : entry ≡ first = same_first entry first others more (same_there lists at but (entry ∷ others) (first ∷ more) has there same) in
+        entered_in (standing_of entry) standing old new entered (inl (ap standing_of one))
+    | inr differ ↦ entered_in (standing_of entry) standing old new entered (inr (is.all at entry others differ has))
+  ];
+  only = λ one has. elim (in_entered one standing old new entered has) [
+    | inl same ↦ subst (IsFirstOf lists) (sym same) here
+    | inr was ↦ (is.only one was).1
+  ];
+} where
+  standing : Standing
+  standing = standing_of first
+
+  place : ℕ
+  place = entered.is.place
+
+  here : IsFirstOf lists standing
+  here = record { entry = first; others = more; there = ap (slice_get lists) own ∙ there; is = refl }
+
+  later : (one : Standing) → In one (drop place old) → IsBehind standing one
+  later one has = other_side standing one (λ same. (is.only one (of_split one place old (inr has))).0 (sym same ∙ own)) (all_at (λ x. stands_before standing x ≡ false) (drop place old) one entered.is.others has)
+
+-- or one of these
+pub first_entered : (lists : List (List Entry)) (but : ℕ) (old new : List Standing) (list : List Entry) → IsQueueBut lists but old → slice_get lists but ≡ Some list → IsListOf but list → HasEnteredFirst list old new → IsQueueOf lists new
+first_entered lists but old new [] is there own same = subst (IsQueueOf lists) (sym same) (none_enters lists but old is there)
+first_entered lists but old new (entry ∷ others) is there own entered = first_enters lists but old new entry others is there own.own.0 entered
+
+pub entered_by : (list : List Entry) (old new : List Standing) (standing : Standing) → option_map standing_of (slice_get list 0) ≡ Some standing → HasEntered standing old new → HasEnteredFirst list old new
+entered_by [] old new standing stands entered = absurd (cc)
+entered_by (entry ∷ others) old new standing stands entered = subst (λ s. HasEntered s old new) (sym (same_Some (standing_of entry) standing stands)) entered
+
+pub none_entered : (list : List Entry) (queue : List Standing) → option_map standing_of (slice_get list 0) ≡ None → HasEnteredFirst list queue queue
+none_entered [] queue stands = refl
+none_entered (entry ∷ others) queue stands = absurd (cc)
+
+-- the end of the queue
+
+ordered_parts : (xs : List Standing) (last : Standing) → Ordered IsBehind (xs ++ last ∷ []) → Ordered IsBehind xs × AllByRecursion (λ x. IsBehind x last) xs
+ordered_parts [] last up = (tt, tt)
+ordered_parts (x ∷ xs) last up =
+    let rest = ordered_parts xs last up.1 in
+    ((all_front (IsBehind x) xs (last ∷ []) up.0, rest.0), (all_at (IsBehind x) (xs ++ last ∷ []) last up.0 (in_right last xs (last ∷ []) (inl refl)), rest.1))
+
+module _ (lists : List (List Entry)) (old front : List Standing) (last : Standing) (are : AreLists lists) (is : IsQueueOf lists old) (cut : old ≡ front ++ last ∷ []) where
+  in_old : (e : Standing) → In e (front ++ last ∷ []) → In e old
+  in_old e has = subst (In e) (sym cut) has
+
+  parts : Ordered IsBehind front × AllByRecursion (λ x. IsBehind x last) front
+  parts = ordered_parts front last (subst (Ordered IsBehind) cut is.ordered)
+
+  pub first_at : IsFirstOf lists last
+  first_at = is.only last (in_old last (in_right last front (last ∷ []) (inl refl)))
+
+  -- is the next entry
+  pub next_at : IsNext lists last.caller first_at.entry
+  next_at = record { others = first_at.others; there = first_at.there; first = first } where
+    entry : Entry
+    entry = first_at.entry
+
+    none_before : (one : Entry) → In (standing_of one) front ⊎ In (standing_of one) (last ∷ []) → IsBefore one entry → ⊥
+    none_before one where_ before = elim where_ [
+      | inl there ↦
+          let behind : IsBehind (standing_of one) last = all_at (λ x. IsBehind x last) front (standing_of one) parts.1 there in
+          let later : IsBehind (standing_of one) (standing_of entry) = subst (IsBehind (standing_of one)) first_at.is behind in
+          before-irreflexive one (before-trans one entry one before ((stands_decides (standing_of entry) (standing_of one)).0 later))
+      | inr (inl same) ↦
+          let alike : standing_of one ≡ standing_of entry = same ∙ first_at.is in
+          before-irreflexive entry (subst (λ key. IsBelow key (key_of entry)) (ap key_at alike) before)
+      | inr (inr none) ↦ none
+    ]
+
+    first : (p : ℕ) (one : Entry) (more : List Entry) → slice_get lists p ≡ Some (one ∷ more) → IsBefore one entry → ⊥
+    first p one more at before = none_before one (in-append (standing_of one) front (last ∷ []) (subst (In (standing_of one)) cut (is.all p one more at))) before
+
+  -- once it is taken, the others are a queue of the other lists
+  pub queue_left : (left : List Entry) → IsQueueBut (slice_set lists last.caller left) last.caller front
+  queue_left left = record {
+    ordered = parts.0;
+    all = λ place entry others differ at. among (standing_of entry) (is.all place entry others (sym (slice_get-set_else lists last.caller place left differ) ∙ at)) (λ same. differ (sym (are place (entry ∷ others) at).own.0 ∙ ap (λ (s : Standing). s.caller) same));
+    only = λ one has. (apart one has, still one (is.only one (in_old one (in_left one front (last ∷ []) has))) (apart one has));
+  } where
+    apart : (one : Standing) → In one front → one.caller ≢ last.caller
+    apart one has same =
+        let its = is.only one (in_old one (in_left one front (last ∷ []) has)) in
+        let entries : its.entry ∷ its.others ≡ first_at.entry ∷ first_at.others = same_there lists one.caller last.caller (its.entry ∷ its.others) (first_at.entry ∷ first_at.others) its.there first_at.there same in
+        let alike : one ≡ last = its.is ∙ (ap standing_of (same_first its.entry first_at.entry its.others first_at.others entries) ∙ sym first_at.is) in
+        behind-irreflexive last (subst (λ x. IsBehind x last) alike (all_at (λ x. IsBehind x last) front one parts.1 has))
+
+    still : (one : Standing) → IsFirstOf lists one → one.caller ≢ last.caller → IsFirstOf (slice_set lists last.caller left) one
+    still one its differ = record { entry = its.entry; others = its.others; there = slice_get-set_else lists last.caller one.caller left differ ∙ its.there; is = its.is }
+
+    among : (e : Standing) → In e old → (e ≡ last → ⊥) → In e front
+    among e has differ = elim (in-append e front (last ∷ []) (subst (In e) cut has)) [
+      | inl there ↦ there
+      | inr (inl same) ↦ absurd (differ same)
+      | inr (inr none) ↦ absurd none
+    ]
+
+  -- and what is left of its list stands at its place
+  pub left_at : (left : List Entry) → slice_get (slice_set lists last.caller left) last.caller ≡ Some left
+  left_at left = slice_get-set_here lists last.caller left (slice_get_within lists last.caller (first_at.entry ∷ first_at.others) first_at.there)
+
+-- where nothing is queued, no list has entries
+
+empty_each : (lists : List (List Entry)) → ((place : ℕ) (entry : Entry) (others : List Entry) → slice_get lists place ≡ Some (entry ∷ others) → ⊥) → AreEmpty lists
+empty_each [] none = tt
+empty_each ([] ∷ lists) none = (refl, empty_each lists (λ place entry others at. none (suc place) entry others at))
+empty_each ((entry ∷ others) ∷ lists) none = absurd (none 0 entry others refl)
+
+pub none_left : (lists : List (List Entry)) (queue : List Standing) → IsQueueOf lists queue → queue ≡ [] → AreEmpty lists
+none_left lists queue is none = empty_each lists (λ place entry others at. subst (In (standing_of entry)) none (is.all place entry others at))
+
+-- one list more, before its first entry has entered
+
+pub no_queue : IsQueueOf [] []
+no_queue = record {
+  ordered = tt;
+  all = λ place entry others at. absurd (cc);
+  only = λ standing has. absurd has;
+}
+
+pub list_more : (lists : List (List Entry)) (list : List Entry) (queue : List Standing) → IsQueueOf lists queue → IsQueueBut (lists ++ list ∷ []) (length lists) queue
+list_more lists list queue is = record {
+  ordered = is.ordered;
+  all = λ place entry others differ at. elim (at_push lists list place (entry ∷ others) at) [
+    | inl there ↦ is.all place entry others there.1
+    | inr last ↦ absurd (differ last.0)
+  ];
+  only = λ standing has.
+      let its = is.only standing has in
+      let within = slice_get_within lists standing.caller (its.entry ∷ its.others) its.there in
+      ((λ same. omega (arith, within, same)), record { entry = its.entry; others = its.others; there = slice_get-append_left lists (list ∷ []) standing.caller (its.entry ∷ its.others) its.there; is = its.is });
+}
+
+pub empty_queue : (lists : List (List Entry)) (queue : List Standing) → IsQueueOf lists queue → (length queue == 0) ≡ (entries_in lists == 0)
+empty_queue lists [] is = let none = total_empty lists (none_left lists [] is refl) in rw none refl
+empty_queue lists (standing ∷ queue) is =
+    let its = is.only standing (inl refl) in
+    let fewer = one_fewer lists standing.caller its.entry its.others its.there in
+    let some : (entries_in lists == 0) ≡ false = ne_eqb (entries_in lists) 0 (λ none. omega (arith, fewer, none)) in
+    sym some
