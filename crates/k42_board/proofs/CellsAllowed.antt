@@ -1,5 +1,5 @@
 -- The steps on cells, as the table asks for them, and as contracts tell them.
-use Rattle.std.proofs.Common.{◌≡◌, ℕ, ◌+◌, ◌<◌, Bool, true, false, cond, eqb, List, [], ◌∷◌, Some, None, sym, refl, ap, ◌∙◌, subst}
+use Rattle.std.proofs.Common.{◌≡◌, ℕ, ◌+◌, ◌<◌, Bool, true, false, cond, eqb, List, [], ◌∷◌, Some, None, sym, refl, ap, ◌∙◌, subst, get_or, set}
 use Rattle.std.specs.List.{slice_get}
 use Rattle.std.specs.Prelude.{is_some}
 use Rattle.std.proofs.lemmas.Option.{same_Some}
@@ -9,6 +9,7 @@ use lib.ListN.{get_elem?}
 use prog.Atomic.{either}
 use Rattle.atomic_table.specs.Table.{State, Step, step, rest, takes, gives, Allows}
 use Rattle.atomic_table.proofs.Lists.{set_here}
+use Rattle.turn_core.specs.Events.{caller_locked}
 use Rattle.turn_core.specs.State.{cell_at}
 use Rattle.turn_core.specs.declared.event.TurnEvent.TheVariants.{Lock, Take, Put, Unlock}
 use Rattle.k42_stamp.specs.Laws.{AreLaws}
@@ -24,7 +25,7 @@ use Rattle.k42_board.specs.Rule.{Rule, Ruled}
 use Rattle.k42_board.specs.Log.{took, logs, put_at, has_swept}
 use Rattle.k42_board.specs.Protocol.{lift, give_back, reach, put}
 use Rattle.k42_board.specs.Stepping as stepping
-use Rattle.k42_board.specs.Taking.{cell_at_lock, HoldsHome, MayLock, LockFound, MayPut, IsWhole, AreRowsNoted, Lifts, GivesBackKnown, Reaches, Puts, cell_given_view, gave_back, is_full, noted, ActIs, locked_view, unlocked_view, reaching_view, lifted_view, put_view}
+use Rattle.k42_board.specs.Taking.{cell_at_lock, HoldsHome, MayLock, LockFound, MayPut, IsWhole, AreRowsNoted, Lifts, GivesBackKnown, Reaches, Puts, cell_given_view, gave_back, is_full, noted, ActIs, locked_view, tried_view, unlocked_view, reaching_view, lifted_view, put_view}
 use Rattle.k42_board.specs.Words.{lock_word, slot_of}
 use Rattle.k42_board.specs.declared.cell.Content as code
 use Rattle.k42_board.specs.declared.view.Note.{Note}
@@ -78,6 +79,24 @@ module _ {S L P : Type 0} (F : Layouts S L P) (laws : AreLaws F) (declared : Lis
   pub lock_moves : MayLock F.procs n v → v.out ≡ None
       → Moves F declared (AtCells (Lock v.number n)) (lock_word n) (lock_value v.number) (λ found v. took steps.Lock (lock_word n) found (locked_view n found v)) id v
   lock_moves may idle = logged_moves steps.Lock (λ n. n) (λ found o before is. is) (lock_goes may idle)
+
+  -- a try that finds the lock with another leaves words and views as they are
+  pub try_moves : MayLock F.procs n v → v.out ≡ None
+      → Moves F declared (AtCells (Lock v.number n)) (lock_word n) (lock_value v.number) (tried_view (lock_word n) n) id v
+  try_moves may idle = record {
+    from = λ table r at.
+        let found : ℕ = get_or table.words (lock_word n) 0 in
+        let IsAfter : PassView P → Type 0 =
+        λ w. (after : Rule F declared (with_pass table (set table.words (lock_word n) (lock_value v.number found)) table.homes id w))
+            × (after.state ≡ effect r.state (AtCells (Lock v.number n))) × IsPossible F declared r.state (AtCells (Lock v.number n)) in
+        let tried : (b : Bool) → eqb found 0 ≡ b → IsAfter (cond b (took steps.Lock (lock_word n) found (locked_view n found v)) v) =
+        by_test IsAfter found ((lock_moves may idle).from table r at) ((lock_goes may idle).from table r at) in
+        tried (eqb found 0) refl;
+  } where
+    by_test : (IsAfter : PassView P → Type 0) (found : ℕ) → IsAfter (took steps.Lock (lock_word n) found (locked_view n found v)) → IsAfter (locked_view n found v)
+        → (b : Bool) → eqb found 0 ≡ b → IsAfter (cond b (took steps.Lock (lock_word n) found (locked_view n found v)) v)
+    by_test IsAfter found logged plain true e = logged
+    by_test IsAfter found logged plain false e = subst IsAfter (λ k. record v { taker = cond (e k) (caller_locked n v.taker) v.taker }) plain
 
   pub lock_finds : MayLock F.procs n v → Finds F declared (lock_word n) (LockFound n) id v
   lock_finds may table r at = lock_found F laws declared table r id v at n may
@@ -198,24 +217,27 @@ unlocks_at word n found v = took steps.Unlock word 0 (unlocked_view n v)
 
 module _ {S L P : Type 0} (F : Layouts S L P) (laws : AreLaws F) (declared : List L) (id n : ℕ) (v : PassView P) (me : Seated P) (is : IsSeatOf me v)
     (idle : v.out ≡ None) where
-  pub lock_allowed : {callers : ℕ} → MayLock F.procs n v → (new : ℕ) → new ≡ v.number + 1 → (slots : ℕ)
-      → Allows (Ruled F declared callers) slots id me (lock_word n) (λ word. either (eqb word 0) new word)
-      (TellsWith (locks_at (lock_word n) (cell_at_lock (lock_word n))) (LockFound (cell_at_lock (lock_word n))) (step slots (lock_word n) 0 new none) me)
-  lock_allowed {callers} may new same slots =
-      subst (λ (z : (ℕ → ℕ) × ℕ). Allows (Ruled F declared callers) slots id me (lock_word n) z.0 (TellsWith (locks_at (lock_word n) z.1) (LockFound z.1) (step slots (lock_word n) 0 new none) me))
-      (λ k. ((λ word. (ap (λ c. cond (eqb word 0) c word) (sym same) ∙ sym (lock_either (eqb word 0) new word)) k), sym (cell_of_lock n may.cell) k))
-      (seat_allowed_with (lock_moves F laws declared id n v may idle) (LockFound n) (lock_finds F laws declared id n v may) me is slots (step slots (lock_word n) 0 new none))
+  -- by a step that takes the lock, and keeps this of it
+  module _ (locks_to : (word n : ℕ) → ℕ → PassView P → PassView P)
+      (moves : Moves F declared (AtCells (Lock v.number n)) (lock_word n) (lock_value v.number) (locks_to (lock_word n) n) id v) where
+    pub lock_allowed : {callers : ℕ} → MayLock F.procs n v → (new : ℕ) → new ≡ v.number + 1 → (slots : ℕ)
+        → Allows (Ruled F declared callers) slots id me (lock_word n) (λ word. either (eqb word 0) new word)
+        (TellsWith (locks_to (lock_word n) (cell_at_lock (lock_word n))) (LockFound (cell_at_lock (lock_word n))) (step slots (lock_word n) 0 new none) me)
+    lock_allowed {callers} may new same slots =
+        subst (λ (z : (ℕ → ℕ) × ℕ). Allows (Ruled F declared callers) slots id me (lock_word n) z.0 (TellsWith (locks_to (lock_word n) z.1) (LockFound z.1) (step slots (lock_word n) 0 new none) me))
+        (λ k. ((λ word. (ap (λ c. cond (eqb word 0) c word) (sym same) ∙ sym (lock_either (eqb word 0) new word)) k), sym (cell_of_lock n may.cell) k))
+        (seat_allowed_with moves (LockFound n) (lock_finds F laws declared id n v may) me is slots (step slots (lock_word n) 0 new none))
 
-  -- what it tells, at a word that is the cell's
-  pub lock_told : MayLock F.procs n v → (word : ℕ) → word ≡ lock_word n → (step : Step (Slot P)) (found : ℕ) (after : Seated P)
-      → TellsWith (locks_at word (cell_at_lock word)) (LockFound (cell_at_lock word)) step me found after
-      → TellsWith (locks_at (lock_word n) n) (LockFound n) step me found after
-  lock_told may word same step found after told =
-      subst (λ (z : ℕ × ℕ). TellsWith (locks_at z.0 z.1) (LockFound z.1) step me found after) (λ k. (same k, cell_at_word n may.cell word same k)) told
+    -- what it tells, at a word that is the cell's
+    pub lock_told : MayLock F.procs n v → (word : ℕ) → word ≡ lock_word n → (step : Step (Slot P)) (found : ℕ) (after : Seated P)
+        → TellsWith (locks_to word (cell_at_lock word)) (LockFound (cell_at_lock word)) step me found after
+        → TellsWith (locks_to (lock_word n) n) (LockFound n) step me found after
+    lock_told may word same step found after told =
+        subst (λ (z : ℕ × ℕ). TellsWith (locks_to z.0 z.1) (LockFound z.1) step me found after) (λ k. (same k, cell_at_word n may.cell word same k)) told
 
-  pub lock_is : (may : MayLock F.procs n v) → (after : Seated P) (step : Step (Slot P)) (found : ℕ) → Tells (locks_at (lock_word n) n) step me found after
-      → StepIs F declared (AtCells (Lock v.number n)) (lock_word n) (lock_value v.number) id v found (pass_in after.0)
-  lock_is may after step found told = seat_is (lock_moves F laws declared id n v may idle) me after is step found told
+    pub lock_is : (after : Seated P) (step : Step (Slot P)) (found : ℕ) → Tells (locks_to (lock_word n) n) step me found after
+        → StepIs F declared (AtCells (Lock v.number n)) (lock_word n) (lock_value v.number) id v found (pass_in after.0)
+    lock_is after step found told = seat_is moves me after is step found told
 
   pub unlock_allowed : {callers : ℕ} → HoldsHome n v → (slots : ℕ)
       → Allows (Ruled F declared callers) slots id me (lock_word n) (λ word. 0)

@@ -52,6 +52,7 @@ pub mod Blocking
 pub mod MovingOver
 pub mod TurningOver
 pub mod Clearing
+pub mod LockExamples
 pub mod WordExamples
 pub mod NoteExamples
 pub mod SectionExamples

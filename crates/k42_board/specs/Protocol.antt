@@ -20,7 +20,7 @@ use Rattle.k42_board.specs.Noting.{notes_due, pairs_from}
 use Rattle.k42_board.specs.Stepping.{WordStep, SlotStep}
 use Rattle.k42_board.specs.Swapping.{object_swapped, MayChangeEntry, entry_after, entry_event, changed_view, MayBlock, blocked_view, MayMove, moves, moved_view, CountFound, MayTurnOver, turn_amount, turned_view, MayClear, clear_event, clears, ClearFound, cleared_view}
 use Rattle.k42_board.specs.Tabling.{EntryFound, ObjectFound, RootFound, MayLookUp, looked_up_view, MayLoadRoot, rooted_view, MayKnock, knocked_view, MayInstall, installs, installed_view, MayEndCall, MayStepOut, ended_view, MayBegin, begun_view}
-use Rattle.k42_board.specs.Taking.{CELLS, MayLock, LockFound, HoldsHome, locked_view, unlocked_view, lifted_view, gave_back, reaching_view, put_view}
+use Rattle.k42_board.specs.Taking.{CELLS, MayLock, LockFound, HoldsHome, locked_view, tried_view, unlocked_view, lifted_view, gave_back, reaching_view, put_view}
 use Rattle.k42_board.specs.Words.{generation_word, exits_word, local_word, lock_word, object_word, freed_word, role_word, slot_of}
 use Rattle.k42_board.specs.declared.cell.Content.{Content}
 use Rattle.k42_board.specs.declared.view.PassView.{PassView}
@@ -278,6 +278,17 @@ module _ {S L P : Type 0} where
     May = λ F declared. MayLock F.procs n v;
     Finds = λ found. LockFound n v found;
     after = λ found. took steps.Lock (lock_word n) found (locked_view n found v);
+  }
+
+  -- the same, but that no trace is left where another has it: the pass is as it was
+  abbrev pub lock_quietly : ℕ → PassView P → WordStep S L P
+  lock_quietly n v = record {
+    event = Some (AtCells (cells.Lock v.number n));
+    word = lock_word n;
+    changed = λ word. if word == 0 then v.number + 1 else word;
+    May = λ F declared. MayLock F.procs n v;
+    Finds = λ found. LockFound n v found;
+    after = λ found. tried_view (lock_word n) n found v;
   }
 
   -- leaves the lock of a cell that is in its place

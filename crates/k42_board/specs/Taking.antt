@@ -59,6 +59,10 @@ without n notes = filter (λ note. not (note.cell == n)) notes
 abbrev pub locked_view : {P : Type 0} → ℕ → ℕ → PassView P → PassView P
 locked_view n found v = record v { taker = if found == 0 then caller_locked n v.taker else v.taker }
 
+-- the same with the step itself, which a try keeps where it took the lock, and nowhere else
+abbrev pub tried_view : {P : Type 0} → (word n : ℕ) → ℕ → PassView P → PassView P
+tried_view word n found v = if found == 0 then took steps.Lock word found (locked_view n found v) else v
+
 abbrev pub unlocked_view : {P : Type 0} → ℕ → PassView P → PassView P
 unlocked_view n v = record v { taker = caller_unlocked n v.taker }
 

@@ -34,6 +34,15 @@ impl<P: Drop> Play<Option<Content<P>>, View<P>> for Lock {
     ghost then = { λ step. TellsWith (λ found v. took steps.Lock step.word found (locked_view (cell_at_lock step.word) found v)) (LockFound (cell_at_lock step.word)) step };
 }
 
+pub(crate) struct LockQuietly;
+
+impl<P: Drop> Play<Option<Content<P>>, View<P>> for LockQuietly {
+    ghost use Rattle.k42_board.specs.Steps.{TellsWith};
+    ghost use Rattle.k42_board.specs.Taking.{LockFound, cell_at_lock, tried_view};
+
+    ghost then = { λ step. TellsWith (tried_view step.word (cell_at_lock step.word)) (LockFound (cell_at_lock step.word)) step };
+}
+
 pub(crate) struct Unlock;
 
 impl<P: Drop> Play<Option<Content<P>>, View<P>> for Unlock {

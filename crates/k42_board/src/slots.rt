@@ -10,7 +10,7 @@ ghost use Rattle.k42_board.specs.declared.view.PassView.{PassView};
 use crate::board::{Board, BoardSeat};
 use crate::cell::Cell;
 use crate::encoding::{lock_word, slot_of};
-use crate::slot_plays::{GiveBack, Known, Lift, Lock, LookAtLock, PutBack, Reach, Unlock};
+use crate::slot_plays::{GiveBack, Known, Lift, Lock, LockQuietly, LookAtLock, PutBack, Reach, Unlock};
 use k42_kinds::Layout;
 
 pub fn lock_load<L: Layout>(board: &Board<L>, seat: &mut BoardSeat<L>, cell: usize) -> u64
@@ -35,6 +35,23 @@ pub fn lock_cell<L: Layout>(
     board
         .shared
         .compare_exchange::<Lock>(seat, lock_word(cell), 0, new)
+}
+
+pub fn lock_cell_quietly<L: Layout>(
+    board: &Board<L>,
+    seat: &mut BoardSeat<L>,
+    cell: usize,
+    number: u32,
+) -> u64
+    requires number { (pass_in seat.old.me.0).number ≡ number }
+    requires idle { (pass_in seat.old.me.0).out ≡ None }
+    requires may { MayTake L.Layout board.now.shared.table_id board.now.shared.key (protocol.lock_quietly cell) seat.old }
+    ensures { HasTaken L.Layout board.now.shared.key (protocol.lock_quietly cell) seat.old result seat.new }
+{
+    let new = u64::from(number) + 1;
+    board
+        .shared
+        .compare_exchange::<LockQuietly>(seat, lock_word(cell), 0, new)
 }
 
 pub fn unlock_cell<L: Layout>(board: &Board<L>, seat: &mut BoardSeat<L>, cell: usize)

@@ -1,5 +1,5 @@
 //! The steps of a call on cells.
-ghost use Rattle.std.specs.Prelude.{◌≡◌};
+ghost use Rattle.std.specs.Prelude.{◌≡◌, ◌≢◌};
 ghost use Rattle.k42_board.specs.Protocol as protocol;
 ghost use Rattle.k42_board.specs.Seen.{IsOf};
 ghost use Rattle.k42_board.specs.Stepping.{MayStep, HasStepped, HasDone, HasMoved, AlwaysIn, layouts_in};
@@ -7,7 +7,7 @@ ghost use Rattle.k42_board.specs.Taking.{HoldsHome, MayPut, IsWhole, AreRowsNote
 
 use crate::pass::Pass;
 use crate::sys::Sys;
-use k42_board::{Cell, lock_cell, lock_load, put_cell, take_cell, unlock_cell};
+use k42_board::{Cell, lock_cell, lock_cell_quietly, lock_load, put_cell, take_cell, unlock_cell};
 use k42_kinds::Layout;
 use std::marker::Brand;
 
@@ -28,6 +28,17 @@ pub fn lock<L: Layout>(sys: &Sys<L>, pass: &mut Pass<L>, cell: u32) -> u64
 {
     let number = pass.number;
     lock_cell(&sys.board, &mut pass.seat, cell as usize, number)
+}
+
+/// Tries to take the lock of a cell, as `lock` does. Where another caller has it, the log tells nothing of the try.
+pub fn lock_quietly<L: Layout>(sys: &Sys<L>, pass: &mut Pass<L>, cell: u32) -> u64
+    requires { MayStep L.Layout sys.now (protocol.lock_quietly cell) pass.old }
+    ensures stepped { HasStepped L.Layout sys.now (protocol.lock_quietly cell) pass.old result pass.new }
+    ensures free { result ≡ 0 → HasStepped L.Layout sys.now (protocol.lock cell) pass.old 0 pass.new }
+    ensures held { result ≢ 0 → pass.new ≡ pass.old }
+{
+    let number = pass.number;
+    lock_cell_quietly(&sys.board, &mut pass.seat, cell as usize, number)
 }
 
 /// Leaves the lock of a cell that is in its place.

@@ -5,8 +5,10 @@ ghost use Rattle.turn_core.specs.Names.{names};
 ghost use Rattle.k42_joined.specs.Numbers.{row_cells};
 ghost use Rattle.k42_board.specs.Drawing.{numbers_of};
 ghost use Rattle.k42_board.specs.Log.{ComesTo};
+ghost use Rattle.k42_board.specs.Protocol as protocol;
 ghost use Rattle.k42_board.specs.Seen.{IsOf, IsSamePass};
-ghost use Rattle.k42_board.specs.Taking.{TouchesInside};
+ghost use Rattle.k42_board.specs.Stepping as stepping;
+ghost use Rattle.k42_board.specs.Taking.{MayLock, TouchesInside};
 ghost use Rattle.k42_mediator.specs.Taken.{released, AreTaken, MayPutBack};
 ghost use Rattle.k42_runtime.specs.Reaching.{TakesNext, Takes, MayGiveBack};
 ghost use Rattle.k42_runtime.specs.Systems.{any_layouts};
@@ -14,55 +16,30 @@ ghost use Rattle.k42_runtime.specs.Systems.{any_layouts};
 use crate::system::{Pass, SystemLayout};
 use crossbeam_utils::Backoff;
 use k42_board::cell_number;
-use k42_rule::{Cell, Sys, layouts_are_lawful, lock, look_at_lock, put, take, unlock};
+use k42_rule::{Cell, Sys, layouts_are_lawful, lock, lock_quietly, put, take, unlock};
 
-/// How often a call at several cells looks at a lock that another has, before it gives back the cells that it has.
-const LOOKS: u32 = 32;
+/// How often a call at several cells tries the lock of one, before it gives back the cells that it has: another caller has
+/// a lock for a part of a call, and takes it again soon.
+const TRIES: u32 = 32;
 
-/// Waits a little while another caller has the lock of the cell, which mostly is for one call.
-fn await_lock(sys: &Sys<SystemLayout>, pass: &mut Pass, number: u32)
+/// Takes the lock of a cell, or answers what `lock` does. The last of its tries alone is in the log.
+fn lock_patiently(sys: &Sys<SystemLayout>, pass: &mut Pass, number: u32) -> u64
     requires ours { IsOf sys.now pass.old }
-    requires few { number < 256 }
-    ensures { pass.new ≡ pass.old }
+    requires may { MayLock sys.now.procs number pass.old.view }
+    ensures same { IsSamePass pass.old pass.new }
+    ensures takes { stepping.Takes (any_layouts sys.now.procs sys.now.callers) sys.now.layouts (protocol.lock number) pass.old.seat pass.old.view result pass.new.view }
 {
     let backoff = Backoff::new();
-    for _ in 0..LOOKS {
-        if look_at_lock(sys, pass, number) == 0 {
-            return;
+    for _ in 0..TRIES {
+        if lock_quietly(sys, pass, number) == 0 {
+            return 0;
         }
         backoff.spin();
     }
+    lock(sys, pass, number)
 }
 
 /// Takes a cell, or answers which caller has it.
-fn take_if_free(
-    sys: &Sys<SystemLayout>,
-    pass: &mut Pass,
-    number: u32,
-    cells: &mut Vec<Cell<SystemLayout>>,
-) -> Option<u32>
-    requires ours { IsOf sys.now pass.old }
-    requires few { number < 256 }
-    requires inside { TouchesInside sys.now.procs number pass.old.view }
-    requires room { vec_len cells.old < vec_capacity cells.old }
-    requires held { pass.old.view.taker.held ≡ numbers_of cells.old.items }
-    requires another { names (numbers_of cells.old.items) number ≡ false }
-    requires taken { AreTaken pass.old.view.notes cells.old.items }
-    ensures same { IsSamePass pass.old pass.new }
-    ensures capacity { vec_capacity cells.new ≡ vec_capacity cells.old }
-    ensures len { is_some result ≡ false → vec_len cells.new ≡ vec_len cells.old + 1 }
-    ensures takes { TakesNext (any_layouts sys.now.procs sys.now.callers) sys.now.layouts result number pass.old.view pass.new.view cells.old.items cells.new.items }
-{
-    let found = lock(sys, pass, number);
-    if found != 0 {
-        return Some((found - 1) as u32);
-    }
-    let cell = take(sys, pass, number);
-    cells.push_reserved(cell);
-    None
-}
-
-/// The same, once the lock was seen free, or was looked at often enough.
 fn take_next(
     sys: &Sys<SystemLayout>,
     pass: &mut Pass,
@@ -81,8 +58,13 @@ fn take_next(
     ensures len { is_some result ≡ false → vec_len cells.new ≡ vec_len cells.old + 1 }
     ensures takes { TakesNext (any_layouts sys.now.procs sys.now.callers) sys.now.layouts result number pass.old.view pass.new.view cells.old.items cells.new.items }
 {
-    await_lock(sys, pass, number);
-    take_if_free(sys, pass, number, cells)
+    let found = lock_patiently(sys, pass, number);
+    if found != 0 {
+        return Some((found - 1) as u32);
+    }
+    let cell = take(sys, pass, number);
+    cells.push_reserved(cell);
+    None
 }
 
 /// Takes all cells of a row, in rising order. Where another caller has one of them, it answers which caller, and those

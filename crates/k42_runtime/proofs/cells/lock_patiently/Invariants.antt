@@ -1,5 +1,5 @@
 use Rattle.std.specs.Prelude.{◌≡◌}
-use Rattle.k42_runtime.proofs.cells.await_lock.Given as goal
+use Rattle.k42_runtime.proofs.cells.lock_patiently.Given as goal
 
 abbrev pub invariant-loop : goal.invariant-loop
 invariant-loop l = l.pass ≡ l.fn.pass

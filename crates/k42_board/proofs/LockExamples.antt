@@ -1,0 +1,58 @@
+-- Computed tries of a lock: one that leaves a trace, and one that leaves none.
+use Rattle.std.proofs.Common.{◌≡◌, ℕ, zero, suc, [], ◌∷◌, refl}
+use Rattle.k42_board.specs.Log.{step_at, obstacles}
+use Rattle.k42_board.specs.Protocol.{lock, lock_quietly}
+use Rattle.k42_board.specs.Stepping.{WordStep}
+use Rattle.k42_board.specs.Views.{new_pass}
+use Rattle.k42_board.specs.Words.{lock_word}
+use Rattle.k42_board.specs.declared.view.PassView.{PassView}
+use Rattle.k42_board.specs.declared.view.StepName.TheVariants.{Lock}
+
+-- the caller 3 tries the lock of the cell 5
+abbrev first : PassView ℕ
+first = new_pass 3 1 0 0
+
+abbrev loud : PassView ℕ → WordStep ℕ ℕ ℕ
+loud = lock 5
+
+abbrev quiet : PassView ℕ → WordStep ℕ ℕ ℕ
+quiet = lock_quietly 5
+
+-- it is free: both write the caller's word, and the pass holds it and keeps the step
+
+written : (quiet first).changed 0 ≡ 4
+written = refl
+
+held : ((quiet first).after 0).taker.held ≡ 5 ∷ []
+held = refl
+
+kept : ((quiet first).after 0).log ≡ step_at Lock (lock_word 5) 0 ∷ []
+kept = refl
+
+-- the caller 7 has it: both leave the word, and the pass holds nothing
+
+left : (quiet first).changed 8 ≡ 8
+left = refl
+
+unheld : ((quiet first).after 8).taker.held ≡ []
+unheld = refl
+
+loud_unheld : ((loud first).after 8).taker.held ≡ []
+loud_unheld = refl
+
+-- of which the one is an obstacle, and the other nothing
+
+obstacle : obstacles ((loud first).after 8).log ≡ step_at Lock (lock_word 5) 8 ∷ []
+obstacle = refl
+
+no_trace : (quiet first).after 8 ≡ first
+no_trace = refl
+
+-- whatever it finds, and whatever the pass met before
+no_obstacle : (found : ℕ) (v : PassView ℕ) → obstacles ((quiet v).after found).log ≡ obstacles v.log
+no_obstacle zero v = refl
+no_obstacle (suc holder) v = refl
+
+-- and where it takes the lock it is the same step
+same_where_free : (v : PassView ℕ) → (quiet v).after 0 ≡ (loud v).after 0
+same_where_free v = refl
