@@ -1,5 +1,5 @@
 -- The steps on cells, as the table asks for them, and as contracts tell them.
-use Rattle.std.proofs.Common.{◌≡◌, ℕ, ◌+◌, ◌<◌, Bool, true, false, cond, eqb, List, [], ◌∷◌, Some, None, sym, refl, ap, ◌∙◌, subst, get_or, set}
+use Rattle.std.proofs.Common.{◌≡◌, ◌≢◌, ℕ, zero, suc, ◌+◌, ◌<◌, Bool, true, false, cond, eqb, List, [], ◌∷◌, Some, None, sym, refl, ap, ◌∙◌, subst, get_or, set}
 use Rattle.std.specs.List.{slice_get}
 use Rattle.std.specs.Prelude.{is_some}
 use Rattle.std.proofs.lemmas.Option.{same_Some}
@@ -67,6 +67,11 @@ relogs F declared table words homes id w {v} at r log sweeps =
     let there = set_here table.views id (Crew (w ∷ [])) (at_within table.views id (Crew (v ∷ [])) at) in
     logged F declared table words homes id w at r log
     (λ o n is. (known F declared (with_pass table words homes id w) r id w there).phases.rows.swept o n (sweeps o is))
+
+-- a try that finds the lock with another leaves the pass
+pub tried_elsewhere : {P : Type 0} (word n found : ℕ) (v : PassView P) → found ≢ 0 → tried_view word n found v ≡ v
+tried_elsewhere word n zero v another = absurd (another refl)
+tried_elsewhere word n (suc holder) v another = refl
 
 module _ {S L P : Type 0} (F : Layouts S L P) (laws : AreLaws F) (declared : List L) (id n : ℕ) (v : PassView P) where
   abbrev i : ℕ
