@@ -6,7 +6,6 @@ pub mod Begun
 pub mod Entering
 pub mod Leaving
 pub mod Moves
-pub mod LooksAtLock
 pub mod Gained
 pub mod Logged
 pub mod Stepped

@@ -1,5 +1,5 @@
 -- Every step of the protocol, as a row: what it asks, what it finds, and what it does.
-use Rattle.std.specs.Prelude.{◌≡◌, ℕ, ◌<◌, ◌+◌, ◌-◌, ◌%◌, ◌^◌, ◌==◌, if◌then◌else◌, ⊤, List, [], ◌∷◌, take, drop, length, max, bit_or, is_some, Some, None}
+use Rattle.std.specs.Prelude.{◌≡◌, ℕ, ◌+◌, ◌-◌, ◌%◌, ◌^◌, ◌==◌, if◌then◌else◌, ⊤, List, [], ◌∷◌, take, drop, length, max, bit_or, is_some, Some, None}
 use Rattle.atomic_table.specs.Table.{takes, gives}
 use Rattle.gen_core.specs.declared.event.GenEvent.TheVariants as graces
 use Rattle.phase_core.specs.Event as phases
@@ -20,7 +20,7 @@ use Rattle.k42_board.specs.Noting.{notes_due, pairs_from}
 use Rattle.k42_board.specs.Stepping.{WordStep, SlotStep}
 use Rattle.k42_board.specs.Swapping.{object_swapped, MayChangeEntry, entry_after, entry_event, changed_view, MayBlock, blocked_view, MayMove, moves, moved_view, CountFound, MayTurnOver, turn_amount, turned_view, MayClear, clear_event, clears, ClearFound, cleared_view}
 use Rattle.k42_board.specs.Tabling.{EntryFound, ObjectFound, RootFound, MayLookUp, looked_up_view, MayLoadRoot, rooted_view, MayKnock, knocked_view, MayInstall, installs, installed_view, MayEndCall, MayStepOut, ended_view, MayBegin, begun_view}
-use Rattle.k42_board.specs.Taking.{CELLS, MayLock, LockFound, HoldsHome, locked_view, tried_view, unlocked_view, lifted_view, gave_back, reaching_view, put_view}
+use Rattle.k42_board.specs.Taking.{MayLock, LockFound, HoldsHome, locked_view, tried_view, unlocked_view, lifted_view, gave_back, reaching_view, put_view}
 use Rattle.k42_board.specs.Words.{generation_word, exits_word, local_word, lock_word, object_word, freed_word, role_word, slot_of}
 use Rattle.k42_board.specs.declared.cell.Content.{Content}
 use Rattle.k42_board.specs.declared.view.PassView.{PassView}
@@ -257,17 +257,6 @@ module _ {S L P : Type 0} where
   }
 
   -- CELLS
-
-  -- looks whether the lock of a cell is free, and keeps nothing of it: another may take the lock, or leave it, at any time
-  abbrev pub look_at_lock : ℕ → PassView P → WordStep S L P
-  look_at_lock n v = record {
-    event = None;
-    word = lock_word n;
-    changed = λ word. word;
-    May = λ F declared. n < CELLS;
-    Finds = λ found. ⊤;
-    after = λ found. v;
-  }
 
   -- takes the lock of a cell, where it is free
   abbrev pub lock : ℕ → PassView P → WordStep S L P

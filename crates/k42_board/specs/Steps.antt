@@ -33,10 +33,6 @@ abbrev pub TellsWith :
     {P : Type 0} → (ℕ → PassView P → PassView P) → (PassView P → ℕ → Type 0) → Step (Slot P) → Seated P → ℕ → Seated P → Type 0
 TellsWith changed Facts step me found after = Tells changed step me found after × Facts (pass_in me.0) found
 
--- or tells it nothing
-abbrev pub TellsNothing : {P : Type 0} → Step (Slot P) → Seated P → ℕ → Seated P → Type 0
-TellsNothing step me found after = after ≡ me
-
 module _ {S L P : Type 0} (F : Layouts S L P) (declared : List L) where
   -- Whatever state the table shows as the pass finds the word, the event is possible, and the state that the table
   -- shows after is that of the event.

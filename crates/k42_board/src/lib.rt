@@ -51,7 +51,7 @@ pub use retired::{Carried, Retired, Slip};
 pub use setup::Setup;
 pub use skipping::{skip_to, tell_clock};
 pub use slot_plays::Known;
-pub use slots::{lock_cell, lock_cell_quietly, lock_load, put_cell, take_cell, unlock_cell};
+pub use slots::{lock_cell, lock_cell_quietly, put_cell, take_cell, unlock_cell};
 pub use stamps::{last_at, stamp_after};
 pub use swap_words::{block_word, change_entry_word, clear_word, move_word, turn_word};
 pub use table_words::{

@@ -15,14 +15,6 @@ impl<P> Known<P> for Brand {
     ghost known = { λ v. Unit {0} };
 }
 
-pub(crate) struct LookAtLock;
-
-impl<P: Drop> Play<Option<Content<P>>, View<P>> for LookAtLock {
-    ghost use Rattle.k42_board.specs.Steps.{TellsNothing};
-
-    ghost then = { TellsNothing };
-}
-
 pub(crate) struct Lock;
 
 impl<P: Drop> Play<Option<Content<P>>, View<P>> for Lock {

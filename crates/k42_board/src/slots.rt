@@ -10,15 +10,8 @@ ghost use Rattle.k42_board.specs.declared.view.PassView.{PassView};
 use crate::board::{Board, BoardSeat};
 use crate::cell::Cell;
 use crate::encoding::{lock_word, slot_of};
-use crate::slot_plays::{GiveBack, Known, Lift, Lock, LockQuietly, LookAtLock, PutBack, Reach, Unlock};
+use crate::slot_plays::{GiveBack, Known, Lift, Lock, LockQuietly, PutBack, Reach, Unlock};
 use k42_kinds::Layout;
-
-pub fn lock_load<L: Layout>(board: &Board<L>, seat: &mut BoardSeat<L>, cell: usize) -> u64
-    requires may { MayTake L.Layout board.now.shared.table_id board.now.shared.key (protocol.look_at_lock cell) seat.old }
-    ensures { HasTaken L.Layout board.now.shared.key (protocol.look_at_lock cell) seat.old result seat.new }
-{
-    board.shared.load::<LookAtLock>(seat, lock_word(cell))
-}
 
 pub fn lock_cell<L: Layout>(
     board: &Board<L>,

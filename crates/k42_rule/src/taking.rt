@@ -7,19 +7,9 @@ ghost use Rattle.k42_board.specs.Taking.{HoldsHome, MayPut, IsWhole, AreRowsNote
 
 use crate::pass::Pass;
 use crate::sys::Sys;
-use k42_board::{Cell, lock_cell, lock_cell_quietly, lock_load, put_cell, take_cell, unlock_cell};
+use k42_board::{Cell, lock_cell, lock_cell_quietly, put_cell, take_cell, unlock_cell};
 use k42_kinds::Layout;
 use std::marker::Brand;
-
-/// Looks whether the lock of a cell is free, which 0 tells; any other number is one more than its holder's. What it finds
-/// is a hint: another pass may take the lock, or leave it, before the next step.
-pub fn look_at_lock<L: Layout>(sys: &Sys<L>, pass: &mut Pass<L>, cell: u32) -> u64
-    requires { MayStep L.Layout sys.now (protocol.look_at_lock cell) pass.old }
-    ensures stepped { HasStepped L.Layout sys.now (protocol.look_at_lock cell) pass.old result pass.new }
-    ensures same { pass.new ≡ pass.old }
-{
-    lock_load(&sys.board, &mut pass.seat, cell as usize)
-}
 
 /// Takes the lock of a cell, where it is free.
 pub fn lock<L: Layout>(sys: &Sys<L>, pass: &mut Pass<L>, cell: u32) -> u64

@@ -1,8 +1,0 @@
-use Rattle.std.proofs.Common.{rules}
-use Rattle.k42_rule.proofs.taking.look_at_lock.Goals as goal
-
-pub returns-clause-stepped : goal.returns-clause-stepped
-returns-clause-stepped g c = record {
-  same = search rules;
-  takes = rw (← c.pass.view_is, ← c.sys.view_is) c.lock_load.ensures.takes;
-}
