@@ -1,7 +1,8 @@
 -- The steps on cells, as the table asks for them, and as contracts tell them.
-use Rattle.std.proofs.Common.{◌≡◌, ◌≢◌, ℕ, zero, suc, ◌+◌, ◌<◌, Bool, true, false, cond, eqb, List, [], ◌∷◌, Some, None, sym, refl, ap, ◌∙◌, subst, get_or, set}
+use Rattle.std.proofs.Common.{◌≡◌, ◌≢◌, ℕ, ◌+◌, ◌<◌, Bool, true, false, cond, eqb, List, [], ◌∷◌, Some, None, sym, refl, ap, ◌∙◌, subst, arith, get_or, set}
 use Rattle.std.specs.List.{slice_get}
 use Rattle.std.specs.Prelude.{is_some}
+use Rattle.std.proofs.lemmas.Bool.Decides.{nat_tests}
 use Rattle.std.proofs.lemmas.Option.{same_Some}
 use mathlib.Core.Option.{none, some}
 use mathlib.Core.Option as maybe
@@ -70,8 +71,9 @@ relogs F declared table words homes id w {v} at r log sweeps =
 
 -- a try that finds the lock with another leaves the pass
 pub tried_elsewhere : {P : Type 0} (word n found : ℕ) (v : PassView P) → found ≢ 0 → tried_view word n found v ≡ v
-tried_elsewhere word n zero v another = absurd (another refl)
-tried_elsewhere word n (suc holder) v another = refl
+tried_elsewhere word n found v another =
+    let other : eqb found 0 ≡ false = grind (arith, nat_tests, another) in
+    ap (λ b. cond b (took steps.Lock word found (locked_view n found v)) v) other
 
 module _ {S L P : Type 0} (F : Layouts S L P) (laws : AreLaws F) (declared : List L) (id n : ℕ) (v : PassView P) where
   abbrev i : ℕ
@@ -91,12 +93,11 @@ module _ {S L P : Type 0} (F : Layouts S L P) (laws : AreLaws F) (declared : Lis
   try_moves may idle = record {
     from = λ table r at.
         let found : ℕ = get_or table.words (lock_word n) 0 in
-        let IsAfter : PassView P → Type 0 =
-        λ w. (after : Rule F declared (with_pass table (set table.words (lock_word n) (lock_value v.number found)) table.homes id w))
-            × (after.state ≡ effect r.state (AtCells (Lock v.number n))) × IsPossible F declared r.state (AtCells (Lock v.number n)) in
-        let tried : (b : Bool) → eqb found 0 ≡ b → IsAfter (cond b (took steps.Lock (lock_word n) found (locked_view n found v)) v) =
-        by_test IsAfter found ((lock_moves may idle).from table r at) ((lock_goes may idle).from table r at) in
-        tried (eqb found 0) refl;
+        by_test
+        (λ w.
+        (after : Rule F declared (with_pass table (set table.words (lock_word n) (lock_value v.number found)) table.homes id w))
+        × (after.state ≡ effect r.state (AtCells (Lock v.number n))) × IsPossible F declared r.state (AtCells (Lock v.number n)))
+        found ((lock_moves may idle).from table r at) ((lock_goes may idle).from table r at) (eqb found 0) refl;
   } where
     by_test : (IsAfter : PassView P → Type 0) (found : ℕ) → IsAfter (took steps.Lock (lock_word n) found (locked_view n found v)) → IsAfter (locked_view n found v)
         → (b : Bool) → eqb found 0 ≡ b → IsAfter (cond b (took steps.Lock (lock_word n) found (locked_view n found v)) v)

@@ -1,5 +1,5 @@
 -- Computed tries of a lock: one that leaves a trace, and one that leaves none.
-use Rattle.std.proofs.Common.{◌≡◌, ℕ, zero, suc, [], ◌∷◌, refl}
+use Rattle.std.proofs.Common.{◌≡◌, ℕ, Bool, true, false, not, cond, eqb, [], ◌∷◌, refl, ap}
 use Rattle.k42_board.specs.Log.{step_at, obstacles}
 use Rattle.k42_board.specs.Protocol.{lock, lock_quietly}
 use Rattle.k42_board.specs.Stepping.{WordStep}
@@ -50,8 +50,10 @@ no_trace = refl
 
 -- whatever it finds, and whatever the pass met before
 no_obstacle : (found : ℕ) (v : PassView ℕ) → obstacles ((quiet v).after found).log ≡ obstacles v.log
-no_obstacle zero v = refl
-no_obstacle (suc holder) v = refl
+no_obstacle found v = by_test (eqb found 0) refl where
+  by_test : (b : Bool) → eqb found 0 ≡ b → obstacles (cond b ((loud v).after found) v).log ≡ obstacles v.log
+  by_test true free = ap (λ b. cond (not b) (step_at Lock (lock_word 5) found ∷ obstacles v.log) (obstacles v.log)) free
+  by_test false another = refl
 
 -- and where it takes the lock it is the same step
 same_where_free : (v : PassView ℕ) → (quiet v).after 0 ≡ (loud v).after 0
