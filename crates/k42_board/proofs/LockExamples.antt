@@ -10,7 +10,7 @@ use Rattle.k42_board.specs.declared.view.StepName.TheVariants.{Lock}
 
 -- the caller 3 tries the lock of the cell 5
 abbrev first : PassView ℕ
-first = new_pass 3 1 0 0
+first = new_pass 1 1 3 0
 
 abbrev loud : PassView ℕ → WordStep ℕ ℕ ℕ
 loud = lock 5

@@ -1,19 +1,20 @@
 //! Systems, and the passes that are taken from their lists and given back in the end.
-ghost use Rattle.std.specs.Prelude.{◌≡◌, ◌+◌, ◌<◌, ◌^◌, ◌++◌, ◌∷◌, [], ◌↔◌, true, length, map, vec_items, IfOk, IfSome, IsSome};
+ghost use Rattle.std.specs.Prelude.{◌≡◌, ◌+◌, ◌<◌, ◌≤◌, ◌^◌, ◌++◌, ◌∷◌, [], ◌↔◌, true, length, map, vec_items, vec_len, vec_capacity, IfOk, IfSome, IsSome, OnOk};
 ghost use Rattle.std.specs.Option.{option_to_list};
 ghost use Rattle.gen_core.specs.State.{IsPlan};
 ghost use Rattle.k42_kinds.specs.declared.operation.KindName.TheVariants.{Counter};
 ghost use Rattle.co_any.specs.Layouts.{tag_named};
 ghost use Rattle.k42_board.specs.Starting.{IsStart, IsStarted};
 ghost use Rattle.k42_board.specs.declared.keep.Keep.TheVariants as keeps;
-ghost use Rattle.k42_rule.specs.Finishing.{kept_in};
+ghost use Rattle.k42_rule.specs.Finishing.{kept_in, logged_in};
 ghost use Rattle.k42_rule.specs.Tags.{HaveTags};
 ghost use Rattle.table_crews.specs.Ready.{HoldsNoCell, HoldNoCells, rests_at, rest_from};
 
 use co_any::AnyLayout;
 use k42_kinds::{Entry, KindName, Layout, LayoutName};
+use k42_log::Log;
 use k42_memory::Memory;
-use k42_rule::{Keep, Pass, Sys, give_lists};
+use k42_rule::{Keep, Pass, Sys, give_logs};
 use std::alloc::Global;
 
 /// A pass of a system of any layouts.
@@ -85,6 +86,18 @@ fn rest<L: Layout>(passes: &[Pass<L>], first: usize) -> bool
     rests::<L>(pass, first) && rest::<L>(others, first + 1)
 }
 
+/// What the logs say, as lists.
+fn read_all(alloc: Global, logs: &[Log], lists: &mut Vec<Vec<Entry>>) -> Result<(), Memory>
+    requires room { vec_len lists.old + length logs.now ≤ vec_capacity lists.old }
+    ensures { OnOk result (map vec_items lists.new.items ≡ map vec_items lists.old.items ++ logged_in logs.now) }
+{
+    let Some((log, others)) = logs.split_first() else {
+        return Ok(());
+    };
+    lists.push_reserved(log.unread().collect(alloc)?);
+    read_all(alloc, others, lists)
+}
+
 /// The lists that the passes of all callers have kept. There are none where a pass is not in its place, or has something under way.
 pub fn finish<L: Layout>(
     alloc: Global,
@@ -99,8 +112,10 @@ pub fn finish<L: Layout>(
     if !rest::<L>(passes.as_slice(), 0) {
         return Ok(None);
     }
-    let mut lists = Vec::with_capacity(alloc, passes.len())?;
-    give_lists::<L>(alloc, passes.as_mut_slice(), &mut lists);
+    let mut logs = Vec::with_capacity(alloc, passes.len())?;
+    give_logs::<L>(alloc, passes.as_mut_slice(), &mut logs);
     sys.finish(passes);
+    let mut lists = Vec::with_capacity(alloc, logs.len())?;
+    read_all(alloc, logs.as_slice(), &mut lists)?;
     Ok(Some(lists))
 }

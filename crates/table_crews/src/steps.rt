@@ -8,7 +8,7 @@ ghost use Rattle.table_crews.specs.Ready.{HoldsNoCell, IsServing, IsLayoutOf};
 
 use crate::crews::Walk;
 use co_any::AnyLayout;
-use k42_kinds::{Act, Answer, Layout, Op, Reach, Reply, kind_of};
+use k42_kinds::{Layout, Op, Reach, Reply, kind_of};
 use k42_limits::PASS_ENTRIES;
 use k42_memory::Memory;
 use k42_rule::{
@@ -80,8 +80,7 @@ pub fn step_at<L: Layout>(
     let mut cell = take(sys, pass, number);
     let reply = step_part(alloc, layout, &mut cell, place, sys.procs(), op)?;
     cells.push_reserved(cell);
-    let act = Act::Call(*op);
-    let stamp = draw_call(sys, pass, &mut cells, act, Answer::Replied(reply));
+    let stamp = draw_call(sys, pass, &mut cells, op, &reply);
     let Some(cell) = cells.pop() else {
         unreachable!()
     };
