@@ -1,5 +1,5 @@
 -- What lists merge to is a merge of them, and how it goes on once the next entry is taken.
-use Rattle.std.proofs.Common.{◌≡◌, ◌≢◌, ℕ, zero, suc, ◌+◌, ◌<◌, List, [], ◌∷◌, ◌++◌, length, refl, sym, ap, ◌∙◌, subst, inl, inr, ◌⊎◌, arith}
+use Rattle.std.proofs.Common.{◌≡◌, ◌≢◌, ℕ, zero, suc, ◌+◌, ◌^◌, ◌<◌, List, [], ◌∷◌, ◌++◌, length, refl, sym, ap, ◌∙◌, subst, inl, inr, ◌⊎◌, arith}
 use Rattle.std.specs.Prelude.{Some, slice_get, slice_set}
 use Rattle.std.specs.List.{AllByRecursion}
 use Rattle.std.proofs.lemmas.List.{length-append}
@@ -12,9 +12,11 @@ use Rattle.k42_stamp.specs.Merging.{AreEmpty, IsNext, entries_in}
 use Rattle.k42_stamp.proofs.Elements.{all_weaker, all_at, all_in, all_append, in_left, in_right, in-append}
 use Rattle.k42_stamp.proofs.Ordering.{Ordered-append, side_of}
 use Rattle.k42_stamp.proofs.Numbering.{length-numbered_from}
-use Rattle.k42_stamp.proofs.NextEntries.{IsMerging, begins_merging, goes_on}
+use Rattle.k42_stamp.proofs.NextEntries.{IsMerging, begins_merging, goes_on, one_fewer}
 use Rattle.k42_stamp.proofs.MergedSections.{one_merge}
 use Rattle.k42_journal.specs.Merged.{in_order, all_of, merged_from}
+use Rattle.k42_journal.specs.Logs.{MayMerge}
+use Rattle.k42_journal.specs.Queues.{IsTaken}
 use Rattle.k42_journal.proofs.Placing.{AreApart, AreAllApart, Ordered-in_order, in-in_order, in_order_in, length-in_order}
 
 -- the entries of all lists
@@ -79,9 +81,12 @@ apart_all caller (list ∷ lists) are = Ordered-append AreApart list (all_of lis
 
 -- and so they are in order
 
+from_first : (lists : List (List Entry)) → AreLists lists → AreListsFrom 0 lists
+from_first lists are place list at = let same : place ≡ 0 + place = omega arith in subst (λ c. IsListOf c list) same (are place list at)
+
 pub all_in_order : (lists : List (List Entry)) → AreLists lists → IsTrace lists (in_order (all_of lists))
 all_in_order lists are = record {
-  ordered = Ordered-in_order (all_of lists) (apart_all 0 lists are);
+  ordered = Ordered-in_order (all_of lists) (apart_all 0 lists (from_first lists are));
   all = λ e is. in_order_in e (all_of lists) (all_of_in e lists is);
   only = λ e is. in-all_of e lists (in-in_order e (all_of lists) is);
 }
@@ -123,3 +128,15 @@ empty_all (list ∷ lists) empty = ap (λ l. l ++ all_of lists) empty.0 ∙ empt
 
 pub none_merged : (first : ℕ) (lists : List (List Entry)) → AreEmpty lists → merged_from first lists ≡ []
 none_merged first lists empty = ap (λ entries. numbered_from first (in_order entries)) (empty_all lists empty)
+
+-- once the next entry is taken
+
+pub taken_merged : (first : ℕ) (lists new : List (List Entry)) (entry : Entry) → AreLists lists → IsTaken lists new entry → merged_from first lists ≡ record entry { stamp = first } ∷ merged_from (first + 1) new
+taken_merged first lists new entry are is =
+    let next : suc first ≡ first + 1 = omega arith in
+    next_merged lists are is.place entry is.next first ∙ ap (λ rest. record entry { stamp = first } ∷ rest) (ap (λ n. merged_from n (slice_set lists is.place is.next.others)) next ∙ ap (merged_from (first + 1)) (sym is.left))
+
+pub taken_left : (first : ℕ) (lists new : List (List Entry)) (entry : Entry) → MayMerge first lists → IsTaken lists new entry → MayMerge (first + 1) new
+taken_left first lists new entry may is =
+    let fewer = one_fewer lists is.place entry is.next.others is.next.there in
+    rw is.left (record { are = lists_left lists may.are is.place entry is.next; fits = omega (arith, may.fits, fewer) })

@@ -79,8 +79,8 @@ ordered_chosen true entry one others more is up apart up_more known = (all_in (I
 ordered_chosen false entry one others more is up apart up_more known = ((before, all_weaker (IsBefore one) (IsBefore entry) (λ e later. before-trans entry one e before later) others up.0), up) where
   before : IsBefore entry one
   before = elim apart [
-    | inl yes ↦ let told = (before_decides one entry).1 yes in absurd (cc)
-    | inr no ↦ no
+    | inl sooner ↦ let told = (before_decides one entry).1 sooner in absurd (cc)
+    | inr later ↦ later
   ]
 
 Ordered-placed : (entry : Entry) (entries : List Entry) → Ordered IsBefore entries → AllByRecursion (AreApart entry) entries → Ordered IsBefore (placed entry entries)

@@ -1,19 +1,19 @@
 -- The queue of first entries: its end is the next one, and what is taken and entered keeps it.
 use Rattle.std.proofs.Common.{◌≡◌, ◌≢◌, ℕ, zero, suc, ◌+◌, ◌<◌, ◌≤◌, Bool, true, false, List, [], ◌∷◌, ◌++◌, length, take, drop, get_or, refl, sym, ap, ◌∙◌, subst, inl, inr, ◌⊎◌, ⊎_elim, arith}
-use Rattle.std.specs.Prelude.{Some, None, ◌==◌, slice_get, slice_set}
+use Rattle.std.specs.Prelude.{Option, Some, None, IfSome, ◌==◌, slice_get, slice_set}
 use Rattle.std.specs.List.{AllByRecursion, AllWithin}
 use Rattle.std.specs.Option.{option_map}
 use Rattle.std.specs.List.Sorted.{IsPartitionedBy}
 use Rattle.std.proofs.lemmas.List.{take-append-drop}
 use Rattle.std.proofs.lemmas.Bool.{ne_eqb}
 use Rattle.std.proofs.lemmas.Bool.Decides.{eqb_tells}
-use Rattle.std.proofs.lemmas.Option.{same_Some, slice_get_within}
+use Rattle.std.proofs.lemmas.Option.{same_Some, slice_get_within, get_or_from_slice_get}
 use Rattle.k42_kinds.specs.declared.operation.Op.TheVariants.{Get}
 use Rattle.k42_kinds.specs.declared.entry.Act.TheVariants.{Call}
 use Rattle.k42_kinds.specs.declared.entry.Answer.TheVariants.{Gone}
 use Rattle.k42_kinds.specs.declared.entry.Entry.{Entry}
 use Rattle.k42_places.proofs.Written.{slice_get-set_here, slice_get-set_else}
-use Rattle.k42_places.proofs.Appended.{at_push, slice_get-append_left}
+use Rattle.k42_places.proofs.Appended.{at_push, slice_get-append_left, slice_get-append_seam}
 use Rattle.k42_log.specs.declared.unread.Standing.{Standing}
 use Rattle.k42_log.specs.Standing.{standing_of}
 use Rattle.k42_stamp.specs.Orders.{IsBelow, IsBefore, key_of, Ordered, In}
@@ -28,7 +28,7 @@ use Rattle.k42_journal.specs.Queues.{IsBehind, IsFirstOf, IsQueueOf, IsPlaceIn, 
 use Rattle.k42_journal.proofs.Below.{stands_decides}
 
 -- an entry that stands so
-entry_at : Standing → Entry
+abbrev entry_at : Standing → Entry
 entry_at standing = record {
   stamp = standing.stamp;
   index = 0;
@@ -107,8 +107,12 @@ in_entered e standing old new is has =
 
 entered_in : (e standing : Standing) (old new : List Standing) → HasEntered standing old new → (e ≡ standing) ⊎ In e old → In e new
 entered_in e standing old new is has = subst (In e) (sym is.entered) (among (elim has [ inl same ↦ inl same | inr there ↦ inr (in_split e is.place old there) ])) where
+  front : List Standing
   front = take is.place old
+
+  back : List Standing
   back = drop is.place old
+
   among : (e ≡ standing) ⊎ (In e front ⊎ In e back) → In e (front ++ standing ∷ back)
   among which = elim which [
     | inl same ↦ in_right e front (standing ∷ back) (inl same)
@@ -167,7 +171,7 @@ first_enters lists but old new first more is there own entered = record {
   standing = standing_of first
 
   place : ℕ
-  place = entered.is.place
+  place = entered.place
 
   here : IsFirstOf lists standing
   here = record { entry = first; others = more; there = ap (slice_get lists) own ∙ there; is = refl }
@@ -200,7 +204,7 @@ module _ (lists : List (List Entry)) (old front : List Standing) (last : Standin
   in_old : (e : Standing) → In e (front ++ last ∷ []) → In e old
   in_old e has = subst (In e) (sym cut) has
 
-  parts : Ordered IsBehind front × AllByRecursion (λ x. IsBehind x last) front
+  pub parts : Ordered IsBehind front × AllByRecursion (λ x. IsBehind x last) front
   parts = ordered_parts front last (subst (Ordered IsBehind) cut is.ordered)
 
   pub first_at : IsFirstOf lists last
@@ -231,7 +235,9 @@ module _ (lists : List (List Entry)) (old front : List Standing) (last : Standin
   pub queue_left : (left : List Entry) → IsQueueBut (slice_set lists last.caller left) last.caller front
   queue_left left = record {
     ordered = parts.0;
-    all = λ place entry others differ at. among (standing_of entry) (is.all place entry others (sym (slice_get-set_else lists last.caller place left differ) ∙ at)) (λ same. differ (sym (are place (entry ∷ others) at).own.0 ∙ ap (λ (s : Standing). s.caller) same));
+    all = λ place entry others differ at.
+        let was : slice_get lists place ≡ Some (entry ∷ others) = sym (slice_get-set_else lists last.caller place left differ) ∙ at in
+        among (standing_of entry) (is.all place entry others was) (λ same. differ (sym (are place (entry ∷ others) was).own.0 ∙ ap (λ (s : Standing). s.caller) same));
     only = λ one has. (apart one has, still one (is.only one (in_old one (in_left one front (last ∷ []) has))) (apart one has));
   } where
     apart : (one : Standing) → In one front → one.caller ≢ last.caller
@@ -254,6 +260,30 @@ module _ (lists : List (List Entry)) (old front : List Standing) (last : Standin
   -- and what is left of its list stands at its place
   pub left_at : (left : List Entry) → slice_get (slice_set lists last.caller left) last.caller ≡ Some left
   left_at left = slice_get-set_here lists last.caller left (slice_get_within lists last.caller (first_at.entry ∷ first_at.others) first_at.there)
+
+  -- its list, read at its place
+  begins_with : (list : List Entry) → get_or lists last.caller list ≡ list → list ≡ first_at.entry ∷ first_at.others
+  begins_with list read = sym read ∙ get_or_from_slice_get lists last.caller (first_at.entry ∷ first_at.others) list first_at.there
+
+  pub within : last.caller < length lists
+  within = slice_get_within lists last.caller (first_at.entry ∷ first_at.others) first_at.there
+
+  module _ (list left : List Entry) (read : get_or lists last.caller list ≡ list) (is_left : left ≡ drop 1 list) where
+    others_left : left ≡ first_at.others
+    others_left = is_left ∙ ap (drop 1) (begins_with list read)
+
+    pub one_taken : (result : Option Entry) → result ≡ slice_get list 0 → (result ≡ Some first_at.entry) × IfSome result (IsTaken lists (slice_set lists last.caller left))
+    unfolding next_at first_at
+    one_taken result is =
+        let some : result ≡ Some first_at.entry = is ∙ ap (λ (l : List Entry). slice_get l 0) (begins_with list read) in
+        let taken : IsTaken lists (slice_set lists last.caller left) first_at.entry = record { place = last.caller; next = next_at; left = ap (slice_set lists last.caller) others_left } in
+        (some, subst (λ (r : Option Entry). IfSome r (IsTaken lists (slice_set lists last.caller left))) (sym some) taken)
+
+    pub queue_after : (new : List Standing) → HasEnteredFirst left front new → IsQueueOf (slice_set lists last.caller left) new
+    queue_after new entered =
+        let was = are last.caller (first_at.entry ∷ first_at.others) first_at.there in
+        let own : IsListOf last.caller left = subst (IsListOf last.caller) (sym others_left) (record { rising = was.rising.1; own = was.own.1 }) in
+        first_entered (slice_set lists last.caller left) last.caller front new left (queue_left left) (left_at left) own entered
 
 -- where nothing is queued, no list has entries
 
@@ -293,4 +323,9 @@ empty_queue lists (standing ∷ queue) is =
     let its = is.only standing (inl refl) in
     let fewer = one_fewer lists standing.caller its.entry its.others its.there in
     let some : (entries_in lists == 0) ≡ false = ne_eqb (entries_in lists) 0 (λ none. omega (arith, fewer, none)) in
-    sym some
+    let queued : (length (standing ∷ queue) == 0) ≡ false = ne_eqb (length (standing ∷ queue)) 0 (λ none. omega (arith, none)) in
+    queued ∙ sym some
+
+pub queue_more : (lists : List (List Entry)) (list : List Entry) (old new : List Standing) → IsQueueOf lists old → IsListOf (length lists) list → HasEnteredFirst list old new → IsQueueOf (lists ++ list ∷ []) new
+queue_more lists list old new is own entered =
+    first_entered (lists ++ list ∷ []) (length lists) old new list (list_more lists list old is) (slice_get-append_seam lists list []) own entered

@@ -1,0 +1,2 @@
+-- A computed merge.
+use Rattle.std.proofs.Common.{ℕ}
