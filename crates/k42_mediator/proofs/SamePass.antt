@@ -1,7 +1,8 @@
 -- The same pass, some steps later.
-use Rattle.std.proofs.Common.{◌≡◌, ℕ, ◌+◌, length, ap, ◌∙◌, arith}
+use Rattle.std.proofs.Common.{◌≡◌, ℕ, ◌+◌, length, sym, ap, ◌∙◌, subst, arith}
 use Rattle.k42_board.specs.Drawing.{IsDrawer}
-use Rattle.k42_board.specs.Seen.{PassSeen, IsSamePass, HasSameRoom, room_due}
+use Rattle.k42_board.specs.Seen.{PassSeen, IsRoomLeft, IsSamePass, HasSameRoom}
+use Rattle.k42_board.specs.declared.keep.Keep.{Keep}
 
 pub same_twice : {P : Type 0} (p0 p1 p2 : PassSeen P) → IsSamePass p0 p1 → IsSamePass p1 p2 → IsSamePass p0 p2
 same_twice p0 p1 p2 first second = record {

@@ -27,6 +27,9 @@ module _ (given : ℕ) (mine : List Entry) (few : given ≤ length mine) where
   dropped : given + length (drop given mine) ≡ length mine
   dropped = let left = length-drop given mine in omega (arith, left, few)
 
+  all_kept : 0 + length mine ≡ length mine
+  all_kept = omega arith
+
   next_within : (what : Keep) (n : ℕ) → n ≡ first_of what given + length (kept_of what given mine) → n ≤ length mine
   next_within keeps.All n is = omega (arith, is)
   next_within keeps.Sections n is = omega (arith, is, dropped)
@@ -34,13 +37,13 @@ module _ (given : ℕ) (mine : List Entry) (few : given ≤ length mine) where
 
   next_kept : (what : Keep) (before : List Entry) (entry : ℕ → Entry) (n : ℕ) → n ≡ first_of what given + length (kept_of what given mine)
       → kept_with what before (entry n) ≡ kept_with what before (entry (length mine))
-  next_kept keeps.All before entry n is = ap (λ m. kept_with keeps.All before (entry m)) (is ∙ refl)
+  next_kept keeps.All before entry n is = ap (λ m. kept_with keeps.All before (entry m)) (is ∙ all_kept)
   next_kept keeps.Sections before entry n is = ap (λ m. kept_with keeps.Sections before (entry m)) (is ∙ dropped)
   next_kept keeps.Nothing before entry n is = refl
 
   next_may : (what : Keep) (log : LogSeen) (e : Entry) → next_index log ≡ first_of what given + length (kept_of what given mine) → e.index ≡ length mine
       → (next_index log ≡ e.index → IsNextOf log e) → MayKeep what log e
-  next_may keeps.All log e is index may = may (is ∙ sym index)
+  next_may keeps.All log e is index may = may (is ∙ all_kept ∙ sym index)
   next_may keeps.Sections log e is index may = may (is ∙ dropped ∙ sym index)
   next_may keeps.Nothing log e is index may = tt
 
@@ -90,3 +93,9 @@ module _ (keep : Keeping) (number home : ℕ) (mine : List Entry) (clock : ℕ) 
       (ap (λ (o : Owner). o.caller) has.owner ∙ number_is ∙ ap (λ (o : Own). o.number) is) (ap length mine_is)
       (object_is ∙ ap (λ (o : Own). object_of o.place) is) (row_is ∙ ap (λ (o : Own). row_of o.place) is) cell_is
       (ap (λ (o : Owner). o.proc) has.owner ∙ home_is ∙ ap (λ (o : Own). o.turn.proc) is) (generation_is ∙ ap (λ (o : Own). o.turn.active) is))
+
+  -- it has room in its numbers for what it keeps
+  pub kept_few : length log.entries ≤ PASS_ENTRIES
+  kept_few =
+      let within = next_within keep.given mine has.parted.few keep.what (next_index log) next_is in
+      let few = has.few in omega (arith, within, few)

@@ -154,10 +154,10 @@ pub fn draw_one<L: Layout>(
     ensures told { IsTold pass.new.view.notes cell.old cell.new }
 {
     let stamp = stamp_after(pass.clock, cell.last_stamp());
+    let number = cell.number();
     one_word::<L, Brand>(&sys.board, &mut pass.seat, cell, op, reply);
     let closed = cell.is_closed();
     tell_cell(&sys.board, &mut pass.seat, cell, closed, stamp);
-    let number = cell.number();
     pass.drawn += 1;
     pass.clock = stamp;
     let object = object_in(&pass.place);

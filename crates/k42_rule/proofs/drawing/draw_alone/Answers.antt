@@ -11,11 +11,11 @@ use Rattle.k42_rule.proofs.Pushed.{drawer_is, drawn_later, kept_drawn, mirrors_d
 use Rattle.k42_rule.proofs.drawing.draw_alone.Goals as goal
 
 pub store-requires-clause-may : goal.store-requires-clause-may
-store-requires-clause-may g c κs within =
+store-requires-clause-may g c =
     let old = c.pass.invariant in
     let may = subst (λ (p : PassSeen _). MayDrawAlone c.args.act c.args.answer p.view) (sym c.pass.view_is) c.requires.may in
     may_keep _ c.pass.inside.number c.pass.inside.home _ c.pass.inside.clock c.pass.inside.kept old.13 _ refl refl (ap (λ (o : Own). o.drawn) old.0.own_is) may.few
-    (subst (λ n. n < 16) (sym c.object_begun_in.ensures) old.20) (omega arith) (may.act_is ∙ sym (alone_told _ c.args.answer may.answer_is))
+    (subst (λ n. n < 16) (sym c.object_begun_in.ensures) old.20) (omega arith) (may.act_is ∙ sym (alone_told (pass_in c.pass.inside.seat.me.0) c.args.answer may.answer_is))
 
 pub returns-clause-drawer : goal.returns-clause-drawer
 returns-clause-drawer g c = let taken = c.alone_word.ensures 0 in drawer_is _ _ _ c.pass.inside.kept c.store.new.kept c.pass.view_is taken.table taken.seat refl refl refl c.store.ensures.room refl refl refl refl

@@ -1,4 +1,4 @@
-use Rattle.std.proofs.Common.{rules, ◌≡◌, ◌<◌, [], ◌∷◌, length, List, ap, sym, subst, refl, ◌∙◌}
+use Rattle.std.proofs.Common.{rules, ◌≡◌, ◌<◌, ◌≤◌, false, [], ◌∷◌, length, List, ap, sym, subst, refl, ◌∙◌}
 use Rattle.k42_board.specs.Drawing.{AreHeld, AreTold, MayDrawCall, drawn_at, entry_at, numbers_of, untold_view, stamp_next}
 use Rattle.k42_joined.specs.Drawing.{first_cell}
 use Rattle.k42_board.specs.Log.{took}
@@ -8,7 +8,8 @@ use Rattle.k42_board.specs.declared.view.StepName.TheVariants as steps
 use Rattle.k42_kinds.specs.declared.entry.Entry.{Entry}
 use Rattle.k42_board.specs.Plan.{layouts_on}
 use Rattle.k42_board.specs.Queueing.{IsTied}
-use Rattle.k42_limits.specs.declared.TheConstants.{PASS_ENTRIES}
+use Rattle.k42_board.specs.Receipts.{AreDue}
+use Rattle.k42_limits.specs.declared.TheConstants.{LAST_STAMP, PASS_ENTRIES}
 use Rattle.turn_core.specs.Stamps.{last_stamp}
 use Rattle.k42_board.specs.Seen.{SysSeen, PassSeen, Own}
 use Rattle.k42_board.specs.Steps.{Seated}
@@ -49,12 +50,12 @@ tell_all-requires-clause-due g c κs within =
     subst (λ stamp. AreDue (pass_in c.call_word.new.seat.me.0).notes 0 false stamp cells) (sym stamped) (all_due _ v cells _ c.call_word.new.seat.me taken.alone taken.takes.finds held)
 
 pub store_call-requires-clause-few : goal.store_call-requires-clause-few
-store_call-requires-clause-few g c κs within =
+store_call-requires-clause-few g c =
     let few = subst (λ (p : PassSeen _). length p.view.taker.mine < PASS_ENTRIES) (sym c.pass.view_is) c.requires.may.few in
     index_few _ c.pass.inside.number c.pass.inside.home _ c.pass.inside.clock c.pass.inside.kept c.pass.invariant.13 few
 
 pub store_call-requires-clause-object : goal.store_call-requires-clause-object
-store_call-requires-clause-object g c κs within = subst (λ n. n < 16) (sym c.object_in-object.ensures) c.pass.invariant.2
+store_call-requires-clause-object g c = subst (λ n. n < 16) (sym c.object_in-object.ensures) c.pass.invariant.2
 
 pub returns-clause-stamp : goal.returns-clause-stamp
 returns-clause-stamp g c =
@@ -112,7 +113,7 @@ invariant_of-pass g c =
       old.11,
       old.12,
       kept_drawn _ c.pass.inside.number c.pass.inside.home c.pass.inside.kept c.store_call.new.kept c.pass.inside.clock c.last_at.result v _ _ c.tell_all.new.seat.me _ old.13 (sym stamped) c.stamp_after-stamp.ensures (sym (ap (λ (o : Own). o.number) own)) few kept c.store_call.ensures.owner c.store_call.ensures.first seated refl,
-      taken.takes.finds,
+      subst (λ n. n ≤ LAST_STAMP) (sym stamped) taken.takes.finds,
       old.15,
       old.16,
       old.17,

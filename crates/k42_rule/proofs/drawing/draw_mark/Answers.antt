@@ -37,7 +37,7 @@ tell_cell-requires-clause-due g c κs within =
     (subst (λ (p : PassSeen _). IsHeld p.view.notes c.args.cell.now) (sym c.pass.view_is) c.requires.may.held))
 
 pub store-requires-clause-may : goal.store-requires-clause-may
-store-requires-clause-may g c κs within =
+store-requires-clause-may g c =
     let old = c.pass.invariant in
     let few = subst (λ (p : PassSeen _). length p.view.taker.mine < PASS_ENTRIES) (sym c.pass.view_is) c.requires.may.few in
     may_keep _ c.pass.inside.number c.pass.inside.home _ c.pass.inside.clock c.pass.inside.kept old.13 _ refl refl (ap (λ (o : Own). o.drawn) old.0.own_is) few

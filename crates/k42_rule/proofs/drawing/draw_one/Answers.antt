@@ -1,4 +1,4 @@
-use Rattle.std.proofs.Common.{rules, ◌≡◌, ◌<◌, [], ◌∷◌, length, ap, sym, subst, refl, ◌∙◌, arith}
+use Rattle.std.proofs.Common.{rules, ◌≡◌, ◌+◌, ◌<◌, ◌≤◌, Bool, ℕ, [], ◌∷◌, length, ap, sym, subst, refl, ◌∙◌, arith}
 use Rattle.std.specs.Prelude.{max}
 use Rattle.k42_board.specs.Drawing.{AreHeld, MayDrawCall, drawn_at, entry_at, numbers_of, untold_view, stamp_next}
 use Rattle.k42_joined.specs.Drawing.{first_cell}
@@ -10,7 +10,7 @@ use Rattle.k42_kinds.specs.declared.entry.Entry.{Entry}
 use Rattle.k42_board.specs.Plan.{layouts_on}
 use Rattle.k42_board.specs.Queueing.{IsTied}
 use Rattle.k42_board.specs.Receipts.{IsDue, after_first}
-use Rattle.k42_limits.specs.declared.TheConstants.{PASS_ENTRIES}
+use Rattle.k42_limits.specs.declared.TheConstants.{LAST_STAMP, PASS_ENTRIES}
 use Rattle.turn_core.specs.Stamps.{last_stamp}
 use Rattle.k42_board.specs.Seen.{SysSeen, PassSeen, Own}
 use Rattle.k42_board.specs.Steps.{Seated}
@@ -57,15 +57,15 @@ tell_cell-requires-clause-due g c κs within =
     (mark_due _ v c.args.cell.now _ c.one_word.new.seat.me taken.alone taken.takes.finds (held 0 c.args.cell.now refl))
 
 pub store_call-requires-clause-few : goal.store_call-requires-clause-few
-store_call-requires-clause-few g c κs within =
+store_call-requires-clause-few g c =
     let few = subst (λ (p : PassSeen _). length p.view.taker.mine < PASS_ENTRIES) (sym c.pass.view_is) c.requires.may.few in
     index_few _ c.pass.inside.number c.pass.inside.home _ c.pass.inside.clock c.pass.inside.kept c.pass.invariant.13 few
 
 pub store_call-requires-clause-object : goal.store_call-requires-clause-object
-store_call-requires-clause-object g c κs within = subst (λ n. n < 16) (sym c.object_in-object.ensures) c.pass.invariant.2
+store_call-requires-clause-object g c = subst (λ n. n < 16) (sym c.object_in-object.ensures) c.pass.invariant.2
 
 pub store_call-requires-clause-cell : goal.store_call-requires-clause-cell
-store_call-requires-clause-cell g c κs within = ?
+store_call-requires-clause-cell g c = let small = c.args.cell.now.few in let is = c.number-number.ensures in omega (arith, small, is)
 
 pub returns-clause-stamp : goal.returns-clause-stamp
 returns-clause-stamp g c =
@@ -106,7 +106,7 @@ invariant_of-pass g c =
     let few = subst (λ (p : PassSeen _). length p.view.taker.mine < PASS_ENTRIES) (sym c.pass.view_is) c.requires.may.few in
     let kept = c.store_call.ensures.entries
     ∙ kept_call _ c.pass.inside.number c.pass.inside.home v.taker.mine c.pass.inside.clock c.pass.inside.kept old.13 v _ cells c.args.op.now c.args.reply.now c.stamp_after-stamp.result
-    c.object_in-object.result c.row_in-row.result c.number.result c.pass.inside.active own refl refl refl stamped c.object_in-object.ensures c.row_in-row.ensures c.number.ensures refl in
+    c.object_in-object.result c.row_in-row.result c.number-number.result c.pass.inside.active own refl refl refl stamped c.object_in-object.ensures c.row_in-row.ensures c.number-number.ensures refl in
     let seated = c.tell_cell.ensures.seated ∙ (λ i. (Crew (untold_view (after_first (pass_in (told i).0).untold) (pass_in (told i).0) ∷ []), [])) in (
       mirrors_drawn _ c.pass.inside.seat.me c.tell_cell.new.seat.me _ _ _ old.0 seated refl refl refl (sym stamped),
       old.1,
@@ -122,7 +122,7 @@ invariant_of-pass g c =
       old.11,
       old.12,
       kept_drawn _ c.pass.inside.number c.pass.inside.home c.pass.inside.kept c.store_call.new.kept c.pass.inside.clock c.last_stamp.result v _ _ c.tell_cell.new.seat.me _ old.13 (sym stamped) c.stamp_after-stamp.ensures (sym (ap (λ (o : Own). o.number) own)) few kept c.store_call.ensures.owner c.store_call.ensures.first seated refl,
-      taken.takes.finds,
+      subst (λ n. n ≤ LAST_STAMP) (sym stamped) taken.takes.finds,
       old.15,
       old.16,
       old.17,

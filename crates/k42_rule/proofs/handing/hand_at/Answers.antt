@@ -65,7 +65,7 @@ tell_all-requires-clause-due g c κs within =
     (due_is F sys.layouts cells c.args.to.now c.args.answer v c.requires.may entry tag c.hand_word.new.seat.me (lock_word (first_cell (numbers_of cells))) told.0 (subst (λ n. n ≤ 8) procs c.sys.invariant.7) told.1)
 
 pub store-requires-clause-may : goal.store-requires-clause-may
-store-requires-clause-may g c κs within =
+store-requires-clause-may g c =
     let v = c.args.pass.now.view in let old = c.pass.invariant in let entry = c.done_entry-entry.result in
     let met = g.met.L.Layout g.world.𝓛 g.world.𝓜 g.world.𝓡 ((λ s x. x), (λ x. x), (λ x. x), λ x. x) in
     let own = old.0.own_is ∙ ap own_in (ap (λ (p : PassSeen _). p.view) c.pass.view_is) in let is = c.done_entry-entry.ensures.is in
