@@ -46,7 +46,7 @@ use Rattle.k42_joined.proofs.CellNumbers.{object_of-cell, place_of-cell, named_i
 use Rattle.k42_joined.proofs.OneChain.{rows_are_one}
 use Rattle.k42_joined.proofs.SafeStates.{inside_there, handed_alone, read_row_kept}
 use Rattle.k42_board.specs.Cells.{Slot, cells_noted}
-use Rattle.k42_board.specs.Drawing.{AgreeOn, MayDrawCall, AreHeld, IsStepped, entry_at, draws_at, part_in, part_noted, part_due, parts_due, numbers_of, HaveParts}
+use Rattle.k42_board.specs.Drawing.{AgreeOn, MayDrawCall, IsStepped, entry_at, draws_at, part_in, part_noted, part_due, parts_due, numbers_of, HaveParts}
 use Rattle.k42_board.specs.Parts.{HasDue}
 use Rattle.k42_board.specs.Rule.{KnowsPass, Rule}
 use Rattle.k42_board.specs.Trace.{IsOfTime}

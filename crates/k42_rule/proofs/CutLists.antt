@@ -1,5 +1,5 @@
 -- The lists of a section: what the passes have given before, and what they give.
-use Rattle.std.proofs.Common.{◌≡◌, ℕ, zero, suc, ◌<◌, ◌≤◌, List, [], ◌∷◌, ◌++◌, Some, length, map, take, drop, refl, sym, ap, ◌∙◌, subst}
+use Rattle.std.proofs.Common.{◌≡◌, ℕ, zero, suc, ◌<◌, ◌≤◌, List, [], ◌∷◌, ◌++◌, Some, map, take, drop, refl, sym, ap, ◌∙◌, subst}
 use Rattle.std.specs.List.{slice_get, AllByRecursion}
 use Rattle.std.specs.Prelude.{option_map}
 use Rattle.std.proofs.lemmas.List.{length-map, take-append-drop}
@@ -8,8 +8,7 @@ use Rattle.k42_kinds.specs.declared.entry.Entry.{Entry}
 use Rattle.k42_places.specs.Places.{EachPlace}
 use Rattle.k42_places.proofs.EachPlaces.{EachPlace-map}
 use Rattle.k42_stamp.specs.Lists.{IsListOf, AreLists, InSome}
-use Rattle.k42_stamp.specs.Orders.{In, Ordered}
-use Rattle.k42_stamp.specs.Sections.{AreCutAt}
+use Rattle.k42_stamp.specs.Orders.{Ordered}
 use Rattle.k42_stamp.proofs.Elements.{all_at, all_front, all_back}
 use Rattle.k42_board.specs.Seen.{SysSeen, PassSeen}
 use Rattle.k42_rule.specs.Finishing.{AreAtRest, lists_in}

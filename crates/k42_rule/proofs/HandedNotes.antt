@@ -21,7 +21,7 @@ use Rattle.k42_board.specs.declared.view.Note.{Note}
 use Rattle.k42_board.specs.declared.view.PassView.{PassView}
 use Rattle.k42_board.specs.declared.view.StepName.TheVariants as steps
 use Rattle.k42_board.proofs.CellsHanded.{each_handed, handed_cells}
-use Rattle.k42_board.proofs.Noted.{first_note, last_push, each_named}
+use Rattle.k42_board.proofs.Noted.{first_note, each_named}
 
 module _ {P : Type 0} (from onto : List ℕ) (entry : Entry) (fresh : ℕ → Option P) where
   abbrev becomes : Note P → Note P

@@ -1,5 +1,5 @@
 -- The next entry of a pass, where it is kept, is the next of its log.
-use Rattle.std.proofs.Common.{◌≡◌, ℕ, ◌+◌, ◌-◌, ◌<◌, ◌≤◌, List, Option, drop, length, refl, sym, ap, ◌∙◌, subst, arith}
+use Rattle.std.proofs.Common.{◌≡◌, ℕ, ◌+◌, ◌<◌, ◌≤◌, List, Option, drop, length, refl, sym, ap, ◌∙◌, arith}
 use Rattle.std.proofs.lemmas.List.{length-drop}
 use Rattle.k42_limits.specs.declared.TheConstants.{OBJECTS, PASS_ENTRIES}
 use Rattle.k42_kinds.specs.Histories.{is_call}

@@ -1,8 +1,7 @@
 -- Passes that skip to the greatest of their clocks.
-use Rattle.std.proofs.Common.{◌≡◌, ℕ, zero, suc, ◌≤◌, ltb, true, List, [], ◌∷◌, get_or, length, map, Some, refl, sym, ap, ◌∙◌, subst, arith}
+use Rattle.std.proofs.Common.{◌≡◌, ℕ, zero, suc, ◌≤◌, ltb, true, List, [], ◌∷◌, get_or, length, map, refl, sym, ap, ◌∙◌, subst, arith}
 use lib.ListN.{set}
 use Rattle.std.specs.Prelude.{max}
-use Rattle.std.specs.List.{slice_get}
 use Rattle.std.proofs.Math.Nat.{le-max_left, le-max_right, max-eq_left, max-le}
 use Rattle.std.proofs.lemmas.Bool.Decides.{nat_tests}
 use Rattle.std.proofs.lemmas.Option.{same_Some}

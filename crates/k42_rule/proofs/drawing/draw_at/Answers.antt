@@ -5,7 +5,6 @@ use Rattle.k42_board.specs.Log.{took}
 use Rattle.k42_board.specs.Words.{lock_word}
 use Rattle.k42_board.specs.declared.view.PassView.{PassView}
 use Rattle.k42_board.specs.declared.view.StepName.TheVariants as steps
-use Rattle.k42_kinds.specs.declared.entry.Entry.{Entry}
 use Rattle.k42_board.specs.Plan.{layouts_on}
 use Rattle.k42_board.specs.Queueing.{IsTied}
 use Rattle.k42_board.specs.Receipts.{AreDue}
@@ -27,8 +26,8 @@ call_word-requires-clause-may g c κs within = record {
   here = search rules;
   may =
       subst (λ (z : SysSeen _ × PassSeen _). MayDrawCall
-          (layouts_on g.L.Kind.object g.L.Layout.tag_of g.L.Layout.ways g.L.Layout.whole g.L.Layout.serves g.L.Layout.admitted g.L.Layout.act_of z.0.procs z.0.callers)
-          z.0.layouts c.args.cells.now c.args.op.now c.args.reply.now z.1.view) (λ j. (sym c.sys.view_is j, sym c.pass.view_is j)) c.requires.may;
+      (layouts_on g.L.Kind.object g.L.Layout.tag_of g.L.Layout.ways g.L.Layout.whole g.L.Layout.serves g.L.Layout.admitted g.L.Layout.act_of z.0.procs z.0.callers)
+      z.0.layouts c.args.cells.now c.args.op.now c.args.reply.now z.1.view) (λ j. (sym c.sys.view_is j, sym c.pass.view_is j)) c.requires.may;
 }
 
 pub tell_all-requires-clause-ours : goal.tell_all-requires-clause-ours

@@ -1,5 +1,4 @@
-use Rattle.std.proofs.Common.{◌≡◌, sym, ap, ◌∙◌, subst}
-use Rattle.k42_places.specs.Places.{EachPlace}
+use Rattle.std.proofs.Common.{◌≡◌}
 use Rattle.k42_board.specs.Seen.{PassSeen}
 use Rattle.k42_rule.proofs.RaisedClocks.{at_first, each_first, first_low, first_put}
 use Rattle.k42_rule.proofs.sections.tell_first.Goals as goal
