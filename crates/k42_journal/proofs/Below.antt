@@ -1,10 +1,9 @@
 -- The test of the order tells the order.
-use Rattle.std.proofs.Common.{◌≡◌, ℕ, ◌<◌, ◌&&◌, ◌||◌, eqb, ltb, Bool, true, false, List, [], ◌∷◌, refl, sym, ap, ◌∙◌, inl, inr, ◌⊎◌, Decides}
+use Rattle.std.proofs.Common.{ℕ, ◌&&◌, eqb, ltb, List, [], ◌∷◌, Decides}
 use Rattle.std.proofs.lemmas.Bool.Decides.{Decides-and, Decides-or, Decides-eqb, Decides-ltb}
 use Rattle.k42_kinds.specs.declared.entry.Entry.{Entry}
 use Rattle.k42_log.specs.declared.unread.Standing.{Standing}
 use Rattle.k42_stamp.specs.Orders.{IsBelow, IsBefore, key_of}
-use Rattle.k42_stamp.proofs.Ordering.{below_or}
 use Rattle.k42_journal.specs.Keys.{is_below, comes_before, key_at, stands_before}
 
 pub below_decides : (ms ns : List ℕ) → Decides (is_below ms ns) (IsBelow ms ns)

@@ -2,3 +2,4 @@ pub mod Below
 pub mod Placing
 pub mod Merges
 pub mod Queueing
+mod MergeExamples

@@ -1,15 +1,15 @@
 -- What lists merge to is a merge of them, and how it goes on once the next entry is taken.
-use Rattle.std.proofs.Common.{◌≡◌, ◌≢◌, ℕ, zero, suc, ◌+◌, ◌^◌, ◌<◌, List, [], ◌∷◌, ◌++◌, length, refl, sym, ap, ◌∙◌, subst, inl, inr, ◌⊎◌, arith}
+use Rattle.std.proofs.Common.{◌≡◌, ◌≢◌, ℕ, zero, suc, ◌+◌, ◌<◌, List, [], ◌∷◌, ◌++◌, length, refl, sym, ap, ◌∙◌, subst, inl, inr, arith}
 use Rattle.std.specs.Prelude.{Some, slice_get, slice_set}
 use Rattle.std.specs.List.{AllByRecursion}
 use Rattle.std.proofs.lemmas.List.{length-append}
 use Rattle.std.proofs.lemmas.List.Sums.{sum_by-cons}
 use Rattle.std.proofs.lemmas.Option.{same_Some}
 use Rattle.k42_kinds.specs.declared.entry.Entry.{Entry}
-use Rattle.k42_stamp.specs.Orders.{IsBefore, Ordered, In}
+use Rattle.k42_stamp.specs.Orders.{IsBefore, In}
 use Rattle.k42_stamp.specs.Lists.{IsListOf, AreLists, InSome, IsTrace, IsMergedFrom, numbered_from}
 use Rattle.k42_stamp.specs.Merging.{AreEmpty, IsNext, entries_in}
-use Rattle.k42_stamp.proofs.Elements.{all_weaker, all_at, all_in, all_append, in_left, in_right, in-append}
+use Rattle.k42_stamp.proofs.Elements.{all_weaker, all_at, all_in, in_left, in_right, in-append}
 use Rattle.k42_stamp.proofs.Ordering.{Ordered-append, side_of}
 use Rattle.k42_stamp.proofs.Numbering.{length-numbered_from}
 use Rattle.k42_stamp.proofs.NextEntries.{IsMerging, begins_merging, goes_on, one_fewer}
@@ -66,18 +66,18 @@ apart_all : (caller : ℕ) (lists : List (List Entry)) → AreListsFrom caller l
 apart_all caller [] are = tt
 apart_all caller (list ∷ lists) are = Ordered-append AreApart list (all_of lists) (apart_list (caller + 0) list own) (apart_all (suc caller) lists later)
     (all_in (λ x. AllByRecursion (AreApart x) (all_of lists)) list (λ x has. all_in (AreApart x) (all_of lists) (λ e there. apart x e has there))) where
-  own : IsListOf (caller + 0) list
-  own = are 0 list refl
+      own : IsListOf (caller + 0) list
+      own = are 0 list refl
 
-  later : AreListsFrom (suc caller) lists
-  later = later_from caller list lists are
+      later : AreListsFrom (suc caller) lists
+      later = later_from caller list lists are
 
-  apart : (x e : Entry) → In x list → In e (all_of lists) → AreApart x e
-  apart x e has there =
-      let is = in-all_of e lists there in
-      let mine : x.caller ≡ caller + 0 = all_at (λ entry. entry.caller ≡ caller + 0) list x own.own has in
-      let its : e.caller ≡ suc caller + is.place = all_at (λ entry. entry.caller ≡ suc caller + is.place) is.list e (later is.place is.list is.there).own is.has in
-      apart_callers x e (λ same. omega (arith, mine, its, same))
+      apart : (x e : Entry) → In x list → In e (all_of lists) → AreApart x e
+      apart x e has there =
+          let is = in-all_of e lists there in
+          let mine : x.caller ≡ caller + 0 = all_at (λ entry. entry.caller ≡ caller + 0) list x own.own has in
+          let its : e.caller ≡ suc caller + is.place = all_at (λ entry. entry.caller ≡ suc caller + is.place) is.list e (later is.place is.list is.there).own is.has in
+          apart_callers x e (λ same. omega (arith, mine, its, same))
 
 -- and so they are in order
 
@@ -119,7 +119,7 @@ module _ (lists : List (List Entry)) (are : AreLists lists) (place : ℕ) (entry
       let rests = slice_set lists place next.others in
       let trace = in_order (all_of rests) in
       let is : IsMergedFrom first lists (record entry { stamp = first } ∷ merged_from (suc first) rests) =
-          record { trace = entry ∷ trace; just = joined lists rests (entry ∷ []) trace begun (all_in_order rests lists_left); numbered = refl } in
+      record { trace = entry ∷ trace; just = joined lists rests (entry ∷ []) trace begun (all_in_order rests lists_left); numbered = refl } in
       one_merge first lists (merged_from first lists) (record entry { stamp = first } ∷ merged_from (suc first) rests) (merges first lists are) is
 
 empty_all : (lists : List (List Entry)) → AreEmpty lists → all_of lists ≡ []

@@ -1,5 +1,5 @@
 -- The queue of first entries: its end is the next one, and what is taken and entered keeps it.
-use Rattle.std.proofs.Common.{◌≡◌, ◌≢◌, ℕ, zero, suc, ◌+◌, ◌<◌, ◌≤◌, Bool, true, false, List, [], ◌∷◌, ◌++◌, length, take, drop, get_or, refl, sym, ap, ◌∙◌, subst, inl, inr, ◌⊎◌, ⊎_elim, arith}
+use Rattle.std.proofs.Common.{◌≡◌, ◌≢◌, ℕ, zero, suc, ◌<◌, false, List, [], ◌∷◌, ◌++◌, length, take, drop, get_or, refl, sym, ap, ◌∙◌, subst, inl, inr, ◌⊎◌, arith}
 use Rattle.std.specs.Prelude.{Option, Some, None, IfSome, ◌==◌, slice_get, slice_set}
 use Rattle.std.specs.List.{AllByRecursion, AllWithin}
 use Rattle.std.specs.Option.{option_map}
@@ -24,7 +24,7 @@ use Rattle.k42_stamp.proofs.Totals.{total_empty}
 use Rattle.k42_stamp.proofs.Elements.{all_at, all_in, all_front, in_left, in_right, in-append}
 use Rattle.k42_stamp.proofs.Ordering.{before-trans, before-irreflexive, below_or, Ordered-inserted}
 use Rattle.k42_journal.specs.Keys.{key_at, stands_before}
-use Rattle.k42_journal.specs.Queues.{IsBehind, IsFirstOf, IsQueueOf, IsPlaceIn, HasEntered, HasEnteredFirst, IsTaken}
+use Rattle.k42_journal.specs.Queues.{IsBehind, IsFirstOf, IsQueueOf, HasEntered, HasEnteredFirst, IsTaken}
 use Rattle.k42_journal.proofs.Below.{stands_decides}
 
 -- an entry that stands so

@@ -1,5 +1,5 @@
 use Rattle.std.proofs.Common.{rules}
-use Rattle.k42_journal.proofs.Queueing.{entered_by, none_entered}
+use Rattle.k42_journal.proofs.Queueing.{entered_by}
 use Rattle.k42_journal.proofs.queue.enter_first.Goals as goal
 
 pub returns-in-Some-clause-entered : goal.returns-in-Some-clause-entered

@@ -1,4 +1,4 @@
-use Rattle.std.proofs.Common.{rules, ◌≡◌, List, [], ◌∷◌, ◌++◌, refl, sym, ◌∙◌, arith}
+use Rattle.std.proofs.Common.{rules, ◌≡◌, [], ◌∷◌, ◌++◌, refl, arith}
 use Rattle.k42_journal.proofs.Queueing.{none_left, within, parts, one_taken, queue_after}
 use Rattle.k42_journal.proofs.queue.take_next.Goals as goal
 

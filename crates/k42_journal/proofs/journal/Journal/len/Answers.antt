@@ -1,4 +1,4 @@
-use Rattle.std.proofs.Common.{sym, ap, ◌∙◌}
+use Rattle.std.proofs.Common.{ap, ◌∙◌}
 use Rattle.k42_stamp.specs.Merging.{entries_in}
 use Rattle.k42_journal.specs.Logs.{lists_of}
 use Rattle.k42_journal.proofs.Merges.{length-merged_from}

@@ -1,4 +1,4 @@
-use Rattle.std.proofs.Common.{◌≡◌, ◌==◌, sym, ap, ◌∙◌}
+use Rattle.std.proofs.Common.{◌==◌, sym, ap, ◌∙◌}
 use Rattle.k42_journal.proofs.Merges.{length-merged_from}
 use Rattle.k42_journal.proofs.Queueing.{empty_queue}
 use Rattle.k42_journal.proofs.reader.Reader.is_empty.Goals as goal

@@ -1,8 +1,5 @@
-use Rattle.std.proofs.Common.{rules, ◌≡◌, ◌+◌, None, [], ◌∷◌, drop, refl, sym, ap, ◌∙◌, arith}
-use Rattle.std.specs.Prelude.{slice_get}
-use Rattle.k42_stamp.specs.Merging.{AreEmpty}
+use Rattle.std.proofs.Common.{rules, ◌≡◌, None, refl, arith}
 use Rattle.k42_stamp.proofs.NextEntries.{one_fewer}
-use Rattle.k42_journal.specs.Merged.{merged_from}
 use Rattle.k42_journal.specs.Queues.{IsTaken}
 use Rattle.k42_journal.proofs.Merges.{none_merged, taken_merged, taken_left}
 use Rattle.k42_journal.proofs.reader.Reader.next.Goals as goal

@@ -1,4 +1,4 @@
-use Rattle.std.proofs.Common.{rules, ◌≡◌, ◌+◌, ◌≤◌, ◌<◌, List, [], ◌∷◌, ◌++◌, length, take, get_or, map, refl, sym, ap, ◌∙◌, subst}
+use Rattle.std.proofs.Common.{rules, ◌≡◌, ◌+◌, ◌<◌, List, [], ◌∷◌, ◌++◌, length, take, get_or, refl, sym, ap, ◌∙◌, subst}
 use Rattle.std.specs.Prelude.{Some, slice_get}
 use Rattle.std.specs.Option.{option_map}
 use Rattle.std.proofs.lemmas.List.{take_more, map-append}
@@ -28,8 +28,8 @@ loop-log-preserved c =
     let many : index ≡ length lists = sym c.loop-log.invariant.many ∙ c.loop-log.unread.ok.0 in
     let own : IsListOf (length lists) rest = subst (λ n. IsListOf n rest) many (c.requires.are index rest at) in
     let pushed : c.push_reserved.new.self.items ≡ lists ++ rest ∷ [] = c.push_reserved.ensures.items in
-    let front : lists_of (take (index + 1) logs) ≡ lists_of (take index logs) ++ log.entries ∷ [] = 
-        ap lists_of (take_more logs index log within ∙ ap (λ (x : LogSeen). take index logs ++ x ∷ []) (sym read)) ∙ map-append entries_of (take index logs) (log ∷ []) in
+    let front : lists_of (take (index + 1) logs) ≡ lists_of (take index logs) ++ log.entries ∷ [] =
+    ap lists_of (take_more logs index log within ∙ ap (λ (x : LogSeen). take index logs ++ x ∷ []) (sym read)) ∙ map-append entries_of (take index logs) (log ∷ []) in
     record {
       lists = pushed ∙ (ap (λ l. l ++ rest ∷ []) c.loop-log.invariant.lists ∙ (ap (λ l. lists_of (take index logs) ++ l ∷ []) list ∙ sym front));
       queue = rw pushed (queue_more lists rest c.loop-log.queue.items c.enter_first.new.queue.items c.loop-log.invariant.queue own c.enter_first.ensures.entered);
