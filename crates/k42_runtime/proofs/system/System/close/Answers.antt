@@ -27,7 +27,7 @@ of-journal-requires-clause-lists c =
     ap (λ (ps : List SystemPass). lists_in ps) (come_back passes c.give_logs.new.passes c.args.passes.len given c.args.passes.ok.0) ∙ given_lists passes in
     let same : logged_in c.give_logs.new.logs.items ≡ lists_in passes =
     c.give_logs.ensures.logs
-    ∙ (λ j. logged_in (c.in-Ok-with_capacity.ensures.items j) ++ kept_in (c.as_mut_slice.ensures.value j))
+    ∙ (λ j. logged_in (c.in-Ok.ensures.items j) ++ kept_in (c.as_mut_slice.ensures.value j))
     ∙ all_kept passes c.requires.all in
     let last : AreLastLists (layouts_in system) system.sys.layouts (length system.sys.callers) (lists_in passes) =
     subst (AreLastLists (layouts_in system) system.sys.layouts (length system.sys.callers)) drawn c.finish.ensures in
@@ -39,7 +39,7 @@ of-journal-requires-clause-fits c =
     let passes = c.args.passes.items in
     let may : MayEnd system passes = subst (λ s. MayEnd s passes) (sym c.self.view_is) c.requires.may_end in
     let same : logged_in c.give_logs.new.logs.items ≡ kept_in c.as_mut_slice.result.now =
-    c.give_logs.ensures.logs ∙ ap (λ logs. logged_in logs ++ kept_in c.as_mut_slice.result.now) c.in-Ok-with_capacity.ensures.items in
+    c.give_logs.ensures.logs ∙ ap (λ logs. logged_in logs ++ kept_in c.as_mut_slice.result.now) c.in-Ok.ensures.items in
     let kept = ap entries_in same in
     let many = ap (λ (ps : List SystemPass). length ps) c.as_mut_slice.ensures.value in
     omega (arith, kept, many, c.give_logs.ensures.few, few_passes system passes c.self.invariant may)
@@ -53,7 +53,7 @@ returns-clause-ok c =
     ap (λ (ps : List SystemPass). lists_in ps) (come_back passes c.give_logs.new.passes c.args.passes.len given c.args.passes.ok.0) ∙ given_lists passes in
     let same : logged_in c.give_logs.new.logs.items ≡ lists_in passes =
     c.give_logs.ensures.logs
-    ∙ (λ j. logged_in (c.in-Ok-with_capacity.ensures.items j) ++ kept_in (c.as_mut_slice.ensures.value j))
+    ∙ (λ j. logged_in (c.in-Ok.ensures.items j) ++ kept_in (c.as_mut_slice.ensures.value j))
     ∙ all_kept passes c.requires.all in
     let last : AreLastLists (layouts_in system) system.sys.layouts (length system.sys.callers) (lists_in passes) =
     subst (AreLastLists (layouts_in system) system.sys.layouts (length system.sys.callers)) drawn c.finish.ensures in
