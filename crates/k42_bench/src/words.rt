@@ -35,13 +35,15 @@ fn ops_of(word: &str) -> Option<Ops> {
     }
 }
 
-/// Without the word all entries are kept.
+/// Without the word all entries are kept and read. Those that wait for a section which nobody takes are kept alone.
 fn keep_of(words: &[String]) -> Option<Keep> {
     let [word] = words else {
         return words.is_empty().then_some(Keep::All);
     };
     if word.as_str() == "keep" {
         Some(Keep::All)
+    } else if word.as_str() == "unread" {
+        Some(Keep::Sections)
     } else if word.as_str() == "none" {
         Some(Keep::Nothing)
     } else {

@@ -25,9 +25,10 @@ fn a_number_has_no_sign_and_no_leading_zero(rt: HostRuntime) {
 
 #[test]
 fn entries_are_kept_unless_the_last_word_says_none(rt: HostRuntime) -> Result<(), Memory> {
-    let cases: [(&[&str], Option<Keep>); 5] = [
+    let cases: [(&[&str], Option<Keep>); 6] = [
         (&[], Some(Keep::All)),
         (&["keep"], Some(Keep::All)),
+        (&["unread"], Some(Keep::Sections)),
         (&["none"], Some(Keep::Nothing)),
         (&["nothing"], None),
         (&["none", "none"], None),
