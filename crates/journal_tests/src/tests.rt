@@ -19,7 +19,9 @@ fn log_of(rt: &impl Abort, alloc: Global, caller: u32, entries: &[(u64, u32, u32
     let mut log = Log::new(alloc, caller, caller, 0);
     let mut last = 0;
     for (stamp, object, cell) in entries {
-        assert!(rt; *stamp > last && *object < 16 && *cell < 16);
+        assert!(rt; *stamp > last);
+        assert!(rt; *object < 16);
+        assert!(rt; *cell < 16);
         log.reserve().expect(rt, "memory");
         log.push_call(
             *stamp,
@@ -85,12 +87,15 @@ fn a_log_alone_is_read_to_its_end(rt: HostRuntime) {
     let callers: [&[(u64, u32, u32)]; 4] = [&[], &[], &[(6, 3, 1), (9, 2, 0)], &[]];
     let journal = Journal::of(1, logs_of(&rt, alloc, &callers));
     assert!(rt; !journal.is_empty());
+    let list = journal.collect(alloc).expect(&rt, "memory");
+    let told = list
+        .iter()
+        .map(|entry| (entry.stamp, entry.object, entry.index));
+    assert!(rt; told.eq([(1, 3, 0), (2, 2, 1)]));
     let mut reader = journal.read(alloc).expect(&rt, "memory");
-    let first = reader.next().expect(&rt, "an entry");
-    assert_eq!(rt; (first.stamp, first.object, first.index), (1, 3, 0));
+    assert!(rt; reader.next().is_some());
     assert_eq!(rt; reader.len(), 1);
-    let second = reader.next().expect(&rt, "an entry");
-    assert_eq!(rt; (second.stamp, second.object, second.index), (2, 2, 1));
+    assert!(rt; reader.next().is_some());
     assert!(rt; reader.is_empty());
     assert!(rt; reader.next().is_none());
 }

@@ -10,7 +10,8 @@ use Rattle.k42_log.specs.Logs.{stamp_or_0}
 use Rattle.k42_journal.specs.Merged.{merged_from}
 
 abbrev drawn : (stamp object cell caller : ℕ) → Entry
-drawn stamp object cell caller = record { stamp = stamp; caller = caller; index = 0; object = object; incarnation = 0; cell = cell; act = Call Get; answer = Replied (Number 0); proc = 0; generation = None }
+drawn stamp object cell caller =
+    record { stamp = stamp; caller = caller; index = 0; object = object; incarnation = 0; cell = cell; act = Call Get; answer = Replied (Number 0); proc = 0; generation = None }
 
 -- each of them drew at 5, and caller 0 at 9 too
 abbrev lists : List (List Entry)

@@ -100,7 +100,8 @@ length-merged_from first lists = length-numbered_from first (in_order (all_of li
 -- what is merged so far of the lists, and behind it what is left of them
 joined : (lists rests : List (List Entry)) (merged trace : List Entry) → IsMerging lists rests merged → IsTrace rests trace → IsTrace lists (merged ++ trace)
 joined lists rests merged trace so_far is = record {
-  ordered = Ordered-append IsBefore merged trace so_far.ordered is.ordered (all_in (λ one. AllByRecursion (IsBefore one) trace) merged (λ one has. all_in (IsBefore one) trace (λ e there. behind one e has (is.only e there))));
+  ordered = Ordered-append IsBefore merged trace so_far.ordered is.ordered
+      (all_in (λ one. AllByRecursion (IsBefore one) trace) merged (λ one has. all_in (IsBefore one) trace (λ e there. behind one e has (is.only e there))));
   all = λ e some. elim (so_far.all e some) [ inl done ↦ in_left e merged trace done | inr left ↦ in_right e merged trace (is.all e left) ];
   only = λ e has. elim (in-append e merged trace has) [ inl done ↦ so_far.merged_only e done | inr left ↦ so_far.rests_only e (is.only e left) ];
 } where
@@ -131,10 +132,12 @@ none_merged first lists empty = ap (λ entries. numbered_from first (in_order en
 
 -- once the next entry is taken
 
-pub taken_merged : (first : ℕ) (lists new : List (List Entry)) (entry : Entry) → AreLists lists → IsTaken lists new entry → merged_from first lists ≡ record entry { stamp = first } ∷ merged_from (first + 1) new
+pub taken_merged : (first : ℕ) (lists new : List (List Entry)) (entry : Entry) → AreLists lists → IsTaken lists new entry
+    → merged_from first lists ≡ record entry { stamp = first } ∷ merged_from (first + 1) new
 taken_merged first lists new entry are is =
     let next : suc first ≡ first + 1 = omega arith in
-    next_merged lists are is.place entry is.next first ∙ ap (λ rest. record entry { stamp = first } ∷ rest) (ap (λ n. merged_from n (slice_set lists is.place is.next.others)) next ∙ ap (merged_from (first + 1)) (sym is.left))
+    next_merged lists are is.place entry is.next first
+    ∙ ap (λ rest. record entry { stamp = first } ∷ rest) (ap (λ n. merged_from n (slice_set lists is.place is.next.others)) next ∙ ap (merged_from (first + 1)) (sym is.left))
 
 pub taken_left : (first : ℕ) (lists new : List (List Entry)) (entry : Entry) → MayMerge first lists → IsTaken lists new entry → MayMerge (first + 1) new
 taken_left first lists new entry may is =

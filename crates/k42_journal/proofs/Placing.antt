@@ -23,7 +23,8 @@ pub length-in_order : (entries : List Entry) → length (in_order entries) ≡ l
 length-in_order [] = refl
 length-in_order (entry ∷ entries) = length-placed entry (in_order entries) ∙ ap suc (length-in_order entries)
 
-in_chosen : (b : Bool) (e entry one : Entry) (others more : List Entry) → (In e more → (e ≡ entry) ⊎ In e others) → In e (cond b (one ∷ more) (entry ∷ one ∷ others)) → (e ≡ entry) ⊎ In e (one ∷ others)
+in_chosen : (b : Bool) (e entry one : Entry) (others more : List Entry) → (In e more → (e ≡ entry) ⊎ In e others)
+    → In e (cond b (one ∷ more) (entry ∷ one ∷ others)) → (e ≡ entry) ⊎ In e (one ∷ others)
 in_chosen true e entry one others more known is = elim is [
   | inl same ↦ inr (inl same)
   | inr there ↦ elim (known there) [ inl same ↦ inl same | inr else ↦ inr (inr else) ]
@@ -34,7 +35,8 @@ in-placed : (e entry : Entry) (entries : List Entry) → In e (placed entry entr
 in-placed e entry [] is = is
 in-placed e entry (one ∷ others) is = in_chosen (comes_before one entry) e entry one others (placed entry others) (in-placed e entry others) is
 
-chosen_in : (b : Bool) (e entry one : Entry) (others more : List Entry) → ((e ≡ entry) ⊎ In e others → In e more) → (e ≡ entry) ⊎ In e (one ∷ others) → In e (cond b (one ∷ more) (entry ∷ one ∷ others))
+chosen_in : (b : Bool) (e entry one : Entry) (others more : List Entry) → ((e ≡ entry) ⊎ In e others → In e more)
+    → (e ≡ entry) ⊎ In e (one ∷ others) → In e (cond b (one ∷ more) (entry ∷ one ∷ others))
 chosen_in true e entry one others more known is = elim is [
   | inl same ↦ inr (known (inl same))
   | inr (inl same) ↦ inl same
@@ -95,4 +97,5 @@ AreAllApart entries = Ordered AreApart entries
 pub Ordered-in_order : (entries : List Entry) → AreAllApart entries → Ordered IsBefore (in_order entries)
 Ordered-in_order [] apart = tt
 Ordered-in_order (entry ∷ entries) apart =
-    Ordered-placed entry (in_order entries) (Ordered-in_order entries apart.1) (all_in (AreApart entry) (in_order entries) (λ e there. all_at (AreApart entry) entries e apart.0 (in-in_order e entries there)))
+    Ordered-placed entry (in_order entries) (Ordered-in_order entries apart.1)
+    (all_in (AreApart entry) (in_order entries) (λ e there. all_at (AreApart entry) entries e apart.0 (in-in_order e entries there)))

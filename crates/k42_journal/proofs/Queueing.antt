@@ -150,7 +150,8 @@ none_enters lists but queue is none = record {
 }
 
 -- or its first entry has entered
-pub first_enters : (lists : List (List Entry)) (but : ℕ) (old new : List Standing) (first : Entry) (more : List Entry) → IsQueueBut lists but old → slice_get lists but ≡ Some (first ∷ more) → first.caller ≡ but
+pub first_enters : (lists : List (List Entry)) (but : ℕ) (old new : List Standing) (first : Entry) (more : List Entry) → IsQueueBut lists but old
+    → slice_get lists but ≡ Some (first ∷ more) → first.caller ≡ but
     → HasEntered (standing_of first) old new → IsQueueOf lists new
 first_enters lists but old new first more is there own entered = record {
   ordered = subst (Ordered IsBehind) (sym entered.entered) (Ordered-inserted IsBehind behind-trans standing (take place old) (drop place old)
@@ -177,20 +178,19 @@ first_enters lists but old new first more is there own entered = record {
   here = record { entry = first; others = more; there = ap (slice_get lists) own ∙ there; is = refl }
 
   later : (one : Standing) → In one (drop place old) → IsBehind standing one
-  later one has = other_side standing one (λ same. (is.only one (of_split one place old (inr has))).0 (sym same ∙ own)) (all_at (λ x. stands_before standing x ≡ false) (drop place old) one entered.is.others has)
+  later one has = other_side standing one (λ same. (is.only one (of_split one place old (inr has))).0 (sym same ∙ own))
+      (all_at (λ x. stands_before standing x ≡ false) (drop place old) one entered.is.others has)
 
 -- or one of these
-pub first_entered : (lists : List (List Entry)) (but : ℕ) (old new : List Standing) (list : List Entry) → IsQueueBut lists but old → slice_get lists but ≡ Some list → IsListOf but list → HasEnteredFirst list old new → IsQueueOf lists new
+pub first_entered : (lists : List (List Entry)) (but : ℕ) (old new : List Standing) (list : List Entry) → IsQueueBut lists but old
+    → slice_get lists but ≡ Some list → IsListOf but list → HasEnteredFirst list old new → IsQueueOf lists new
 first_entered lists but old new [] is there own same = subst (IsQueueOf lists) (sym same) (none_enters lists but old is there)
 first_entered lists but old new (entry ∷ others) is there own entered = first_enters lists but old new entry others is there own.own.0 entered
 
-pub entered_by : (list : List Entry) (old new : List Standing) (standing : Standing) → option_map standing_of (slice_get list 0) ≡ Some standing → HasEntered standing old new → HasEnteredFirst list old new
+pub entered_by : (list : List Entry) (old new : List Standing) (standing : Standing)
+    → option_map standing_of (slice_get list 0) ≡ Some standing → HasEntered standing old new → HasEnteredFirst list old new
 entered_by [] old new standing stands entered = absurd (cc)
 entered_by (entry ∷ others) old new standing stands entered = subst (λ s. HasEntered s old new) (sym (same_Some (standing_of entry) standing stands)) entered
-
-pub none_entered : (list : List Entry) (queue : List Standing) → option_map standing_of (slice_get list 0) ≡ None → HasEnteredFirst list queue queue
-none_entered [] queue stands = refl
-none_entered (entry ∷ others) queue stands = absurd (cc)
 
 -- the end of the queue
 
@@ -243,7 +243,8 @@ module _ (lists : List (List Entry)) (old front : List Standing) (last : Standin
     apart : (one : Standing) → In one front → one.caller ≢ last.caller
     apart one has same =
         let its = is.only one (in_old one (in_left one front (last ∷ []) has)) in
-        let entries : its.entry ∷ its.others ≡ first_at.entry ∷ first_at.others = same_there lists one.caller last.caller (its.entry ∷ its.others) (first_at.entry ∷ first_at.others) its.there first_at.there same in
+        let entries : its.entry ∷ its.others ≡ first_at.entry ∷ first_at.others =
+        same_there lists one.caller last.caller (its.entry ∷ its.others) (first_at.entry ∷ first_at.others) its.there first_at.there same in
         let alike : one ≡ last = its.is ∙ (ap standing_of (same_first its.entry first_at.entry its.others first_at.others entries) ∙ sym first_at.is) in
         behind-irreflexive last (subst (λ x. IsBehind x last) alike (all_at (λ x. IsBehind x last) front one parts.1 has))
 
@@ -313,8 +314,10 @@ list_more lists list queue is = record {
   ];
   only = λ standing has.
       let its = is.only standing has in
-      let within = slice_get_within lists standing.caller (its.entry ∷ its.others) its.there in
-      ((λ same. omega (arith, within, same)), record { entry = its.entry; others = its.others; there = slice_get-append_left lists (list ∷ []) standing.caller (its.entry ∷ its.others) its.there; is = its.is });
+      let within = slice_get_within lists standing.caller (its.entry ∷ its.others) its.there in (
+        (λ same. omega (arith, within, same)),
+        record { entry = its.entry; others = its.others; there = slice_get-append_left lists (list ∷ []) standing.caller (its.entry ∷ its.others) its.there; is = its.is },
+      );
 }
 
 pub empty_queue : (lists : List (List Entry)) (queue : List Standing) → IsQueueOf lists queue → (length queue == 0) ≡ (entries_in lists == 0)
@@ -326,6 +329,7 @@ empty_queue lists (standing ∷ queue) is =
     let queued : (length (standing ∷ queue) == 0) ≡ false = ne_eqb (length (standing ∷ queue)) 0 (λ none. omega (arith, none)) in
     queued ∙ sym some
 
-pub queue_more : (lists : List (List Entry)) (list : List Entry) (old new : List Standing) → IsQueueOf lists old → IsListOf (length lists) list → HasEnteredFirst list old new → IsQueueOf (lists ++ list ∷ []) new
+pub queue_more : (lists : List (List Entry)) (list : List Entry) (old new : List Standing)
+    → IsQueueOf lists old → IsListOf (length lists) list → HasEnteredFirst list old new → IsQueueOf (lists ++ list ∷ []) new
 queue_more lists list old new is own entered =
     first_entered (lists ++ list ∷ []) (length lists) old new list (list_more lists list old is) (slice_get-append_seam lists list []) own entered

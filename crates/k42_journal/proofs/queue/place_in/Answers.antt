@@ -8,7 +8,8 @@ pub returns : goal.returns
 returns c =
     let queue = c.args.queue.now in
     let standing = c.args.standing in
-    let point = IsPartitionPoint-from_clause (λ one. stands_before standing one) queue c.partition_point.result c.partition_point.ensures.partitioned (parted standing queue c.requires) (λ a r q k. search rules) in
+    let point = IsPartitionPoint-from_clause (λ one. stands_before standing one) queue c.partition_point.result
+    c.partition_point.ensures.partitioned (parted standing queue c.requires) (λ a r q k. search rules) in
     record {
       within = c.partition_point.ensures.bound;
       behind = all_front_of (λ one. stands_before standing one ≡ true) queue c.partition_point.result point.0;

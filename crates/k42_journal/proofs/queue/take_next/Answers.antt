@@ -21,7 +21,8 @@ pub returns-clause-none : goal.returns-clause-none
 returns-clause-none c = λ none.
     let last = c.in_ok-standing.standing in
     let cut : c.args.queue.now.items ≡ c.pop.new.self.items ++ last ∷ [] = search rules in
-    let taken = one_taken c.args.unread.now.items c.args.queue.now.items c.pop.new.self.items last c.requires.lists c.requires.queue cut c.index_mut-rest.result.now c.next-entry.new.self (search rules) (search rules) c.next-entry.result (search rules) in
+    let taken = one_taken c.args.unread.now.items c.args.queue.now.items c.pop.new.self.items last c.requires.lists c.requires.queue cut c.index_mut-rest.result.now c.next-entry.new.self
+    (search rules) (search rules) c.next-entry.result (search rules) in
     let some = taken.0 in
     absurd (cc)
 
@@ -29,10 +30,12 @@ pub returns-clause-taken : goal.returns-clause-taken
 returns-clause-taken c =
     let last = c.in_ok-standing.standing in
     let cut : c.args.queue.now.items ≡ c.pop.new.self.items ++ last ∷ [] = search rules in
-    (one_taken c.args.unread.now.items c.args.queue.now.items c.pop.new.self.items last c.requires.lists c.requires.queue cut c.index_mut-rest.result.now c.next-entry.new.self (search rules) (search rules) c.next-entry.result (search rules)).1
+    (one_taken c.args.unread.now.items c.args.queue.now.items c.pop.new.self.items last c.requires.lists c.requires.queue cut c.index_mut-rest.result.now c.next-entry.new.self
+    (search rules) (search rules) c.next-entry.result (search rules)).1
 
 pub returns-clause-queue : goal.returns-clause-queue
 returns-clause-queue c =
     let last = c.in_ok-standing.standing in
     let cut : c.args.queue.now.items ≡ c.pop.new.self.items ++ last ∷ [] = search rules in
-    queue_after c.args.unread.now.items c.args.queue.now.items c.pop.new.self.items last c.requires.lists c.requires.queue cut c.index_mut-rest.result.now c.next-entry.new.self (search rules) (search rules) c.enter_first.new.queue.items c.enter_first.ensures.entered
+    queue_after c.args.unread.now.items c.args.queue.now.items c.pop.new.self.items last c.requires.lists c.requires.queue cut c.index_mut-rest.result.now c.next-entry.new.self
+    (search rules) (search rules) c.enter_first.new.queue.items c.enter_first.ensures.entered

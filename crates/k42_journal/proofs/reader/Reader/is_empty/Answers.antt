@@ -7,4 +7,5 @@ pub returns : goal.returns
 returns c =
     let lists = c.self.inside.unread.items in
     let queue = c.self.inside.queue in
-    rw (← c.self.view_is) (c.is_empty.ensures ∙ (ap (λ n. n == 0) queue.ok.0 ∙ (empty_queue lists queue.items c.self.invariant.1 ∙ ap (λ n. n == 0) (sym (length-merged_from c.self.inside.number lists)))))
+    rw (← c.self.view_is)
+    (c.is_empty.ensures ∙ (ap (λ n. n == 0) queue.ok.0 ∙ (empty_queue lists queue.items c.self.invariant.1 ∙ ap (λ n. n == 0) (sym (length-merged_from c.self.inside.number lists)))))
