@@ -1,20 +1,18 @@
 //! Plans that are refused, and calls, swaps and destroys that meet on one thread.
-use crate::tests::crews::{
-    Three, closed, counters, ended, forgetting, in_sections, listed, on_two,
-};
+use crate::tests::crews::{COUNTER, Three, closed, counters, ended, kept_of, listed, started};
 use crate::tests::ending::{
-    add_two_million, destroy_once, find_gone, free_once, swap_and_keep_none, swap_twice,
+    add_two_million, destroy_once, find_gone, free_once, swap_and_keep_none,
 };
 use crate::tests::sections::{add_thrice, add_with_last, take_section};
-use crate::tests::waiting::{find, free_in_turn, swap_beside};
+use crate::tests::steps::{ask_once, swap_to_layout};
+use crate::tests::waiting::{free_in_turn, swap_beside};
 use crate::tests::watching::{
     Deed, call_of, called, find_layout, follow, refuse_beside, swap_and_call, swapped,
     watch_and_call,
 };
 use k42_crews::{end, last, section};
 use k42_kinds::{Act, Answer, Entry, KindName, LayoutName, Op, Reply, To};
-use k42_runtime::{Keep, ObjectPlan, Plan, PlanFault};
-use std::test::Fail;
+use k42_runtime::{Keep, ObjectPlan, Plan, PlanFault, Swapped};
 
 mod crews;
 mod ending;
@@ -50,7 +48,8 @@ fn are_told(entries: &[Entry], due: &[Deed]) -> bool {
 }
 
 #[test]
-fn a_plan_is_refused_for_its_first_fault(rt: HostRuntime) -> Result<(), Fail> {
+fn a_plan_is_refused_for_its_first_fault(rt: HostRuntime) {
+    let alloc = rt.alloc();
     let cases = [
         (0, 1, [0, 0], 2, PlanFault::Procs),
         (9, 1, [0, 0], 2, PlanFault::Procs),
@@ -59,39 +58,27 @@ fn a_plan_is_refused_for_its_first_fault(rt: HostRuntime) -> Result<(), Fail> {
         (2, 1, [0, 2], 2, PlanFault::Processor { caller: 1 }),
     ];
     for (procs, objects, homes, callers, due) in cases {
-        let mut kinds = Vec::new(rt.alloc());
-        for _ in 0..objects {
-            kinds.push(ObjectPlan {
-                kind: KindName::Counter,
-                layout: LayoutName::Shared,
-            })?;
-        }
-        let mut passes = Vec::new(rt.alloc());
-        for home in homes.iter().take(callers) {
-            passes.push(*home)?;
-        }
-        assert_eq!(rt; Plan::new(procs, kinds, passes, Keep::All).err(), Some(due));
+        let objects = vec![in alloc; COUNTER; objects].expect(&rt, "memory");
+        let mut homes = homes.as_slice().to_vec(alloc).expect(&rt, "memory");
+        homes.truncate(callers);
+        assert!(rt; Plan::new(procs, objects, homes, Keep::All).err() == Some(due));
     }
-    Ok(())
 }
 
 #[test]
-fn a_swap_waits_for_an_activity_that_calls_on(rt: HostRuntime) -> Result<(), Fail> {
+fn a_swap_waits_for_an_activity_that_calls_on(rt: HostRuntime) {
     let alloc = rt.alloc();
-    let Some((system, crew)) = counters(alloc, 1)? else {
-        return Err("no system")?;
-    };
+    let (system, crew) = counters(&rt, alloc, 1, Keep::All);
     let Three {
         mut zero,
         mut one,
         mut two,
     } = crew;
-    swap_beside(&rt, alloc, &system, &mut zero, &mut one, &mut two)?;
+    swap_beside(&rt, alloc, &system, &mut zero, &mut one, &mut two);
     free_in_turn(&rt, &system, &mut one, &mut two);
-    find(&rt, alloc, &system, &mut zero, Reply::Number(5))?;
-    let Some(history) = closed(alloc, system, zero, one, two)? else {
-        return Err("no history")?;
-    };
+    let sum = Reply::Number(5);
+    ask_once(&rt, alloc, &system, &mut zero, 0, Op::Get, sum);
+    let entries = closed(&rt, alloc, system, zero, one, two);
     let due = [
         Answer::Replied(Reply::Done),
         Answer::Busy(1),
@@ -99,77 +86,66 @@ fn a_swap_waits_for_an_activity_that_calls_on(rt: HostRuntime) -> Result<(), Fai
         Answer::Swapped(1),
         Answer::Replied(Reply::Number(5)),
     ];
-    assert!(rt; are_answered(history.entries(), due.as_slice()));
-    let last = history.entries().get(4).map(|entry| entry.incarnation);
-    assert_eq!(rt; last, Some(1));
-    Ok(())
+    assert!(rt; are_answered(entries.as_slice(), due.as_slice()));
+    let last = entries.last().expect(&rt, "an entry");
+    assert!(rt; last.incarnation == 1);
 }
 
 #[test]
-fn a_row_that_a_swap_handed_over_is_freed_by_another_pass(rt: HostRuntime) -> Result<(), Fail> {
+fn a_row_that_a_swap_handed_over_is_freed_by_another_pass(rt: HostRuntime) {
     let alloc = rt.alloc();
-    let Some((system, crew)) = counters(alloc, 1)? else {
-        return Err("no system")?;
-    };
+    let (system, crew) = counters(&rt, alloc, 1, Keep::All);
     let Three {
         mut zero,
         mut one,
-        ..
+        two,
     } = crew;
-    swap_and_keep_none(&rt, alloc, &system, &mut zero)?;
+    swap_and_keep_none(&rt, alloc, &system, &mut zero);
     free_once(&rt, &system, &mut one, &mut zero);
-    Ok(())
+    ended(&rt, alloc, system, zero, one, two);
 }
 
 #[test]
-fn a_swap_frees_the_row_of_the_swap_before(rt: HostRuntime) -> Result<(), Fail> {
+fn a_swap_frees_the_row_of_the_swap_before(rt: HostRuntime) {
     let alloc = rt.alloc();
+    let shared = LayoutName::Shared;
     for (second, number) in [(0, 2), (1, 1)] {
-        let Some((system, crew)) = counters(alloc, 2)? else {
-            return Err("no system")?;
-        };
+        let (system, crew) = counters(&rt, alloc, 2, Keep::All);
         let Three {
             mut zero,
             mut one,
-            ..
+            two,
         } = crew;
-        swap_twice(&rt, alloc, &system, &mut zero, second, number)?;
+        swap_and_keep_none(&rt, alloc, &system, &mut zero);
+        let done = Swapped::Done(number);
+        swap_to_layout(&rt, alloc, &system, &mut zero, second, shared, done);
         free_once(&rt, &system, &mut one, &mut zero);
+        ended(&rt, alloc, system, zero, one, two);
     }
-    Ok(())
 }
 
 #[test]
-fn a_destroyed_object_is_gone(rt: HostRuntime) -> Result<(), Fail> {
+fn a_destroyed_object_is_gone(rt: HostRuntime) {
     let alloc = rt.alloc();
-    let Some((system, crew)) = counters(alloc, 1)? else {
-        return Err("no system")?;
-    };
+    let (system, crew) = counters(&rt, alloc, 1, Keep::All);
     let Three { mut zero, one, two } = crew;
-    destroy_once(&rt, alloc, &system, &mut zero)?;
-    find_gone(&rt, alloc, &system, &mut zero)?;
-    let Some(history) = closed(alloc, system, zero, one, two)? else {
-        return Err("no history")?;
-    };
+    destroy_once(&rt, alloc, &system, &mut zero);
+    find_gone(&rt, alloc, &system, &mut zero);
+    let entries = closed(&rt, alloc, system, zero, one, two);
     let due = [
-        Answer::Replied(Reply::Done),
-        Answer::Swapped(1),
-        Answer::Replied(Reply::Gone),
-        Answer::Gone,
-        Answer::Gone,
+        called(Op::Add(5), Reply::Done),
+        swapped(To::Dead, 1),
+        called(Op::Get, Reply::Gone),
+        (Act::Swap(To::Layout(LayoutName::Spread)), Answer::Gone),
+        (Act::Swap(To::Dead), Answer::Gone),
     ];
-    assert!(rt; are_answered(history.entries(), due.as_slice()));
-    let second = history.entries().get(1).map(|entry| entry.act);
-    assert_eq!(rt; second, Some(Act::Swap(To::Dead)));
-    Ok(())
+    assert!(rt; are_told(entries.as_slice(), due.as_slice()));
 }
 
 #[test]
-fn a_system_that_keeps_nothing_is_called_swapped_and_ended(rt: HostRuntime) -> Result<(), Fail> {
+fn a_system_that_keeps_nothing_is_called_swapped_and_ended(rt: HostRuntime) {
     let alloc = rt.alloc();
-    let Some((system, crew)) = forgetting(alloc)? else {
-        return Err("no system")?;
-    };
+    let (system, crew) = counters(&rt, alloc, 1, Keep::Nothing);
     let Three { mut zero, one, two } = crew;
     let deeds = [
         called(Op::Add(5), Reply::Done),
@@ -178,33 +154,27 @@ fn a_system_that_keeps_nothing_is_called_swapped_and_ended(rt: HostRuntime) -> R
         called(Op::Add(200), Reply::Done),
         called(Op::Get, Reply::Number(235)),
     ];
-    follow(&rt, alloc, &system, &mut zero, deeds.as_slice())?;
-    assert!(rt; zero.kept().is_empty());
-    assert_eq!(rt; zero.drawn(), 5);
-    assert!(rt; ended(alloc, system, zero, one, two)?);
-    Ok(())
+    follow(&rt, alloc, &system, &mut zero, deeds.as_slice());
+    assert!(rt; kept_of(&zero) == 0);
+    assert!(rt; zero.drawn() == 5);
+    ended(&rt, alloc, system, zero, one, two);
 }
 
 #[test]
-fn a_pass_that_keeps_nothing_makes_two_million_calls(rt: HostRuntime) -> Result<(), Fail> {
+fn a_pass_that_keeps_nothing_makes_two_million_calls(rt: HostRuntime) {
     let alloc = rt.alloc();
-    let Some((system, crew)) = forgetting(alloc)? else {
-        return Err("no system")?;
-    };
+    let (system, crew) = counters(&rt, alloc, 1, Keep::Nothing);
     let Three { mut zero, one, two } = crew;
-    add_two_million(&rt, alloc, &system, &mut zero)?;
-    assert_eq!(rt; zero.drawn(), (1 << 21) + 17);
-    assert!(rt; zero.kept().is_empty());
-    assert!(rt; ended(alloc, system, zero, one, two)?);
-    Ok(())
+    add_two_million(&rt, alloc, &system, &mut zero);
+    assert!(rt; zero.drawn() == (1 << 21) + 17);
+    assert!(rt; kept_of(&zero) == 0);
+    ended(&rt, alloc, system, zero, one, two);
 }
 
 #[test]
-fn a_watched_counter_tells_its_calls_until_it_is_unwatched(rt: HostRuntime) -> Result<(), Fail> {
+fn a_watched_counter_tells_its_calls_until_it_is_unwatched(rt: HostRuntime) {
     let alloc = rt.alloc();
-    let Some((system, crew)) = counters(alloc, 1)? else {
-        return Err("no system")?;
-    };
+    let (system, crew) = counters(&rt, alloc, 1, Keep::All);
     let Three { mut zero, one, two } = crew;
     let deeds = [
         called(Op::Seen, Reply::None),
@@ -227,20 +197,15 @@ fn a_watched_counter_tells_its_calls_until_it_is_unwatched(rt: HostRuntime) -> R
         swapped(To::Unwatch, 6),
         called(Op::Seen, Reply::None),
     ];
-    follow(&rt, alloc, &system, &mut zero, deeds.as_slice())?;
-    let Some(history) = closed(alloc, system, zero, one, two)? else {
-        return Err("no history")?;
-    };
-    assert!(rt; are_told(history.entries(), deeds.as_slice()));
-    Ok(())
+    follow(&rt, alloc, &system, &mut zero, deeds.as_slice());
+    let entries = closed(&rt, alloc, system, zero, one, two);
+    assert!(rt; are_told(entries.as_slice(), deeds.as_slice()));
 }
 
 #[test]
-fn a_dead_object_is_not_watched_and_tells_no_count(rt: HostRuntime) -> Result<(), Fail> {
+fn a_dead_object_is_not_watched_and_tells_no_count(rt: HostRuntime) {
     let alloc = rt.alloc();
-    let Some((system, crew)) = counters(alloc, 1)? else {
-        return Err("no system")?;
-    };
+    let (system, crew) = counters(&rt, alloc, 1, Keep::All);
     let Three { mut zero, one, two } = crew;
     let deeds = [
         swapped(To::Watch, 1),
@@ -250,16 +215,13 @@ fn a_dead_object_is_not_watched_and_tells_no_count(rt: HostRuntime) -> Result<()
         (Act::Swap(To::Unwatch), Answer::Gone),
         called(Op::Seen, Reply::Gone),
     ];
-    follow(&rt, alloc, &system, &mut zero, deeds.as_slice())?;
-    let Some(history) = closed(alloc, system, zero, one, two)? else {
-        return Err("no history")?;
-    };
-    assert!(rt; are_told(history.entries(), deeds.as_slice()));
-    Ok(())
+    follow(&rt, alloc, &system, &mut zero, deeds.as_slice());
+    let entries = closed(&rt, alloc, system, zero, one, two);
+    assert!(rt; are_told(entries.as_slice(), deeds.as_slice()));
 }
 
 #[test]
-fn a_watch_and_another_swap_refuse_each_other(rt: HostRuntime) -> Result<(), Fail> {
+fn a_watch_and_another_swap_refuse_each_other(rt: HostRuntime) {
     let alloc = rt.alloc();
     let spread = To::Layout(LayoutName::Spread);
     let cases = [
@@ -269,9 +231,7 @@ fn a_watch_and_another_swap_refuse_each_other(rt: HostRuntime) -> Result<(), Fai
         (To::Unwatch, To::Watch),
     ];
     for (to, refused) in cases {
-        let Some((system, crew)) = counters(alloc, 1)? else {
-            return Err("no system")?;
-        };
+        let (system, crew) = counters(&rt, alloc, 1, Keep::All);
         let Three {
             mut zero,
             mut one,
@@ -279,81 +239,61 @@ fn a_watch_and_another_swap_refuse_each_other(rt: HostRuntime) -> Result<(), Fai
         } = crew;
         refuse_beside(
             &rt, alloc, &system, &mut zero, &mut one, &mut two, to, refused,
-        )?;
-        let Some(history) = closed(alloc, system, zero, one, two)? else {
-            return Err("no history")?;
-        };
+        );
+        let entries = closed(&rt, alloc, system, zero, one, two);
         let due = [(Act::Swap(refused), Answer::Busy(1)), swapped(to, 1)];
-        assert!(rt; are_told(history.entries(), due.as_slice()));
+        assert!(rt; are_told(entries.as_slice(), due.as_slice()));
     }
-    Ok(())
 }
 
 #[test]
-fn each_kind_is_watched_in_both_layouts(rt: HostRuntime) -> Result<(), Fail> {
+fn each_kind_is_watched_in_both_layouts(rt: HostRuntime) {
     let alloc = rt.alloc();
-    let kinds = [KindName::Counter, KindName::Directory, KindName::Pages];
-    let layouts = [
-        (LayoutName::Shared, LayoutName::Spread),
-        (LayoutName::Spread, LayoutName::Shared),
-    ];
-    for kind in kinds {
-        let Some((op, again)) = call_of(kind) else {
-            return Err("no call")?;
-        };
-        for (layout, other) in layouts {
-            let Some((system, crew)) = on_two(alloc, ObjectPlan { kind, layout })? else {
-                return Err("no system")?;
-            };
+    let (shared, spread) = (LayoutName::Shared, LayoutName::Spread);
+    for kind in [KindName::Counter, KindName::Directory, KindName::Pages] {
+        for (layout, other) in [(shared, spread), (spread, shared)] {
+            let (op, again) = call_of(&rt, kind);
+            let object = ObjectPlan { kind, layout };
+            let (system, crew) = started(&rt, alloc, object, 1, 2, Keep::All);
             let Three {
                 mut zero,
                 mut one,
                 mut two,
             } = crew;
-            watch_and_call(&rt, alloc, &system, &mut zero, &mut one, &op, &again)?;
-            find_layout(&rt, alloc, &system, &mut two, To::Layout(layout), layout)?;
-            swap_and_call(&rt, alloc, &system, &mut zero, &mut one, &op, &again, other)?;
-            find_layout(&rt, alloc, &system, &mut two, To::Dead, other)?;
-            let history = closed(alloc, system, zero, one, two)?;
-            assert!(rt; history.is_some());
+            watch_and_call(&rt, alloc, &system, &mut zero, &mut one, &op, &again);
+            find_layout(&rt, alloc, &system, &mut two, To::Layout(layout), layout);
+            swap_and_call(&rt, alloc, &system, &mut zero, &mut one, &op, &again, other);
+            find_layout(&rt, alloc, &system, &mut two, To::Dead, other);
+            closed(&rt, alloc, system, zero, one, two);
         }
     }
-    Ok(())
 }
 
 #[test]
-fn a_section_has_what_was_drawn_since_the_last_one(rt: HostRuntime) -> Result<(), Fail> {
+fn a_section_has_what_was_drawn_since_the_last_one(rt: HostRuntime) {
     let alloc = rt.alloc();
-    let Some((system, crew)) = in_sections(alloc)? else {
-        return Err("no system")?;
-    };
+    let (system, crew) = counters(&rt, alloc, 2, Keep::Sections);
     let Three {
         mut zero,
         mut one,
         two,
     } = crew;
-    add_thrice(&rt, alloc, &system, &mut zero, &mut one)?;
-    let mut passes = listed(alloc, &system, zero, one, two)?;
-    take_section(&rt, alloc, &system, &mut passes, 1, &[0, 1, 0])?;
-    let mut more = add_with_last(&rt, alloc, &system, passes)?;
-    take_section(&rt, alloc, &system, &mut more, 4, &[2])?;
-    take_section(&rt, alloc, &system, &mut more, 5, &[])?;
+    add_thrice(&rt, alloc, &system, &mut zero, &mut one);
+    let mut passes = listed(&rt, alloc, &system, zero, one, two);
+    take_section(&rt, alloc, &system, &mut passes, 1, &[0, 1, 0]);
+    let mut more = add_with_last(&rt, alloc, &system, passes);
+    take_section(&rt, alloc, &system, &mut more, 4, &[2]);
+    take_section(&rt, alloc, &system, &mut more, 5, &[]);
     assert!(rt; end(system, more));
-    Ok(())
 }
 
 #[test]
-fn a_section_asks_for_all_passes(rt: HostRuntime) -> Result<(), Fail> {
+fn a_section_asks_for_all_passes(rt: HostRuntime) {
     let alloc = rt.alloc();
-    let Some((system, crew)) = in_sections(alloc)? else {
-        return Err("no system")?;
-    };
+    let (system, crew) = counters(&rt, alloc, 2, Keep::Sections);
     let Three { zero, one, two } = crew;
-    let mut passes = listed(alloc, &system, zero, one, two)?;
-    let Some(_) = last(&system, &mut passes) else {
-        return Err("no pass")?;
-    };
-    let given = section(alloc, &system, passes.as_mut_slice())?;
+    let mut passes = listed(&rt, alloc, &system, zero, one, two);
+    last(&system, &mut passes).expect(&rt, "a pass");
+    let given = section(alloc, &system, passes.as_mut_slice()).expect(&rt, "memory");
     assert!(rt; given.is_none());
-    Ok(())
 }

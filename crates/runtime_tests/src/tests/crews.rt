@@ -1,13 +1,13 @@
-//! Systems on one processor or two, and the passes of their callers.
-ghost use Rattle.std.specs.Prelude.{◌≡◌, IfOk, IfSome};
+//! Systems on one processor or two, the passes of their callers, and the entries that these keep.
+ghost use Rattle.std.specs.Prelude.{◌≡◌};
 ghost use Rattle.k42_board.specs.declared.keep.Keep.TheVariants.{All};
 ghost use Rattle.k42_crews.specs.Ready.{AreFree, IsFree};
 
-use k42_crews::{close, end, last, start};
-use k42_kinds::{KindName, LayoutName};
-use k42_memory::Memory;
+use k42_crews::{close, end, last, section, start};
+use k42_kinds::{Entry, KindName, LayoutName};
 use k42_runtime::{History, Keep, ObjectPlan, Pass, Plan, System};
 use std::alloc::Global;
+use std::process::Abort;
 
 /// Passes of the callers 0 to 2.
 #[derive(Drop)]
@@ -18,161 +18,137 @@ pub(super) struct Three {
 }
 
 /// A system of so many such objects on so many processors, and the passes of its three callers, which keep these entries.
-fn started(
+/// Where there are two processors, the pass `one` is on the second.
+pub(super) fn started(
+    rt: &impl Abort,
     alloc: Global,
     object: ObjectPlan,
-    objects: u32,
+    objects: usize,
     procs: u32,
     keep: Keep,
-) -> Result<Option<(System, Vec<Pass>)>, Memory>
-    ensures free { IfOk result (λ made. IfSome made (λ crew. AreFree crew.0 crew.1.items)) }
-    ensures keeps { IfOk result (λ made. IfSome made (λ crew. crew.0.plan.keep ≡ keep)) }
+) -> (System, Three)
+    ensures zero { IsFree result.0 result.1.zero }
+    ensures one { IsFree result.0 result.1.one }
+    ensures two { IsFree result.0 result.1.two }
+    ensures keeps { result.0.plan.keep ≡ keep }
 {
-    let mut all = Vec::new(alloc);
-    for _ in 0..objects {
-        all.push(object)?;
-    }
-    let homes = vec![in alloc; 0, procs / 2, 0]?;
-    match Plan::new(procs, all, homes, keep) {
-        Ok(plan) => Ok(Some(start(alloc, plan)?)),
-        Err(_) => Ok(None),
-    }
+    let objects = vec![in alloc; object; objects].expect(rt, "memory");
+    let homes = vec![in alloc; 0, procs / 2, 0].expect(rt, "memory");
+    let plan = Plan::new(procs, objects, homes, keep).expect(rt, "a plan");
+    let (system, passes) = start(alloc, plan).expect(rt, "memory");
+    let crew = take_three(rt, &system, passes);
+    (system, crew)
 }
 
-/// Takes the passes of the last three callers.
-pub(super) fn take_three(system: &System, passes: &mut Vec<Pass>) -> Option<Three>
-    requires { AreFree system.now passes.old.items }
-    ensures zero { IfSome result (λ crew. IsFree system.now crew.zero) }
-    ensures one { IfSome result (λ crew. IsFree system.now crew.one) }
-    ensures two { IfSome result (λ crew. IsFree system.now crew.two) }
+/// The passes of the last three callers.
+pub(super) fn take_three(rt: &impl Abort, system: &System, mut passes: Vec<Pass>) -> Three
+    requires { AreFree system.now passes.items }
+    ensures zero { IsFree system.now result.zero }
+    ensures one { IsFree system.now result.one }
+    ensures two { IsFree system.now result.two }
 {
-    let two = last(system, passes)?;
-    let one = last(system, passes)?;
-    let zero = last(system, passes)?;
-    Some(Three { zero, one, two })
+    let two = last(system, &mut passes).expect(rt, "a pass");
+    let one = last(system, &mut passes).expect(rt, "a pass");
+    let zero = last(system, &mut passes).expect(rt, "a pass");
+    Three { zero, one, two }
 }
 
-/// The same, with the passes apart.
-fn apart(
+pub(super) const COUNTER: ObjectPlan = ObjectPlan {
+    kind: KindName::Counter,
+    layout: LayoutName::Shared,
+};
+
+/// So many shared counters on one processor, and passes that keep these entries.
+pub(super) fn counters(
+    rt: &impl Abort,
     alloc: Global,
-    object: ObjectPlan,
-    objects: u32,
-    procs: u32,
+    objects: usize,
     keep: Keep,
-) -> Result<Option<(System, Three)>, Memory>
-    ensures zero { IfOk result (λ made. IfSome made (λ crew. IsFree crew.0 crew.1.zero)) }
-    ensures one { IfOk result (λ made. IfSome made (λ crew. IsFree crew.0 crew.1.one)) }
-    ensures two { IfOk result (λ made. IfSome made (λ crew. IsFree crew.0 crew.1.two)) }
-    ensures keeps { IfOk result (λ made. IfSome made (λ crew. crew.0.plan.keep ≡ keep)) }
+) -> (System, Three)
+    ensures zero { IsFree result.0 result.1.zero }
+    ensures one { IsFree result.0 result.1.one }
+    ensures two { IsFree result.0 result.1.two }
+    ensures keeps { result.0.plan.keep ≡ keep }
 {
-    let Some((system, mut passes)) = started(alloc, object, objects, procs, keep)? else {
-        return Ok(None);
-    };
-    match take_three(&system, &mut passes) {
-        Some(crew) => Ok(Some((system, crew))),
-        None => Ok(None),
-    }
-}
-
-/// So many shared counters on one processor.
-pub(super) fn counters(alloc: Global, objects: u32) -> Result<Option<(System, Three)>, Memory>
-    ensures zero { IfOk result (λ made. IfSome made (λ crew. IsFree crew.0 crew.1.zero)) }
-    ensures one { IfOk result (λ made. IfSome made (λ crew. IsFree crew.0 crew.1.one)) }
-    ensures two { IfOk result (λ made. IfSome made (λ crew. IsFree crew.0 crew.1.two)) }
-    ensures keeps { IfOk result (λ made. IfSome made (λ crew. crew.0.plan.keep ≡ All)) }
-{
-    let object = ObjectPlan {
-        kind: KindName::Counter,
-        layout: LayoutName::Shared,
-    };
-    apart(alloc, object, objects, 1, Keep::All)
-}
-
-/// One such object on two processors, and the pass `one` on the second.
-pub(super) fn on_two(alloc: Global, object: ObjectPlan) -> Result<Option<(System, Three)>, Memory>
-    ensures zero { IfOk result (λ made. IfSome made (λ crew. IsFree crew.0 crew.1.zero)) }
-    ensures one { IfOk result (λ made. IfSome made (λ crew. IsFree crew.0 crew.1.one)) }
-    ensures two { IfOk result (λ made. IfSome made (λ crew. IsFree crew.0 crew.1.two)) }
-    ensures keeps { IfOk result (λ made. IfSome made (λ crew. crew.0.plan.keep ≡ All)) }
-{
-    apart(alloc, object, 1, 2, Keep::All)
-}
-
-/// One shared counter on one processor, and passes that keep no entry.
-pub(super) fn forgetting(alloc: Global) -> Result<Option<(System, Three)>, Memory>
-    ensures zero { IfOk result (λ made. IfSome made (λ crew. IsFree crew.0 crew.1.zero)) }
-    ensures one { IfOk result (λ made. IfSome made (λ crew. IsFree crew.0 crew.1.one)) }
-    ensures two { IfOk result (λ made. IfSome made (λ crew. IsFree crew.0 crew.1.two)) }
-{
-    let object = ObjectPlan {
-        kind: KindName::Counter,
-        layout: LayoutName::Shared,
-    };
-    apart(alloc, object, 1, 1, Keep::Nothing)
-}
-
-/// Two shared counters on one processor, and passes that keep sections.
-pub(super) fn in_sections(alloc: Global) -> Result<Option<(System, Three)>, Memory>
-    ensures zero { IfOk result (λ made. IfSome made (λ crew. IsFree crew.0 crew.1.zero)) }
-    ensures one { IfOk result (λ made. IfSome made (λ crew. IsFree crew.0 crew.1.one)) }
-    ensures two { IfOk result (λ made. IfSome made (λ crew. IsFree crew.0 crew.1.two)) }
-{
-    let object = ObjectPlan {
-        kind: KindName::Counter,
-        layout: LayoutName::Shared,
-    };
-    apart(alloc, object, 2, 1, Keep::Sections)
+    started(rt, alloc, COUNTER, objects, 1, keep)
 }
 
 /// The three in one list.
 pub(super) fn listed(
+    rt: &impl Abort,
     alloc: Global,
     system: &System,
     zero: Pass,
     one: Pass,
     two: Pass,
-) -> Result<Vec<Pass>, Memory>
+) -> Vec<Pass>
     requires zero { IsFree system.now zero }
     requires one { IsFree system.now one }
     requires two { IsFree system.now two }
-    ensures { IfOk result (λ passes. AreFree system.now passes.items) }
+    ensures { AreFree system.now result.items }
 {
-    let mut passes = Vec::new(alloc);
-    passes.push(zero)?;
-    passes.push(one)?;
-    passes.push(two)?;
-    Ok(passes)
+    vec![in alloc; zero, one, two].expect(rt, "memory")
 }
 
-/// The history of the three.
+/// The entries of the history of the three.
 pub(super) fn closed(
+    rt: &impl Abort,
     alloc: Global,
     system: System,
     zero: Pass,
     one: Pass,
     two: Pass,
-) -> Result<Option<History>, Memory>
+) -> Vec<Entry>
     requires zero { IsFree system zero }
     requires one { IsFree system one }
     requires two { IsFree system two }
     requires keeps { system.plan.keep ≡ All }
 {
-    let passes = listed(alloc, &system, zero, one, two)?;
-    close(alloc, system, passes)
+    let passes = listed(rt, alloc, &system, zero, one, two);
+    let history = close(alloc, system, passes).expect(rt, "memory");
+    entries_of(rt, alloc, &history.expect(rt, "all passes"))
 }
 
-/// Whether the system is ended with the three.
+/// Ends the system with the three.
 pub(super) fn ended(
+    rt: &impl Abort,
     alloc: Global,
     system: System,
     zero: Pass,
     one: Pass,
     two: Pass,
-) -> Result<bool, Memory>
+)
     requires zero { IsFree system zero }
     requires one { IsFree system one }
     requires two { IsFree system two }
 {
-    let passes = listed(alloc, &system, zero, one, two)?;
-    Ok(end(system, passes))
+    let passes = listed(rt, alloc, &system, zero, one, two);
+    assert!(rt; end(system, passes));
+}
+
+/// The entries of a history.
+fn entries_of(rt: &impl Abort, alloc: Global, history: &History) -> Vec<Entry>
+    ensures { result.items ≡ history.now.entries }
+{
+    let entries = history.entries().as_slice();
+    entries.to_vec(alloc).expect(rt, "memory")
+}
+
+/// The entries of the next section.
+pub(super) fn sectioned(
+    rt: &impl Abort,
+    alloc: Global,
+    system: &System,
+    passes: &mut Vec<Pass>,
+) -> Vec<Entry>
+    requires free { AreFree system.now passes.old.items }
+    ensures free { AreFree system.now passes.new.items }
+{
+    let section = section(alloc, system, passes.as_mut_slice());
+    section.expect(rt, "memory").expect(rt, "all passes")
+}
+
+/// How many entries the pass has kept.
+pub(super) fn kept_of(pass: &Pass) -> usize {
+    pass.kept().len()
 }

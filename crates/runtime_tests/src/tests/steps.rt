@@ -2,9 +2,9 @@
 ghost use Rattle.k42_crews.specs.Ready.{IsFree, IsIn};
 ghost use Rattle.runtime_tests.specs.Ready.{IsSwapping};
 
-use k42_kinds::{Op, Reply};
+use k42_crews::{call_once, swap_once};
+use k42_kinds::{LayoutName, Op, Reply};
 use k42_limits::PASS_GRACES;
-use k42_memory::Memory;
 use k42_runtime::{Pass, Step, Swap, Swapped, System, To};
 use std::alloc::Global;
 use std::process::Abort;
@@ -34,14 +34,47 @@ pub(super) fn ask<R: Abort + Wait>(
     pass: &mut Pass,
     op: Op,
     due: Reply,
-) -> Result<(), Memory>
+)
     requires inside { IsIn system.now pass.old }
     ensures inside { IsIn system.now pass.new }
 {
     assert!(rt; system.takes(0, &op));
-    let reply = system.call(rt, alloc, pass, 0, op).map_err(|_| Memory)?;
-    assert_eq!(rt; reply, due);
-    Ok(())
+    let reply = system.call(rt, alloc, pass, 0, op).expect(rt, "a reply");
+    assert!(rt; reply == due);
+}
+
+/// Makes a call in an activity of its own, which is to be answered so.
+pub(super) fn ask_once<R: Abort + Wait>(
+    rt: &R,
+    alloc: Global,
+    system: &System,
+    pass: &mut Pass,
+    object: u32,
+    op: Op,
+    due: Reply,
+)
+    requires free { IsFree system.now pass.old }
+    ensures free { IsFree system.now pass.new }
+{
+    let reply = call_once(rt, alloc, system, pass, object, op).expect(rt, "a call");
+    assert!(rt; reply == Some(due));
+}
+
+/// Swaps an object to this layout, which is to end so.
+pub(super) fn swap_to_layout<R: Abort + Wait>(
+    rt: &R,
+    alloc: Global,
+    system: &System,
+    pass: &mut Pass,
+    object: u32,
+    to: LayoutName,
+    due: Swapped,
+)
+    requires free { IsFree system.now pass.old }
+    ensures free { IsFree system.now pass.new }
+{
+    let end = swap_once(rt, alloc, system, pass, object, to).expect(rt, "a swap");
+    assert!(rt; end == Some(due));
 }
 
 /// Swaps the first object to whatever it is.
@@ -51,7 +84,7 @@ pub(super) fn swap<R: Abort + Wait>(
     system: &System,
     pass: &mut Pass,
     to: To,
-) -> Result<Swapped, Memory>
+) -> Swapped
     requires free { IsFree system.now pass.old }
     ensures free { IsFree system.now pass.new }
 {
@@ -62,16 +95,16 @@ pub(super) fn swap<R: Abort + Wait>(
         To::Watch => system.watch(rt, alloc, pass, 0),
         To::Unwatch => system.unwatch(rt, alloc, pass, 0),
     };
-    end.map_err(|_| Memory)
+    end.expect(rt, "an end")
 }
 
-/// Frees what the pass may free, and answers how many rows these are.
-pub(super) fn reclaim<R: Abort + Wait>(rt: &R, system: &System, pass: &mut Pass) -> u32
+/// Frees what the pass may free, which is to be so many rows.
+pub(super) fn reclaim<R: Abort + Wait>(rt: &R, system: &System, pass: &mut Pass, due: u32)
     requires free { IsFree system.now pass.old }
     ensures free { IsFree system.now pass.new }
 {
     assert!(rt; pass.graces() < PASS_GRACES);
-    system.reclaim(rt, pass)
+    assert!(rt; system.reclaim(rt, pass) == due);
 }
 
 /// A swap of the pass that has not begun.
@@ -83,22 +116,21 @@ pub(super) fn swap_to(rt: &impl Abort, system: &System, pass: &Pass, object: u32
     Swap::new(object, to)
 }
 
-/// Steps a swap that is not over.
-pub(super) fn try_swap(
+/// Steps a swap that is not over, and this step comes to that.
+pub(super) fn step_to(
     rt: &impl Abort,
     alloc: Global,
     system: &System,
     pass: &mut Pass,
     swap: &mut Swap,
-) -> Result<Step, Memory>
+    due: Step,
+)
     requires swapping { IsSwapping system.now swap.old pass.old }
     ensures swapping { IsSwapping system.now swap.new pass.new }
 {
     assert!(rt; !swap.ended());
-    match swap.step(alloc, system, pass) {
-        Step::Memory => Err(Memory),
-        step => Ok(step),
-    }
+    let step = swap.step(alloc, system, pass);
+    assert!(rt; step == due);
 }
 
 /// Leaves a swap that is over.

@@ -1,12 +1,10 @@
 //! A layer that is placed, asked for its count, and taken away.
-ghost use Rattle.std.specs.Prelude.{OnOk};
 ghost use Rattle.k42_crews.specs.Ready.{IsFree};
 
 use crate::tests::steps::{come_in, go_home, swap, swap_to};
 use crate::tests::waiting::{find_done, find_left};
 use k42_crews::call_once;
 use k42_kinds::{Act, Answer, KindName, LayoutName, Name, Op, Reply, Text, To};
-use k42_memory::Memory;
 use k42_runtime::{Pass, Swapped, System};
 use std::alloc::Global;
 use std::process::Abort;
@@ -33,23 +31,23 @@ fn told(end: Swapped) -> Answer {
     }
 }
 
-/// There is no answer where the object does not take the operation.
+/// How the object answers, which takes the operation.
 fn answer_to<R: Abort + Wait>(
     rt: &R,
     alloc: Global,
     system: &System,
     pass: &mut Pass,
     act: &Act,
-) -> Result<Option<Answer>, Memory>
+) -> Answer
     requires free { IsFree system.now pass.old }
     ensures free { IsFree system.now pass.new }
 {
     match act {
-        Act::Call(op) => match call_once(rt, alloc, system, pass, 0, *op).map_err(|_| Memory)? {
-            Some(reply) => Ok(Some(Answer::Replied(reply))),
-            None => Ok(None),
-        },
-        Act::Swap(to) => Ok(Some(told(swap(rt, alloc, system, pass, *to)?))),
+        Act::Call(op) => {
+            let reply = call_once(rt, alloc, system, pass, 0, *op).expect(rt, "a call");
+            Answer::Replied(reply.expect(rt, "an operation of the object"))
+        }
+        Act::Swap(to) => told(swap(rt, alloc, system, pass, *to)),
     }
 }
 
@@ -60,20 +58,19 @@ pub(super) fn follow<R: Abort + Wait>(
     system: &System,
     pass: &mut Pass,
     deeds: &[Deed],
-) -> Result<(), Memory>
+)
     requires free { IsFree system.now pass.old }
     ensures free { IsFree system.now pass.new }
 {
     for deed in deeds {
-        let answer = answer_to(rt, alloc, system, pass, &deed.0)?;
-        assert!(rt; answer.as_ref() == Some(&deed.1));
+        assert!(rt; answer_to(rt, alloc, system, pass, &deed.0) == deed.1);
     }
-    Ok(())
 }
 
 /// The tag of the layout in which the last swap of the pass has found its object.
-fn tag_found(pass: &Pass) -> Option<u64> {
-    pass.last_begin().map(|begin| begin.word / 268_435_456 % 4)
+fn tag_found(rt: &impl Abort, pass: &Pass) -> u64 {
+    let begin = pass.last_begin().expect(rt, "a swap");
+    begin.word / 268_435_456 % 4
 }
 
 fn tag_of(layout: LayoutName) -> u64 {
@@ -84,13 +81,18 @@ fn tag_of(layout: LayoutName) -> u64 {
 }
 
 /// A call of the kind, which is done once and then replied so.
-pub(super) fn call_of(kind: KindName) -> Option<(Op, Reply)> {
-    let asked = match kind {
+pub(super) fn call_of(rt: &impl Abort, kind: KindName) -> (Op, Reply) {
+    match kind {
         KindName::Counter => (Op::Add(1), Reply::Done),
-        KindName::Directory => (Op::Bind(Name::of(b"n")?, 1), Reply::Taken),
-        KindName::Pages => (Op::Write(3, Text::of(b"x")?), Reply::Done),
-    };
-    Some(asked)
+        KindName::Directory => {
+            let name = Name::of(b"n").expect(rt, "a name");
+            (Op::Bind(name, 1), Reply::Taken)
+        }
+        KindName::Pages => {
+            let text = Text::of(b"x").expect(rt, "a text");
+            (Op::Write(3, text), Reply::Done)
+        }
+    }
 }
 
 /// One pass watches the object and calls it, and another one calls it too.
@@ -102,16 +104,16 @@ pub(super) fn watch_and_call<R: Abort + Wait>(
     one: &mut Pass,
     op: &Op,
     again: &Reply,
-) -> Result<(), Memory>
+)
     requires zero { IsFree system.now zero.old }
     requires one { IsFree system.now one.old }
     ensures zero { IsFree system.now zero.new }
     ensures one { IsFree system.now one.new }
 {
     let watched = [swapped(To::Watch, 1), called(*op, Reply::Done)];
-    follow(rt, alloc, system, zero, watched.as_slice())?;
+    follow(rt, alloc, system, zero, watched.as_slice());
     let counted = [called(*op, *again), called(Op::Seen, Reply::Number(2))];
-    follow(rt, alloc, system, one, counted.as_slice())
+    follow(rt, alloc, system, one, counted.as_slice());
 }
 
 /// The one swaps it to another layout, and takes the layer away; the other still finds its count there.
@@ -124,22 +126,22 @@ pub(super) fn swap_and_call<R: Abort + Wait>(
     op: &Op,
     again: &Reply,
     to: LayoutName,
-) -> Result<(), Memory>
+)
     requires zero { IsFree system.now zero.old }
     requires one { IsFree system.now one.old }
     ensures zero { IsFree system.now zero.new }
     ensures one { IsFree system.now one.new }
 {
     let moved = [swapped(To::Layout(to), 3)];
-    follow(rt, alloc, system, zero, moved.as_slice())?;
+    follow(rt, alloc, system, zero, moved.as_slice());
     let counted = [
         called(Op::Seen, Reply::Number(2)),
         called(*op, *again),
         called(Op::Seen, Reply::Number(3)),
     ];
-    follow(rt, alloc, system, one, counted.as_slice())?;
+    follow(rt, alloc, system, one, counted.as_slice());
     let unwatched = [swapped(To::Unwatch, 4), called(Op::Seen, Reply::None)];
-    follow(rt, alloc, system, zero, unwatched.as_slice())
+    follow(rt, alloc, system, zero, unwatched.as_slice());
 }
 
 /// Begins one more swap, and finds the object in this layout.
@@ -150,13 +152,13 @@ pub(super) fn find_layout<R: Abort + Wait>(
     pass: &mut Pass,
     to: To,
     due: LayoutName,
-) -> Result<(), Memory>
+)
     requires free { IsFree system.now pass.old }
     ensures free { IsFree system.now pass.new }
 {
-    assert!(rt; matches!(swap(rt, alloc, system, pass, to)?, Swapped::Done(_)));
-    assert_eq!(rt; tag_found(pass), Some(tag_of(due)));
-    Ok(())
+    let end = swap(rt, alloc, system, pass, to);
+    assert!(rt; matches!(end, Swapped::Done(_)));
+    assert!(rt; tag_found(rt, pass) == tag_of(due));
 }
 
 /// One swap waits for an activity, and another one of the object is refused meanwhile.
@@ -169,19 +171,19 @@ pub(super) fn refuse_beside<R: Abort + Wait>(
     two: &mut Pass,
     to: To,
     refused: To,
-) -> Result<(), Memory>
+)
     requires zero { IsFree system.now zero.old }
     requires one { IsFree system.now one.old }
     requires two { IsFree system.now two.old }
-    ensures zero { OnOk result (IsFree system.now zero.new) }
-    ensures one { OnOk result (IsFree system.now one.new) }
-    ensures two { OnOk result (IsFree system.now two.new) }
+    ensures zero { IsFree system.now zero.new }
+    ensures one { IsFree system.now one.new }
+    ensures two { IsFree system.now two.new }
 {
     come_in(system, zero);
     let mut swap = swap_to(rt, system, one, 0, to);
-    find_left(rt, alloc, system, one, &mut swap)?;
+    find_left(rt, alloc, system, one, &mut swap);
     let found = [(Act::Swap(refused), Answer::Busy(1))];
-    follow(rt, alloc, system, two, found.as_slice())?;
+    follow(rt, alloc, system, two, found.as_slice());
     go_home(system, zero);
-    find_done(rt, alloc, system, one, &mut swap)
+    find_done(rt, alloc, system, one, &mut swap);
 }
