@@ -7,7 +7,7 @@ use Rattle.k42_board.specs.Seen.{inside_in}
 use Rattle.k42_board.specs.Taking.{MayLock}
 use Rattle.k42_board.specs.declared.view.Inside.{Inside}
 use Rattle.k42_board.specs.declared.view.PassView.{PassView}
-use Rattle.mediator_tests.proofs.OneCell.{served_inside}
+use Rattle.table_crews.proofs.OneCell.{served_inside}
 
 -- a pass that holds no cell may lock it
 pub may_lock_first : {P : Type 0} (procs n : ℕ) (v : PassView P) (inside : Inside) → v.turn.proc < procs → is_served v.visitor.place ≡ true → v.taker.held ≡ []

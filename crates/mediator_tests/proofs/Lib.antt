@@ -1,5 +1,2 @@
-pub mod Crews
 pub mod FirstCell
 pub mod GivenBack
-pub mod Handed
-pub mod OneCell

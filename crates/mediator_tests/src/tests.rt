@@ -1,17 +1,14 @@
 //! A caller that meets a mediator while an object is swapped and the swap is given up.
-ghost use Rattle.std.specs.Prelude.{OnOk};
-ghost use Rattle.mediator_tests.specs.Ready.{HoldsNoCell};
+ghost use Rattle.table_crews.specs.Ready.{HoldsNoCell};
 
 use crate::tests::calls::{end, end_activity, find_busy, keep_out, let_in, look, start_activity};
-use crate::tests::crews::{finish, last, start};
+use crate::tests::crews::{finish, start};
 use crate::tests::phases::{close, give_up, move_now, send_to_mediator, try_early, wait_quiet};
 use co_any::AnyLayout;
 use k42_kinds::{Act, Answer, Entry, KindName, LayoutName, To};
 use k42_mediator::Phase;
-use k42_memory::Memory;
 use k42_rule::{Pass, Sys};
 use std::process::Abort;
-use std::test::Fail;
 
 mod balky;
 mod calls;
@@ -19,7 +16,6 @@ mod crews;
 mod over;
 mod phases;
 mod refused;
-mod steps;
 
 /// One pass swaps an object and gives up. Another one meets it three times.
 fn meet(
@@ -27,11 +23,11 @@ fn meet(
     sys: &Sys<AnyLayout>,
     caller: &mut Pass<AnyLayout>,
     swapper: &mut Pass<AnyLayout>,
-) -> Result<(), Memory>
+)
     requires caller { HoldsNoCell sys.now caller.old }
     requires swapper { HoldsNoCell sys.now swapper.old }
-    ensures caller { OnOk result (HoldsNoCell sys.now caller.new) }
-    ensures swapper { OnOk result (HoldsNoCell sys.now swapper.new) }
+    ensures caller { HoldsNoCell sys.now caller.new }
+    ensures swapper { HoldsNoCell sys.now swapper.new }
 {
     send_to_mediator(rt, sys, swapper);
     find_busy(rt, sys, caller, Phase::Forward);
@@ -46,12 +42,8 @@ fn meet(
     keep_out(rt, sys, caller);
     end_activity(sys, caller);
     move_now(rt, sys, swapper);
-    give_up(
-        rt,
-        sys,
-        swapper,
-        &AnyLayout::of(KindName::Counter, LayoutName::Spread),
-    )
+    let spread = AnyLayout::of(KindName::Counter, LayoutName::Spread);
+    give_up(rt, sys, swapper, &spread);
 }
 
 /// Whether the entry tells that the first swap of the first object was given up.
@@ -63,19 +55,13 @@ fn is_given_up(entry: &Entry) -> bool {
 }
 
 #[test]
-fn callers_meet_a_mediator(rt: HostRuntime) -> Result<(), Fail> {
+fn callers_meet_a_mediator(rt: HostRuntime) {
     let counter = AnyLayout::of(KindName::Counter, LayoutName::Shared);
-    let (sys, mut passes) = start(rt.alloc(), counter)?;
-    let (Some(mut one), Some(mut zero)) = (last(&sys, &mut passes), last(&sys, &mut passes)) else {
-        return Err("no passes")?;
-    };
-    meet(&rt, &sys, &mut zero, &mut one)?;
-    let Some(lists) = finish(rt.alloc(), sys, zero, one)? else {
-        return Err("a pass does not rest")?;
-    };
+    let (sys, mut zero, mut one) = start(&rt, rt.alloc(), counter);
+    meet(&rt, &sys, &mut zero, &mut one);
+    let lists = finish(&rt, rt.alloc(), sys, zero, one);
     assert_eq!(rt; lists.len(), 2);
     assert!(rt; lists[0].is_empty());
     assert_eq!(rt; lists[1].len(), 1);
     assert!(rt; is_given_up(&lists[1][0]));
-    Ok(())
 }

@@ -1,19 +1,19 @@
 //! Calls of the first object, from their look-up to their end.
-ghost use Rattle.std.specs.Prelude.{◌≡◌, ◌<◌, true, OnOk};
+ghost use Rattle.std.specs.Prelude.{◌≡◌, ◌<◌, true};
 ghost use Rattle.phase_core.specs.Stages.{is_at_mediator, is_missed, is_out};
-ghost use Rattle.k42_board.specs.Generating.{MayEnter};
 ghost use Rattle.k42_board.specs.Phases.{is_served};
-ghost use Rattle.mediator_tests.specs.Ready.{HoldsNoCell, IsBusy, IsServing, IsHolding};
+ghost use Rattle.mediator_tests.specs.Ready.{IsBusy, IsHolding};
+ghost use Rattle.table_crews.specs.Ready.{HoldsNoCell, IsServing};
 
 use k42_kinds::Layout;
 use k42_mediator::{Begun, Knocked, Phase, begin, knock};
-use k42_memory::Memory;
 use k42_quiesce::{enter, leave};
 use k42_rule::{Pass, Sys, end_call, install_step, lock, root_step, unlock};
 use k42_tables::{Entered, Filled, finish_call, look_up, miss};
 use std::alloc::Global;
 use std::process::Abort;
 use std::sync::Wait;
+use table_crews::may_enter;
 
 /// Would begin a swap, of which another one has begun the first and is so far.
 pub(super) fn find_busy<L: Layout>(rt: &impl Abort, sys: &Sys<L>, pass: &mut Pass<L>, phase: Phase)
@@ -22,12 +22,6 @@ pub(super) fn find_busy<L: Layout>(rt: &impl Abort, sys: &Sys<L>, pass: &mut Pas
 {
     assert!(rt; pass.is_idle() && 0 < sys.objects());
     assert_eq!(rt; begin(sys, pass, 0), Begun::Busy { number: 1, phase });
-}
-
-fn may_enter<L: Layout>(pass: &Pass<L>) -> bool
-    ensures { result ≡ true → MayEnter pass.now.view }
-{
-    pass.is_idle()
 }
 
 /// Begins an activity.
@@ -68,16 +62,15 @@ pub(super) fn fill<L: Layout, R: Abort + Wait>(
     alloc: Global,
     sys: &Sys<L>,
     pass: &mut Pass<L>,
-) -> Result<(), Memory>
+)
     requires busy { IsBusy sys.now pass.old }
     requires missed { is_missed pass.old.view.visitor.place 0 ≡ true }
-    ensures busy { OnOk result (IsBusy sys.now pass.new) }
-    ensures served { OnOk result (is_served pass.new.view.visitor.place ≡ true) }
+    ensures busy { IsBusy sys.now pass.new }
+    ensures served { is_served pass.new.view.visitor.place ≡ true }
 {
     assert!(rt; 0 < sys.objects());
-    let filled = miss(rt, alloc, sys, pass, 0)?;
+    let filled = miss(rt, alloc, sys, pass, 0).expect(rt, "memory");
     assert_eq!(rt; filled, Filled::Installed { cell: 0 });
-    Ok(())
 }
 
 /// Reads the word of the object that it missed, which is to be this one.

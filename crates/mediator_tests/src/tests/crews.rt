@@ -1,58 +1,52 @@
 //! Systems of one object on one processor, and the passes of their two callers.
-ghost use Rattle.std.specs.Prelude.{◌≡◌, true, length, IfOk, IfSome};
+ghost use Rattle.std.specs.Prelude.{◌≡◌, length};
 ghost use Rattle.k42_rule.specs.Tags.{HasTags};
-ghost use Rattle.mediator_tests.specs.Ready.{HoldsNoCell, HoldNoCells, RestsAt};
+ghost use Rattle.table_crews.specs.Ready.{HoldsNoCell};
 
 use k42_kinds::{Entry, Layout};
-use k42_memory::Memory;
-use k42_rule::{Keep, Pass, Sys, give_lists};
+use k42_rule::{Keep, Pass, Sys};
 use std::alloc::Global;
+use std::process::Abort;
 
-pub(super) fn start<L: Layout>(alloc: Global, layout: L) -> Result<(Sys<L>, Vec<Pass<L>>), Memory>
+/// A system of that object, and the passes of its callers 0 and 1.
+pub(super) fn start<L: Layout>(
+    rt: &impl Abort,
+    alloc: Global,
+    layout: L,
+) -> (Sys<L>, Pass<L>, Pass<L>)
     requires live { L.tag_of layout ≡ 0 }
     requires tags { HasTags L.has_tag layout }
-    ensures { IfOk result (λ made. HoldNoCells made.0 made.1.items × (length made.0.callers ≡ 2)) }
+    ensures callers { length result.0.callers ≡ 2 }
+    ensures zero { HoldsNoCell result.0 result.1 }
+    ensures one { HoldsNoCell result.0 result.2 }
 {
     let mut layouts = Vec::new(alloc);
-    layouts.push(layout)?;
-    let callers = vec![in alloc; 0, 0]?;
-    let (sys, passes) = Sys::start(alloc, layouts, 1, callers, Keep::All)?;
-    Ok((sys, passes))
+    layouts.push(layout).expect(rt, "memory");
+    let callers = vec![in alloc; 0, 0].expect(rt, "memory");
+    let started = table_crews::start(alloc, layouts, 1, callers, Keep::All);
+    let (sys, mut passes) = started.expect(rt, "memory");
+    let one = table_crews::last(&sys, &mut passes).expect(rt, "a pass");
+    let zero = table_crews::last(&sys, &mut passes).expect(rt, "a pass");
+    (sys, zero, one)
 }
 
-/// Takes the last pass out of the list.
-pub(super) fn last<L: Layout>(sys: &Sys<L>, passes: &mut Vec<Pass<L>>) -> Option<Pass<L>>
-    requires free { HoldNoCells sys.now passes.old.items }
-    ensures free { HoldNoCells sys.now passes.new.items }
-    ensures out { IfSome result (λ pass. HoldsNoCell sys.now pass) }
-{
-    passes.pop()
+/// What the pass has drawn so far.
+pub(super) fn drawn<L: Layout>(rt: &impl Abort, alloc: Global, pass: &Pass<L>) -> Vec<Entry> {
+    pass.kept().to_vec(alloc).expect(rt, "memory")
 }
 
-fn rests<L: Layout>(pass: &Pass<L>, caller: u32) -> bool
-    ensures { result ≡ true → RestsAt caller pass.now }
-{
-    pass.caller() == caller && pass.is_idle()
-}
-
-/// The lists of the two callers, where they rest.
+/// What the two callers, which are to rest, have drawn.
 pub(super) fn finish<L: Layout>(
+    rt: &impl Abort,
     alloc: Global,
     sys: Sys<L>,
+    zero: Pass<L>,
     one: Pass<L>,
-    two: Pass<L>,
-) -> Result<Option<Vec<Vec<Entry>>>, Memory>
+) -> Vec<Vec<Entry>>
     requires callers { length sys.callers ≡ 2 }
-    requires free { HoldsNoCell sys one × HoldsNoCell sys two }
+    requires free { HoldsNoCell sys zero × HoldsNoCell sys one }
 {
-    if !rests::<L>(&one, 0) || !rests::<L>(&two, 1) {
-        return Ok(None);
-    }
-    let mut lists = Vec::with_capacity(alloc, 2)?;
-    let mut passes = Vec::new(alloc);
-    passes.push(one)?;
-    passes.push(two)?;
-    give_lists::<L>(alloc, passes.as_mut_slice(), &mut lists);
-    sys.finish(passes);
-    Ok(Some(lists))
+    let passes = vec![in alloc; zero, one].expect(rt, "memory");
+    let lists = table_crews::finish(alloc, sys, passes).expect(rt, "memory");
+    lists.expect(rt, "passes at rest")
 }

@@ -1,38 +1,32 @@
 //! A pass that finds an object over draws that at a cell, which a caller may hold.
-ghost use Rattle.std.specs.Prelude.{◌<◌, OnOk};
+ghost use Rattle.std.specs.Prelude.{◌<◌};
 ghost use Rattle.k42_kinds.specs.declared.entry.Act.TheVariants as Act;
 ghost use Rattle.k42_kinds.specs.declared.entry.To.TheVariants as To;
 ghost use Rattle.k42_board.specs.Seen.{HasRoom};
 ghost use Rattle.k42_mediator.specs.Marks.{MayMark};
-ghost use Rattle.mediator_tests.specs.Ready.{HoldsNoCell, IsHolding};
+ghost use Rattle.mediator_tests.specs.Ready.{IsHolding};
+ghost use Rattle.table_crews.specs.Ready.{HoldsNoCell};
 
 use crate::tests::calls::{end, end_activity, fill, hold, let_go, look_in_vain, start_activity};
-use crate::tests::crews::{finish, last, start};
+use crate::tests::crews::{finish, start};
 use crate::tests::phases::swap;
 use co_any::AnyLayout;
 use k42_kinds::{Act, Answer, Entry, KindName, Layout, LayoutName, To};
 use k42_limits::PASS_ENTRIES;
 use k42_mediator::{Begun, Marked, begin, mark};
-use k42_memory::Memory;
 use k42_rule::{Pass, Sys};
 use std::alloc::Global;
 use std::process::Abort;
 use std::sync::Wait;
-use std::test::Fail;
 
 /// Destroys the object.
-fn destroy(
-    rt: &impl Abort,
-    alloc: Global,
-    sys: &Sys<AnyLayout>,
-    pass: &mut Pass<AnyLayout>,
-) -> Result<(), Memory>
+fn destroy(rt: &impl Abort, alloc: Global, sys: &Sys<AnyLayout>, pass: &mut Pass<AnyLayout>)
     requires { HoldsNoCell sys.now pass.old }
-    ensures { OnOk result (HoldsNoCell sys.now pass.new) }
+    ensures { HoldsNoCell sys.now pass.new }
 {
     assert!(rt; 0 < sys.objects());
     let dead = sys.declared(0).with_tag(2);
-    swap(rt, alloc, sys, pass, &dead)
+    swap(rt, alloc, sys, pass, &dead);
 }
 
 /// Begins a call that comes to the first cell of the row, and holds it.
@@ -42,15 +36,14 @@ fn come_in<R: Abort + Wait>(
     sys: &Sys<AnyLayout>,
     pass: &mut Pass<AnyLayout>,
     cell: u32,
-) -> Result<(), Memory>
+)
     requires { HoldsNoCell sys.now pass.old }
-    ensures { OnOk result (IsHolding cell sys.now pass.new) }
+    ensures { IsHolding cell sys.now pass.new }
 {
     start_activity(rt, sys, pass);
     look_in_vain(rt, sys, pass);
-    fill(rt, alloc, sys, pass)?;
+    fill(rt, alloc, sys, pass);
     hold(rt, sys, pass, cell);
-    Ok(())
 }
 
 /// Leaves the cell, and ends the call.
@@ -65,21 +58,16 @@ fn go_out(sys: &Sys<AnyLayout>, pass: &mut Pass<AnyLayout>, cell: u32)
 }
 
 /// Would begin a destroy of an object that is dead.
-fn find_dead(
-    rt: &impl Abort,
-    sys: &Sys<AnyLayout>,
-    pass: &mut Pass<AnyLayout>,
-) -> Result<(), Memory>
+fn find_dead(rt: &impl Abort, sys: &Sys<AnyLayout>, pass: &mut Pass<AnyLayout>)
     requires { HoldsNoCell sys.now pass.old }
-    ensures free { OnOk result (HoldsNoCell sys.now pass.new) }
-    ensures may { OnOk result (MayMark (Act.Swap To.Dead) pass.new.view) }
-    ensures room { OnOk result (HasRoom pass.new) }
+    ensures free { HoldsNoCell sys.now pass.new }
+    ensures may { MayMark (Act.Swap To.Dead) pass.new.view }
+    ensures room { HasRoom pass.new }
 {
     assert!(rt; pass.is_idle() && 0 < sys.objects());
     assert!(rt; begin(sys, pass, 0) == Begun::Gone);
-    pass.reserve()?;
+    pass.reserve().expect(rt, "memory");
     assert!(rt; pass.drawn() < PASS_ENTRIES);
-    Ok(())
 }
 
 /// Tries to draw that at the cell, which that caller is to hold.
@@ -123,25 +111,19 @@ fn destroyed(caller: u32, stamp: u64, incarnation: u32, answer: Answer) -> Entry
 }
 
 #[test]
-fn a_dead_object_is_told_at_its_cell_once_that_is_free(rt: HostRuntime) -> Result<(), Fail> {
+fn a_dead_object_is_told_at_its_cell_once_that_is_free(rt: HostRuntime) {
     let counter = AnyLayout::of(KindName::Counter, LayoutName::Shared);
-    let (sys, mut passes) = start(rt.alloc(), counter)?;
-    let (Some(mut one), Some(mut zero)) = (last(&sys, &mut passes), last(&sys, &mut passes)) else {
-        return Err("no passes")?;
-    };
-    destroy(&rt, rt.alloc(), &sys, &mut zero)?;
-    come_in(&rt, rt.alloc(), &sys, &mut zero, 8)?;
-    find_dead(&rt, &sys, &mut one)?;
+    let (sys, mut zero, mut one) = start(&rt, rt.alloc(), counter);
+    destroy(&rt, rt.alloc(), &sys, &mut zero);
+    come_in(&rt, rt.alloc(), &sys, &mut zero, 8);
+    find_dead(&rt, &sys, &mut one);
     find_held(&rt, &sys, &mut one, 0);
     go_out(&sys, &mut zero, 8);
     draw(&rt, &sys, &mut one);
-    let Some(lists) = finish(rt.alloc(), sys, zero, one)? else {
-        return Err("a pass does not rest")?;
-    };
+    let lists = finish(&rt, rt.alloc(), sys, zero, one);
     assert_eq!(rt; lists.len(), 2);
     let first = destroyed(0, 1, 0, Answer::Swapped(1));
     assert!(rt; lists[0].as_slice() == [first].as_slice());
     let second = destroyed(1, 2, 1, Answer::Gone);
     assert!(rt; lists[1].as_slice() == [second].as_slice());
-    Ok(())
 }

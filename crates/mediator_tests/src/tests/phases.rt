@@ -1,24 +1,21 @@
 //! The phases of a swap.
-ghost use Rattle.std.specs.Prelude.{◌≡◌, ◌≤◌, true, None, OnOk};
-ghost use Rattle.phase_core.specs.declared.caller.SwapAt.TheVariants.{Moved};
-ghost use Rattle.k42_board.specs.Gracing.{MayTakeRole};
-ghost use Rattle.k42_board.specs.Swapping.{object_swapped, MayBlock, MayMove};
+ghost use Rattle.std.specs.Prelude.{◌≡◌, ◌≤◌, true, None};
+ghost use Rattle.k42_board.specs.Swapping.{MayMove};
 ghost use Rattle.k42_mediator.specs.Swaps.{HasBegun, HasMoved, HasTransferred, HasOpened};
 ghost use Rattle.k42_mediator.specs.Transfers.{IsOfKind};
-ghost use Rattle.mediator_tests.specs.Ready.{HoldsNoCell};
+ghost use Rattle.table_crews.specs.Ready.{HoldsNoCell};
 
-use gen_core::GraceAt;
 use k42_kinds::Layout;
-use k42_limits::{PASS_ENTRIES, PASS_GRACES};
+use k42_limits::PASS_ENTRIES;
 use k42_mediator::{
     Begun, Moving, abandon, begin, block, end, interpose, open_entries, transfer, try_move,
 };
-use k42_memory::Memory;
 use k42_quiesce::{Grace, GraceStep, reclaim};
 use k42_rule::{Pass, Sys};
 use phase_core::SwapAt;
 use std::alloc::Global;
 use std::process::Abort;
+use table_crews::{has_moved, may_block, may_move, may_wait};
 
 fn has_begun<L: Layout>(pass: &Pass<L>) -> bool
     ensures { result ≡ true → HasBegun pass.now.view }
@@ -37,16 +34,6 @@ pub(super) fn send_to_mediator<L: Layout>(rt: &impl Abort, sys: &Sys<L>, pass: &
     interpose(sys, pass);
 }
 
-/// Whether the pass may begin a grace.
-fn may_wait<L: Layout>(pass: &Pass<L>) -> bool
-    ensures { result ≡ true → MayTakeRole pass.now.view }
-{
-    !pass.is_active()
-        && pass.grace() == GraceAt::Idle
-        && matches!(pass.swap(), SwapAt::Idle | SwapAt::Interposed(_))
-        && pass.graces() < PASS_GRACES
-}
-
 /// Has a grace, which is to be quiet at once and to free no row.
 pub(super) fn wait_quiet<L: Layout>(rt: &impl Abort, sys: &Sys<L>, pass: &mut Pass<L>)
     requires { HoldsNoCell sys.now pass.old }
@@ -58,12 +45,6 @@ pub(super) fn wait_quiet<L: Layout>(rt: &impl Abort, sys: &Sys<L>, pass: &mut Pa
     assert_eq!(rt; reclaim(sys, pass), 0);
 }
 
-fn may_block<L: Layout>(pass: &Pass<L>) -> bool
-    ensures { result ≡ true → MayBlock pass.now.view }
-{
-    matches!(pass.swap(), SwapAt::Drained(_)) && pass.grace() == GraceAt::Idle
-}
-
 /// Keeps out whoever knocks from now on.
 pub(super) fn close<L: Layout>(rt: &impl Abort, sys: &Sys<L>, pass: &mut Pass<L>)
     requires { HoldsNoCell sys.now pass.old }
@@ -71,14 +52,6 @@ pub(super) fn close<L: Layout>(rt: &impl Abort, sys: &Sys<L>, pass: &mut Pass<L>
 {
     assert!(rt; may_block::<L>(pass));
     block(sys, pass);
-}
-
-#[tactic(auto, using(crate::proofs::Handed::unhanded))]
-fn may_move<L: Layout>(pass: &Pass<L>) -> bool
-    ensures may { result ≡ true → MayMove pass.now.view }
-    ensures unhanded { result ≡ true → pass.now.view.handed ≡ None }
-{
-    matches!(pass.swap(), SwapAt::Blocking(_))
 }
 
 /// Tries to move the state of a closed object, in which one caller is counted still.
@@ -90,14 +63,8 @@ pub(super) fn try_early<L: Layout>(rt: &impl Abort, sys: &Sys<L>, pass: &mut Pas
     assert_eq!(rt; try_move(sys, pass), Moving::InFlight { count: 1 });
 }
 
-fn has_moved<L: Layout>(pass: &Pass<L>) -> bool
-    ensures { result ≡ true → pass.now.view.visitor.swap ≡ Moved (object_swapped pass.now.view) }
-{
-    matches!(pass.swap(), SwapAt::Moved(_))
-}
-
 /// Moves the state of a closed object, in which nobody is counted.
-#[tactic(auto, using(crate::proofs::Handed::still_unhanded))]
+#[tactic(auto, using(table_crews::proofs::Handed::still_unhanded))]
 fn try_again<L: Layout>(rt: &impl Abort, sys: &Sys<L>, pass: &mut Pass<L>)
     requires free { HoldsNoCell sys.now pass.old }
     requires may { MayMove pass.old.view }
@@ -120,21 +87,15 @@ pub(super) fn move_now<L: Layout>(rt: &impl Abort, sys: &Sys<L>, pass: &mut Pass
 }
 
 /// Gives up the swap to that layout.
-pub(super) fn give_up<L: Layout>(
-    rt: &impl Abort,
-    sys: &Sys<L>,
-    pass: &mut Pass<L>,
-    to: &L,
-) -> Result<(), Memory>
+pub(super) fn give_up<L: Layout>(rt: &impl Abort, sys: &Sys<L>, pass: &mut Pass<L>, to: &L)
     requires free { HoldsNoCell sys.now pass.old }
     requires moved { HasMoved pass.old.view }
     requires known { L.tag_of to.now ≤ 2 }
-    ensures { OnOk result (HoldsNoCell sys.now pass.new) }
+    ensures { HoldsNoCell sys.now pass.new }
 {
-    pass.reserve()?;
+    pass.reserve().expect(rt, "memory");
     assert!(rt; pass.drawn() < PASS_ENTRIES);
     abandon(sys, pass, to);
-    Ok(())
 }
 
 /// Tries to hand the state of the first object on to that layout, for which there is to be no memory.
@@ -144,19 +105,18 @@ pub(super) fn hand_nothing_on<L: Layout>(
     sys: &Sys<L>,
     pass: &mut Pass<L>,
     to: &L,
-) -> Result<(), Memory>
+)
     requires free { HoldsNoCell sys.now pass.old }
     requires moved { HasMoved pass.old.view }
     requires kind { IsOfKind L.object sys.now.layouts 0 to.now }
     requires known { L.tag_of to.now ≤ 2 }
-    ensures free { OnOk result (HoldsNoCell sys.now pass.new) }
-    ensures moved { OnOk result (HasMoved pass.new.view) }
+    ensures free { HoldsNoCell sys.now pass.new }
+    ensures moved { HasMoved pass.new.view }
 {
     assert!(rt; pass.swap() == SwapAt::Moved(0));
-    pass.reserve()?;
+    pass.reserve().expect(rt, "memory");
     assert!(rt; pass.drawn() < PASS_ENTRIES);
     assert!(rt; transfer(alloc, sys, pass, to).is_err());
-    Ok(())
 }
 
 /// Hands the state of the first object on to that layout.
@@ -166,18 +126,18 @@ pub(super) fn transfer_to<L: Layout>(
     sys: &Sys<L>,
     pass: &mut Pass<L>,
     to: &L,
-) -> Result<(), Memory>
+)
     requires free { HoldsNoCell sys.now pass.old }
     requires moved { HasMoved pass.old.view }
     requires kind { IsOfKind L.object sys.now.layouts 0 to.now }
     requires known { L.tag_of to.now ≤ 2 }
-    ensures free { OnOk result (HoldsNoCell sys.now pass.new) }
-    ensures transferred { OnOk result (HasTransferred pass.new.view) }
+    ensures free { HoldsNoCell sys.now pass.new }
+    ensures transferred { HasTransferred pass.new.view }
 {
     assert!(rt; pass.swap() == SwapAt::Moved(0));
-    pass.reserve()?;
+    pass.reserve().expect(rt, "memory");
     assert!(rt; pass.drawn() < PASS_ENTRIES);
-    transfer(alloc, sys, pass, to)
+    transfer(alloc, sys, pass, to).expect(rt, "memory");
 }
 
 fn has_opened<L: Layout>(pass: &Pass<L>) -> bool
@@ -216,14 +176,13 @@ pub(super) fn swap<L: Layout>(
     sys: &Sys<L>,
     pass: &mut Pass<L>,
     to: &L,
-) -> Result<(), Memory>
+)
     requires free { HoldsNoCell sys.now pass.old }
     requires kind { IsOfKind L.object sys.now.layouts 0 to.now }
     requires known { L.tag_of to.now ≤ 2 }
-    ensures { OnOk result (HoldsNoCell sys.now pass.new) }
+    ensures { HoldsNoCell sys.now pass.new }
 {
     take_over(rt, sys, pass);
-    transfer_to(rt, alloc, sys, pass, to)?;
+    transfer_to(rt, alloc, sys, pass, to);
     open(rt, sys, pass);
-    Ok(())
 }

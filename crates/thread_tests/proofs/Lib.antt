@@ -1,4 +1,0 @@
-pub mod Crews
-pub mod GivenBack
-pub mod Handed
-pub mod OneCell
