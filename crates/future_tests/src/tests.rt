@@ -24,7 +24,7 @@ fn two_swaps_wait_each_for_its_cause_and_end_together(rt: HostRuntime) {
     assert!(rt; one.result == Ok(Swapped::Done(1)));
     assert!(rt; two.result == Ok(Swapped::Done(1)));
     let history = closed(&rt, alloc, system, zero, one.pass, two.pass);
-    assert_eq!(rt; history.entries().len(), 2);
+    assert_eq!(rt; history.len(), 2);
 }
 
 #[test]
@@ -39,7 +39,8 @@ fn a_swap_that_is_stopped_is_stepped_on_by_hand(rt: HostRuntime) {
     go_home(&system, &mut zero);
     step_to(&rt, alloc, &system, &mut swap, &mut one, Swapped::Done(1));
     let history = closed(&rt, alloc, system, zero, one, two);
-    let answers = history.entries().first().map(|entry| entry.answer);
+    let entries = history.collect(alloc).expect(&rt, "memory");
+    let answers = entries.first().map(|entry| entry.answer);
     assert_eq!(rt; answers, Some(Answer::Swapped(1)));
 }
 
@@ -52,7 +53,7 @@ fn a_swap_by_a_future_is_a_swap(rt: HostRuntime) {
     let end = swapped(&rt, alloc, &system, one, 0, spread);
     assert!(rt; end.result == Ok(Swapped::Done(1)));
     let history = closed(&rt, alloc, system, zero, end.pass, two);
-    assert_eq!(rt; history.entries().len(), 1);
+    assert_eq!(rt; history.len(), 1);
 }
 
 #[test]
@@ -68,8 +69,9 @@ fn a_watch_by_a_future_is_a_watch(rt: HostRuntime) {
     let end = swapped(&rt, alloc, &system, end.pass, 0, To::Unwatch);
     assert!(rt; end.result == Ok(Swapped::Done(2)));
     let history = closed(&rt, alloc, system, zero, end.pass, two);
-    let first = history.entries().first().map(|entry| entry.act);
+    let entries = history.collect(alloc).expect(&rt, "memory");
+    let first = entries.first().map(|entry| entry.act);
     assert_eq!(rt; first, Some(Act::Swap(To::Watch)));
-    let last = history.entries().last().map(|entry| entry.act);
+    let last = entries.last().map(|entry| entry.act);
     assert_eq!(rt; last, Some(Act::Swap(To::Unwatch)));
 }

@@ -4,6 +4,7 @@ use k42_kinds::{Answer, Reply};
 use k42_runtime::History;
 use k42_workers::{FreeGate, asks_something, begin_run};
 use script_text::parse;
+use std::alloc::Global;
 use std::cell::Cell;
 use std::process::Abort;
 use std::test::Fail;
@@ -32,9 +33,15 @@ const A_SWAP_AND_A_CALL: &[u8] = b"procs 1\nobject hits counter shared\n\
 worker a 0\nswap hits spread\nworker b 0\nhits get\n";
 
 /// Each entry has this worker, place among its entries, incarnation and answer, and there are no others.
-fn entries_are(rt: &impl Abort, history: &History, due: &[(u32, u64, u32, Answer)]) {
-    assert_eq!(rt; history.entries().len(), due.len());
-    for (entry, one) in history.entries().iter().zip(due.iter()) {
+fn entries_are(
+    rt: &impl Abort,
+    alloc: Global,
+    history: &History,
+    due: &[(u32, u64, u32, Answer)],
+) {
+    let entries = history.collect(alloc).expect(rt, "memory");
+    assert_eq!(rt; entries.len(), due.len());
+    for (entry, one) in entries.iter().zip(due.iter()) {
         let told = (entry.caller, entry.index, entry.incarnation, entry.answer);
         assert_eq!(rt; told, *one);
     }
@@ -53,7 +60,7 @@ fn a_swap_waits_for_a_block_and_goes_on_after_its_end(rt: HostRuntime) -> Result
         (1, 1, 0, Answer::Swapped(1)),
         (1, 2, 1, Answer::Replied(Reply::Number(10))),
     ];
-    entries_are(&rt, &history, &due);
+    entries_are(&rt, rt.alloc(), &history, &due);
     Ok(())
 }
 
@@ -71,7 +78,7 @@ fn a_watch_waits_for_a_block_and_counts_the_calls_behind_it(rt: HostRuntime) -> 
         (0, 2, 1, Answer::Replied(Reply::Number(10))),
         (1, 2, 1, Answer::Replied(Reply::Number(1))),
     ];
-    entries_are(&rt, &history, &due);
+    entries_are(&rt, rt.alloc(), &history, &due);
     Ok(())
 }
 
@@ -81,7 +88,7 @@ fn a_script_without_lines_has_an_empty_history(rt: HostRuntime) -> Result<(), Fa
         return Err("no script")?;
     };
     let history = run_tasks(&rt, rt.alloc(), &script, &FreeGate)?;
-    assert_eq!(rt; history.entries().len(), 0);
+    assert_eq!(rt; history.len(), 0);
     Ok(())
 }
 
@@ -92,7 +99,7 @@ fn a_gate_that_is_not_shared_hears_of_each_line_twice(rt: HostRuntime) -> Result
     };
     let gate = Counting { told: Cell::new(0) };
     let history = run_tasks(&rt, rt.alloc(), &script, &gate)?;
-    assert_eq!(rt; history.entries().len(), 2);
+    assert_eq!(rt; history.len(), 2);
     assert_eq!(rt; gate.told.get(), 4);
     Ok(())
 }
@@ -109,7 +116,7 @@ fn the_gate_hears_once_of_a_line_that_is_held_up_and_tasks_step_in_rounds(
         astray: Cell::new(0),
     };
     let history = run_tasks(&rt, rt.alloc(), &script, &gate)?;
-    assert_eq!(rt; history.entries().len(), 5);
+    assert_eq!(rt; history.len(), 5);
     assert_eq!(rt; gate.told.get(), 10);
     assert_eq!(rt; gate.astray.get(), 0);
     Ok(())

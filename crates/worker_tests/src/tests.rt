@@ -2,8 +2,7 @@
 ghost use Rattle.script_text.specs.Sound.{IsSound};
 
 use crossbeam_utils::Backoff;
-use k42_kinds::{Answer, Reply};
-use k42_runtime::History;
+use k42_kinds::{Answer, Entry, Reply};
 use k42_workers::{FreeGate, Gate, Summary, run_script, summary};
 use script_text::{ParseEnd, Script, generate, parse};
 use std::alloc::Global;
@@ -38,7 +37,7 @@ fn a_get_after_a_swap_has_what_was_added_before(rt: HostRuntime) -> Result<(), F
         return Err("no script")?;
     };
     let history = run_script(&rt, rt.alloc(), &script, &FreeGate)?;
-    let entries = history.entries();
+    let entries = history.collect(rt.alloc())?;
     assert_eq!(rt; entries.len(), 3);
     assert_eq!(rt; entries[0].answer, Answer::Replied(Reply::Done));
     assert_eq!(rt; entries[1].answer, Answer::Swapped(1));
@@ -66,8 +65,9 @@ fn a_watched_counter_tells_its_calls_and_an_unwatched_one_none(
         (2, Answer::Swapped(3)),
         (3, Answer::Replied(Reply::None)),
     ];
-    assert_eq!(rt; history.entries().len(), due.len());
-    for (entry, (incarnation, answer)) in history.entries().iter().zip(due.iter()) {
+    let entries = history.collect(rt.alloc())?;
+    assert_eq!(rt; entries.len(), due.len());
+    for (entry, (incarnation, answer)) in entries.iter().zip(due.iter()) {
         assert_eq!(rt; entry.incarnation, *incarnation);
         assert_eq!(rt; entry.answer, *answer);
     }
@@ -84,7 +84,7 @@ fn a_script_without_lines_has_an_empty_history(rt: HostRuntime) -> Result<(), Fa
             return Err("no script")?;
         };
         let history = run_script(&rt, rt.alloc(), &script, &FreeGate)?;
-        assert_eq!(rt; history.entries().len(), 0);
+        assert_eq!(rt; history.len(), 0);
     }
     Ok(())
 }
@@ -93,7 +93,8 @@ fn a_script_without_lines_has_an_empty_history(rt: HostRuntime) -> Result<(), Fa
 fn a_load_of_one_step_adds_its_value(rt: HostRuntime) -> Result<(), Fail> {
     let script = generate(rt.alloc(), 1)?;
     let history = run_script(&rt, rt.alloc(), &script, &FreeGate)?;
-    let told = summary(rt.alloc(), &script, history.entries())?;
+    let entries = history.collect(rt.alloc())?;
+    let told = summary(rt.alloc(), &script, &entries)?;
     let due = Summary {
         calls: 1,
         total: 1_817_669_548,
@@ -109,7 +110,8 @@ fn a_load_of_one_step_adds_its_value(rt: HostRuntime) -> Result<(), Fail> {
 fn a_load_of_a_thousand_steps_swaps_three_times(rt: HostRuntime) -> Result<(), Fail> {
     let script = generate(rt.alloc(), 1000)?;
     let history = run_script(&rt, rt.alloc(), &script, &FreeGate)?;
-    let told = summary(rt.alloc(), &script, history.entries())?;
+    let entries = history.collect(rt.alloc())?;
+    let told = summary(rt.alloc(), &script, &entries)?;
     let due = Summary {
         calls: 997,
         total: 707_566_935_888,
@@ -185,7 +187,7 @@ fn entries_held_at<R: Threads + Abort + Wait + Sync>(
     let history = run_script(rt, alloc, script, &gate)?;
     assert_eq!(rt; gate.there.load(Ordering::SeqCst), gate.all);
     assert!(rt; !gate.is_late());
-    Ok(history.entries().len())
+    Ok(history.len())
 }
 
 #[test]
@@ -254,7 +256,7 @@ fn the_gate_is_told_of_its_worker_before_and_after_each_line(rt: HostRuntime) ->
         astray: AtomicU32::new(0),
     };
     let history = run_script(&rt, rt.alloc(), &script, &gate)?;
-    assert_eq!(rt; history.entries().len(), 4);
+    assert_eq!(rt; history.len(), 4);
     assert_eq!(rt; gate.told.load(Ordering::SeqCst), 8);
     assert_eq!(rt; gate.astray.load(Ordering::SeqCst), 0);
     Ok(())
@@ -299,8 +301,8 @@ impl Gate for Holding {
 }
 
 /// What the second worker was answered by its line of this place.
-fn got(history: &History, place: u64) -> Option<Answer> {
-    for entry in history.entries() {
+fn got(entries: &[Entry], place: u64) -> Option<Answer> {
+    for entry in entries {
         if entry.caller == 1 && entry.index == place {
             return Some(entry.answer);
         }
@@ -319,10 +321,11 @@ fn a_line_is_done_between_what_the_gate_hears_of_it(rt: HostRuntime) -> Result<(
         late: AtomicU32::new(0),
     };
     let history = run_script(&rt, rt.alloc(), &script, &gate)?;
+    let entries = history.collect(rt.alloc())?;
     assert_eq!(rt; gate.late.load(Ordering::SeqCst), 0);
     let before = Some(Answer::Replied(Reply::Number(0)));
-    assert_eq!(rt; got(&history, 1), before);
+    assert_eq!(rt; got(entries.as_slice(), 1), before);
     let after = Some(Answer::Replied(Reply::Number(5)));
-    assert_eq!(rt; got(&history, 3), after);
+    assert_eq!(rt; got(entries.as_slice(), 3), after);
     Ok(())
 }

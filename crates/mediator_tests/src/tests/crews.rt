@@ -32,7 +32,7 @@ pub(super) fn start<L: Layout>(
 
 /// What the pass has drawn so far.
 pub(super) fn drawn<L: Layout>(rt: &impl Abort, alloc: Global, pass: &Pass<L>) -> Vec<Entry> {
-    pass.kept().to_vec(alloc).expect(rt, "memory")
+    pass.log().unread().collect(alloc).expect(rt, "memory")
 }
 
 /// What the two callers, which are to rest, have drawn.

@@ -104,7 +104,7 @@ fn a_pass_that_keeps_nothing_draws_and_counts_without_room(rt: HostRuntime) -> R
     assert_eq!(rt; call(rt.alloc(), &sys, &mut pass, 0, &Op::Add(5))?, Some(1));
     assert_eq!(rt; call(rt.alloc(), &sys, &mut pass, 0, &Op::Get)?, Some(2));
     assert_eq!(rt; pass.drawn(), 2);
-    assert!(rt; pass.kept().is_empty());
+    assert!(rt; pass.log().is_empty());
     let passes = vec![in rt.alloc(); pass]?;
     let Some(lists) = finish(rt.alloc(), sys, passes)? else {
         return Err("no lists")?;

@@ -130,8 +130,7 @@ pub(super) fn ended(
 fn entries_of(rt: &impl Abort, alloc: Global, history: &History) -> Vec<Entry>
     ensures { result.items ≡ history.now.entries }
 {
-    let entries = history.entries().as_slice();
-    entries.to_vec(alloc).expect(rt, "memory")
+    history.collect(alloc).expect(rt, "memory")
 }
 
 /// The entries of the next section.
@@ -144,11 +143,12 @@ pub(super) fn sectioned(
     requires free { AreFree system.now passes.old.items }
     ensures free { AreFree system.now passes.new.items }
 {
-    let section = section(alloc, system, passes.as_mut_slice());
-    section.expect(rt, "memory").expect(rt, "all passes")
+    let section = section(alloc, system, passes.as_mut_slice()).expect(rt, "memory");
+    let journal = section.expect(rt, "all passes");
+    journal.collect(alloc).expect(rt, "memory")
 }
 
 /// How many entries the pass has kept.
 pub(super) fn kept_of(pass: &Pass) -> usize {
-    pass.kept().len()
+    pass.log().len()
 }
