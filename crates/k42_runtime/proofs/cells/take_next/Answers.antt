@@ -6,7 +6,7 @@ use Rattle.k42_runtime.proofs.CallTaken.{was_refused, has_taken_next}
 use Rattle.k42_runtime.proofs.cells.take_next.Goals as goal
 
 pub lock_patiently-found-requires-clause-may : goal.lock_patiently-found-requires-clause-may
-lock_patiently-found-requires-clause-may c κs = record {
+lock_patiently-found-requires-clause-may c = record {
   cell = c.requires.few;
   unheld = ap (λ held. names held c.args.number) c.requires.held ∙ c.requires.another;
   touches = inl c.requires.inside;
