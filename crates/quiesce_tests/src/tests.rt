@@ -1,5 +1,5 @@
 //! Graces that wait for an activity, on one thread and on two, and rows that nobody holds.
-ghost use Rattle.std.specs.Prelude.{◌≡◌, true, None, Some, IfOk};
+ghost use Rattle.std.specs.Prelude.{◌≡◌, true, length};
 ghost use Rattle.gen_core.specs.declared.state.GraceAt.TheVariants.{Looking, Quiet};
 ghost use Rattle.k42_board.specs.Generating.{CanLeave};
 ghost use Rattle.k42_board.specs.Gracing.{MayTakeRole};
@@ -8,16 +8,49 @@ ghost use Rattle.std.specs.Thread.{IsSync};
 ghost use Rattle.table_crews.specs.Ready.{HoldsNoCell};
 
 use co_any::AnyLayout;
-use k42_kinds::LayoutName;
+use k42_kinds::{Entry, LayoutName};
 use k42_limits::PASS_GRACES;
 use k42_quiesce::{Grace, GraceStep, Held, collect, enter, grace, hand_over, leave, reclaim};
 use k42_rule::Sys;
+use std::alloc::Global;
 use std::process::Abort;
 use std::sync::Wait;
-use std::test::Fail;
 use std::thread;
 use std::thread::Threads;
-use table_crews::{Walk, finish, last, may_enter, start_counter};
+use table_crews::{Walk, last, may_enter, start_counter};
+
+/// A system of one counter on one processor, and the passes of its callers 0 to 2.
+fn start(rt: &impl Abort, alloc: Global) -> (Sys<AnyLayout>, Walk, Walk, Walk)
+    ensures callers { length result.0.callers ≡ 3 }
+    ensures zero { HoldsNoCell result.0 result.1 }
+    ensures one { HoldsNoCell result.0 result.2 }
+    ensures two { HoldsNoCell result.0 result.3 }
+{
+    let callers = vec![in alloc; 0, 0, 0].expect(rt, "memory");
+    let started = start_counter(alloc, LayoutName::Shared, 1, callers);
+    let (sys, mut passes) = started.expect(rt, "memory");
+    let two = last(&sys, &mut passes).expect(rt, "a pass");
+    let one = last(&sys, &mut passes).expect(rt, "a pass");
+    let zero = last(&sys, &mut passes).expect(rt, "a pass");
+    (sys, zero, one, two)
+}
+
+/// What the three, which are to rest, have drawn.
+fn finish(
+    rt: &impl Abort,
+    alloc: Global,
+    sys: Sys<AnyLayout>,
+    zero: Walk,
+    one: Walk,
+    two: Walk,
+) -> Vec<Vec<Entry>>
+    requires callers { length sys.callers ≡ 3 }
+    requires free { HoldsNoCell sys zero × HoldsNoCell sys one × HoldsNoCell sys two }
+{
+    let passes = vec![in alloc; zero, one, two].expect(rt, "memory");
+    let lists = table_crews::finish(alloc, sys, passes).expect(rt, "memory");
+    lists.expect(rt, "passes at rest")
+}
 
 /// Begins an activity.
 fn begin(rt: &impl Abort, sys: &Sys<AnyLayout>, pass: &mut Walk)
@@ -61,25 +94,13 @@ fn wait_for_one(
 }
 
 #[test]
-fn a_grace_waits_for_the_activity_that_was_open(rt: HostRuntime) -> Result<(), Fail> {
-    let callers = vec![in rt.alloc(); 0, 0, 0]?;
-    let (sys, mut passes) = start_counter(rt.alloc(), LayoutName::Shared, 1, callers)?;
-    let (Some(mut two), Some(mut one), Some(mut zero)) = (
-        last(&sys, &mut passes),
-        last(&sys, &mut passes),
-        last(&sys, &mut passes),
-    ) else {
-        return Err("no passes")?;
-    };
-    zero.reserve()?;
+fn a_grace_waits_for_the_activity_that_was_open(rt: HostRuntime) {
+    let (sys, mut zero, mut one, mut two) = start(&rt, rt.alloc());
+    zero.reserve().expect(&rt, "memory");
     wait_for_one(&rt, &sys, &mut zero, &mut one, &mut two);
-    let passes = vec![in rt.alloc(); zero, one, two]?;
-    let Some(lists) = finish(rt.alloc(), sys, passes)? else {
-        return Err("a pass does not rest")?;
-    };
+    let lists = finish(&rt, rt.alloc(), sys, zero, one, two);
     assert_eq!(rt; lists.len(), 3);
     assert!(rt; lists.iter().all(|list| list.is_empty()));
-    Ok(())
 }
 
 /// Ends the activity of the pass.
@@ -126,33 +147,18 @@ fn leave_meanwhile<R: Threads + Wait + Sync>(
 }
 
 #[test]
-fn a_grace_waits_on_a_thread_of_its_own(rt: HostRuntime) -> Result<(), Fail> {
-    let callers = vec![in rt.alloc(); 0, 0, 0]?;
-    let (sys, mut passes) = start_counter(rt.alloc(), LayoutName::Shared, 1, callers)?;
-    let (Some(two), Some(one), Some(mut zero)) = (
-        last(&sys, &mut passes),
-        last(&sys, &mut passes),
-        last(&sys, &mut passes),
-    ) else {
-        return Err("no passes")?;
-    };
+fn a_grace_waits_on_a_thread_of_its_own(rt: HostRuntime) {
+    let (sys, mut zero, one, two) = start(&rt, rt.alloc());
     begin(&rt, &sys, &mut zero);
     assert!(rt; may_begin(&one));
     let (zero, one) = leave_meanwhile(&rt, &sys, zero, one);
-    let passes = vec![in rt.alloc(); zero, one, two]?;
-    assert!(rt; finish(rt.alloc(), sys, passes)?.is_some());
-    Ok(())
+    finish(&rt, rt.alloc(), sys, zero, one, two);
 }
 
 #[test]
-fn where_no_row_is_held_none_is_handed_over(rt: HostRuntime) -> Result<(), Fail> {
-    let callers = vec![in rt.alloc(); 0, 0, 0]?;
-    let (sys, mut passes) = start_counter(rt.alloc(), LayoutName::Shared, 1, callers)?;
-    let Some(mut pass) = last(&sys, &mut passes) else {
-        return Err("no pass")?;
-    };
-    hand_over(&rt, &sys, &mut pass)?;
+fn where_no_row_is_held_none_is_handed_over(rt: HostRuntime) {
+    let (sys, _zero, _one, mut pass) = start(&rt, rt.alloc());
+    hand_over(&rt, &sys, &mut pass).expect(&rt, "memory");
     assert_eq!(rt; collect(&rt, &sys, &mut pass), 0);
     assert!(rt; pass.rows().is_empty());
-    Ok(())
 }

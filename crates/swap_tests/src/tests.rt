@@ -1,17 +1,13 @@
 //! Two swaps of one object, with the entries that each caller has drawn.
-ghost use Rattle.std.specs.Prelude.{◌≡◌, ◌<◌, length, IfOk};
-ghost use Rattle.table_crews.specs.Ready.{HoldsNoCell, HoldNoCells};
+ghost use Rattle.std.specs.Prelude.{◌<◌};
 
+use crate::tests::crews::{call, finish, start};
 use crate::tests::phases::swap;
-use co_any::AnyLayout;
 use k42_kinds::{Act, Answer, Entry, LayoutName, Op, Reply, To};
-use k42_memory::Memory;
-use k42_rule::{Row, Sys};
-use std::alloc::Global;
-use std::test::Fail;
-use table_crews::{Walk, call, finish, last, start_counter};
+use k42_rule::Row;
 
 mod counted;
+mod crews;
 mod given_up;
 mod phases;
 mod rows;
@@ -68,57 +64,23 @@ fn has_drawn_nothing(lists: &[Vec<Entry>], caller: usize) -> bool {
     }
 }
 
-/// A system of one counter on one processor, and the passes of its three callers.
-fn start_three(alloc: Global) -> Result<(Sys<AnyLayout>, Vec<Walk>), Memory>
-    ensures free { IfOk result (λ made. HoldNoCells made.0 made.1.items) }
-    ensures callers { IfOk result (λ made. length made.0.callers ≡ 3) }
-{
-    let callers = vec![in alloc; 0, 0, 0]?;
-    let (sys, passes) = start_counter(alloc, LayoutName::Shared, 1, callers)?;
-    Ok((sys, passes))
-}
-
-/// The lists of the three, where they rest.
-fn finish_three(
-    alloc: Global,
-    sys: Sys<AnyLayout>,
-    zero: Walk,
-    one: Walk,
-    two: Walk,
-) -> Result<Option<Vec<Vec<Entry>>>, Memory>
-    requires callers { length sys.callers ≡ 3 }
-    requires free { HoldsNoCell sys zero × HoldsNoCell sys one × HoldsNoCell sys two }
-{
-    let passes = vec![in alloc; zero, one, two]?;
-    finish(alloc, sys, passes)
-}
-
 #[test]
-fn a_swap_hands_the_state_on_and_a_second_one_frees_its_row(rt: HostRuntime) -> Result<(), Fail> {
-    let (sys, mut passes) = start_three(rt.alloc())?;
-    let (Some(two), Some(mut one), Some(mut zero)) = (
-        last(&sys, &mut passes),
-        last(&sys, &mut passes),
-        last(&sys, &mut passes),
-    ) else {
-        return Err("no passes")?;
-    };
+fn a_swap_hands_the_state_on_and_a_second_one_frees_its_row(rt: HostRuntime) {
     let alloc = rt.alloc();
-    assert_eq!(rt; call(alloc, &sys, &mut zero, 0, &Op::Add(5))?, Some(1));
-    swap(&rt, alloc, &sys, &mut one, 0, 1, 0)?;
+    let (sys, mut zero, mut one, two) = start(&rt, alloc);
+    assert!(rt; call(&rt, alloc, &sys, &mut zero, &Op::Add(5)) == 1);
+    swap(&rt, alloc, &sys, &mut one, 0, 1, 0);
     let row = Row {
         object: 0,
         incarnation: 0,
     };
     assert!(rt; one.rows() == [row].as_slice());
-    assert_eq!(rt; call(alloc, &sys, &mut zero, 0, &Op::Add(7))?, Some(3));
-    swap(&rt, alloc, &sys, &mut one, 0, 0, 1)?;
-    assert_eq!(rt; one.rows().len(), 1);
-    assert_eq!(rt; call(alloc, &sys, &mut zero, 0, &Op::Get)?, Some(5));
-    let Some(lists) = finish_three(alloc, sys, zero, one, two)? else {
-        return Err("a pass does not rest")?;
-    };
-    assert_eq!(rt; lists.len(), 3);
+    assert!(rt; call(&rt, alloc, &sys, &mut zero, &Op::Add(7)) == 3);
+    swap(&rt, alloc, &sys, &mut one, 0, 0, 1);
+    assert!(rt; one.rows().len() == 1);
+    assert!(rt; call(&rt, alloc, &sys, &mut zero, &Op::Get) == 5);
+    let lists = finish(&rt, alloc, sys, zero, one, two);
+    assert!(rt; lists.len() == 3);
     let calls = [
         called(1, 0, 0, Op::Add(5), Reply::Done),
         called(3, 1, 1, Op::Add(7), Reply::Done),
@@ -131,5 +93,4 @@ fn a_swap_hands_the_state_on_and_a_second_one_frees_its_row(rt: HostRuntime) -> 
     ];
     assert!(rt; has_drawn(lists.as_slice(), 1, swaps.as_slice()));
     assert!(rt; has_drawn_nothing(lists.as_slice(), 2));
-    Ok(())
 }

@@ -4,12 +4,12 @@ ghost use Rattle.k42_board.specs.Seen.{HasRoom};
 ghost use Rattle.k42_board.specs.declared.keep.Keep.TheVariants as keeps;
 ghost use Rattle.table_crews.specs.Ready.{HoldsNoCell};
 
+use crate::tests::crews::{call, finish, kept, start};
 use crate::tests::graces::{give, go_on, take};
 use co_any::AnyLayout;
-use k42_kinds::{Act, Answer, Entry, KindName, LayoutName, Op, Reply};
+use k42_kinds::{Act, Answer, Entry, Op, Reply};
 use k42_rule::{Keep, Sys};
-use std::test::Fail;
-use table_crews::{Walk, call, finish, last, start, start_counter};
+use table_crews::Walk;
 
 /// The entry of a call of object 0 by caller 0 on processor 0.
 fn called(stamp: u64, index: u64, incarnation: u32, op: Op, reply: Reply, generation: u32) -> Entry
@@ -30,21 +30,13 @@ fn called(stamp: u64, index: u64, incarnation: u32, op: Op, reply: Reply, genera
 }
 
 #[test]
-fn a_call_is_found_in_the_list_of_its_caller(rt: HostRuntime) -> Result<(), Fail> {
-    let callers = vec![in rt.alloc(); 0]?;
-    let (sys, mut passes) = start_counter(rt.alloc(), LayoutName::Shared, 1, callers)?;
-    let Some(mut pass) = last(&sys, &mut passes) else {
-        return Err("no pass")?;
-    };
-    assert_eq!(rt; call(rt.alloc(), &sys, &mut pass, 0, &Op::Add(5))?, Some(1));
-    let passes = vec![in rt.alloc(); pass]?;
-    let Some(lists) = finish(rt.alloc(), sys, passes)? else {
-        return Err("no lists")?;
-    };
+fn a_call_is_found_in_the_list_of_its_caller(rt: HostRuntime) {
+    let (sys, mut pass) = start(&rt, rt.alloc(), Keep::All);
+    assert!(rt; call(&rt, rt.alloc(), &sys, &mut pass, &Op::Add(5)) == 1);
+    let lists = finish(&rt, rt.alloc(), sys, pass);
     let due = [called(1, 0, 0, Op::Add(5), Reply::Done, 0)];
     assert_eq!(rt; lists.len(), 1);
     assert!(rt; lists.iter().all(|list| list.as_slice() == due.as_slice()));
-    Ok(())
 }
 
 /// A grace by a pass that holds no row: true where it was quiet and noted nothing of the object.
@@ -57,26 +49,18 @@ fn graced(sys: &Sys<AnyLayout>, pass: &mut Walk) -> bool
 }
 
 #[test]
-fn a_call_after_a_grace_bears_the_next_generation(rt: HostRuntime) -> Result<(), Fail> {
-    let callers = vec![in rt.alloc(); 0]?;
-    let (sys, mut passes) = start_counter(rt.alloc(), LayoutName::Shared, 1, callers)?;
-    let Some(mut pass) = last(&sys, &mut passes) else {
-        return Err("no pass")?;
-    };
-    assert_eq!(rt; call(rt.alloc(), &sys, &mut pass, 0, &Op::Add(5))?, Some(1));
+fn a_call_after_a_grace_bears_the_next_generation(rt: HostRuntime) {
+    let (sys, mut pass) = start(&rt, rt.alloc(), Keep::All);
+    assert!(rt; call(&rt, rt.alloc(), &sys, &mut pass, &Op::Add(5)) == 1);
     assert!(rt; graced(&sys, &mut pass));
-    assert_eq!(rt; call(rt.alloc(), &sys, &mut pass, 0, &Op::Get)?, Some(2));
-    let passes = vec![in rt.alloc(); pass]?;
-    let Some(lists) = finish(rt.alloc(), sys, passes)? else {
-        return Err("no lists")?;
-    };
+    assert!(rt; call(&rt, rt.alloc(), &sys, &mut pass, &Op::Get) == 2);
+    let lists = finish(&rt, rt.alloc(), sys, pass);
     let due = [
         called(1, 0, 0, Op::Add(5), Reply::Done, 0),
         called(2, 1, 0, Op::Get, Reply::Number(5), 1),
     ];
     assert_eq!(rt; lists.len(), 1);
     assert!(rt; lists.iter().all(|list| list.as_slice() == due.as_slice()));
-    Ok(())
 }
 
 /// Makes room for the next entry of a pass that keeps none: there is no way to fail.
@@ -91,25 +75,15 @@ fn make_room(sys: &Sys<AnyLayout>, pass: &mut Walk)
     }
 }
 
-#[tactic(auto, using(table_crews::proofs::PassLists::any_tags))]
 #[test]
-fn a_pass_that_keeps_nothing_draws_and_counts_without_room(rt: HostRuntime) -> Result<(), Fail> {
-    let layouts = vec![in rt.alloc(); AnyLayout::of(KindName::Counter, LayoutName::Shared)]?;
-    let callers = vec![in rt.alloc(); 0]?;
-    let (sys, mut passes) = start(rt.alloc(), layouts, 1, callers, Keep::Nothing)?;
-    let Some(mut pass) = last(&sys, &mut passes) else {
-        return Err("no pass")?;
-    };
+fn a_pass_that_keeps_nothing_draws_and_counts_without_room(rt: HostRuntime) {
+    let (sys, mut pass) = start(&rt, rt.alloc(), Keep::Nothing);
     make_room(&sys, &mut pass);
-    assert_eq!(rt; call(rt.alloc(), &sys, &mut pass, 0, &Op::Add(5))?, Some(1));
-    assert_eq!(rt; call(rt.alloc(), &sys, &mut pass, 0, &Op::Get)?, Some(2));
+    assert!(rt; call(&rt, rt.alloc(), &sys, &mut pass, &Op::Add(5)) == 1);
+    assert!(rt; call(&rt, rt.alloc(), &sys, &mut pass, &Op::Get) == 2);
     assert_eq!(rt; pass.drawn(), 2);
-    assert!(rt; pass.log().is_empty());
-    let passes = vec![in rt.alloc(); pass]?;
-    let Some(lists) = finish(rt.alloc(), sys, passes)? else {
-        return Err("no lists")?;
-    };
+    assert_eq!(rt; kept(&pass), 0);
+    let lists = finish(&rt, rt.alloc(), sys, pass);
     assert_eq!(rt; lists.len(), 1);
     assert!(rt; lists.iter().all(|list| list.is_empty()));
-    Ok(())
 }

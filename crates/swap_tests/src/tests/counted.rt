@@ -1,17 +1,16 @@
 //! A swap under which calls are in the row.
-ghost use Rattle.std.specs.Prelude.{◌≡◌, true, false, OnOk};
+ghost use Rattle.std.specs.Prelude.{◌≡◌, true, false};
 ghost use Rattle.table_crews.specs.Ready.{HoldsNoCell, IsIn, IsServing};
 
+use crate::tests::crews::{finish, start};
 use crate::tests::phases::{close, lead_in, move_out, open, transfer_to, try_early, wait_free};
 use crate::tests::{called, has_drawn, has_drawn_nothing, swapped};
 use co_any::AnyLayout;
 use k42_kinds::{LayoutName, Op, Reply};
-use k42_memory::Memory;
 use k42_rule::Sys;
 use std::alloc::Global;
 use std::process::Abort;
-use std::test::Fail;
-use table_crews::{Walk, end, enter, finish, last, leave, look_up, may_enter, start_counter, step};
+use table_crews::{Walk, end, enter, leave, look_up, may_enter, step};
 
 /// Begins an activity and a call of the first object, which is let in or not.
 fn come_in(rt: &impl Abort, sys: &Sys<AnyLayout>, pass: &mut Walk, served: bool)
@@ -25,35 +24,23 @@ fn come_in(rt: &impl Abort, sys: &Sys<AnyLayout>, pass: &mut Walk, served: bool)
     assert_eq!(rt; look_up(sys, pass, 0).served, served);
 }
 
-/// Makes the operation, and ends the call and the activity.
-fn go_out(
-    alloc: Global,
-    sys: &Sys<AnyLayout>,
-    pass: &mut Walk,
-    op: &Op,
-) -> Result<Option<u64>, Memory>
+/// Makes the operation, ends the call and the activity, and answers the stamp of the entry.
+fn go_out(rt: &impl Abort, alloc: Global, sys: &Sys<AnyLayout>, pass: &mut Walk, op: &Op) -> u64
     requires free { HoldsNoCell sys.now pass.old }
     requires serving { IsServing pass.old.view }
-    ensures free { OnOk result (HoldsNoCell sys.now pass.new) }
+    ensures free { HoldsNoCell sys.now pass.new }
 {
-    let stamp = step(alloc, sys, pass, op)?;
+    let made = step(alloc, sys, pass, op).expect(rt, "memory");
+    let stamp = made.expect(rt, "a free cell");
     end(sys, pass);
     leave(sys, pass);
-    Ok(stamp)
+    stamp
 }
 
 #[test]
-fn a_swap_waits_for_the_call_that_is_counted(rt: HostRuntime) -> Result<(), Fail> {
-    let callers = vec![in rt.alloc(); 0, 0, 0]?;
-    let (sys, mut passes) = start_counter(rt.alloc(), LayoutName::Shared, 1, callers)?;
-    let (Some(mut two), Some(mut one), Some(mut zero)) = (
-        last(&sys, &mut passes),
-        last(&sys, &mut passes),
-        last(&sys, &mut passes),
-    ) else {
-        return Err("no passes")?;
-    };
+fn a_swap_waits_for_the_call_that_is_counted(rt: HostRuntime) {
     let alloc = rt.alloc();
+    let (sys, mut zero, mut one, mut two) = start(&rt, alloc);
     lead_in(&rt, &sys, &mut one, 0);
     wait_free(&rt, &sys, &mut one, 0);
     come_in(&rt, &sys, &mut zero, true);
@@ -61,14 +48,12 @@ fn a_swap_waits_for_the_call_that_is_counted(rt: HostRuntime) -> Result<(), Fail
     try_early(&rt, &sys, &mut one, 1);
     come_in(&rt, &sys, &mut two, false);
     leave(&sys, &mut two);
-    assert_eq!(rt; go_out(alloc, &sys, &mut zero, &Op::Add(5))?, Some(1));
+    assert!(rt; go_out(&rt, alloc, &sys, &mut zero, &Op::Add(5)) == 1);
     move_out(&rt, &sys, &mut one);
-    transfer_to(&rt, alloc, &sys, &mut one, 0, 1)?;
+    transfer_to(&rt, alloc, &sys, &mut one, 0, 1);
     open(&rt, &sys, &mut one);
-    let Some(lists) = finish(alloc, sys, vec![in alloc; zero, one, two]?)? else {
-        return Err("a pass does not rest")?;
-    };
-    assert_eq!(rt; lists.len(), 3);
+    let lists = finish(&rt, alloc, sys, zero, one, two);
+    assert!(rt; lists.len() == 3);
     let mut call = called(1, 0, 0, Op::Add(5), Reply::Done);
     // It began after the grace of the swap.
     call.generation = Some(1);
@@ -76,5 +61,4 @@ fn a_swap_waits_for_the_call_that_is_counted(rt: HostRuntime) -> Result<(), Fail
     let swap = swapped(1, 2, 0, 0, LayoutName::Spread);
     assert!(rt; has_drawn(lists.as_slice(), 1, [swap].as_slice()));
     assert!(rt; has_drawn_nothing(lists.as_slice(), 2));
-    Ok(())
 }

@@ -1,38 +1,27 @@
 //! A swap that is given up.
 
+use crate::tests::crews::{call, finish, start};
 use crate::tests::phases::{begin_late, give_up, lead_in, shut, swap, wait_free};
 use crate::tests::{called, has_drawn, swapped};
 use k42_kinds::{Answer, LayoutName, Op, Reply};
 use k42_mediator::Phase;
-use std::test::Fail;
-use table_crews::{call, finish, last, start_counter};
 
 #[test]
-fn a_swap_that_is_given_up_leaves_the_row_as_it_was(rt: HostRuntime) -> Result<(), Fail> {
-    let callers = vec![in rt.alloc(); 0, 0, 0]?;
-    let (sys, mut passes) = start_counter(rt.alloc(), LayoutName::Shared, 1, callers)?;
-    let (Some(mut two), Some(mut one), Some(mut zero)) = (
-        last(&sys, &mut passes),
-        last(&sys, &mut passes),
-        last(&sys, &mut passes),
-    ) else {
-        return Err("no passes")?;
-    };
+fn a_swap_that_is_given_up_leaves_the_row_as_it_was(rt: HostRuntime) {
     let alloc = rt.alloc();
-    assert_eq!(rt; call(alloc, &sys, &mut zero, 0, &Op::Add(5))?, Some(1));
+    let (sys, mut zero, mut one, mut two) = start(&rt, alloc);
+    assert!(rt; call(&rt, alloc, &sys, &mut zero, &Op::Add(5)) == 1);
     lead_in(&rt, &sys, &mut one, 0);
     begin_late(&rt, &sys, &mut two, 0, 1, Phase::Forward);
     wait_free(&rt, &sys, &mut one, 0);
     shut(&rt, &sys, &mut one);
     begin_late(&rt, &sys, &mut two, 0, 1, Phase::Transfer);
-    give_up(&rt, &sys, &mut one, 1)?;
+    give_up(&rt, &sys, &mut one, 1);
     assert!(rt; one.rows().is_empty());
-    assert_eq!(rt; call(alloc, &sys, &mut zero, 0, &Op::Get)?, Some(2));
-    swap(&rt, alloc, &sys, &mut two, 0, 1, 0)?;
-    let Some(lists) = finish(alloc, sys, vec![in alloc; zero, one, two]?)? else {
-        return Err("a pass does not rest")?;
-    };
-    assert_eq!(rt; lists.len(), 3);
+    assert!(rt; call(&rt, alloc, &sys, &mut zero, &Op::Get) == 2);
+    swap(&rt, alloc, &sys, &mut two, 0, 1, 0);
+    let lists = finish(&rt, alloc, sys, zero, one, two);
+    assert!(rt; lists.len() == 3);
     let mut read = called(2, 1, 0, Op::Get, Reply::Number(5));
     read.generation = Some(1);
     let calls = [called(1, 0, 0, Op::Add(5), Reply::Done), read];
@@ -43,5 +32,4 @@ fn a_swap_that_is_given_up_leaves_the_row_as_it_was(rt: HostRuntime) -> Result<(
     assert!(rt; has_drawn(lists.as_slice(), 1, [given_up].as_slice()));
     let swap = swapped(2, 3, 0, 0, LayoutName::Spread);
     assert!(rt; has_drawn(lists.as_slice(), 2, [swap].as_slice()));
-    Ok(())
 }

@@ -1,5 +1,5 @@
 //! A swap of one pass, phase by phase.
-ghost use Rattle.std.specs.Prelude.{◌≡◌, true, None, OnOk};
+ghost use Rattle.std.specs.Prelude.{◌≡◌, true, None};
 ghost use Rattle.k42_board.specs.Swapping.{MayMove};
 ghost use Rattle.k42_mediator.specs.Swaps.{HasBegun, HasMoved, HasTransferred, HasOpened};
 ghost use Rattle.table_crews.specs.Ready.{HoldsNoCell};
@@ -10,7 +10,6 @@ use k42_limits::PASS_ENTRIES;
 use k42_mediator::{
     Begun, Moving, Phase, abandon, begin, block, end, interpose, open_entries, transfer, try_move,
 };
-use k42_memory::Memory;
 use k42_quiesce::{grace, reclaim};
 use k42_rule::Sys;
 use phase_core::SwapAt;
@@ -114,37 +113,31 @@ pub(super) fn transfer_to(
     pass: &mut Walk,
     object: u32,
     tag: u32,
-) -> Result<(), Memory>
+)
     requires free { HoldsNoCell sys.now pass.old }
     requires moved { HasMoved pass.old.view }
-    ensures free { OnOk result (HoldsNoCell sys.now pass.new) }
-    ensures transferred { OnOk result (HasTransferred pass.new.view) }
+    ensures free { HoldsNoCell sys.now pass.new }
+    ensures transferred { HasTransferred pass.new.view }
 {
     assert!(rt; object < sys.objects() && tag <= 2);
     assert!(rt; pass.swap() == SwapAt::Moved(object));
-    pass.reserve()?;
+    pass.reserve().expect(rt, "memory");
     assert!(rt; pass.drawn() < PASS_ENTRIES);
     let to = sys.declared(object).with_tag(tag);
-    transfer(alloc, sys, pass, &to)
+    transfer(alloc, sys, pass, &to).expect(rt, "memory");
 }
 
 /// Gives up the swap to the layout of that tag.
-pub(super) fn give_up(
-    rt: &impl Abort,
-    sys: &Sys<AnyLayout>,
-    pass: &mut Walk,
-    tag: u32,
-) -> Result<(), Memory>
+pub(super) fn give_up(rt: &impl Abort, sys: &Sys<AnyLayout>, pass: &mut Walk, tag: u32)
     requires free { HoldsNoCell sys.now pass.old }
     requires moved { HasMoved pass.old.view }
-    ensures free { OnOk result (HoldsNoCell sys.now pass.new) }
+    ensures free { HoldsNoCell sys.now pass.new }
 {
     assert!(rt; sys.objects() > 0 && tag <= 2);
-    pass.reserve()?;
+    pass.reserve().expect(rt, "memory");
     assert!(rt; pass.drawn() < PASS_ENTRIES);
     let to = sys.declared(0).with_tag(tag);
     abandon(sys, pass, &to);
-    Ok(())
 }
 
 fn has_opened(pass: &Walk) -> bool
@@ -190,14 +183,13 @@ pub(super) fn swap<R: Abort + Wait>(
     object: u32,
     tag: u32,
     freed: u32,
-) -> Result<(), Memory>
+)
     requires free { HoldsNoCell sys.now pass.old }
-    ensures free { OnOk result (HoldsNoCell sys.now pass.new) }
+    ensures free { HoldsNoCell sys.now pass.new }
 {
     lead_in(rt, sys, pass, object);
     wait_free(rt, sys, pass, freed);
     shut(rt, sys, pass);
-    transfer_to(rt, alloc, sys, pass, object, tag)?;
+    transfer_to(rt, alloc, sys, pass, object, tag);
     open(rt, sys, pass);
-    Ok(())
 }
