@@ -1,8 +1,8 @@
 //! Three passes call on two processors while a fourth swaps, each on a thread of its own.
 ghost use Rattle.std.specs.Thread.{IsSync};
-ghost use Rattle.thread_tests.specs.Ready.{HoldsNoCell};
+ghost use Rattle.table_crews.specs.Ready.{HoldsNoCell};
 
-use crate::tests::crews::{Walk, finish, last, start};
+use crate::tests::crews::{finish, start};
 use crate::tests::lists::{are_adds, calls_in, is_sum, is_swap, stand_once};
 use crate::tests::rounds::{Called, Progress, add_all, swap_all};
 use crate::tests::visits::visit_once;
@@ -12,9 +12,9 @@ use k42_rule::Sys;
 use std::alloc::Global;
 use std::process::Abort;
 use std::sync::Wait;
-use std::test::Fail;
 use std::thread;
 use std::thread::Threads;
+use table_crews::Walk;
 
 mod crews;
 mod lists;
@@ -101,30 +101,18 @@ fn run<R: Threads + Abort + Wait + Sync>(
 }
 
 #[test]
-fn calls_and_swaps_on_two_processors_leave_every_entry_once(rt: HostRuntime) -> Result<(), Fail> {
-    let (sys, mut passes) = start(rt.alloc())?;
-    let (Some(three), Some(two), Some(one), Some(zero)) = (
-        last(&sys, &mut passes),
-        last(&sys, &mut passes),
-        last(&sys, &mut passes),
-        last(&sys, &mut passes),
-    ) else {
-        return Err("no passes")?;
-    };
+fn calls_and_swaps_on_two_processors_leave_every_entry_once(rt: HostRuntime) {
+    let (sys, front, back) = start(&rt, rt.alloc());
     let progress = Progress::new();
-    let (front, back) = run(&rt, rt.alloc(), &sys, (zero, one), (two, three), &progress);
+    let (front, back) = run(&rt, rt.alloc(), &sys, front, back, &progress);
     let ((mut zero, firsts), (one, seconds)) = front;
     let ((two, thirds), three) = back;
     assert_eq!(rt; three.graces(), 3);
-    let stamp = visit_once(&rt, rt.alloc(), &sys, &mut zero, 0, &Op::Get)?;
-    let Some(mut lists) = finish(rt.alloc(), sys, zero, one, two, three)? else {
-        return Err("a pass does not rest")?;
-    };
+    let stamp = visit_once(&rt, rt.alloc(), &sys, &mut zero, 0, &Op::Get);
+    let mut lists = finish(&rt, rt.alloc(), sys, (zero, one), (two, three));
     assert_eq!(rt; lists.len(), 4);
-    assert!(rt; stand_once(rt.alloc(), lists.as_slice())?);
-    let Some(sum) = lists[0].pop() else {
-        return Err("no entry of the sum")?;
-    };
+    assert!(rt; stand_once(&rt, rt.alloc(), lists.as_slice()));
+    let sum = lists[0].pop().expect(&rt, "the entry of the sum");
     assert!(rt; is_sum(&sum, 0, 1000, 100_010_001_000) && sum.stamp == stamp);
     assert!(rt; firsts.len() == 1000 && are_adds(lists[0].as_slice(), 0, firsts.as_slice()));
     assert!(rt; seconds.len() == 1000 && are_adds(lists[1].as_slice(), 1, seconds.as_slice()));
@@ -134,5 +122,4 @@ fn calls_and_swaps_on_two_processors_leave_every_entry_once(rt: HostRuntime) -> 
     for row in 0..4 {
         assert!(rt; calls_in(lists.as_slice(), row) >= 100);
     }
-    Ok(())
 }

@@ -2,10 +2,9 @@
 use crate::tests::crews::{Three, closed, counter};
 use crate::tests::held::{hold, see_added, wait_for_cell};
 use crate::tests::shut::{be_let_in, be_shut_out, be_waited_for};
-use crate::tests::steps::{call_to, come_in, swap_to};
+use crate::tests::steps::{call_to, come_in, go_home, swap_to};
 use crate::tests::together::{add_at_a_held_cell, get_at_a_shut_object};
 use k42_kinds::{Answer, Entry, LayoutName, Op, Reply};
-use std::test::Fail;
 
 mod crews;
 mod held;
@@ -28,11 +27,9 @@ fn are_answered(entries: &[Entry], due: &[Answer]) -> bool {
 }
 
 #[test]
-fn a_call_at_a_shut_object_is_held_up_until_it_is_open(rt: HostRuntime) -> Result<(), Fail> {
+fn a_call_at_a_shut_object_is_held_up_until_it_is_open(rt: HostRuntime) {
     let alloc = rt.alloc();
-    let Some((system, crew)) = counter(alloc)? else {
-        return Err("no system")?;
-    };
+    let (system, crew) = counter(&rt, alloc);
     let Three {
         mut zero,
         mut one,
@@ -41,64 +38,56 @@ fn a_call_at_a_shut_object_is_held_up_until_it_is_open(rt: HostRuntime) -> Resul
     let mut swap = swap_to(&rt, &system, &one, 0, LayoutName::Shared);
     be_waited_for(
         &rt, alloc, &system, &mut zero, &mut one, &mut two, &mut swap,
-    )?;
+    );
     let mut get = call_to(&rt, &system, 0, Op::Get);
-    be_shut_out(&rt, alloc, &system, &mut zero, &mut two, &mut get)?;
+    be_shut_out(&rt, alloc, &system, &mut zero, &mut two, &mut get);
     be_let_in(
         &rt, alloc, &system, &mut zero, &mut one, &mut swap, &mut get,
-    )?;
-    let Some(history) = closed(alloc, system, zero, one, two)? else {
-        return Err("no history")?;
-    };
+    );
+    let entries = closed(&rt, alloc, system, zero, one, two);
     let due = [Answer::Swapped(1), Answer::Replied(Reply::Number(0))];
-    assert!(rt; are_answered(history.entries(), due.as_slice()));
-    let last = history.entries().get(1).map(|entry| entry.incarnation);
-    assert_eq!(rt; last, Some(1));
-    Ok(())
+    assert!(rt; are_answered(entries.as_slice(), due.as_slice()));
+    let last = entries.last().expect(&rt, "an entry");
+    assert!(rt; last.incarnation == 1);
 }
 
 #[test]
-fn a_call_names_the_caller_that_holds_its_cell(rt: HostRuntime) -> Result<(), Fail> {
+fn a_call_names_the_caller_that_holds_its_cell(rt: HostRuntime) {
     let alloc = rt.alloc();
-    let Some((system, crew)) = counter(alloc)? else {
-        return Err("no system")?;
-    };
+    let (system, crew) = counter(&rt, alloc);
     let Three {
         mut zero,
         mut one,
-        ..
+        two,
     } = crew;
-    let cell = hold(&rt, alloc, &system, &mut one)?;
+    let cell = hold(&rt, alloc, &system, &mut one);
     let mut add = call_to(&rt, &system, 0, Op::Add(5));
-    wait_for_cell(&rt, alloc, &system, &mut zero, &mut one, cell, &mut add)?;
-    see_added(&rt, alloc, &system, &mut one)?;
-    Ok(())
+    wait_for_cell(&rt, alloc, &system, &mut zero, &mut one, cell, &mut add);
+    see_added(&rt, alloc, &system, &mut one);
+    closed(&rt, alloc, system, zero, one, two);
 }
 
 #[test]
-fn a_call_waits_for_the_cell_that_another_holds(rt: HostRuntime) -> Result<(), Fail> {
+fn a_call_waits_for_the_cell_that_another_holds(rt: HostRuntime) {
     let alloc = rt.alloc();
-    let Some((system, crew)) = counter(alloc)? else {
-        return Err("no system")?;
-    };
+    let (system, crew) = counter(&rt, alloc);
     let Three {
         mut zero,
         mut one,
-        ..
+        two,
     } = crew;
-    let cell = hold(&rt, alloc, &system, &mut one)?;
+    let cell = hold(&rt, alloc, &system, &mut one);
     come_in(&system, &mut zero);
-    add_at_a_held_cell(&rt, alloc, &system, &mut zero, &mut one, cell)?;
-    see_added(&rt, alloc, &system, &mut one)?;
-    Ok(())
+    add_at_a_held_cell(&rt, alloc, &system, &mut zero, &mut one, cell);
+    go_home(&system, &mut zero);
+    see_added(&rt, alloc, &system, &mut one);
+    closed(&rt, alloc, system, zero, one, two);
 }
 
 #[test]
-fn a_call_waits_for_the_swap_that_keeps_its_object_shut(rt: HostRuntime) -> Result<(), Fail> {
+fn a_call_waits_for_the_swap_that_keeps_its_object_shut(rt: HostRuntime) {
     let alloc = rt.alloc();
-    let Some((system, crew)) = counter(alloc)? else {
-        return Err("no system")?;
-    };
+    let (system, crew) = counter(&rt, alloc);
     let Three {
         mut zero,
         mut one,
@@ -107,10 +96,11 @@ fn a_call_waits_for_the_swap_that_keeps_its_object_shut(rt: HostRuntime) -> Resu
     let mut swap = swap_to(&rt, &system, &one, 0, LayoutName::Shared);
     be_waited_for(
         &rt, alloc, &system, &mut zero, &mut one, &mut two, &mut swap,
-    )?;
+    );
     come_in(&system, &mut zero);
     get_at_a_shut_object(
         &rt, alloc, &system, &mut zero, &mut one, &mut two, &mut swap,
-    )?;
-    Ok(())
+    );
+    go_home(&system, &mut zero);
+    closed(&rt, alloc, system, zero, one, two);
 }

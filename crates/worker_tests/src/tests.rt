@@ -1,4 +1,6 @@
 //! Scripts that are run: their answers, their numbers, and what their gate is told.
+ghost use Rattle.std.specs.Prelude.{◌≤◌};
+ghost use Rattle.script_text.specs.Lawful.{IsLawful};
 ghost use Rattle.script_text.specs.Sound.{IsSound};
 
 use crossbeam_utils::Backoff;
@@ -9,7 +11,6 @@ use std::alloc::Global;
 use std::process::Abort;
 use std::sync::Wait;
 use std::sync::atomic::{AtomicU32, Ordering};
-use std::test::Fail;
 use std::thread::Threads;
 
 /// An add, a swap and a get, by one worker.
@@ -31,29 +32,44 @@ worker w4 4\nhits add 1\nworker w5 5\nhits add 1\nworker w6 6\nhits add 1\nworke
 worker w8 0\nhits add 1\nworker w9 1\nhits add 1\nworker w10 2\nhits add 1\nworker w11 3\nhits add 1\n\
 worker w12 4\nhits add 1\nworker w13 5\nhits add 1\nworker w14 6\nhits add 1\nworker w15 7\nhits add 1\n";
 
+/// The entries of the script's run.
+fn run<R: Threads + Abort + Wait + Sync, G: Gate + Sync>(
+    rt: &R,
+    alloc: Global,
+    script: &Script,
+    gate: &G,
+) -> Vec<Entry>
+    requires { IsSound script.now }
+    ensures { IsLawful script.now result.items }
+{
+    let history = run_script(rt, alloc, script, gate).expect(rt, "memory");
+    history.collect(alloc).expect(rt, "memory")
+}
+
+/// What the load of so many steps comes to.
+fn summed<R: Threads + Abort + Wait + Sync>(rt: &R, alloc: Global, steps: u32) -> Summary
+    requires { (1 ≤ steps) × (steps ≤ 10000) }
+{
+    let script = generate(alloc, steps).expect(rt, "memory");
+    let entries = run(rt, alloc, &script, &FreeGate);
+    summary(alloc, &script, &entries).expect(rt, "memory")
+}
+
 #[test]
-fn a_get_after_a_swap_has_what_was_added_before(rt: HostRuntime) -> Result<(), Fail> {
-    let Ok(script) = parse(rt.alloc(), SWAPPED) else {
-        return Err("no script")?;
-    };
-    let history = run_script(&rt, rt.alloc(), &script, &FreeGate)?;
-    let entries = history.collect(rt.alloc())?;
+fn a_get_after_a_swap_has_what_was_added_before(rt: HostRuntime) {
+    let script = parse(rt.alloc(), SWAPPED).expect(&rt, "a script");
+    let entries = run(&rt, rt.alloc(), &script, &FreeGate);
     assert_eq!(rt; entries.len(), 3);
     assert_eq!(rt; entries[0].answer, Answer::Replied(Reply::Done));
     assert_eq!(rt; entries[1].answer, Answer::Swapped(1));
     assert_eq!(rt; entries[2].answer, Answer::Replied(Reply::Number(5)));
     assert_eq!(rt; entries[2].incarnation, 1);
-    Ok(())
 }
 
 #[test]
-fn a_watched_counter_tells_its_calls_and_an_unwatched_one_none(
-    rt: HostRuntime,
-) -> Result<(), Fail> {
-    let Ok(script) = parse(rt.alloc(), WATCHED) else {
-        return Err("no script")?;
-    };
-    let history = run_script(&rt, rt.alloc(), &script, &FreeGate)?;
+fn a_watched_counter_tells_its_calls_and_an_unwatched_one_none(rt: HostRuntime) {
+    let script = parse(rt.alloc(), WATCHED).expect(&rt, "a script");
+    let entries = run(&rt, rt.alloc(), &script, &FreeGate);
     let due = [
         (0, Answer::Replied(Reply::Done)),
         (0, Answer::Swapped(1)),
@@ -65,36 +81,28 @@ fn a_watched_counter_tells_its_calls_and_an_unwatched_one_none(
         (2, Answer::Swapped(3)),
         (3, Answer::Replied(Reply::None)),
     ];
-    let entries = history.collect(rt.alloc())?;
     assert_eq!(rt; entries.len(), due.len());
     for (entry, (incarnation, answer)) in entries.iter().zip(due.iter()) {
         assert_eq!(rt; entry.incarnation, *incarnation);
         assert_eq!(rt; entry.answer, *answer);
     }
-    Ok(())
 }
 
 #[test]
-fn a_script_without_lines_has_an_empty_history(rt: HostRuntime) -> Result<(), Fail> {
+fn a_script_without_lines_has_an_empty_history(rt: HostRuntime) {
     for bytes in [
         b"procs 1\n".as_slice(),
         b"procs 2\nworker a 1\nbegin\nend\n".as_slice(),
     ] {
-        let Ok(script) = parse(rt.alloc(), bytes) else {
-            return Err("no script")?;
-        };
-        let history = run_script(&rt, rt.alloc(), &script, &FreeGate)?;
-        assert_eq!(rt; history.len(), 0);
+        let script = parse(rt.alloc(), bytes).expect(&rt, "a script");
+        let entries = run(&rt, rt.alloc(), &script, &FreeGate);
+        assert_eq!(rt; entries.len(), 0);
     }
-    Ok(())
 }
 
 #[test]
-fn a_load_of_one_step_adds_its_value(rt: HostRuntime) -> Result<(), Fail> {
-    let script = generate(rt.alloc(), 1)?;
-    let history = run_script(&rt, rt.alloc(), &script, &FreeGate)?;
-    let entries = history.collect(rt.alloc())?;
-    let told = summary(rt.alloc(), &script, &entries)?;
+fn a_load_of_one_step_adds_its_value(rt: HostRuntime) {
+    let told = summed(&rt, rt.alloc(), 1);
     let due = Summary {
         calls: 1,
         total: 1_817_669_548,
@@ -102,16 +110,12 @@ fn a_load_of_one_step_adds_its_value(rt: HostRuntime) -> Result<(), Fail> {
         dirty: 0,
         swaps: 0,
     };
-    assert_eq!(rt; told, due);
-    Ok(())
+    assert!(rt; told == due);
 }
 
 #[test]
-fn a_load_of_a_thousand_steps_swaps_three_times(rt: HostRuntime) -> Result<(), Fail> {
-    let script = generate(rt.alloc(), 1000)?;
-    let history = run_script(&rt, rt.alloc(), &script, &FreeGate)?;
-    let entries = history.collect(rt.alloc())?;
-    let told = summary(rt.alloc(), &script, &entries)?;
+fn a_load_of_a_thousand_steps_swaps_three_times(rt: HostRuntime) {
+    let told = summed(&rt, rt.alloc(), 1000);
     let due = Summary {
         calls: 997,
         total: 707_566_935_888,
@@ -119,8 +123,7 @@ fn a_load_of_a_thousand_steps_swaps_three_times(rt: HostRuntime) -> Result<(), F
         dirty: 281,
         swaps: 3,
     };
-    assert_eq!(rt; told, due);
-    Ok(())
+    assert!(rt; told == due);
 }
 
 /// Waits until there are so many, for so many turns at most. Once somebody has waited in vain, nobody waits.
@@ -180,38 +183,33 @@ fn entries_held_at<R: Threads + Abort + Wait + Sync>(
     script: &Script,
     first: &[u32],
     all: u32,
-) -> Result<usize, Fail>
+) -> usize
     requires { IsSound script.now }
 {
     let gate = Meeting::at_lines(first, all);
-    let history = run_script(rt, alloc, script, &gate)?;
+    let entries = run(rt, alloc, script, &gate);
     assert_eq!(rt; gate.there.load(Ordering::SeqCst), gate.all);
     assert!(rt; !gate.is_late());
-    Ok(history.len())
+    entries.len()
 }
 
 #[test]
-fn workers_reach_their_first_lines_side_by_side(rt: HostRuntime) -> Result<(), Fail> {
+fn workers_reach_their_first_lines_side_by_side(rt: HostRuntime) {
     let sixteen = [4, 6, 8, 10, 12, 14, 16, 18, 20, 22, 24, 26, 28, 30, 32, 34];
     for (bytes, first, all, due) in [
         (TWO_WORKERS, [4u32, 7].as_slice(), 2, 4),
         (SIXTEEN_WORKERS, sixteen.as_slice(), 16, 16),
     ] {
-        let Ok(script) = parse(rt.alloc(), bytes) else {
-            return Err("no script")?;
-        };
-        let entries = entries_held_at(&rt, rt.alloc(), &script, first, all)?;
-        assert_eq!(rt; entries, due);
+        let script = parse(rt.alloc(), bytes).expect(&rt, "a script");
+        assert!(rt; entries_held_at(&rt, rt.alloc(), &script, first, all) == due);
     }
-    Ok(())
 }
 
 #[test]
-fn the_workers_of_a_load_reach_their_first_lines_side_by_side(rt: HostRuntime) -> Result<(), Fail> {
-    let script = generate(rt.alloc(), 8)?;
-    let entries = entries_held_at(&rt, rt.alloc(), &script, [6, 9, 12, 15].as_slice(), 4)?;
-    assert_eq!(rt; entries, 8);
-    Ok(())
+fn the_workers_of_a_load_reach_their_first_lines_side_by_side(rt: HostRuntime) {
+    let script = generate(rt.alloc(), 8).expect(&rt, "memory");
+    let first = [6, 9, 12, 15].as_slice();
+    assert!(rt; entries_held_at(&rt, rt.alloc(), &script, first, 4) == 8);
 }
 
 /// Two workers, of which the second adds, swaps, asks in an activity, and destroys.
@@ -247,19 +245,16 @@ impl Gate for Listening {
 }
 
 #[test]
-fn the_gate_is_told_of_its_worker_before_and_after_each_line(rt: HostRuntime) -> Result<(), Fail> {
-    let Ok(script) = parse(rt.alloc(), SECOND_WORKS) else {
-        return Err("no script")?;
-    };
+fn the_gate_is_told_of_its_worker_before_and_after_each_line(rt: HostRuntime) {
+    let script = parse(rt.alloc(), SECOND_WORKS).expect(&rt, "a script");
     let gate = Listening {
         told: AtomicU32::new(0),
         astray: AtomicU32::new(0),
     };
-    let history = run_script(&rt, rt.alloc(), &script, &gate)?;
-    assert_eq!(rt; history.len(), 4);
+    let entries = run(&rt, rt.alloc(), &script, &gate);
+    assert_eq!(rt; entries.len(), 4);
     assert_eq!(rt; gate.told.load(Ordering::SeqCst), 8);
     assert_eq!(rt; gate.astray.load(Ordering::SeqCst), 0);
-    Ok(())
 }
 
 /// One worker adds beside another that gets.
@@ -311,21 +306,17 @@ fn got(entries: &[Entry], place: u64) -> Option<Answer> {
 }
 
 #[test]
-fn a_line_is_done_between_what_the_gate_hears_of_it(rt: HostRuntime) -> Result<(), Fail> {
-    let Ok(script) = parse(rt.alloc(), AN_ADD_BESIDE_GETS) else {
-        return Err("no script")?;
-    };
+fn a_line_is_done_between_what_the_gate_hears_of_it(rt: HostRuntime) {
+    let script = parse(rt.alloc(), AN_ADD_BESIDE_GETS).expect(&rt, "a script");
     let gate = Holding {
         at: AtomicU32::new(0),
         done: AtomicU32::new(0),
         late: AtomicU32::new(0),
     };
-    let history = run_script(&rt, rt.alloc(), &script, &gate)?;
-    let entries = history.collect(rt.alloc())?;
+    let entries = run(&rt, rt.alloc(), &script, &gate);
     assert_eq!(rt; gate.late.load(Ordering::SeqCst), 0);
     let before = Some(Answer::Replied(Reply::Number(0)));
-    assert_eq!(rt; got(entries.as_slice(), 1), before);
+    assert!(rt; got(entries.as_slice(), 1) == before);
     let after = Some(Answer::Replied(Reply::Number(5)));
-    assert_eq!(rt; got(entries.as_slice(), 3), after);
-    Ok(())
+    assert!(rt; got(entries.as_slice(), 3) == after);
 }

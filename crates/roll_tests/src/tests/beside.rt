@@ -1,5 +1,4 @@
 //! A plan that is carried out on one thread while others call its objects.
-ghost use Rattle.std.specs.Prelude.{IfOk};
 ghost use Rattle.std.specs.Thread.{IsSync};
 ghost use Rattle.k42_crews.specs.Ready.{AreFree, IsFree, StaysFree};
 
@@ -56,17 +55,17 @@ pub(super) fn roll_beside_calls<R: Abort + Threads + Wait + RandomSource + Alloc
     passes: Vec<Pass>,
     plan: Vec<(u32, To)>,
     mut callers: Vec<Pass>,
-) -> Result<(Rolled, Vec<Pass>), Memory>
+) -> (Rolled, Vec<Pass>)
     requires passes { AreFree system.now passes.items }
     requires callers { AreFree system.now callers.items }
-    ensures rolled { IfOk result (λ both. AreFree system.now both.0.passes.items) }
-    ensures callers { IfOk result (λ both. AreFree system.now both.1.items) }
+    ensures rolled { AreFree system.now result.0.passes.items }
+    ensures callers { AreFree system.now result.1.items }
 {
     let (end, (called, callers)) = join(
         rt,
-        || -> Result<Rolled, Memory>
+        || -> Rolled
             requires { IsSync R.row × AreFree system.now passes.items }
-            ensures { IfOk result (λ end. AreFree system.entry.now end.passes.items) }
+            ensures { AreFree system.entry.now result.passes.items }
         { roll_through(rt, alloc, system, passes, plan) },
         || -> (Result<(), Memory>, Vec<Pass>)
             requires { IsSync R.row × AreFree system.now callers.items }
@@ -76,7 +75,6 @@ pub(super) fn roll_beside_calls<R: Abort + Threads + Wait + RandomSource + Alloc
             (called, callers)
         },
     );
-    called?;
-    let end = end?;
-    Ok((end, callers))
+    called.expect(rt, "memory");
+    (end, callers)
 }

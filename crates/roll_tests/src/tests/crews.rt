@@ -1,69 +1,81 @@
-//! Systems of counters, and the passes of their callers.
-ghost use Rattle.std.specs.Prelude.{◌≡◌, IfOk, IfSome};
+//! Systems of counters, the passes of their callers, and the entries that these keep.
+ghost use Rattle.std.specs.Prelude.{◌≡◌};
 ghost use Rattle.k42_board.specs.declared.keep.Keep.TheVariants.{All};
 ghost use Rattle.k42_crews.specs.Ready.{AreFree, IsFree};
 
-use k42_crews::{last, start};
-use k42_kinds::{KindName, LayoutName};
-use k42_memory::Memory;
-use k42_runtime::{Keep, ObjectPlan, Pass, Plan, System};
+use k42_crews::{close, last, start};
+use k42_kinds::{Entry, KindName, LayoutName};
+use k42_runtime::{History, Keep, ObjectPlan, Pass, Plan, System};
 use std::alloc::Global;
+use std::process::Abort;
 
-/// A system of so many shared counters, and the passes of so many callers, each on the next processor.
+/// A system of so many shared counters, and the passes of the callers, each on its processor.
 pub(super) fn counters_for(
+    rt: &impl Abort,
     alloc: Global,
     procs: u32,
-    objects: u32,
-    callers: u32,
-) -> Result<Option<(System, Vec<Pass>)>, Memory>
-    ensures free { IfOk result (λ made. IfSome made (λ crew. AreFree crew.0 crew.1.items)) }
-    ensures keeps { IfOk result (λ made. IfSome made (λ crew. crew.0.plan.keep ≡ All)) }
+    objects: usize,
+    homes: &[u32],
+) -> (System, Vec<Pass>)
+    ensures free { AreFree result.0 result.1.items }
+    ensures keeps { result.0.plan.keep ≡ All }
 {
-    let mut kinds = Vec::new(alloc);
-    for _ in 0..objects {
-        kinds.push(ObjectPlan {
-            kind: KindName::Counter,
-            layout: LayoutName::Shared,
-        })?;
-    }
-    let mut homes = Vec::new(alloc);
-    for caller in 0..callers {
-        homes.push(caller.checked_rem(procs).unwrap_or(0))?;
-    }
-    match Plan::new(procs, kinds, homes, Keep::All) {
-        Ok(plan) => Ok(Some(start(alloc, plan)?)),
-        Err(_) => Ok(None),
-    }
+    let counter = ObjectPlan {
+        kind: KindName::Counter,
+        layout: LayoutName::Shared,
+    };
+    let objects = vec![in alloc; counter; objects].expect(rt, "memory");
+    let homes = homes.to_vec(alloc).expect(rt, "memory");
+    let plan = Plan::new(procs, objects, homes, Keep::All).expect(rt, "a plan");
+    start(alloc, plan).expect(rt, "memory")
+}
+
+/// The entries of the history of the passes.
+pub(super) fn closed(
+    rt: &impl Abort,
+    alloc: Global,
+    system: System,
+    passes: Vec<Pass>,
+) -> Vec<Entry>
+    requires free { AreFree system passes.items }
+    requires keeps { system.plan.keep ≡ All }
+{
+    let history = close(alloc, system, passes).expect(rt, "memory");
+    entries_of(rt, alloc, &history.expect(rt, "all passes"))
+}
+
+/// The entries of a history.
+fn entries_of(rt: &impl Abort, alloc: Global, history: &History) -> Vec<Entry>
+    ensures { result.items ≡ history.now.entries }
+{
+    history.collect(alloc).expect(rt, "memory")
 }
 
 /// Puts a pass behind the others.
 #[tactic(auto, using(crate::proofs::Rolled::one_more_free))]
-pub(super) fn put_back(system: &System, passes: &mut Vec<Pass>, pass: Pass) -> Result<(), Memory>
+pub(super) fn put_back(rt: &impl Abort, system: &System, passes: &mut Vec<Pass>, pass: Pass)
     requires others { AreFree system.now passes.old.items }
     requires free { IsFree system.now pass }
     ensures free { AreFree system.now passes.new.items }
 {
-    passes.push(pass)?;
-    Ok(())
+    passes.push(pass).ok().expect(rt, "memory");
 }
 
 /// Takes so many passes from the end of one list to that of another, the last one first.
 pub(super) fn take_over(
+    rt: &impl Abort,
     system: &System,
     from: &mut Vec<Pass>,
     to: &mut Vec<Pass>,
     count: usize,
-) -> Result<(), Memory>
+)
     requires from { AreFree system.now from.old.items }
     requires to { AreFree system.now to.old.items }
     ensures from { AreFree system.now from.new.items }
     ensures to { AreFree system.now to.new.items }
 {
     for _ in 0..count {
-        let Some(pass) = last(system, from) else {
-            return Ok(());
-        };
-        put_back(system, to, pass)?;
+        let pass = last(system, from).expect(rt, "a pass");
+        put_back(rt, system, to, pass);
     }
-    Ok(())
 }

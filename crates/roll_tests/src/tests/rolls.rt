@@ -1,5 +1,5 @@
 //! Plans that are polled by hand, and by an executor.
-ghost use Rattle.std.specs.Prelude.{◌≡◌, ◌<◌, true, length, IfOk, IsSomeAnd};
+ghost use Rattle.std.specs.Prelude.{◌≡◌, ◌<◌, true, length, IsSomeAnd};
 ghost use Rattle.k42_crews.specs.Ready.{AreFree};
 ghost use Rattle.k42_places.specs.Places.{EachPlace};
 ghost use Rattle.swap_future.specs.Rolling.{IsRolling, MayRoll, seen};
@@ -8,10 +8,8 @@ ghost use Rattle.roll_tests.specs.Rolls.{AreWithin};
 use futures::Future;
 use futures::executor::block_on;
 use futures::task::{Doorbell, Queue};
-use k42_memory::Memory;
 use k42_runtime::{Cause, Pass, System, To};
 use std::alloc::{AllocGlobal, Global};
-use std::io;
 use std::process::Abort;
 use std::random::RandomSource;
 use std::sync::Wait;
@@ -49,18 +47,14 @@ pub(super) fn roll_of<'a>(
     system: &'a System,
     passes: Vec<Pass>,
     plan: Vec<(u32, To)>,
-) -> Result<Roll<'a>, Memory>
+) -> Roll<'a>
     requires free { AreFree system.now passes.items }
-    ensures system { IfOk result (λ roll. roll.system.now ≡ system.now) }
-    ensures rolls { IfOk result (λ roll. IsSomeAnd roll.rolling (λ rolling. IsRolling system.now (seen rolling))) }
+    ensures system { result.system.now ≡ system.now }
+    ensures rolls { IsSomeAnd result.rolling (λ rolling. IsRolling system.now (seen rolling)) }
 {
-    if !may_roll(system, passes.as_slice(), plan.as_slice()) {
-        panic!(rt; "a plan past its bounds");
-    }
-    match Roll::new(alloc, system, passes, plan) {
-        Ok(roll) => Ok(roll),
-        Err(_) => Err(Memory),
-    }
+    assert!(rt; may_roll(system, passes.as_slice(), plan.as_slice()));
+    let roll = Roll::new(alloc, system, passes, plan);
+    roll.ok().expect(rt, "memory")
 }
 
 /// A poll of the roll, which is held up: these are the causes of its first two passes.
@@ -69,37 +63,34 @@ pub(super) fn is_held_up<'a, R: Abort + Wait + RandomSource + AllocGlobal>(
     system: &System,
     mut roll: Roll<'a>,
     due: (Option<Cause>, Option<Cause>),
-) -> io::Result<Roll<'a>>
+) -> Roll<'a>
     requires system { roll.system.now ≡ system.now }
     requires rolls { IsSomeAnd roll.rolling (λ rolling. IsRolling system.now (seen rolling)) }
-    ensures system { IfOk result (λ roll. roll.system.now ≡ system.now) }
-    ensures rolls { IfOk result (λ roll. IsSomeAnd roll.rolling (λ rolling. IsRolling system.now (seen rolling))) }
+    ensures system { result.system.now ≡ system.now }
+    ensures rolls { IsSomeAnd result.rolling (λ rolling. IsRolling system.now (seen rolling)) }
 {
-    let queue = Queue::new(rt, Doorbell::spinning())?;
-    queue.add()?.schedule();
-    let Some(mut cx) = queue.next(rt) else {
-        panic!(rt; "no task");
-    };
+    let queue = Queue::new(rt, Doorbell::spinning()).expect(rt, "a queue");
+    queue.add().expect(rt, "a task").schedule();
+    let mut cx = queue.next(rt).expect(rt, "a task");
     let polled = roll.poll(&mut cx);
     cx.end(&polled);
     assert!(rt; polled.is_pending());
-    assert_eq!(rt; roll.cause(0), due.0);
-    assert_eq!(rt; roll.cause(1), due.1);
-    Ok(roll)
+    assert!(rt; roll.cause(0) == due.0);
+    assert!(rt; roll.cause(1) == due.1);
+    roll
 }
 
 /// The roll until it is over.
-pub(super) fn rolled<R: Wait + RandomSource + AllocGlobal>(
+pub(super) fn rolled<R: Abort + Wait + RandomSource + AllocGlobal>(
     rt: &R,
     system: &System,
     roll: Roll<'_>,
-) -> io::Result<Rolled>
+) -> Rolled
     requires system { roll.system.now ≡ system.now }
     requires rolls { IsSomeAnd roll.rolling (λ rolling. IsRolling system.now (seen rolling)) }
-    ensures free { IfOk result (λ end. AreFree system.now end.passes.items) }
+    ensures free { AreFree system.now result.passes.items }
 {
-    let end = block_on(rt, roll)?;
-    Ok(end)
+    block_on(rt, roll).expect(rt, "an end")
 }
 
 /// A roll of this plan by these passes, until it is over.
@@ -109,13 +100,10 @@ pub(super) fn roll_through<R: Abort + Wait + RandomSource + AllocGlobal>(
     system: &System,
     passes: Vec<Pass>,
     plan: Vec<(u32, To)>,
-) -> Result<Rolled, Memory>
+) -> Rolled
     requires free { AreFree system.now passes.items }
-    ensures free { IfOk result (λ end. AreFree system.now end.passes.items) }
+    ensures free { AreFree system.now result.passes.items }
 {
-    let roll = roll_of(rt, alloc, system, passes, plan)?;
-    match rolled(rt, system, roll) {
-        Ok(end) => Ok(end),
-        Err(_) => Err(Memory),
-    }
+    let roll = roll_of(rt, alloc, system, passes, plan);
+    rolled(rt, system, roll)
 }

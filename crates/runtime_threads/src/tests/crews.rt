@@ -1,53 +1,55 @@
-//! Systems of one spread object on two processors, and the passes of their callers.
-ghost use Rattle.std.specs.Prelude.{◌≡◌, IfOk, IfSome};
+//! Systems of one spread object, the passes of their callers, and the entries that these keep.
+ghost use Rattle.std.specs.Prelude.{◌≡◌};
 ghost use Rattle.k42_board.specs.declared.keep.Keep.TheVariants.{All};
 ghost use Rattle.k42_crews.specs.Ready.{AreFree};
 
-use k42_crews::start;
-use k42_kinds::{KindName, LayoutName};
-use k42_memory::Memory;
-use k42_runtime::{Keep, ObjectPlan, Pass, Plan, System};
+use k42_crews::{close, start};
+use k42_kinds::{Entry, KindName, LayoutName};
+use k42_runtime::{History, Keep, ObjectPlan, Pass, Plan, System};
 use std::alloc::Global;
+use std::process::Abort;
 use std::sync::Wait;
 use std::sync::atomic::{AtomicU64, Ordering};
 use std::thread::Parker;
 use std::time::Duration;
 
-/// For callers on these processors.
-fn started(
+/// A system of one spread object on so many processors, and the passes of the callers on these of them.
+pub(super) fn crew_of(
+    rt: &impl Abort,
     alloc: Global,
     kind: KindName,
-    homes: Vec<u32>,
-) -> Result<Option<(System, Vec<Pass>)>, Memory>
-    ensures free { IfOk result (λ made. IfSome made (λ crew. AreFree crew.0 crew.1.items)) }
-    ensures keeps { IfOk result (λ made. IfSome made (λ crew. crew.0.plan.keep ≡ All)) }
+    procs: u32,
+    homes: &[u32],
+) -> (System, Vec<Pass>)
+    ensures free { AreFree result.0 result.1.items }
+    ensures keeps { result.0.plan.keep ≡ All }
 {
-    let objects = vec![in alloc;
-        ObjectPlan {
-            kind,
-            layout: LayoutName::Spread
-        },
-    ]?;
-    match Plan::new(2, objects, homes, Keep::All) {
-        Ok(plan) => Ok(Some(start(alloc, plan)?)),
-        Err(_) => Ok(None),
-    }
+    let layout = LayoutName::Spread;
+    let objects = vec![in alloc; ObjectPlan { kind, layout }].expect(rt, "memory");
+    let homes = homes.to_vec(alloc).expect(rt, "memory");
+    let plan = Plan::new(procs, objects, homes, Keep::All).expect(rt, "a plan");
+    start(alloc, plan).expect(rt, "memory")
 }
 
-pub(super) fn five(alloc: Global, kind: KindName) -> Result<Option<(System, Vec<Pass>)>, Memory>
-    ensures free { IfOk result (λ made. IfSome made (λ crew. AreFree crew.0 crew.1.items)) }
-    ensures keeps { IfOk result (λ made. IfSome made (λ crew. crew.0.plan.keep ≡ All)) }
+/// The entries of the history of the passes.
+pub(super) fn closed(
+    rt: &impl Abort,
+    alloc: Global,
+    system: System,
+    passes: Vec<Pass>,
+) -> Vec<Entry>
+    requires free { AreFree system passes.items }
+    requires keeps { system.plan.keep ≡ All }
 {
-    let homes = vec![in alloc; 0, 1, 0, 1, 0]?;
-    started(alloc, kind, homes)
+    let history = close(alloc, system, passes).expect(rt, "memory");
+    entries_of(rt, alloc, &history.expect(rt, "all passes"))
 }
 
-pub(super) fn six(alloc: Global, kind: KindName) -> Result<Option<(System, Vec<Pass>)>, Memory>
-    ensures free { IfOk result (λ made. IfSome made (λ crew. AreFree crew.0 crew.1.items)) }
-    ensures keeps { IfOk result (λ made. IfSome made (λ crew. crew.0.plan.keep ≡ All)) }
+/// The entries of a history.
+fn entries_of(rt: &impl Abort, alloc: Global, history: &History) -> Vec<Entry>
+    ensures { result.items ≡ history.now.entries }
 {
-    let homes = vec![in alloc; 0, 1, 0, 1, 0, 1]?;
-    started(alloc, kind, homes)
+    history.collect(alloc).expect(rt, "memory")
 }
 
 /// Waits until there are so many, for some ten seconds at most. Once somebody has waited in vain, nobody waits.

@@ -1,10 +1,12 @@
 //! Sixteen passes add once, and half of them are told afterwards that there was no memory.
-use crate::tests::sixteen::crew_of;
-use k42_crews::{Work, call_once, close, work_all};
-use k42_kinds::Op;
+use crate::tests::crews::{closed, crew_of};
+use crate::tests::sixteen::SIXTEEN;
+use k42_crews::{Work, call_once, work_all};
+use k42_kinds::{KindName, Op};
 use k42_memory::Memory;
 use k42_runtime::{Pass, System};
 use std::alloc::Global;
+use std::process::Abort;
 use std::sync::Wait;
 use std::sync::atomic::{AtomicU64, Ordering};
 use std::thread::Threads;
@@ -32,21 +34,17 @@ impl Work for Refusing {
     }
 }
 
-/// How often the work of all was begun, and how many entries the history has. None where no want of memory was told.
-pub(super) fn tried_by_all<R: Threads + Wait + Sync>(
+/// How often the work of all was begun, some of whom tell of a want of memory, and how many entries the history has.
+pub(super) fn tried_by_all<R: Abort + Threads + Wait + Sync>(
     rt: &R,
     alloc: Global,
-) -> Result<Option<(u64, usize)>, Memory> {
-    let Some((system, mut passes)) = crew_of(alloc, 16)? else {
-        return Ok(None);
-    };
+) -> (u64, usize) {
+    let (system, mut passes) = crew_of(rt, alloc, KindName::Counter, 8, SIXTEEN.as_slice());
     let work = Refusing {
         tried: AtomicU64::new(0),
     };
-    if work_all(rt, alloc, &system, &work, passes.as_mut_slice()).is_ok() {
-        return Ok(None);
-    }
+    let done = work_all(rt, alloc, &system, &work, passes.as_mut_slice());
+    assert!(rt; done.is_err());
     let tried = work.tried.load(Ordering::SeqCst);
-    let history = close(alloc, system, passes)?;
-    Ok(history.map(|history| (tried, history.entries().len())))
+    (tried, closed(rt, alloc, system, passes).len())
 }

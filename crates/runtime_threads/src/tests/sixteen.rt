@@ -1,40 +1,22 @@
 //! Passes add to one counter, up to sixteen, as many as a system has.
-ghost use Rattle.std.specs.Prelude.{◌≡◌, IfOk, IfSome, OnOk};
-ghost use Rattle.k42_board.specs.declared.keep.Keep.TheVariants.{All};
+ghost use Rattle.std.specs.Prelude.{◌≡◌, OnOk};
 ghost use Rattle.k42_crews.specs.Crews.{EachBecomes};
 ghost use Rattle.k42_crews.specs.Ready.{IsFree, AreFree, StaysFree};
 ghost use Rattle.runtime_threads.specs.Ready.{HasAdded};
 
-use crate::tests::crews::wait_for;
-use k42_crews::{Work, call_once, close, start, work_all};
-use k42_kinds::{KindName, LayoutName, Op};
+use crate::tests::crews::{closed, crew_of, wait_for};
+use k42_crews::{Work, call_once, work_all};
+use k42_kinds::{KindName, Op};
 use k42_memory::Memory;
-use k42_runtime::{Keep, ObjectPlan, Pass, Plan, System};
+use k42_runtime::{Pass, System};
 use std::alloc::Global;
+use std::process::Abort;
 use std::sync::Wait;
 use std::sync::atomic::{AtomicU64, Ordering};
 use std::thread::Threads;
 
-/// A spread counter on eight processors, and the passes of so many callers.
-pub(super) fn crew_of(alloc: Global, callers: u32) -> Result<Option<(System, Vec<Pass>)>, Memory>
-    ensures free { IfOk result (λ made. IfSome made (λ crew. AreFree crew.0 crew.1.items)) }
-    ensures keeps { IfOk result (λ made. IfSome made (λ crew. crew.0.plan.keep ≡ All)) }
-{
-    let objects = vec![in alloc;
-        ObjectPlan {
-            kind: KindName::Counter,
-            layout: LayoutName::Spread
-        },
-    ]?;
-    let mut homes = Vec::new(alloc);
-    for caller in 0..callers {
-        homes.push(caller % 8)?;
-    }
-    match Plan::new(8, objects, homes, Keep::All) {
-        Ok(plan) => Ok(Some(start(alloc, plan)?)),
-        Err(_) => Ok(None),
-    }
-}
+/// Sixteen callers on eight processors.
+pub(super) const SIXTEEN: [u32; 16] = [0, 1, 2, 3, 4, 5, 6, 7, 0, 1, 2, 3, 4, 5, 6, 7];
 
 /// Each pass adds once.
 struct AddOnce;
@@ -68,18 +50,15 @@ fn add_once<R: Threads + Wait + Sync>(
     work_all(rt, alloc, system, &AddOnce, passes)
 }
 
-/// How many entries the history of so many passes has that add once.
-pub(super) fn entries_of_all<R: Threads + Wait + Sync>(
+/// How many entries the history of these passes has that add once.
+pub(super) fn entries_of_all<R: Abort + Threads + Wait + Sync>(
     rt: &R,
     alloc: Global,
-    callers: u32,
-) -> Result<Option<usize>, Memory> {
-    let Some((system, mut passes)) = crew_of(alloc, callers)? else {
-        return Ok(None);
-    };
-    add_once(rt, alloc, &system, passes.as_mut_slice())?;
-    let history = close(alloc, system, passes)?;
-    Ok(history.map(|history| history.entries().len()))
+    homes: &[u32],
+) -> usize {
+    let (system, mut passes) = crew_of(rt, alloc, KindName::Counter, 8, homes);
+    add_once(rt, alloc, &system, passes.as_mut_slice()).expect(rt, "memory");
+    closed(rt, alloc, system, passes).len()
 }
 
 /// Adds so often.
@@ -119,18 +98,15 @@ impl Work for AddOften {
 }
 
 /// How many entries the history has where one pass adds so often, and fifteen once.
-pub(super) fn entries_of_many<R: Threads + Wait + Sync>(
+pub(super) fn entries_of_many<R: Abort + Threads + Wait + Sync>(
     rt: &R,
     alloc: Global,
     calls: u32,
-) -> Result<Option<usize>, Memory> {
-    let Some((system, mut passes)) = crew_of(alloc, 16)? else {
-        return Ok(None);
-    };
+) -> usize {
+    let (system, mut passes) = crew_of(rt, alloc, KindName::Counter, 8, SIXTEEN.as_slice());
     let work = AddOften { calls };
-    work_all(rt, alloc, &system, &work, passes.as_mut_slice())?;
-    let history = close(alloc, system, passes)?;
-    Ok(history.map(|history| history.entries().len()))
+    work_all(rt, alloc, &system, &work, passes.as_mut_slice()).expect(rt, "memory");
+    closed(rt, alloc, system, passes).len()
 }
 
 /// Each pass waits until all sixteen are there, and then adds.
@@ -156,17 +132,12 @@ impl Work for Meeting {
 }
 
 /// How many of sixteen passes that meet have waited in vain.
-pub(super) fn late_of_all<R: Threads + Wait + Sync>(
-    rt: &R,
-    alloc: Global,
-) -> Result<Option<u64>, Memory> {
-    let Some((system, mut passes)) = crew_of(alloc, 16)? else {
-        return Ok(None);
-    };
+pub(super) fn late_of_all<R: Abort + Threads + Wait + Sync>(rt: &R, alloc: Global) -> u64 {
+    let (system, mut passes) = crew_of(rt, alloc, KindName::Counter, 8, SIXTEEN.as_slice());
     let meeting = Meeting {
         there: AtomicU64::new(0),
         late: AtomicU64::new(0),
     };
-    work_all(rt, alloc, &system, &meeting, passes.as_mut_slice())?;
-    Ok(Some(meeting.late.load(Ordering::SeqCst)))
+    work_all(rt, alloc, &system, &meeting, passes.as_mut_slice()).expect(rt, "memory");
+    meeting.late.load(Ordering::SeqCst)
 }

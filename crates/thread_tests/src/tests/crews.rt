@@ -1,14 +1,13 @@
 //! Systems of one counter on two processors, and the passes of their four callers.
-ghost use Rattle.std.specs.Prelude.{◌≡◌, true, length, IfOk, IfSome};
-ghost use Rattle.thread_tests.specs.Ready.{HoldsNoCell, HoldNoCells, RestsAt};
+ghost use Rattle.std.specs.Prelude.{◌≡◌, length};
+ghost use Rattle.table_crews.specs.Ready.{HoldsNoCell};
 
 use co_any::AnyLayout;
-use k42_kinds::{Entry, KindName, LayoutName};
-use k42_memory::Memory;
-use k42_rule::{Keep, Pass, Sys, give_lists};
+use k42_kinds::{Entry, LayoutName};
+use k42_rule::Sys;
 use std::alloc::Global;
-
-pub(super) type Walk = Pass<AnyLayout>;
+use std::process::Abort;
+use table_crews::{Walk, last, start_counter};
 
 /// How much the caller adds with each call. A thousand adds of one fill no digit of those of another.
 pub(super) fn amount_of(caller: u32) -> u32 {
@@ -19,54 +18,37 @@ pub(super) fn amount_of(caller: u32) -> u32 {
     }
 }
 
-#[tactic(auto, using(crate::proofs::Crews::any_tags))]
-pub(super) fn start(alloc: Global) -> Result<(Sys<AnyLayout>, Vec<Walk>), Memory>
-    ensures { IfOk result (λ made. HoldNoCells made.0 made.1.items × (length made.0.callers ≡ 4)) }
+/// A system, and the passes of its callers 0 and 1, and 2 and 3.
+pub(super) fn start(rt: &impl Abort, alloc: Global) -> (Sys<AnyLayout>, (Walk, Walk), (Walk, Walk))
+    ensures callers { length result.0.callers ≡ 4 }
+    ensures front { HoldsNoCell result.0 result.1.0 × HoldsNoCell result.0 result.1.1 }
+    ensures back { HoldsNoCell result.0 result.2.0 × HoldsNoCell result.0 result.2.1 }
 {
-    let layouts = vec![in alloc; AnyLayout::of(KindName::Counter, LayoutName::Spread)]?;
-    let callers = vec![in alloc; 0, 1, 0, 1]?;
-    let (sys, passes) = Sys::start(alloc, layouts, 2, callers, Keep::All)?;
-    Ok((sys, passes))
+    let callers = vec![in alloc; 0, 1, 0, 1].expect(rt, "memory");
+    let started = start_counter(alloc, LayoutName::Spread, 2, callers);
+    let (sys, mut passes) = started.expect(rt, "memory");
+    let three = last(&sys, &mut passes).expect(rt, "a pass");
+    let two = last(&sys, &mut passes).expect(rt, "a pass");
+    let one = last(&sys, &mut passes).expect(rt, "a pass");
+    let zero = last(&sys, &mut passes).expect(rt, "a pass");
+    (sys, (zero, one), (two, three))
 }
 
-/// Takes the last pass out of the list.
-pub(super) fn last(sys: &Sys<AnyLayout>, passes: &mut Vec<Walk>) -> Option<Walk>
-    requires free { HoldNoCells sys.now passes.old.items }
-    ensures free { HoldNoCells sys.now passes.new.items }
-    ensures out { IfSome result (λ pass. HoldsNoCell sys.now pass) }
-{
-    passes.pop()
-}
-
-fn rests(pass: &Walk, caller: u32) -> bool
-    ensures { result ≡ true → RestsAt caller pass.now }
-{
-    pass.caller() == caller && pass.is_idle()
-}
-
-/// The lists of the four callers, where they rest.
+/// What the four, which are to rest, have drawn.
 pub(super) fn finish(
+    rt: &impl Abort,
     alloc: Global,
     sys: Sys<AnyLayout>,
-    one: Walk,
-    two: Walk,
-    three: Walk,
-    four: Walk,
-) -> Result<Option<Vec<Vec<Entry>>>, Memory>
+    front: (Walk, Walk),
+    back: (Walk, Walk),
+) -> Vec<Vec<Entry>>
     requires callers { length sys.callers ≡ 4 }
-    requires front { HoldsNoCell sys one × HoldsNoCell sys two }
-    requires back { HoldsNoCell sys three × HoldsNoCell sys four }
+    requires front { HoldsNoCell sys front.0 × HoldsNoCell sys front.1 }
+    requires back { HoldsNoCell sys back.0 × HoldsNoCell sys back.1 }
 {
-    if !rests(&one, 0) || !rests(&two, 1) || !rests(&three, 2) || !rests(&four, 3) {
-        return Ok(None);
-    }
-    let mut lists = Vec::with_capacity(alloc, 4)?;
-    let mut passes = Vec::new(alloc);
-    passes.push(one)?;
-    passes.push(two)?;
-    passes.push(three)?;
-    passes.push(four)?;
-    give_lists::<AnyLayout>(alloc, passes.as_mut_slice(), &mut lists);
-    sys.finish(passes);
-    Ok(Some(lists))
+    let (zero, one) = front;
+    let (two, three) = back;
+    let passes = vec![in alloc; zero, one, two, three].expect(rt, "memory");
+    let lists = table_crews::finish(alloc, sys, passes).expect(rt, "memory");
+    lists.expect(rt, "passes at rest")
 }

@@ -1,8 +1,8 @@
 //! What the lists of a finished system have.
 use crate::tests::crews::amount_of;
 use k42_kinds::{Act, Answer, Entry, Op, Reply};
-use k42_memory::Memory;
 use std::alloc::Global;
+use std::process::Abort;
 
 /// Whether the entry was drawn at the cell that serves its caller's processor: the rows of even number are spread, and
 /// those of odd number are shared.
@@ -71,18 +71,18 @@ pub(super) fn calls_in(lists: &[Vec<Entry>], row: u32) -> usize {
 }
 
 /// Whether no two entries bear the same stamp of the same cell.
-pub(super) fn stand_once(alloc: Global, lists: &[Vec<Entry>]) -> Result<bool, Memory> {
+pub(super) fn stand_once(rt: &impl Abort, alloc: Global, lists: &[Vec<Entry>]) -> bool {
     let mut drawn = Vec::new(alloc);
     for list in lists {
         for entry in list {
-            drawn.push((entry.cell, entry.stamp))?;
+            drawn.push((entry.cell, entry.stamp)).expect(rt, "memory");
         }
     }
-    drawn.sort()?;
+    drawn.sort().expect(rt, "memory");
     for place in 1..drawn.len() {
         if drawn[place - 1] == drawn[place] {
-            return Ok(false);
+            return false;
         }
     }
-    Ok(true)
+    true
 }

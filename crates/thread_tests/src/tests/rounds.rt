@@ -1,19 +1,18 @@
 //! Three passes add in rounds, and a fourth swaps in each round but the last.
-ghost use Rattle.std.specs.Prelude.{IfOk, OnOk};
-ghost use Rattle.thread_tests.specs.Ready.{HoldsNoCell};
+ghost use Rattle.table_crews.specs.Ready.{HoldsNoCell};
 
-use crate::tests::crews::{Walk, amount_of};
+use crate::tests::crews::amount_of;
 use crate::tests::phases::swap;
 use crate::tests::visits::visit_once;
 use co_any::AnyLayout;
 use crossbeam_utils::Backoff;
 use k42_kinds::Op;
-use k42_memory::Memory;
 use k42_rule::Sys;
 use std::alloc::Global;
 use std::process::Abort;
 use std::sync::Wait;
 use std::sync::atomic::{AtomicU64, Ordering};
+use table_crews::Walk;
 
 /// How many calls were answered, and how many swaps are done.
 #[derive(Drop)]
@@ -54,53 +53,35 @@ fn add_round<R: Abort + Wait>(
     pass: &mut Walk,
     stamps: &mut Vec<u64>,
     progress: &Progress,
-) -> Result<(), Memory>
+)
     requires free { HoldsNoCell sys.now pass.old }
-    ensures free { OnOk result (HoldsNoCell sys.now pass.new) }
+    ensures free { HoldsNoCell sys.now pass.new }
 {
     let op = Op::Add(amount_of(pass.caller()));
     for _ in 0..250 {
-        let stamp = visit_once(rt, alloc, sys, pass, 0, &op)?;
-        stamps.push(stamp)?;
+        let stamp = visit_once(rt, alloc, sys, pass, 0, &op);
+        stamps.push(stamp).expect(rt, "memory");
         progress.calls.fetch_add(1, Ordering::SeqCst);
     }
-    Ok(())
 }
 
 /// Adds in four rounds, each of which begins when the swap of the one before is done.
-fn add_in_rounds<R: Abort + Wait>(
+pub(super) fn add_all<R: Abort + Wait>(
     rt: &R,
     alloc: Global,
     sys: &Sys<AnyLayout>,
     mut pass: Walk,
     progress: &Progress,
-) -> Result<Called, Memory>
-    requires free { HoldsNoCell sys.now pass }
-    ensures free { IfOk result (λ called. HoldsNoCell sys.now called.0) }
-{
-    let mut stamps = Vec::new(alloc);
-    for round in 0..4 {
-        wait_for(rt, &progress.swaps, round);
-        add_round(rt, alloc, sys, &mut pass, &mut stamps, progress)?;
-    }
-    Ok((pass, stamps))
-}
-
-/// The same. The other threads would wait for ever for one that has given up.
-pub(super) fn add_all<R: Abort + Wait>(
-    rt: &R,
-    alloc: Global,
-    sys: &Sys<AnyLayout>,
-    pass: Walk,
-    progress: &Progress,
 ) -> Called
     requires free { HoldsNoCell sys.now pass }
     ensures free { HoldsNoCell sys.now result.0 }
 {
-    let Ok(called) = add_in_rounds(rt, alloc, sys, pass, progress) else {
-        panic!(rt; "no memory")
-    };
-    called
+    let mut stamps = Vec::new(alloc);
+    for round in 0..4 {
+        wait_for(rt, &progress.swaps, round);
+        add_round(rt, alloc, sys, &mut pass, &mut stamps, progress);
+    }
+    (pass, stamps)
 }
 
 /// Swaps the first object to the layout of that tag, once so many calls were answered. The grace of the swap is to free
@@ -119,9 +100,7 @@ fn swap_after<R: Abort + Wait>(
     ensures free { HoldsNoCell sys.now pass.new }
 {
     wait_for(rt, &progress.calls, calls);
-    let Ok(()) = swap(rt, alloc, sys, pass, 0, tag, freed) else {
-        panic!(rt; "no memory")
-    };
+    swap(rt, alloc, sys, pass, 0, tag, freed);
     progress.swaps.fetch_add(1, Ordering::SeqCst);
 }
 

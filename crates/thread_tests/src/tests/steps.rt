@@ -1,116 +1,32 @@
 //! An operation at the one cell that it needs.
-ghost use Rattle.std.specs.Prelude.{◌≡◌, ◌<◌, ◌≤◌, IsTrue, IfOk, OnOk, Some, unwrap_or};
-ghost use Rattle.k42_limits.specs.declared.TheConstants.{PROCESSORS};
-ghost use Rattle.k42_kinds.specs.LayoutLaws.{IsReached};
-ghost use Rattle.k42_board.specs.Seen.{inside_in};
-ghost use Rattle.thread_tests.specs.Ready.{HoldsNoCell, IsServing, IsLayoutOf};
+ghost use Rattle.table_crews.specs.Ready.{HoldsNoCell, IsServing};
 
-use crate::tests::crews::Walk;
 use co_any::AnyLayout;
 use crossbeam_utils::Backoff;
-use k42_kinds::{Act, Answer, Layout, Op, Reach, Reply, kind_of};
+use k42_kinds::Op;
 use k42_limits::PASS_ENTRIES;
-use k42_memory::Memory;
-use k42_rule::{
-    Content, Inside, Pass, Sys, draw_call, layouts_are_lawful, lock, put, take, unlock,
-};
+use k42_rule::Sys;
 use std::alloc::Global;
 use std::process::Abort;
 use std::sync::Wait;
+use table_crews::Walk;
 
-/// Steps an operation on the part of a cell, which is made where it is missing.
-fn step_part<L: Layout>(
-    alloc: Global,
-    layout: &L,
-    cell: &mut Content<L::Part>,
-    place: u32,
-    procs: u32,
-    op: &Op,
-) -> Result<Reply, Memory>
-    requires known { (L.tag_of layout.now ≤ 2) × (place < procs) × (procs ≤ PROCESSORS) }
-    requires takes { IsTrue ((L.object layout.now).takes op.now) }
-    requires reached { IsReached (L.ways layout.now) (L.whole layout.now)
-        (unwrap_or cell.old.part ((L.ways layout.now).empty procs place)) op.now }
-    ensures replied { IfOk result (λ reply.
-        reply ≡ (L.ways layout.now).part_reply (unwrap_or cell.old.part ((L.ways layout.now).empty procs place)) op.now) }
-    ensures moved { OnOk result (cell.new ≡ record cell.old {
-      part = Some ((L.ways layout.now).part_after (unwrap_or cell.old.part ((L.ways layout.now).empty procs place)) op.now);
-    }) }
-{
-    let mut part = match cell.take_part() {
-        Some(part) => part,
-        None => layout.empty_part(alloc, place, procs)?,
-    };
-    let reply = layout.step_one(alloc, &mut part, op)?;
-    cell.set_part(part);
-    Ok(reply)
-}
-
-/// Makes the operation at the one cell that it needs, and answers the stamp of its entry, unless another caller holds
-/// the cell.
-fn step_at<L: Layout>(
-    rt: &impl Abort,
-    alloc: Global,
-    sys: &Sys<L>,
-    pass: &mut Pass<L>,
-    layout: &L,
-    inside: &Inside,
-    op: &Op,
-) -> Result<Option<u64>, Memory>
-    requires free { HoldsNoCell sys.now pass.old }
-    requires serving { IsServing pass.old.view }
-    requires inside { (inside.now ≡ inside_in pass.old.view) × (inside.now.object < 16) }
-    requires layout { IsLayoutOf L.object sys.now.layouts inside.now.object layout.now × (L.tag_of layout.now ≡ inside.now.layout) × (inside.now.layout ≤ 2) }
-    requires takes { IsTrue ((L.object layout.now).takes op.now) }
-    ensures free { OnOk result (HoldsNoCell sys.now pass.new) }
-    ensures serving { OnOk result (IsServing pass.new.view) }
-{
-    layouts_are_lawful(sys);
-    let Reach::One(place) = layout.reach(op, pass.processor(), sys.procs()) else {
-        panic!(rt; "it needs more than one cell")
-    };
-    if place >= sys.procs() || pass.drawn() >= PASS_ENTRIES {
-        panic!(rt; "no such cell, or no more entries")
-    }
-    // Others wait for the cell, so room is made before its lock is taken.
-    let mut cells = Vec::with_capacity(alloc, 1)?;
-    pass.reserve()?;
-    let number = (inside.object * 2 + inside.incarnation % 2) * 8 + place;
-    if lock(sys, pass, number) != 0 {
-        return Ok(None);
-    }
-    let mut cell = take(sys, pass, number);
-    let reply = step_part(alloc, layout, &mut cell, place, sys.procs(), op)?;
-    cells.push_reserved(cell);
-    let act = Act::Call(*op);
-    let stamp = draw_call(sys, pass, &mut cells, act, Answer::Replied(reply));
-    let Some(cell) = cells.pop() else {
-        unreachable!()
-    };
-    put(sys, pass, number, cell);
-    unlock(sys, pass, number);
-    Ok(Some(stamp))
-}
-
-/// Tries to make an operation of the object whose row the call is in.
+/// Tries to make an operation of the object whose row the call is in. There is no stamp where another caller holds the
+/// cell.
 fn try_step(
     rt: &impl Abort,
     alloc: Global,
     sys: &Sys<AnyLayout>,
     pass: &mut Walk,
     op: &Op,
-) -> Result<Option<u64>, Memory>
+) -> Option<u64>
     requires free { HoldsNoCell sys.now pass.old }
     requires serving { IsServing pass.old.view }
-    ensures free { OnOk result (HoldsNoCell sys.now pass.new) }
-    ensures serving { OnOk result (IsServing pass.new.view) }
+    ensures free { HoldsNoCell sys.now pass.new }
+    ensures serving { IsServing pass.new.view }
 {
-    let inside = pass.inside();
-    assert!(rt; inside.object < sys.objects());
-    let declared = sys.declared(inside.object);
-    assert!(rt; kind_of(op) == Some(declared.kind));
-    let layout = declared.with_tag(inside.layout);
-    step_at(rt, alloc, sys, pass, &layout, &inside, op)
+    assert!(rt; pass.drawn() < PASS_ENTRIES);
+    table_crews::step(alloc, sys, pass, op).expect(rt, "memory")
 }
 
 /// Makes the operation, and waits while another caller holds the cell. Answers the stamp of the entry.
@@ -120,16 +36,16 @@ pub(super) fn step<R: Abort + Wait>(
     sys: &Sys<AnyLayout>,
     pass: &mut Walk,
     op: &Op,
-) -> Result<u64, Memory>
+) -> u64
     requires free { HoldsNoCell sys.now pass.old }
     requires serving { IsServing pass.old.view }
-    ensures free { OnOk result (HoldsNoCell sys.now pass.new) }
-    ensures serving { OnOk result (IsServing pass.new.view) }
+    ensures free { HoldsNoCell sys.now pass.new }
+    ensures serving { IsServing pass.new.view }
 {
     let backoff = Backoff::new();
     for _ in rt.forever() {
-        if let Some(stamp) = try_step(rt, alloc, sys, pass, op)? {
-            return Ok(stamp);
+        if let Some(stamp) = try_step(rt, alloc, sys, pass, op) {
+            return stamp;
         }
         backoff.snooze();
     }

@@ -1,21 +1,20 @@
 //! Activities in which an object is called.
-ghost use Rattle.std.specs.Prelude.{◌≡◌, ◌<◌, true, false, length, is_some, OnOk, IfOk};
+ghost use Rattle.std.specs.Prelude.{◌≡◌, ◌<◌, true, false, length, is_some};
 ghost use Rattle.phase_core.specs.Stages.{is_missed, is_at_mediator};
-ghost use Rattle.thread_tests.specs.Ready.{HoldsNoCell, IsIn, IsServing};
+ghost use Rattle.table_crews.specs.Ready.{HoldsNoCell, IsIn, IsServing};
 
-use crate::tests::crews::Walk;
 use crate::tests::steps::step;
 use co_any::AnyLayout;
 use crossbeam_utils::Backoff;
 use k42_kinds::Op;
 use k42_mediator::{Knocked, knock};
-use k42_memory::Memory;
 use k42_quiesce::{enter, leave};
 use k42_rule::Sys;
 use k42_tables::{Entered, Filled, finish_call, look_up, miss};
 use std::alloc::Global;
 use std::process::Abort;
 use std::sync::Wait;
+use table_crews::Walk;
 
 /// Begins an activity.
 fn come_in(rt: &impl Abort, sys: &Sys<AnyLayout>, pass: &mut Walk)
@@ -28,22 +27,22 @@ fn come_in(rt: &impl Abort, sys: &Sys<AnyLayout>, pass: &mut Walk)
 }
 
 /// Has a miss handled, and answers whether the call is in the row then.
-fn fill_in<R: Wait>(
+fn fill_in<R: Abort + Wait>(
     rt: &R,
     alloc: Global,
     sys: &Sys<AnyLayout>,
     pass: &mut Walk,
     object: u32,
-) -> Result<bool, Memory>
+) -> bool
     requires free { HoldsNoCell sys.now pass.old }
     requires active { is_some pass.old.view.turn.active ≡ true }
     requires missed { (is_missed pass.old.view.visitor.place object ≡ true) × (object < length sys.now.layouts) }
-    ensures free { OnOk result (HoldsNoCell sys.now pass.new) }
-    ensures served { IfOk result (λ served. served ≡ true → IsServing pass.new.view) }
-    ensures out { IfOk result (λ served. served ≡ false → IsIn pass.new.view) }
+    ensures free { HoldsNoCell sys.now pass.new }
+    ensures served { result ≡ true → IsServing pass.new.view }
+    ensures out { result ≡ false → IsIn pass.new.view }
 {
-    let filled = miss(rt, alloc, sys, pass, object)?;
-    Ok(matches!(filled, Filled::Installed { .. }))
+    let filled = miss(rt, alloc, sys, pass, object).expect(rt, "memory");
+    matches!(filled, Filled::Installed { .. })
 }
 
 /// Knocks at the mediator, and answers whether it has let the call in.
@@ -59,24 +58,24 @@ fn knock_at(sys: &Sys<AnyLayout>, pass: &mut Walk, object: u32) -> bool
 }
 
 /// Looks the object up, goes wherever its entry leads, and answers whether the call is in a row then.
-fn call<R: Wait>(
+fn call<R: Abort + Wait>(
     rt: &R,
     alloc: Global,
     sys: &Sys<AnyLayout>,
     pass: &mut Walk,
     object: u32,
-) -> Result<bool, Memory>
+) -> bool
     requires free { HoldsNoCell sys.now pass.old }
     requires entered { IsIn pass.old.view }
     requires there { object < length sys.now.layouts }
-    ensures free { OnOk result (HoldsNoCell sys.now pass.new) }
-    ensures served { IfOk result (λ served. served ≡ true → IsServing pass.new.view) }
-    ensures out { IfOk result (λ served. served ≡ false → IsIn pass.new.view) }
+    ensures free { HoldsNoCell sys.now pass.new }
+    ensures served { result ≡ true → IsServing pass.new.view }
+    ensures out { result ≡ false → IsIn pass.new.view }
 {
     match look_up(sys, pass, object) {
-        Entered::Direct { .. } => Ok(true),
+        Entered::Direct { .. } => true,
         Entered::Missed => fill_in(rt, alloc, sys, pass, object),
-        Entered::Mediated => Ok(knock_at(sys, pass, object)),
+        Entered::Mediated => knock_at(sys, pass, object),
     }
 }
 
@@ -108,19 +107,19 @@ fn stay<R: Abort + Wait>(
     pass: &mut Walk,
     object: u32,
     op: &Op,
-) -> Result<Option<u64>, Memory>
+) -> Option<u64>
     requires free { HoldsNoCell sys.now pass.old }
     requires entered { IsIn pass.old.view }
     requires there { object < length sys.now.layouts }
-    ensures free { OnOk result (HoldsNoCell sys.now pass.new) }
+    ensures free { HoldsNoCell sys.now pass.new }
 {
     let mut stamp = None;
-    if call(rt, alloc, sys, pass, object)? {
-        stamp = Some(step(rt, alloc, sys, pass, op)?);
+    if call(rt, alloc, sys, pass, object) {
+        stamp = Some(step(rt, alloc, sys, pass, op));
         go_out(sys, pass);
     }
     go_home(sys, pass);
-    Ok(stamp)
+    stamp
 }
 
 /// The same in an activity of its own.
@@ -131,9 +130,9 @@ fn visit<R: Abort + Wait>(
     pass: &mut Walk,
     object: u32,
     op: &Op,
-) -> Result<Option<u64>, Memory>
+) -> Option<u64>
     requires free { HoldsNoCell sys.now pass.old }
-    ensures free { OnOk result (HoldsNoCell sys.now pass.new) }
+    ensures free { HoldsNoCell sys.now pass.new }
 {
     assert!(rt; object < sys.objects());
     come_in(rt, sys, pass);
@@ -148,14 +147,14 @@ pub(super) fn visit_once<R: Abort + Wait>(
     pass: &mut Walk,
     object: u32,
     op: &Op,
-) -> Result<u64, Memory>
+) -> u64
     requires free { HoldsNoCell sys.now pass.old }
-    ensures free { OnOk result (HoldsNoCell sys.now pass.new) }
+    ensures free { HoldsNoCell sys.now pass.new }
 {
     let backoff = Backoff::new();
     for _ in rt.forever() {
-        if let Some(stamp) = visit(rt, alloc, sys, pass, object, op)? {
-            return Ok(stamp);
+        if let Some(stamp) = visit(rt, alloc, sys, pass, object, op) {
+            return stamp;
         }
         backoff.snooze();
     }

@@ -3,7 +3,6 @@ ghost use Rattle.k42_crews.specs.Ready.{IsFree, IsIn};
 ghost use Rattle.waiting_tests.specs.Ready.{IsCallOf, IsSwapping};
 
 use k42_kinds::{LayoutName, Op, Reply};
-use k42_memory::Memory;
 use k42_runtime::{Call, CallCause, CallStep, Pass, Step, Swap, System, To};
 use std::alloc::Global;
 use std::process::Abort;
@@ -33,14 +32,13 @@ pub(super) fn ask<R: Abort + Wait>(
     pass: &mut Pass,
     op: Op,
     due: Reply,
-) -> Result<(), Memory>
+)
     requires inside { IsIn system.now pass.old }
     ensures inside { IsIn system.now pass.new }
 {
     assert!(rt; system.takes(0, &op));
-    let reply = system.call(rt, alloc, pass, 0, op).map_err(|_| Memory)?;
-    assert_eq!(rt; reply, due);
-    Ok(())
+    let reply = system.call(rt, alloc, pass, 0, op).expect(rt, "a reply");
+    assert!(rt; reply == due);
 }
 
 /// A call that has not begun.
@@ -51,24 +49,23 @@ pub(super) fn call_to(rt: &impl Abort, system: &System, object: u32, op: Op) -> 
     Call::new(object, op)
 }
 
-/// Tries a call that is not over.
-pub(super) fn try_call(
+/// Tries a call that is not over, and this step comes to that.
+fn try_call(
     rt: &impl Abort,
     alloc: Global,
     system: &System,
     pass: &mut Pass,
     call: &mut Call,
-) -> Result<CallStep, Memory>
+    due: CallStep,
+)
     requires inside { IsIn system.now pass.old }
     requires asked { IsCallOf system.now call.old }
     ensures inside { IsIn system.now pass.new }
     ensures asked { IsCallOf system.now call.new }
 {
     assert!(rt; !call.ended());
-    match call.step(alloc, system, pass) {
-        CallStep::Memory => Err(Memory),
-        step => Ok(step),
-    }
+    let step = call.step(alloc, system, pass);
+    assert!(rt; step == due);
 }
 
 /// A swap of the pass that has not begun.
@@ -86,22 +83,21 @@ pub(super) fn swap_to(
     Swap::new(object, To::Layout(to))
 }
 
-/// Steps a swap that is not over.
-pub(super) fn try_swap(
+/// Steps a swap that is not over, and this step comes to that.
+pub(super) fn step_to(
     rt: &impl Abort,
     alloc: Global,
     system: &System,
     pass: &mut Pass,
     swap: &mut Swap,
-) -> Result<Step, Memory>
+    due: Step,
+)
     requires swapping { IsSwapping system.now swap.old pass.old }
     ensures swapping { IsSwapping system.now swap.new pass.new }
 {
     assert!(rt; !swap.ended());
-    match swap.step(alloc, system, pass) {
-        Step::Memory => Err(Memory),
-        step => Ok(step),
-    }
+    let step = swap.step(alloc, system, pass);
+    assert!(rt; step == due);
 }
 
 /// Leaves a swap that is over.
@@ -120,15 +116,13 @@ pub(super) fn find_held_up(
     pass: &mut Pass,
     call: &mut Call,
     cause: CallCause,
-) -> Result<(), Memory>
+)
     requires inside { IsIn system.now pass.old }
     requires asked { IsCallOf system.now call.old }
     ensures inside { IsIn system.now pass.new }
     ensures asked { IsCallOf system.now call.new }
 {
-    let step = try_call(rt, alloc, system, pass, call)?;
-    assert_eq!(rt; step, CallStep::Again(cause));
-    Ok(())
+    try_call(rt, alloc, system, pass, call, CallStep::Again(cause));
 }
 
 /// The call is answered so.
@@ -139,12 +133,10 @@ pub(super) fn find_answered(
     pass: &mut Pass,
     call: &mut Call,
     reply: Reply,
-) -> Result<(), Memory>
+)
     requires inside { IsIn system.now pass.old }
     requires asked { IsCallOf system.now call.old }
     ensures inside { IsIn system.now pass.new }
 {
-    let step = try_call(rt, alloc, system, pass, call)?;
-    assert_eq!(rt; step, CallStep::Ended(reply));
-    Ok(())
+    try_call(rt, alloc, system, pass, call, CallStep::Ended(reply));
 }

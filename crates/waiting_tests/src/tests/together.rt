@@ -1,5 +1,5 @@
 //! Calls that wait, until another thread gives them what they need.
-ghost use Rattle.std.specs.Prelude.{◌<◌, [], ◌∷◌, OnOk};
+ghost use Rattle.std.specs.Prelude.{◌<◌, [], ◌∷◌};
 ghost use Rattle.std.specs.Thread.{IsSync};
 ghost use Rattle.k42_crews.specs.Ready.{IsFree, IsIn};
 ghost use Rattle.waiting_tests.specs.Ready.{IsInRow, IsSwapping};
@@ -9,7 +9,6 @@ use crate::tests::steps::{ask, go_home};
 use crate::tests::table::{end_call, let_go};
 use crossbeam_utils::Backoff;
 use k42_kinds::{Op, Reply};
-use k42_memory::Memory;
 use k42_runtime::{Pass, Swap, System};
 use std::alloc::Global;
 use std::process::Abort;
@@ -24,12 +23,12 @@ fn add_told<R: Abort + Wait>(
     system: &System,
     pass: &mut Pass,
     told: &AtomicU32,
-) -> Result<(), Memory>
+)
     requires inside { IsIn system.now pass.old }
     ensures inside { IsIn system.now pass.new }
 {
     told.store(1, Ordering::SeqCst);
-    ask(rt, alloc, system, pass, Op::Add(5), Reply::Done)
+    ask(rt, alloc, system, pass, Op::Add(5), Reply::Done);
 }
 
 /// Finds 0, and tells that it is about to look.
@@ -39,12 +38,12 @@ fn get_told<R: Abort + Wait>(
     system: &System,
     pass: &mut Pass,
     told: &AtomicU32,
-) -> Result<(), Memory>
+)
     requires inside { IsIn system.now pass.old }
     ensures inside { IsIn system.now pass.new }
 {
     told.store(1, Ordering::SeqCst);
-    ask(rt, alloc, system, pass, Op::Get, Reply::Number(0))
+    ask(rt, alloc, system, pass, Op::Get, Reply::Number(0));
 }
 
 /// Waits until the call is under way, and so long that it is held up.
@@ -80,7 +79,7 @@ pub(super) fn add_at_a_held_cell<R: Abort + Threads + Wait + Sync>(
     zero: &mut Pass,
     one: &mut Pass,
     cell: u32,
-) -> Result<(), Memory>
+)
     requires zero { IsIn system.now zero.old }
     requires one { IsInRow system.now (cell ∷ []) one.old }
     requires few { cell < 256 }
@@ -88,7 +87,7 @@ pub(super) fn add_at_a_held_cell<R: Abort + Threads + Wait + Sync>(
     ensures one { IsIn system.now one.new }
 {
     let told = &AtomicU32::new(0);
-    let mut adds = || -> Result<(), Memory>
+    let mut adds = || -> ()
         requires { IsSync R.row × IsIn system.now zero.now }
         ensures { IsIn system.entry.now zero.exit.now }
     { add_told(rt, alloc, system, zero, told) };
@@ -96,8 +95,7 @@ pub(super) fn add_at_a_held_cell<R: Abort + Threads + Wait + Sync>(
         requires { IsSync R.row × IsInRow system.now (cell ∷ []) one.now × (cell < 256) }
         ensures { IsIn system.entry.now one.exit.now }
     { let_go_late(rt, system, one, cell, told) };
-    let (added, ()) = join_mut(rt, &mut adds, &mut lets_go);
-    added
+    join_mut(rt, &mut adds, &mut lets_go);
 }
 
 /// Ends the call for which the swap waits, and the swap, once another call waits for that.
@@ -109,16 +107,16 @@ fn open_late<R: Abort + Wait>(
     two: &mut Pass,
     swap: &mut Swap,
     told: &AtomicU32,
-) -> Result<(), Memory>
+)
     requires one { IsSwapping system.now swap.old one.old }
     requires two { IsInRow system.now [] two.old }
-    ensures one { OnOk result (IsFree system.now one.new) }
+    ensures one { IsFree system.now one.new }
     ensures two { IsFree system.now two.new }
 {
     let_it_wait(rt, told);
     end_call(system, two);
     go_home(system, two);
-    find_done(rt, alloc, system, one, swap)
+    find_done(rt, alloc, system, one, swap);
 }
 
 /// One pass asks an object that the swap of a second one keeps shut, for a third one that is inside.
@@ -130,24 +128,22 @@ pub(super) fn get_at_a_shut_object<R: Abort + Threads + Wait + Sync>(
     one: &mut Pass,
     two: &mut Pass,
     swap: &mut Swap,
-) -> Result<(), Memory>
+)
     requires zero { IsIn system.now zero.old }
     requires one { IsSwapping system.now swap.old one.old }
     requires two { IsInRow system.now [] two.old }
     ensures zero { IsIn system.now zero.new }
-    ensures one { OnOk result (IsFree system.now one.new) }
+    ensures one { IsFree system.now one.new }
     ensures two { IsFree system.now two.new }
 {
     let told = &AtomicU32::new(0);
-    let mut gets = || -> Result<(), Memory>
+    let mut gets = || -> ()
         requires { IsSync R.row × IsIn system.now zero.now }
         ensures { IsIn system.entry.now zero.exit.now }
     { get_told(rt, alloc, system, zero, told) };
-    let mut opens = || -> Result<(), Memory>
+    let mut opens = || -> ()
         requires { IsSync R.row × IsSwapping system.now swap.now one.now × IsInRow system.now [] two.now }
-        ensures { OnOk result (IsFree system.entry.now one.exit.now) × IsFree system.entry.now two.exit.now }
+        ensures { IsFree system.entry.now one.exit.now × IsFree system.entry.now two.exit.now }
     { open_late(rt, alloc, system, one, two, swap, told) };
-    let (found, opened) = join_mut(rt, &mut gets, &mut opens);
-    opened?;
-    found
+    join_mut(rt, &mut gets, &mut opens);
 }

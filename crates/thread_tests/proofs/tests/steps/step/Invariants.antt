@@ -1,4 +1,4 @@
-use Rattle.thread_tests.specs.Ready.{HoldsNoCell, IsServing}
+use Rattle.table_crews.specs.Ready.{HoldsNoCell, IsServing}
 use Rattle.thread_tests.proofs.tests.steps.step.Given as goal
 
 abbrev pub invariant-loop : goal.invariant-loop

@@ -1,4 +1,4 @@
-use Rattle.thread_tests.specs.Ready.{HoldsNoCell}
+use Rattle.table_crews.specs.Ready.{HoldsNoCell}
 use Rattle.thread_tests.proofs.tests.visits.visit_once.Given as goal
 
 abbrev pub invariant-loop : goal.invariant-loop
