@@ -1,5 +1,5 @@
 //! Callers that miss an entry: one installs it, another finds it there or finds the cell held.
-ghost use Rattle.std.specs.Prelude.{◌≡◌, true};
+ghost use Rattle.std.specs.Prelude.{◌≡◌, true, OnOk, IfOk};
 ghost use Rattle.phase_core.specs.Stages.{is_out, is_missed};
 ghost use Rattle.k42_tables.specs.Entries.{LeadsTo, EndsAt};
 ghost use Rattle.k42_tables.specs.declared.answers.Entered.TheVariants as Entered;
@@ -8,6 +8,7 @@ ghost use Rattle.tables_tests.specs.Callers.{IsFresh, IsBusy, AreFresh};
 
 use co_any::AnyLayout;
 use k42_kinds::{KindName, Layout, LayoutName};
+use k42_memory::Memory;
 use k42_rule::{Keep, Pass, Sys, enter_step, lock, root_step};
 use k42_tables::{
     Entered, Filled, Root, SharedRoot, SpreadRoot, Tried, finish_call, look_up, miss, try_miss,
@@ -15,6 +16,7 @@ use k42_tables::{
 use std::alloc::Global;
 use std::process::Abort;
 use std::sync::Wait;
+use std::test::Fail;
 
 /// Begins an activity, in which the caller misses the object.
 fn come_in<L: Layout>(rt: &impl Abort, sys: &Sys<L>, pass: &mut Pass<L>)
@@ -33,14 +35,15 @@ fn fill_in<L: Layout, R: Abort + Wait>(
     sys: &Sys<L>,
     pass: &mut Pass<L>,
     expected: Filled,
-)
+) -> Result<(), Memory>
     requires busy { IsBusy sys.now pass.old }
     requires missed { is_missed pass.old.view.visitor.place 0 ≡ true }
-    ensures busy { IsBusy sys.now pass.new }
-    ensures there { EndsAt expected 0 pass.new.view.visitor.place }
+    ensures busy { OnOk result (IsBusy sys.now pass.new) }
+    ensures there { OnOk result (EndsAt expected 0 pass.new.view.visitor.place) }
 {
-    let answer = miss(rt, alloc, sys, pass, 0).expect(rt, "memory");
+    let answer = miss(rt, alloc, sys, pass, 0)?;
     assert_eq!(rt; answer, expected);
+    Ok(())
 }
 
 /// Tries once to have the miss handled, which is to answer so.
@@ -50,12 +53,13 @@ fn try_in<L: Layout>(
     sys: &Sys<L>,
     pass: &mut Pass<L>,
     expected: Tried,
-)
+) -> Result<(), Memory>
     requires busy { IsBusy sys.now pass.old }
     requires missed { is_missed pass.old.view.visitor.place 0 ≡ true }
 {
-    let tried = try_miss(alloc, sys, pass, 0).expect(rt, "memory");
+    let tried = try_miss(alloc, sys, pass, 0)?;
     assert_eq!(rt; tried, expected);
+    Ok(())
 }
 
 /// Takes the lock of the first cell of the row that it missed.
@@ -78,76 +82,74 @@ fn look_again<L: Layout>(rt: &impl Abort, sys: &Sys<L>, pass: &mut Pass<L>, cell
     assert_eq!(rt; look_up(sys, pass, 0), Entered::Direct { cell });
 }
 
-/// A system of one object on two processors, and its callers.
-fn started<L: Layout>(rt: &impl Abort, alloc: Global, layout: L) -> (Sys<L>, Vec<Pass<L>>)
+/// A system of one object on two processors, with two callers on the first and one on the second.
+fn start_three<L: Layout>(alloc: Global, layout: L) -> Result<(Sys<L>, Vec<Pass<L>>), Memory>
     requires live { L.tag_of layout ≡ 1 }
     requires tags { HasTags L.has_tag layout }
-    ensures { AreFresh result.0 result.1.items }
+    ensures { IfOk result (λ made. AreFresh made.0 made.1.items) }
 {
     let mut layouts = Vec::new(alloc);
-    layouts.push(layout).expect(rt, "memory");
-    let callers = vec![in alloc; 0, 0, 1].expect(rt, "memory");
-    Sys::start(alloc, layouts, 2, callers, Keep::All).expect(rt, "memory")
-}
-
-/// Such a system, and the two callers on its first processor and the one on its second.
-fn start<L: Layout>(
-    rt: &impl Abort,
-    alloc: Global,
-    layout: L,
-) -> (Sys<L>, Pass<L>, Pass<L>, Pass<L>)
-    requires live { L.tag_of layout ≡ 1 }
-    requires tags { HasTags L.has_tag layout }
-    ensures first { IsFresh result.0 result.1 }
-    ensures second { IsFresh result.0 result.2 }
-    ensures third { IsFresh result.0 result.3 }
-{
-    let (sys, mut passes) = started(rt, alloc, layout);
-    let first = passes.remove(0);
-    let second = passes.remove(0);
-    let third = passes.remove(0);
-    (sys, first, second, third)
+    layouts.push(layout)?;
+    let callers = Vec::from_array(alloc, [0, 0, 1])?;
+    Sys::start(alloc, layouts, 2, callers, Keep::All)
 }
 
 /// Two callers of one processor miss, and one of them installs the entry of both.
-fn meet_at_a_cell<L: Layout, R: Abort + Wait>(rt: &R, alloc: Global, layout: L)
+fn meet_at_a_cell<L: Layout, R: Abort + Wait>(
+    rt: &R,
+    alloc: Global,
+    layout: L,
+) -> Result<(), Memory>
     requires live { L.tag_of layout ≡ 1 }
     requires tags { HasTags L.has_tag layout }
 {
-    let (sys, mut first, mut second, mut third) = start(rt, alloc, layout);
+    let (sys, mut passes) = start_three(alloc, layout)?;
+    let mut first = passes.remove(0);
+    let mut second = passes.remove(0);
+    let mut third = passes.remove(0);
     come_in(rt, &sys, &mut first);
     come_in(rt, &sys, &mut second);
     come_in(rt, &sys, &mut third);
-    fill_in(rt, alloc, &sys, &mut first, Filled::Installed { cell: 0 });
-    let elsewhere = Filled::Elsewhere { word: 0x11 };
-    fill_in(rt, alloc, &sys, &mut second, elsewhere);
-    fill_in(rt, alloc, &sys, &mut third, Filled::Installed { cell: 1 });
+    fill_in(rt, alloc, &sys, &mut first, Filled::Installed { cell: 0 })?;
+    fill_in(
+        rt,
+        alloc,
+        &sys,
+        &mut second,
+        Filled::Elsewhere { word: 0x11 },
+    )?;
+    fill_in(rt, alloc, &sys, &mut third, Filled::Installed { cell: 1 })?;
     look_again(rt, &sys, &mut second, 0);
     finish_call(&sys, &mut second);
+    Ok(())
 }
 
 /// A caller tries at a cell that another one holds.
-fn meet_a_holder<L: Layout>(rt: &impl Abort, alloc: Global, layout: L)
+fn meet_a_holder<L: Layout>(rt: &impl Abort, alloc: Global, layout: L) -> Result<(), Memory>
     requires live { L.tag_of layout ≡ 1 }
     requires tags { HasTags L.has_tag layout }
 {
-    let (sys, mut first, mut second, _third) = start(rt, alloc, layout);
+    let (sys, mut passes) = start_three(alloc, layout)?;
+    let mut first = passes.remove(0);
+    let mut second = passes.remove(0);
     come_in(rt, &sys, &mut first);
     come_in(rt, &sys, &mut second);
     hold_first(rt, &sys, &mut second);
-    try_in(rt, alloc, &sys, &mut first, Tried::Held { holder: 1 });
+    try_in(rt, alloc, &sys, &mut first, Tried::Held { holder: 1 })
 }
 
 #[test]
-fn a_try_at_a_held_cell_names_its_holder(rt: HostRuntime) {
+fn a_try_at_a_held_cell_names_its_holder(rt: HostRuntime) -> Result<(), Fail> {
     let counter = AnyLayout::of(KindName::Counter, LayoutName::Spread);
-    meet_a_holder(&rt, rt.alloc(), counter);
+    meet_a_holder(&rt, rt.alloc(), counter)?;
+    Ok(())
 }
 
 #[test]
-fn an_entry_is_installed_once(rt: HostRuntime) {
+fn an_entry_is_installed_once(rt: HostRuntime) -> Result<(), Fail> {
     let counter = AnyLayout::of(KindName::Counter, LayoutName::Spread);
-    meet_at_a_cell(&rt, rt.alloc(), counter);
+    meet_at_a_cell(&rt, rt.alloc(), counter)?;
+    Ok(())
 }
 
 #[test]
