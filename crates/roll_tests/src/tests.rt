@@ -50,7 +50,7 @@ fn two_passes_of_a_plan_meet_at_one_object(rt: HostRuntime) {
     let left = Some(Cause::Left { proc: 0, left: 1 });
     let roll = is_held_up(&rt, &system, roll, (left, None));
     go_home(&system, &mut active);
-    let mut end = rolled(&rt, &system, roll);
+    let mut end = rolled(&rt, &system, roll).expect(&rt, "an end");
     let due = [Swapped::Done(1), Swapped::Busy(1)];
     assert!(rt; are_answered(end.answers.as_slice(), due.as_slice()));
     put_back(&rt, &system, &mut end.passes, active);

@@ -58,7 +58,9 @@ pub(super) fn put_back(rt: &impl Abort, system: &System, passes: &mut Vec<Pass>,
     requires free { IsFree system.now pass }
     ensures free { AreFree system.now passes.new.items }
 {
-    passes.push(pass).ok().expect(rt, "memory");
+    let Ok(()) = passes.push(pass) else {
+        panic!(rt; "no memory");
+    };
 }
 
 /// Takes so many passes from the end of one list to that of another, the last one first.

@@ -1,5 +1,5 @@
 //! Plans that are polled by hand, and by an executor.
-ghost use Rattle.std.specs.Prelude.{◌≡◌, ◌<◌, true, length, IsSomeAnd};
+ghost use Rattle.std.specs.Prelude.{◌≡◌, ◌<◌, true, length, IfOk, IsSomeAnd};
 ghost use Rattle.k42_crews.specs.Ready.{AreFree};
 ghost use Rattle.k42_places.specs.Places.{EachPlace};
 ghost use Rattle.swap_future.specs.Rolling.{IsRolling, MayRoll, seen};
@@ -10,6 +10,7 @@ use futures::executor::block_on;
 use futures::task::{Doorbell, Queue};
 use k42_runtime::{Cause, Pass, System, To};
 use std::alloc::{AllocGlobal, Global};
+use std::io;
 use std::process::Abort;
 use std::random::RandomSource;
 use std::sync::Wait;
@@ -52,9 +53,13 @@ pub(super) fn roll_of<'a>(
     ensures system { result.system.now ≡ system.now }
     ensures rolls { IsSomeAnd result.rolling (λ rolling. IsRolling system.now (seen rolling)) }
 {
-    assert!(rt; may_roll(system, passes.as_slice(), plan.as_slice()));
-    let roll = Roll::new(alloc, system, passes, plan);
-    roll.ok().expect(rt, "memory")
+    if !may_roll(system, passes.as_slice(), plan.as_slice()) {
+        panic!(rt; "a plan past its bounds");
+    }
+    let Ok(roll) = Roll::new(alloc, system, passes, plan) else {
+        panic!(rt; "no memory");
+    };
+    roll
 }
 
 /// A poll of the roll, which is held up: these are the causes of its first two passes.
@@ -81,16 +86,17 @@ pub(super) fn is_held_up<'a, R: Abort + Wait + RandomSource + AllocGlobal>(
 }
 
 /// The roll until it is over.
-pub(super) fn rolled<R: Abort + Wait + RandomSource + AllocGlobal>(
+pub(super) fn rolled<R: Wait + RandomSource + AllocGlobal>(
     rt: &R,
     system: &System,
     roll: Roll<'_>,
-) -> Rolled
+) -> io::Result<Rolled>
     requires system { roll.system.now ≡ system.now }
     requires rolls { IsSomeAnd roll.rolling (λ rolling. IsRolling system.now (seen rolling)) }
-    ensures free { AreFree system.now result.passes.items }
+    ensures free { IfOk result (λ end. AreFree system.now end.passes.items) }
 {
-    block_on(rt, roll).expect(rt, "an end")
+    let end = block_on(rt, roll)?;
+    Ok(end)
 }
 
 /// A roll of this plan by these passes, until it is over.
@@ -105,5 +111,5 @@ pub(super) fn roll_through<R: Abort + Wait + RandomSource + AllocGlobal>(
     ensures free { AreFree system.now result.passes.items }
 {
     let roll = roll_of(rt, alloc, system, passes, plan);
-    rolled(rt, system, roll)
+    rolled(rt, system, roll).expect(rt, "an end")
 }

@@ -1,0 +1,12 @@
+use Rattle.std.proofs.Common.{subst}
+use Rattle.k42_crews.specs.Ready.{AreFree}
+use Rattle.k42_runtime.specs.Systems.{SystemSeen}
+use Rattle.roll_tests.proofs.Rolled.{rolled_free}
+use Rattle.roll_tests.proofs.tests.rolls.rolled.Goals as goal
+
+pub returns : goal.returns
+returns g c = record {
+  free =
+      subst (λ (s : SystemSeen). AreFree s c.in_ok-end.end.passes.items) c.requires.system
+      (rolled_free c.args.roll.system.now c.args.roll.rolling c.in_ok-end.end.answers.items c.in_ok-end.end.passes.items c.in_ok-end.ensures);
+}
