@@ -1,13 +1,14 @@
 use crate::tests::gates::{Counting, Listening};
-use crate::tests::steps::{begin, steps_are, swap_before_a_call};
-use k42_kinds::{Answer, Entry, Reply};
-use k42_workers::{FreeGate, Gate};
+use crate::tests::steps::{steps_are, swap_before_a_call};
+use k42_kinds::{Answer, Reply};
+use k42_runtime::History;
+use k42_workers::{FreeGate, asks_something, begin_run};
 use script_text::parse;
 use std::alloc::Global;
 use std::cell::Cell;
 use std::process::Abort;
-use std::sync::Wait;
-use task_workers::run_tasks;
+use std::test::Fail;
+use task_workers::{run_tasks, tasks_of};
 
 mod gates;
 mod steps;
@@ -31,15 +32,9 @@ const TWO_LINES: &[u8] = b"procs 1\nobject hits counter shared\nworker a 0\nhits
 const A_SWAP_AND_A_CALL: &[u8] = b"procs 1\nobject hits counter shared\n\
 worker a 0\nswap hits spread\nworker b 0\nhits get\n";
 
-/// The entries of the script's run.
-fn run<R: Abort + Wait, G: Gate>(rt: &R, alloc: Global, script: &[u8], gate: &G) -> Vec<Entry> {
-    let script = parse(alloc, script).expect(rt, "a script");
-    let history = run_tasks(rt, alloc, &script, gate).expect(rt, "memory");
-    history.collect(alloc).expect(rt, "memory")
-}
-
 /// Each entry has this worker, place among its entries, incarnation and answer, and there are no others.
-fn entries_are(rt: &impl Abort, entries: &[Entry], due: &[(u32, u64, u32, Answer)]) {
+fn entries_are(rt: &impl Abort, alloc: Global, history: &History, due: &[(u32, u64, u32, Answer)]) {
+    let entries = history.collect(alloc).expect(rt, "memory");
     assert_eq!(rt; entries.len(), due.len());
     for (entry, one) in entries.iter().zip(due.iter()) {
         let told = (entry.caller, entry.index, entry.incarnation, entry.answer);
@@ -48,8 +43,11 @@ fn entries_are(rt: &impl Abort, entries: &[Entry], due: &[(u32, u64, u32, Answer
 }
 
 #[test]
-fn a_swap_waits_for_a_block_and_goes_on_after_its_end(rt: HostRuntime) {
-    let entries = run(&rt, rt.alloc(), BESIDE_A_BLOCK, &FreeGate);
+fn a_swap_waits_for_a_block_and_goes_on_after_its_end(rt: HostRuntime) -> Result<(), Fail> {
+    let Ok(script) = parse(rt.alloc(), BESIDE_A_BLOCK) else {
+        return Err("no script")?;
+    };
+    let history = run_tasks(&rt, rt.alloc(), &script, &FreeGate)?;
     let due = [
         (1, 0, 0, Answer::Replied(Reply::Done)),
         (0, 0, 0, Answer::Replied(Reply::Done)),
@@ -57,12 +55,16 @@ fn a_swap_waits_for_a_block_and_goes_on_after_its_end(rt: HostRuntime) {
         (1, 1, 0, Answer::Swapped(1)),
         (1, 2, 1, Answer::Replied(Reply::Number(10))),
     ];
-    entries_are(&rt, entries.as_slice(), &due);
+    entries_are(&rt, rt.alloc(), &history, &due);
+    Ok(())
 }
 
 #[test]
-fn a_watch_waits_for_a_block_and_counts_the_calls_behind_it(rt: HostRuntime) {
-    let entries = run(&rt, rt.alloc(), WATCHED_BESIDE_A_BLOCK, &FreeGate);
+fn a_watch_waits_for_a_block_and_counts_the_calls_behind_it(rt: HostRuntime) -> Result<(), Fail> {
+    let Ok(script) = parse(rt.alloc(), WATCHED_BESIDE_A_BLOCK) else {
+        return Err("no script")?;
+    };
+    let history = run_tasks(&rt, rt.alloc(), &script, &FreeGate)?;
     let due = [
         (1, 0, 0, Answer::Replied(Reply::Done)),
         (0, 0, 0, Answer::Replied(Reply::Done)),
@@ -71,54 +73,102 @@ fn a_watch_waits_for_a_block_and_counts_the_calls_behind_it(rt: HostRuntime) {
         (0, 2, 1, Answer::Replied(Reply::Number(10))),
         (1, 2, 1, Answer::Replied(Reply::Number(1))),
     ];
-    entries_are(&rt, entries.as_slice(), &due);
+    entries_are(&rt, rt.alloc(), &history, &due);
+    Ok(())
 }
 
 #[test]
-fn a_script_without_lines_has_an_empty_history(rt: HostRuntime) {
-    let script = b"procs 2\nworker a 1\nbegin\nend\n";
-    assert!(rt; run(&rt, rt.alloc(), script, &FreeGate).is_empty());
+fn a_script_without_lines_has_an_empty_history(rt: HostRuntime) -> Result<(), Fail> {
+    let Ok(script) = parse(rt.alloc(), b"procs 2\nworker a 1\nbegin\nend\n") else {
+        return Err("no script")?;
+    };
+    let history = run_tasks(&rt, rt.alloc(), &script, &FreeGate)?;
+    assert_eq!(rt; history.len(), 0);
+    Ok(())
 }
 
 #[test]
-fn a_gate_that_is_not_shared_hears_of_each_line_twice(rt: HostRuntime) {
+fn a_gate_that_is_not_shared_hears_of_each_line_twice(rt: HostRuntime) -> Result<(), Fail> {
+    let Ok(script) = parse(rt.alloc(), TWO_LINES) else {
+        return Err("no script")?;
+    };
     let gate = Counting { told: Cell::new(0) };
-    let entries = run(&rt, rt.alloc(), TWO_LINES, &gate);
-    assert_eq!(rt; entries.len(), 2);
+    let history = run_tasks(&rt, rt.alloc(), &script, &gate)?;
+    assert_eq!(rt; history.len(), 2);
     assert_eq!(rt; gate.told.get(), 4);
+    Ok(())
 }
 
 #[test]
-fn the_gate_hears_once_of_a_line_that_is_held_up_and_tasks_step_in_rounds(rt: HostRuntime) {
+fn the_gate_hears_once_of_a_line_that_is_held_up_and_tasks_step_in_rounds(
+    rt: HostRuntime,
+) -> Result<(), Fail> {
+    let Ok(script) = parse(rt.alloc(), BESIDE_A_BLOCK) else {
+        return Err("no script")?;
+    };
     let gate = Listening {
         told: Cell::new(0),
         astray: Cell::new(0),
     };
-    let entries = run(&rt, rt.alloc(), BESIDE_A_BLOCK, &gate);
-    assert_eq!(rt; entries.len(), 5);
+    let history = run_tasks(&rt, rt.alloc(), &script, &gate)?;
+    assert_eq!(rt; history.len(), 5);
     assert_eq!(rt; gate.told.get(), 10);
     assert_eq!(rt; gate.astray.get(), 0);
+    Ok(())
 }
 
 #[test]
-fn a_swap_tells_twice_that_one_activity_has_not_left(rt: HostRuntime) {
-    let script = parse(rt.alloc(), BESIDE_A_BLOCK).expect(&rt, "a script");
-    let (system, mut tasks) = begin(&rt, rt.alloc(), &script);
-    let due = &steps::BESIDE_A_BLOCK;
-    steps_are(&rt, rt.alloc(), &system, tasks.as_mut_slice(), due);
+fn a_swap_tells_twice_that_one_activity_has_not_left(rt: HostRuntime) -> Result<(), Fail> {
+    let Ok(script) = parse(rt.alloc(), BESIDE_A_BLOCK) else {
+        return Err("no script")?;
+    };
+    if !asks_something(&script) {
+        return Err("no lines")?;
+    }
+    let (system, passes) = begin_run(rt.alloc(), &script)?;
+    let mut tasks = tasks_of(rt.alloc(), &system, script.workers.as_slice(), passes)?;
+    steps_are(
+        &rt,
+        rt.alloc(),
+        &system,
+        tasks.as_mut_slice(),
+        &steps::BESIDE_A_BLOCK,
+    );
+    Ok(())
 }
 
 #[test]
-fn a_second_swap_tells_who_has_the_role(rt: HostRuntime) {
-    let script = parse(rt.alloc(), TWO_SWAPS).expect(&rt, "a script");
-    let (system, mut tasks) = begin(&rt, rt.alloc(), &script);
-    let due = &steps::TWO_SWAPS;
-    steps_are(&rt, rt.alloc(), &system, tasks.as_mut_slice(), due);
+fn a_second_swap_tells_who_has_the_role(rt: HostRuntime) -> Result<(), Fail> {
+    let Ok(script) = parse(rt.alloc(), TWO_SWAPS) else {
+        return Err("no script")?;
+    };
+    if !asks_something(&script) {
+        return Err("no lines")?;
+    }
+    let (system, passes) = begin_run(rt.alloc(), &script)?;
+    let mut tasks = tasks_of(rt.alloc(), &system, script.workers.as_slice(), passes)?;
+    steps_are(
+        &rt,
+        rt.alloc(),
+        &system,
+        tasks.as_mut_slice(),
+        &steps::TWO_SWAPS,
+    );
+    Ok(())
 }
 
 #[test]
-fn where_a_swap_is_refused_memory_the_object_is_open_and_the_other_task_ends(rt: HostRuntime) {
-    let script = parse(rt.alloc(), A_SWAP_AND_A_CALL).expect(&rt, "a script");
-    let (system, mut tasks) = begin(&rt, rt.alloc(), &script);
+fn where_a_swap_is_refused_memory_the_object_is_open_and_the_other_task_ends(
+    rt: HostRuntime,
+) -> Result<(), Fail> {
+    let Ok(script) = parse(rt.alloc(), A_SWAP_AND_A_CALL) else {
+        return Err("no script")?;
+    };
+    if !asks_something(&script) {
+        return Err("no lines")?;
+    }
+    let (system, passes) = begin_run(rt.alloc(), &script)?;
+    let mut tasks = tasks_of(rt.alloc(), &system, script.workers.as_slice(), passes)?;
     swap_before_a_call(&rt, rt.alloc(), &system, tasks.as_mut_slice());
+    Ok(())
 }

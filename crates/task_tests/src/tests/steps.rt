@@ -1,29 +1,12 @@
 //! Tasks that are stepped by hand.
 ghost use Rattle.std.specs.Prelude.{true};
-ghost use Rattle.script_text.specs.Sound.{IsSound};
 ghost use Rattle.task_workers.specs.Rounds.{IsInRun, AreInRun};
 
 use k42_runtime::{Cause, System};
-use k42_workers::{FreeGate, asks_something, begin_run};
-use script_text::Script;
+use k42_workers::FreeGate;
 use std::alloc::Global;
 use std::process::Abort;
-use task_workers::{TaskCause, TaskStep, WorkerTask, tasks_of};
-
-/// The system of a script that has lines, and the tasks of its workers.
-pub(super) fn begin<'a>(
-    rt: &impl Abort,
-    alloc: Global,
-    script: &'a Script,
-) -> (System, Vec<WorkerTask<'a>>)
-    requires { IsSound script.now }
-    ensures { AreInRun result.0 true result.1.items }
-{
-    assert!(rt; asks_something(script));
-    let (system, passes) = begin_run(alloc, script).expect(rt, "memory");
-    let tasks = tasks_of(alloc, &system, script.workers.as_slice(), passes);
-    (system, tasks.expect(rt, "memory"))
-}
+use task_workers::{TaskCause, TaskStep, WorkerTask};
 
 /// Why a swap waits beside the block of one worker.
 const LEFT: TaskStep = TaskStep::Again(TaskCause::Swap(Cause::Left { proc: 0, left: 1 }));
