@@ -1,9 +1,7 @@
 -- The steps on cells, as the table asks for them, and as contracts tell them.
-use Rattle.std.proofs.Common.{◌≡◌, ◌≢◌, ℕ, ◌+◌, ◌<◌, Bool, true, false, cond, eqb, List, [], ◌∷◌, Some, None, sym, refl, ap, ◌∙◌, subst, arith, get_or, set}
+use Rattle.std.proofs.Common.{◌≡◌, ℕ, ◌+◌, ◌<◌, Bool, true, false, cond, eqb, List, [], ◌∷◌, Some, None, sym, refl, ap, ◌∙◌, subst, get_or, set}
 use Rattle.std.specs.List.{slice_get}
-use Rattle.std.specs.Prelude.{is_some}
-use Rattle.std.proofs.lemmas.Bool.Decides.{nat_tests}
-use Rattle.std.proofs.lemmas.Option.{same_Some}
+use Rattle.std.specs.Prelude.{Option, is_some, IfSome, IsSomeAnd}
 use mathlib.Core.Option.{none, some}
 use mathlib.Core.Option as maybe
 use lib.ListN.{get_elem?}
@@ -68,12 +66,6 @@ relogs F declared table words homes id w {v} at r log sweeps =
     let there = set_here table.views id (Crew (w ∷ [])) (at_within table.views id (Crew (v ∷ [])) at) in
     logged F declared table words homes id w at r log
     (λ o n is. (known F declared (with_pass table words homes id w) r id w there).phases.rows.swept o n (sweeps o is))
-
--- a try that finds the lock with another leaves the pass
-pub tried_elsewhere : {P : Type 0} (word n found : ℕ) (v : PassView P) → found ≢ 0 → tried_view word n found v ≡ v
-tried_elsewhere word n found v another =
-    let other : eqb found 0 ≡ false = grind (arith, nat_tests, another) in
-    ap (λ b. cond b (took steps.Lock word found (locked_view n found v)) v) other
 
 module _ {S L P : Type 0} (F : Layouts S L P) (laws : AreLaws F) (declared : List L) (id n : ℕ) (v : PassView P) where
   abbrev i : ℕ
@@ -340,8 +332,20 @@ module _ {P : Type 0} (out : Seated P) (w : PassView P) (slot : ℕ) (y : Slot P
   pub exchanged : (now : Seated P) (z : Slot P) → now ≡ (out.0, (at, z) ∷ rest out.1) → now ≡ (Crew (w ∷ []), (slot, z) ∷ [])
   exchanged now z e = e ∙ (λ k. ((is k).0, (same k, z) ∷ rest (is k).1))
 
-pub same_content : {P : Type 0} {x y : code.Content P} (z : Slot P) → Some x ≡ z → z ≡ Some y → x ≡ y
-same_content z e f = same_Some _ _ (e ∙ f)
+-- what is held
+pub held_one : {A : Type 0} {B : A → Type 0} (held : Option A) → IsSomeAnd held B → (content : A) × (held ≡ Some content) × B content
+held_one (Some content) is = (content, refl, is)
+held_one None is = absurd is
+
+pub held_each : {A : Type 0} {B C : A → Type 0} (held : Option A) → ((content : A) → B content → C content) → IfSome held B → IfSome held C
+held_each None goes is = tt
+held_each (Some content) goes is = goes content is
+
+pub held_is : {A : Type 0} (B : A → Type 0) (held : Option A) (content : A) → held ≡ Some content → IfSome held B → B content
+held_is B held content e is = subst (λ h. IfSome h B) e is
+
+pub held_now : {A : Type 0} (B : A → Type 0) (held : Option A) (content : A) → held ≡ Some content → B content → IfSome held B
+held_now B held content e is = subst (λ h. IfSome h B) (sym e) is
 
 module _ {S L P : Type 0} (F : Layouts S L P) (laws : AreLaws F) (declared : List L) (id n : ℕ) (v : PassView P) (idle : v.out ≡ None) where
   -- the slot goes out with its cell, and comes back empty

@@ -16,7 +16,8 @@ pub struct Content<P: Drop> {
     pub(crate) closed: bool,
     /// The stamp of the last entry of its history.
     pub(crate) last: u64,
-    pub(crate) part: Option<P>,
+    /// Whoever has the cell may change it.
+    pub part: Option<P>,
     ghost told: { IsTold closed last badge.views },
     ghost few: { number < 320 },
 }

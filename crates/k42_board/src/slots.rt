@@ -1,5 +1,5 @@
 //! The steps on locks and slots, for a seat alone.
-ghost use Rattle.std.specs.Prelude.{◌≡◌, ℕ, None};
+ghost use Rattle.std.specs.Prelude.{◌≡◌, ℕ, None, IfSome, IsSomeAnd};
 ghost use Rattle.k42_board.specs.Protocol as protocol;
 ghost use Rattle.k42_board.specs.Stepping.{IsOfTable, MayTake, HasTaken, HasMovedTwice, IsWholeIn, layouts_by};
 ghost use Rattle.k42_board.specs.Taking.{HoldsHome, MayPut, AreRowsNoted};
@@ -55,44 +55,50 @@ pub fn unlock_cell<L: Layout>(board: &Board<L>, seat: &mut BoardSeat<L>, cell: u
     board.shared.store::<Unlock>(seat, lock_word(cell), 0);
 }
 
+/// Moves the cell out of its slot to where room for it was lent: a cell is long, and would be copied at each return.
 #[inline(always)]
 pub fn take_cell<L: Layout, K: Known<L::Part>>(
     board: &Board<L>,
     seat: &mut BoardSeat<L>,
     cell: usize,
-) -> Cell<L>
+    held: &mut Option<Cell<L>>,
+)
     requires slots { board.now.shared.table_id.slots ≡ many_slots }
     requires idle { (pass_in seat.old.me.0).out ≡ None }
     requires ours { IsOfTable L.Layout board.now.shared.table_id board.now.shared.key seat.old }
     requires may { HoldsHome cell (pass_in seat.old.me.0) }
     requires known { (v : PassView L.Part) → AreRowsNoted (layouts_by L.Layout board.now.shared.key) board.now.shared.key.layouts.items v → K.known v }
-    ensures number { result.number ≡ cell }
+    ensures number { IsSomeAnd held.new (λ content. content.number ≡ cell) }
     ensures known { K.known (pass_in seat.new.me.0) }
-    ensures taken { HasMovedTwice L.Layout board.now.shared.key (protocol.lift cell result) (protocol.give_back cell) seat.old seat.new }
-    ensures whole { IsWholeIn L.Layout board.now.shared.key cell result seat.new }
+    ensures taken { IfSome held.new (λ content. HasMovedTwice L.Layout board.now.shared.key (protocol.lift cell content) (protocol.give_back cell) seat.old seat.new) }
+    ensures whole { IfSome held.new (λ content. IsWholeIn L.Layout board.now.shared.key cell content seat.new) }
 {
     let word = lock_word(cell);
     let slot = slot_of(cell);
     board.shared.load::<Lift>(seat, word);
-    let Some(content) = board.shared.exchange(seat, slot, None) else {
-        unreachable!()
-    };
+    *held = board.shared.exchange(seat, slot, None);
     board.shared.load::<GiveBack<K>>(seat, word);
-    content
 }
 
+/// Moves the cell that is held into its slot.
 #[inline(always)]
-pub fn put_cell<L: Layout>(board: &Board<L>, seat: &mut BoardSeat<L>, cell: usize, content: Cell<L>)
+pub fn put_cell<L: Layout>(
+    board: &Board<L>,
+    seat: &mut BoardSeat<L>,
+    cell: usize,
+    held: &mut Option<Cell<L>>,
+)
     requires slots { board.now.shared.table_id.slots ≡ many_slots }
     requires idle { (pass_in seat.old.me.0).out ≡ None }
     requires ours { IsOfTable L.Layout board.now.shared.table_id board.now.shared.key seat.old }
-    requires may { MayPut (layouts_by L.Layout board.now.shared.key) board.now.shared.key.layouts.items seat.old.id cell content (pass_in seat.old.me.0) }
-    ensures { HasMovedTwice L.Layout board.now.shared.key (protocol.reach cell) (protocol.put cell content) seat.old seat.new }
+    requires may { IsSomeAnd held.old (λ content. MayPut (layouts_by L.Layout board.now.shared.key) board.now.shared.key.layouts.items seat.old.id cell content (pass_in seat.old.me.0)) }
+    ensures none { held.new ≡ None }
+    ensures put { IfSome held.old (λ content. HasMovedTwice L.Layout board.now.shared.key (protocol.reach cell) (protocol.put cell content) seat.old seat.new) }
 {
     let word = lock_word(cell);
     let slot = slot_of(cell);
     board.shared.load::<Reach>(seat, word);
-    let None = board.shared.exchange(seat, slot, Some(content)) else {
+    let None = board.shared.exchange(seat, slot, held.take()) else {
         unreachable!()
     };
     board.shared.load::<PutBack>(seat, word);

@@ -46,7 +46,7 @@ fn are_in_order(passes: &[Pass], first: u32) -> bool
 
 /// Whether the passes are those of all callers in order.
 #[tactic(auto, using(crate::proofs::FreePasses::many_all))]
-pub(crate) fn are_all(system: &System, passes: &[Pass]) -> bool
+pub fn are_all(system: &System, passes: &[Pass]) -> bool
     ensures { (result ≡ true) ↔ AreAll system.now passes.now }
 {
     passes.len() == system.callers() as usize && are_in_order(passes, 0)

@@ -5,6 +5,7 @@ ghost use Rattle.k42_kinds.specs.Objects.{counter_after, counter_reply};
 use crate::operation::{Op, Reply};
 
 /// One operation of a counter. Another kind's operation leaves it.
+#[inline(always)]
 pub fn step_counter(value: &mut u64, op: &Op) -> Reply
     ensures replied { result ≡ counter_reply value.old op.now }
     ensures moved { value.new ≡ counter_after value.old op.now }

@@ -84,6 +84,7 @@ impl Log {
     }
 
     /// Makes room for an entry of any kind. Want of memory leaves the log.
+    #[inline(always)]
     pub fn reserve(&mut self) -> Result<(), Memory>
         ensures ok { OnOk result (self.new ≡ record self.old { room = self.new.room }) }
         ensures room { OnOk result (0 < self.new.room) }
@@ -130,6 +131,7 @@ impl Log {
 
     /// Adds the entry of a call at the end, without making it first. The row is the incarnation of
     /// the object that the call was inside.
+    #[inline(always)]
     pub fn push_call(
         &mut self,
         stamp: u64,

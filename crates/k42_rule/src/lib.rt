@@ -39,4 +39,4 @@ pub use swap_begins::begin_step;
 pub use swapping::{block_step, clear_step, entry_step, move_step, turn_over};
 pub use sys::Sys;
 pub use tabling::{end_call, install_step, knock_step, look_up_step, root_step, step_out};
-pub use taking::{lock, lock_quietly, put, take, unlock};
+pub use taking::{lock, lock_quietly, put, put_from, take, take_into, unlock};

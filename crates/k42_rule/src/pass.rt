@@ -362,6 +362,7 @@ impl<P: Drop> Walker<P> {
 
     /// Makes room for one more entry, for which who keeps none needs no memory. Where there is no memory it knows the
     /// same.
+    #[inline(always)]
     pub fn reserve_entry(&mut self) -> Result<(), Memory>
         ensures same { IsRoomier self.old self.new }
         ensures rows { self.new.row_room ≡ self.old.row_room }

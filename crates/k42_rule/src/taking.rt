@@ -1,5 +1,5 @@
 //! The steps of a call on cells.
-ghost use Rattle.std.specs.Prelude.{◌≡◌, ◌≢◌};
+ghost use Rattle.std.specs.Prelude.{◌≡◌, ◌≢◌, None, IfSome, IsSomeAnd};
 ghost use Rattle.k42_board.specs.Protocol as protocol;
 ghost use Rattle.k42_board.specs.Seen.{IsOf};
 ghost use Rattle.k42_board.specs.Stepping.{MayStep, HasStepped, HasDone, HasMoved, AlwaysIn, layouts_in};
@@ -39,8 +39,21 @@ pub fn unlock<L: Layout>(sys: &Sys<L>, pass: &mut Pass<L>, cell: u32)
     unlock_cell(&sys.board, &mut pass.seat, cell as usize);
 }
 
-/// Takes a cell out of its slot. The first move of the slot is the Take, the second is no event.
+/// Takes a cell out of its slot, to where room for it was lent. The first move of the slot is the Take, the second is no
+/// event.
 #[inline(always)]
+pub fn take_into<L: Layout>(sys: &Sys<L>, pass: &mut Pass<L>, cell: u32, held: &mut Option<Cell<L>>)
+    requires ours { IsOf sys.now pass.old }
+    requires may { HoldsHome cell pass.old.view }
+    ensures number { IsSomeAnd held.new (λ content. content.number ≡ cell) }
+    ensures moved { IfSome held.new (λ content. HasMoved L.Layout sys.now (protocol.lift cell content) (protocol.give_back cell) pass.old pass.new) }
+    ensures whole { IfSome held.new (λ content. AlwaysIn L.Layout sys.now pass.new (IsWhole (layouts_in L.Layout sys.now) sys.now.layouts cell content)) }
+    ensures row { AreRowsNoted (layouts_in L.Layout sys.now) sys.now.layouts pass.new.view }
+{
+    take_cell::<L, Brand>(&sys.board, &mut pass.seat, cell as usize, held);
+}
+
+/// The same, where the cell is to be moved on.
 pub fn take<L: Layout>(sys: &Sys<L>, pass: &mut Pass<L>, cell: u32) -> Cell<L>
     requires ours { IsOf sys.now pass.old }
     requires may { HoldsHome cell pass.old.view }
@@ -49,15 +62,29 @@ pub fn take<L: Layout>(sys: &Sys<L>, pass: &mut Pass<L>, cell: u32) -> Cell<L>
     ensures whole { AlwaysIn L.Layout sys.now pass.new (IsWhole (layouts_in L.Layout sys.now) sys.now.layouts cell result) }
     ensures row { AreRowsNoted (layouts_in L.Layout sys.now) sys.now.layouts pass.new.view }
 {
-    take_cell::<L, Brand>(&sys.board, &mut pass.seat, cell as usize)
+    let mut held = None;
+    take_into(sys, pass, cell, &mut held);
+    let Some(content) = held else { unreachable!() };
+    content
 }
 
-/// Puts a cell back. The first move of the slot is no event, the second is the Put.
+/// Puts the cell that is held back. The first move of the slot is no event, the second is the Put.
 #[inline(always)]
+pub fn put_from<L: Layout>(sys: &Sys<L>, pass: &mut Pass<L>, cell: u32, held: &mut Option<Cell<L>>)
+    requires ours { IsOf sys.now pass.old }
+    requires may { IsSomeAnd held.old (λ content. MayPut (layouts_in L.Layout sys.now) sys.now.layouts pass.old.seat cell content pass.old.view) }
+    ensures none { held.new ≡ None }
+    ensures put { IfSome held.old (λ content. HasMoved L.Layout sys.now (protocol.reach cell) (protocol.put cell content) pass.old pass.new) }
+{
+    put_cell(&sys.board, &mut pass.seat, cell as usize, held);
+}
+
+/// Puts a cell back.
 pub fn put<L: Layout>(sys: &Sys<L>, pass: &mut Pass<L>, cell: u32, content: Cell<L>)
     requires ours { IsOf sys.now pass.old }
     requires may { MayPut (layouts_in L.Layout sys.now) sys.now.layouts pass.old.seat cell content pass.old.view }
     ensures { HasMoved L.Layout sys.now (protocol.reach cell) (protocol.put cell content) pass.old pass.new }
 {
-    put_cell(&sys.board, &mut pass.seat, cell as usize, content);
+    let mut held = Some(content);
+    put_from(sys, pass, cell, &mut held);
 }

@@ -1,5 +1,5 @@
 -- A call that is tried again and again.
-use Rattle.std.proofs.Common.{◌≡◌, ℕ, ◌<◌, false, [], ◌∷◌, ◌++◌, length, refl, ap, ◌∙◌, subst}
+use Rattle.std.proofs.Common.{◌≡◌, ℕ, ◌<◌, [], ◌∷◌, ◌++◌, length, refl, ap, ◌∙◌, subst}
 use Rattle.std.specs.List.{slice_get}
 use Rattle.std.specs.Option.{option_map}
 use Rattle.std.proofs.lemmas.Option.{slice_get-map}
@@ -10,7 +10,7 @@ use Rattle.k42_kinds.specs.declared.operation.Reply.{Reply}
 use Rattle.turn_core.specs.Stamps.{last_stamp}
 use Rattle.k42_board.specs.Seen.{Own, PassSeen}
 use Rattle.k42_board.specs.declared.view.PassView.{PassView}
-use Rattle.k42_runtime.specs.Calls.{CallSeen, IsAsked, IsWorn, HasCalled, HasNotCalled}
+use Rattle.k42_runtime.specs.Calls.{IsAsked, IsWorn, HasCalled, HasNotCalled}
 use Rattle.k42_runtime.specs.Serving.{IsAskedOf, IsSameSeat}
 use Rattle.k42_runtime.specs.Systems.{SystemSeen, IsPlanned, IsPassHere, IsAtWork, KeepsElse, layout_of, SystemPass}
 
@@ -23,9 +23,8 @@ asked_of system planned object op asked = record {
   takes = asked.takes;
 }
 
--- it is the same call, of a pass that has drawn nothing yet
-pub record IsCalling (system : SystemSeen) (object : ℕ) (op : Op) (first now : SystemPass) (call : CallSeen) : Type 0 where
-  pub same : call ≡ record { object = object; op = op; ended = false }
+-- the pass has drawn nothing yet
+pub record IsCalling (system : SystemSeen) (first now : SystemPass) : Type 0 where
   pub here : IsPassHere system now
   pub works : IsAtWork now.view
   pub since : HasNotCalled first.view now.view

@@ -1,5 +1,5 @@
 -- What sections make together: one history, in which each goes on where the last one ended.
-use Rattle.std.proofs.Common.{◌≡◌, ℕ, zero, suc, List, [], ◌∷◌, ◌++◌, length, map, take, refl, sym, ap, ◌∙◌, subst, arith}
+use Rattle.std.proofs.Common.{◌≡◌, ℕ, suc, List, [], ◌∷◌, ◌++◌, length, map, take, refl, sym, ap, ◌∙◌, subst, arith}
 use Rattle.std.proofs.Math.Seq.{take-append_seam}
 use Rattle.std.proofs.lemmas.List.{take_all}
 use Rattle.atomic_table.specs.Table.{State}
@@ -13,11 +13,11 @@ use Rattle.k42_board.specs.Seen.{Keeping}
 use Rattle.k42_board.specs.Skipping.{greatest_clock}
 use Rattle.k42_board.specs.declared.view.View.{View}
 use Rattle.k42_rule.specs.Finishing.{lists_in, views_of}
-use Rattle.k42_rule.specs.Sections.{fronts_in, given_all, sectioned, skipped}
+use Rattle.k42_rule.specs.Sections.{fronts_in, given_all, skipped}
 use Rattle.k42_rule.proofs.Ending.{last_seated}
-use Rattle.k42_stamp.specs.Lists.{InSome, IsMerged, IsMergedFrom}
+use Rattle.k42_stamp.specs.Lists.{IsMerged, IsMergedFrom}
 use Rattle.k42_stamp.specs.Orders.{In}
-use Rattle.k42_runtime.specs.Histories.{HistorySeen, HasHistory, IsClosed, MayEnd}
+use Rattle.k42_runtime.specs.Histories.{HasHistory, IsClosed, MayEnd}
 use Rattle.k42_runtime.specs.Plans.{PlanSeen, kinds_of}
 use Rattle.k42_runtime.specs.Sections.{AreShown, HasDrawnOn, HaveDrawnOn, HaveGiven, IsSection, end_to_end}
 use Rattle.k42_runtime.specs.Systems.{IsPlanned, SystemPart, SystemPass, SystemSeen, layouts_in}

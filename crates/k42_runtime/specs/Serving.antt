@@ -27,6 +27,8 @@ use Rattle.k42_runtime.specs.declared.calls.CallCause.{CallCause}
 use Rattle.k42_runtime.specs.declared.calls.CallCause.TheVariants as causes
 use Rattle.k42_runtime.specs.declared.calls.CallStep.{CallStep}
 use Rattle.k42_runtime.specs.declared.calls.CallStep.TheVariants as steps
+use Rattle.k42_runtime.specs.declared.calls.CallTry.{CallTry}
+use Rattle.k42_runtime.specs.declared.calls.CallTry.TheVariants as tries
 
 -- the row that its call is inside
 abbrev pub object_inside : {P : Type 0} → PassView P → ℕ
@@ -92,6 +94,13 @@ pub record HasMade {P : Type 0} (cells : List ℕ) (op : Op) (reply : Reply) (ol
         untold = [];
       })
   pub log : Extends old.log new.log
+
+-- what a try and the reply that it left are of a step
+abbrev pub step_with : CallTry → Reply → CallStep
+step_with (tries.Again cause) reply = steps.Again cause
+step_with tries.Ended reply = steps.Ended reply
+step_with tries.Memory reply = steps.Memory
+step_with tries.Worn reply = steps.Worn
 
 abbrev pub Makes : {P : Type 0} → CallStep → List ℕ → Op → PassView P → PassView P → Type 0
 Makes (steps.Ended reply) cells op old new = HasMade cells op reply old new

@@ -5,11 +5,12 @@ ghost use Rattle.k42_limits.specs.declared.TheConstants.{PASS_ENTRIES};
 ghost use Rattle.k42_board.specs.Seen.{IsPassOf};
 ghost use Rattle.k42_board.specs.Tabling.{MayLookUp};
 ghost use Rattle.k42_runtime.specs.Calls.{IsAsked, IsWorn, HasCalled, HasNotCalled, HoldsUp, is_last};
-ghost use Rattle.k42_runtime.specs.Serving.{IsAskedOf, IsSameSeat, HasTried};
+ghost use Rattle.k42_runtime.specs.Serving.{IsAskedOf, IsSameSeat, HasTried, step_with};
 ghost use Rattle.k42_runtime.specs.Systems.{IsPassHere, IsAtWork, any_layouts, layouts_in};
 ghost use Rattle.k42_runtime.specs.declared.calls.CallCause.{CallCause};
 ghost use Rattle.k42_runtime.specs.declared.calls.CallStep.TheVariants as CallStep;
 ghost use Rattle.k42_runtime.specs.declared.calls.NoCall.TheVariants as NoCall;
+ghost use Rattle.k42_runtime.specs.declared.calls.CallTry.TheVariants as CallTry;
 
 use crate::serving::{go_inside, serve};
 use crate::system::{Pass, System, SystemLayout};
@@ -42,6 +43,16 @@ pub enum CallStep {
     Ended(Reply),
     Memory,
     /// The pass has drawn all the entries that a pass draws. Nothing was done.
+    Worn,
+}
+
+/// How far one try has brought a call: a `CallStep` without the reply, which is where room for it was lent. A reply is
+/// long, and would be copied at each return.
+#[derive(Clone, Copy, Debug, PartialEq, Eq)]
+pub(crate) enum CallTry {
+    Again(CallCause),
+    Ended,
+    Memory,
     Worn,
 }
 
@@ -80,7 +91,8 @@ fn try_once(
     pass: &mut Pass,
     object: u32,
     op: &Op,
-) -> CallStep
+    reply: &mut Reply,
+) -> CallTry
     requires ours { IsPassOf sys.now pass.old }
     requires may { MayLookUp (length sys.now.layouts) object pass.old.view }
     requires asked { IsAskedOf sys.now.layouts object op.now }
@@ -88,19 +100,19 @@ fn try_once(
     requires notes { pass.old.view.notes ≡ [] }
     requires few { length pass.old.view.taker.mine < PASS_ENTRIES }
     ensures same { IsSameSeat pass.old pass.new }
-    ensures tried { HasTried result object op.now pass.old.view pass.new.view }
+    ensures tried { HasTried (step_with result reply.new) object op.now pass.old.view pass.new.view }
 {
     let Ok(()) = pass.reserve_entry() else {
-        return CallStep::Memory;
+        return CallTry::Memory;
     };
     match go_inside(alloc, sys, pass, object) {
         Ok(None) => {
-            let step = serve(alloc, sys, pass, op);
+            let tried = serve(alloc, sys, pass, op, reply);
             finish_call(sys, pass);
-            step
+            tried
         }
-        Ok(Some(cause)) => CallStep::Again(cause),
-        Err(Memory) => CallStep::Memory,
+        Ok(Some(cause)) => CallTry::Again(cause),
+        Err(Memory) => CallTry::Memory,
     }
 }
 
@@ -141,17 +153,48 @@ impl Call {
         ensures worn { (result ≡ CallStep.Worn) ↔ IsWorn pass.old.view }
         ensures kept { result ≡ CallStep.Worn → pass.new ≡ pass.old }
     {
-        if pass.drawn() >= PASS_ENTRIES {
-            self.ended = true;
-            return CallStep::Worn;
+        let mut reply = Reply::Done;
+        let tried = system.try_call(alloc, pass, self.object, &self.op, &mut reply);
+        self.ended = !matches!(tried, CallTry::Again(_));
+        match tried {
+            CallTry::Again(cause) => CallStep::Again(cause),
+            CallTry::Ended => CallStep::Ended(reply),
+            CallTry::Memory => CallStep::Memory,
+            CallTry::Worn => CallStep::Worn,
         }
-        let step = try_once(alloc, &system.sys, pass, self.object, &self.op);
-        self.ended = !matches!(step, CallStep::Again(_));
-        step
     }
 }
 
 impl System {
+    /// One try of a call, which tells how far it came, and leaves the reply where it ended.
+    #[inline(always)]
+    fn try_call(
+        &self,
+        alloc: Global,
+        pass: &mut Pass,
+        object: u32,
+        op: &Op,
+        reply: &mut Reply,
+    ) -> CallTry
+        requires ours { IsPassHere self.now pass.old }
+        requires works { IsAtWork pass.old.view }
+        requires asked { IsAsked self.now.plan object op.now }
+        ensures here { IsPassHere self.now pass.new }
+        ensures seat { IsSameSeat pass.old pass.new }
+        ensures works { IsAtWork pass.new.view }
+        ensures ended { result ≡ CallTry.Ended → HasCalled object op.now reply.new pass.old.view pass.new.view }
+        ensures again { (cause : CallCause) → result ≡ CallTry.Again cause → HasNotCalled pass.old.view pass.new.view }
+        ensures found { (cause : CallCause) → result ≡ CallTry.Again cause → HoldsUp cause object pass.old.view pass.new.view }
+        ensures memory { result ≡ CallTry.Memory → HasNotCalled pass.old.view pass.new.view }
+        ensures worn { (result ≡ CallTry.Worn) ↔ IsWorn pass.old.view }
+        ensures kept { result ≡ CallTry.Worn → pass.new ≡ pass.old }
+    {
+        if pass.drawn() >= PASS_ENTRIES {
+            return CallTry::Worn;
+        }
+        try_once(alloc, &self.sys, pass, object, op, reply)
+    }
+
     /// Makes the operation, and answers its reply. Waits while the object is shut for a swap, and while another caller
     /// holds a cell that the operation needs. For want of memory nothing is done, nor by a pass that has drawn all its
     /// entries.
@@ -174,14 +217,14 @@ impl System {
         ensures worn { (result ≡ Err NoCall.Worn) ↔ IsWorn pass.old.view }
         ensures kept { result ≡ Err NoCall.Worn → pass.new ≡ pass.old }
     {
-        let mut call = Call::new(object, op);
+        let mut reply = Reply::Done;
         let backoff = Backoff::new();
         for _ in rt.forever() {
-            match call.step(alloc, self, pass) {
-                CallStep::Ended(reply) => return Ok(reply),
-                CallStep::Memory => return Err(NoCall::Memory),
-                CallStep::Worn => return Err(NoCall::Worn),
-                CallStep::Again(_) => backoff.snooze(),
+            match self.try_call(alloc, pass, object, &op, &mut reply) {
+                CallTry::Ended => return Ok(reply),
+                CallTry::Memory => return Err(NoCall::Memory),
+                CallTry::Worn => return Err(NoCall::Worn),
+                CallTry::Again(_) => backoff.snooze(),
             }
         }
         unreachable!()

@@ -1,5 +1,5 @@
 //! Cells of the row that a call is inside are taken, and given back.
-ghost use Rattle.std.specs.Prelude.{◌≡◌, ◌<◌, ◌≤◌, ◌+◌, false, None, [], ◌∷◌, vec_len, vec_capacity, is_some};
+ghost use Rattle.std.specs.Prelude.{◌≡◌, ◌<◌, ◌≤◌, ◌+◌, false, None, [], ◌∷◌, vec_len, vec_capacity, is_some, IsSomeAnd};
 ghost use Rattle.phase_core.specs.Stages.{IsInside};
 ghost use Rattle.turn_core.specs.Names.{names};
 ghost use Rattle.k42_joined.specs.Numbers.{row_cells};
@@ -16,7 +16,7 @@ ghost use Rattle.k42_runtime.specs.Systems.{any_layouts};
 use crate::system::{Pass, SystemLayout};
 use crossbeam_utils::Backoff;
 use k42_board::cell_number;
-use k42_rule::{Cell, Sys, layouts_are_lawful, lock, lock_quietly, put, take, unlock};
+use k42_rule::{Cell, Sys, layouts_are_lawful, lock, lock_quietly, put_from, take, unlock};
 
 /// How often a call at several cells tries the lock of one, before it gives back the cells that it has: another caller has
 /// a lock for a part of a call, and takes it again soon.
@@ -98,16 +98,33 @@ pub(crate) fn take_row(
     None
 }
 
+/// Puts the cell that is held back, and leaves its lock.
+#[inline(always)]
+pub(crate) fn give_held(
+    sys: &Sys<SystemLayout>,
+    pass: &mut Pass,
+    number: u32,
+    held: &mut Option<Cell<SystemLayout>>,
+)
+    requires ours { IsOf sys.now pass.old }
+    requires number { IsSomeAnd held.old (λ cell. cell.number ≡ number) }
+    requires ready { IsSomeAnd held.old (MayPutBack (any_layouts sys.now.procs sys.now.callers) sys.now.layouts pass.old.seat pass.old.view) }
+    ensures same { IsSamePass pass.old pass.new }
+    ensures comes { ComesTo pass.old.view (released (number ∷ []) pass.old.view) pass.new.view }
+{
+    put_from(sys, pass, number, held);
+    unlock(sys, pass, number);
+}
+
 /// Puts one cell back, and leaves its lock.
-pub(crate) fn give_next(sys: &Sys<SystemLayout>, pass: &mut Pass, cell: Cell<SystemLayout>)
+fn give_next(sys: &Sys<SystemLayout>, pass: &mut Pass, cell: Cell<SystemLayout>)
     requires ours { IsOf sys.now pass.old }
     requires ready { MayPutBack (any_layouts sys.now.procs sys.now.callers) sys.now.layouts pass.old.seat pass.old.view cell }
     ensures same { IsSamePass pass.old pass.new }
     ensures comes { ComesTo pass.old.view (released (cell.number ∷ []) pass.old.view) pass.new.view }
 {
     let number = cell.number();
-    put(sys, pass, number, cell);
-    unlock(sys, pass, number);
+    give_held(sys, pass, number, &mut Some(cell));
 }
 
 /// Gives all cells back.

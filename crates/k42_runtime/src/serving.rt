@@ -10,18 +10,18 @@ ghost use Rattle.k42_board.specs.Tabling.{MayLookUp};
 ghost use Rattle.k42_rule.specs.Settled.{IsSettled};
 ghost use Rattle.k42_mediator.specs.Taken.{MayPutBack};
 ghost use Rattle.k42_runtime.specs.Reaching.{MayGiveBack};
-ghost use Rattle.k42_runtime.specs.Serving.{object_inside, row_inside, IsServing, GoesBy, IsAskedOf, IsSameSeat, Makes, GoesIn, GoesOut, IsCallAt, HasCells, IsServedBy};
+ghost use Rattle.k42_runtime.specs.Serving.{object_inside, row_inside, IsServing, GoesBy, IsAskedOf, IsSameSeat, Makes, GoesIn, GoesOut, IsCallAt, HasCells, IsServedBy, step_with};
 ghost use Rattle.k42_runtime.specs.Systems.{any_layouts};
 
-use crate::calls::{CallCause, CallStep};
-use crate::cells::{give_back, give_next, take_row};
+use crate::calls::{CallCause, CallTry};
+use crate::cells::{give_back, give_held, take_row};
 use crate::stepping::{step_part, step_row};
 use crate::system::{Pass, SystemLayout};
 use k42_board::cell_number;
-use k42_kinds::{Layout, Op, Reach};
+use k42_kinds::{Layout, Op, Reach, Reply};
 use k42_mediator::{Knocked, knock};
 use k42_memory::Memory;
-use k42_rule::{Cell, Sys, draw_call, draw_one, layouts_are_lawful, lock, take};
+use k42_rule::{Cell, Sys, draw_call, draw_one, layouts_are_lawful, lock, take_into};
 use k42_tables::{Entered, Filled, Tried, look_up, try_miss};
 use std::alloc::Global;
 
@@ -97,7 +97,8 @@ fn make_one(
     place: u32,
     op: &Op,
     cell: &mut Cell<SystemLayout>,
-) -> CallStep
+    reply: &mut Reply,
+) -> CallTry
     requires ours { IsOf sys.now pass.old }
     requires room { HasRoom pass.old }
     requires few { length pass.old.view.taker.mine < PASS_ENTRIES }
@@ -105,15 +106,15 @@ fn make_one(
     ensures same { IsSameSeat pass.old pass.new }
     ensures number { cell.new.number ≡ cell.old.number }
     ensures may { MayPutBack (any_layouts sys.now.procs sys.now.callers) sys.now.layouts pass.new.seat pass.new.view cell.new }
-    ensures makes { Makes result (cell.old.number ∷ []) op.now pass.old.view pass.new.view }
+    ensures makes { Makes (step_with result reply.new) (cell.old.number ∷ []) op.now pass.old.view pass.new.view }
 {
     layouts_are_lawful(sys);
     let procs = sys.procs();
-    let Ok(reply) = step_part(alloc, layout, procs, place, op, cell) else {
-        return CallStep::Memory;
+    let Ok(()) = step_part(alloc, layout, procs, place, op, cell, reply) else {
+        return CallTry::Memory;
     };
-    draw_one(sys, pass, cell, op, &reply);
-    CallStep::Ended(reply)
+    draw_one(sys, pass, cell, op, reply);
+    CallTry::Ended
 }
 
 /// Takes the one cell that the operation needs, makes it, and gives the cell back.
@@ -126,7 +127,8 @@ fn serve_one(
     number: u32,
     place: u32,
     op: &Op,
-) -> CallStep
+    reply: &mut Reply,
+) -> CallTry
     requires ours { IsOf sys.now pass.old }
     requires call { IsCallAt (any_layouts sys.now.procs sys.now.callers) sys.now.layouts pass.old.view layout.now (One place) op.now }
     requires there { place < sys.now.procs }
@@ -136,19 +138,23 @@ fn serve_one(
     requires room { HasRoom pass.old }
     requires few { length pass.old.view.taker.mine < PASS_ENTRIES }
     ensures same { IsSameSeat pass.old pass.new }
-    ensures served { IsServedBy result op.now pass.old.view pass.new.view }
+    ensures served { IsServedBy (step_with result reply.new) op.now pass.old.view pass.new.view }
 {
     let _procs = sys.procs();
     let found = lock(sys, pass, number);
     if found != 0 {
-        return CallStep::Again(CallCause::CellHeld {
+        return CallTry::Again(CallCause::CellHeld {
             holder: (found - 1) as u32,
         });
     }
-    let mut cell = take(sys, pass, number);
-    let step = make_one(alloc, sys, pass, layout, place, op, &mut cell);
-    give_next(sys, pass, cell);
-    step
+    let mut held = None;
+    take_into(sys, pass, number, &mut held);
+    let Some(cell) = &mut held else {
+        unreachable!()
+    };
+    let tried = make_one(alloc, sys, pass, layout, place, op, cell, reply);
+    give_held(sys, pass, number, &mut held);
+    tried
 }
 
 /// Makes the operation at all cells of the row, and draws that.
@@ -159,7 +165,8 @@ fn make_all(
     layout: &SystemLayout,
     op: &Op,
     cells: &mut Vec<Cell<SystemLayout>>,
-) -> CallStep
+    reply: &mut Reply,
+) -> CallTry
     requires ours { IsOf sys.now pass.old }
     requires room { HasRoom pass.old }
     requires few { length pass.old.view.taker.mine < PASS_ENTRIES }
@@ -167,15 +174,16 @@ fn make_all(
     ensures same { IsSameSeat pass.old pass.new }
     ensures numbers { numbers_of cells.new.items ≡ numbers_of cells.old.items }
     ensures may { MayGiveBack (any_layouts sys.now.procs sys.now.callers) sys.now.layouts pass.new.seat pass.new.view cells.new.items }
-    ensures makes { Makes result (numbers_of cells.old.items) op.now pass.old.view pass.new.view }
+    ensures makes { Makes (step_with result reply.new) (numbers_of cells.old.items) op.now pass.old.view pass.new.view }
 {
     layouts_are_lawful(sys);
     let procs = sys.procs();
-    let Ok(reply) = step_row(alloc, layout, procs, op, cells.as_mut_slice()) else {
-        return CallStep::Memory;
+    let Ok(replied) = step_row(alloc, layout, procs, op, cells.as_mut_slice()) else {
+        return CallTry::Memory;
     };
-    draw_call(sys, pass, cells, op, &reply);
-    CallStep::Ended(reply)
+    *reply = replied;
+    draw_call(sys, pass, cells, op, reply);
+    CallTry::Ended
 }
 
 /// Takes all cells of the row, makes the operation, and gives them back.
@@ -185,7 +193,8 @@ fn serve_all(
     pass: &mut Pass,
     layout: &SystemLayout,
     op: &Op,
-) -> CallStep
+    reply: &mut Reply,
+) -> CallTry
     requires ours { IsOf sys.now pass.old }
     requires call { IsCallAt (any_layouts sys.now.procs sys.now.callers) sys.now.layouts pass.old.view layout.now All op.now }
     requires some { 0 < sys.now.procs }
@@ -194,28 +203,34 @@ fn serve_all(
     requires room { HasRoom pass.old }
     requires few { length pass.old.view.taker.mine < PASS_ENTRIES }
     ensures same { IsSameSeat pass.old pass.new }
-    ensures served { IsServedBy result op.now pass.old.view pass.new.view }
+    ensures served { IsServedBy (step_with result reply.new) op.now pass.old.view pass.new.view }
 {
     let inside = pass.inside();
     let Ok(mut cells) = Vec::with_capacity(alloc, sys.procs() as usize) else {
-        return CallStep::Memory;
+        return CallTry::Memory;
     };
     match take_row(sys, pass, inside.object, inside.incarnation, &mut cells) {
         Some(holder) => {
             give_back(sys, pass, cells);
-            CallStep::Again(CallCause::CellHeld { holder })
+            CallTry::Again(CallCause::CellHeld { holder })
         }
         None => {
-            let step = make_all(alloc, sys, pass, layout, op, &mut cells);
+            let tried = make_all(alloc, sys, pass, layout, op, &mut cells, reply);
             give_back(sys, pass, cells);
-            step
+            tried
         }
     }
 }
 
 /// Takes the cells that the operation needs, makes it, and gives them back.
 #[inline(always)]
-pub(crate) fn serve(alloc: Global, sys: &Sys<SystemLayout>, pass: &mut Pass, op: &Op) -> CallStep
+pub(crate) fn serve(
+    alloc: Global,
+    sys: &Sys<SystemLayout>,
+    pass: &mut Pass,
+    op: &Op,
+    reply: &mut Reply,
+) -> CallTry
     requires ours { IsPassOf sys.now pass.old }
     requires serving { IsServing (object_inside pass.old.view) pass.old.view }
     requires asked { IsAskedOf sys.now.layouts (object_inside pass.old.view) op.now }
@@ -224,7 +239,7 @@ pub(crate) fn serve(alloc: Global, sys: &Sys<SystemLayout>, pass: &mut Pass, op:
     requires room { HasRoom pass.old }
     requires few { length pass.old.view.taker.mine < PASS_ENTRIES }
     ensures same { IsSameSeat pass.old pass.new }
-    ensures served { IsServedBy result op.now pass.old.view pass.new.view }
+    ensures served { IsServedBy (step_with result reply.new) op.now pass.old.view pass.new.view }
 {
     let inside = pass.inside();
     let procs = sys.procs();
@@ -232,8 +247,8 @@ pub(crate) fn serve(alloc: Global, sys: &Sys<SystemLayout>, pass: &mut Pass, op:
     match layout.reach(op, pass.processor(), procs) {
         Reach::One(place) => {
             let number = cell_number(inside.object, inside.incarnation, place);
-            serve_one(alloc, sys, pass, &layout, number, place, op)
+            serve_one(alloc, sys, pass, &layout, number, place, op, reply)
         }
-        Reach::All => serve_all(alloc, sys, pass, &layout, op),
+        Reach::All => serve_all(alloc, sys, pass, &layout, op, reply),
     }
 }

@@ -1,11 +1,9 @@
-use Rattle.std.proofs.Common.{ℕ, [], ◌∷◌, sym, ap, ◌∙◌, arith}
-use Rattle.std.specs.Prelude.{Some, None}
+use Rattle.std.proofs.Common.{◌≡◌, ℕ, sym, ap, ◌∙◌, subst, arith}
+use Rattle.std.specs.Prelude.{Some, None, IsSomeAnd}
 use Rattle.k42_board.specs.Views.{pass_in}
 use Rattle.k42_board.specs.Steps.{Seated}
-use Rattle.k42_board.specs.Taking.{gave_back}
-use Rattle.k42_board.specs.Words.{lock_word, slot_of}
-use Rattle.k42_board.specs.declared.view.View.TheVariants.{Crew}
-use Rattle.k42_board.proofs.CellsAllowed.{lifted, lift_seat, lifted_seat, give_seat, given_seat, slot_out, slot_result, exchanged, same_content, given_known, takes_out, takes_back, taken_whole}
+use Rattle.k42_board.specs.Words.{slot_of}
+use Rattle.k42_board.proofs.CellsAllowed.{held_now, lifted, lift_seat, lifted_seat, give_seat, given_seat, slot_out, slot_result, exchanged, given_known, takes_out, takes_back, taken_whole}
 use Rattle.k42_board.proofs.CellsApart.{cell_at_word}
 use Rattle.k42_board.proofs.slots.take_cell.Goals as goal
 
@@ -40,15 +38,14 @@ load-requires-2 g c =
           (u.1 ∙ cell_at_word n few c.lock_word-word.result c.lock_word-word.ensures) c.exchange.new.seat.me now slots),
     )
 
--- the content that was found is the one that is handed out
+-- the content that was found is the one that is held
 pub returns-clause-number : goal.returns-clause-number
 returns-clause-number g c =
     let e = c.load.ensures in let u = e.2 in let x = c.exchange.ensures in let v = pass_in c.args.seat.now.me.0 in let t = c.requires.ours in
     let few = c.requires.may.cell in let n : ℕ = c.args.cell in
     let out = lifted_seat n v c.args.seat.now.me t.alone few c.lock_word-word.result c.lock_word-word.ensures u.0 c.load.new.seat.me u.2 in
-    let same = same_content c.exchange.result
-    (slot_result c.load.new.seat.me (lifted n u.0 v) (slot_of n) (Some u.0) out c.slot_of-slot.result c.slot_of-slot.ensures c.exchange.result x.2) c.in-Some.is in
-    sym (ap (λ z. z.number) same) ∙ u.1 ∙ cell_at_word n few c.lock_word-word.result c.lock_word-word.ensures
+    let found = slot_result c.load.new.seat.me (lifted n u.0 v) (slot_of n) (Some u.0) out c.slot_of-slot.result c.slot_of-slot.ensures c.exchange.result x.2 in
+    subst (λ held. IsSomeAnd held (λ content. content.number ≡ n)) found (u.1 ∙ cell_at_word n few c.lock_word-word.result c.lock_word-word.ensures)
 
 pub returns-clause-known : goal.returns-clause-known
 returns-clause-known g c =
@@ -61,24 +58,30 @@ returns-clause-known g c =
 pub returns-clause-taken : goal.returns-clause-taken
 returns-clause-taken g c =
     let e = c.load.ensures in let u = e.2 in let x = c.exchange.ensures in let v = pass_in c.args.seat.now.me.0 in let t = c.requires.ours in
-    let few = c.requires.may.cell in let n : ℕ = c.args.cell in let after = c.load-2.new.seat in let content = c.in-Some.content in
+    let few = c.requires.may.cell in let n : ℕ = c.args.cell in let after = c.load-2.new.seat in
     let out = lifted_seat n v c.args.seat.now.me t.alone few c.lock_word-word.result c.lock_word-word.ensures u.0 c.load.new.seat.me u.2 in
     let now = exchanged c.load.new.seat.me (lifted n u.0 v) (slot_of n) (Some u.0) out c.slot_of-slot.result c.slot_of-slot.ensures c.exchange.new.seat.me None x.3 in
-    let same = same_content c.exchange.result
-    (slot_result c.load.new.seat.me (lifted n u.0 v) (slot_of n) (Some u.0) out c.slot_of-slot.result c.slot_of-slot.ensures c.exchange.result x.2) c.in-Some.is in
+    let found = slot_result c.load.new.seat.me (lifted n u.0 v) (slot_of n) (Some u.0) out c.slot_of-slot.result c.slot_of-slot.ensures c.exchange.result x.2 in
     let alone = given_seat n v c.args.seat.now.me t.alone few c.lock_word-word.result c.lock_word-word.ensures (lifted n u.0 v) (slot_of n)
-    c.exchange.new.seat.me after.me now (c.load-2.ensures.2).0 ∙ (λ k. (Crew (gave_back (lock_word n) (lifted n (same k) v) ∷ []), [])) in
-    record {
+    c.exchange.new.seat.me after.me now (c.load-2.ensures.2).0 in
+    held_now _ c.exchange.result u.0 (sym found) (record {
       table = c.load-2.ensures.0 ∙ x.0 ∙ e.0;
       seat = c.load-2.ensures.1 ∙ x.1 ∙ e.1;
       alone = alone;
-      out = takes_out _ t.laws _ c.args.seat.now.id n v c.requires.idle c.requires.may content;
-      back = takes_back _ t.laws _ c.args.seat.now.id n v c.requires.idle content (returns-clause-number g c) (pass_in after.me.0)
+      out = takes_out _ t.laws _ c.args.seat.now.id n v c.requires.idle c.requires.may u.0;
+      back = takes_back _ t.laws _ c.args.seat.now.id n v c.requires.idle u.0 (u.1 ∙ cell_at_word n few c.lock_word-word.result c.lock_word-word.ensures) (pass_in after.me.0)
           (sym (ap (λ (m : Seated _). pass_in m.0) alone));
-    }
+    })
 
 pub returns-clause-whole : goal.returns-clause-whole
 returns-clause-whole g c =
-    let t = c.requires.ours in let n : ℕ = c.args.cell in let v = pass_in c.args.seat.now.me.0 in
-    taken_whole _ t.laws _ c.load-2.new.seat.id n v c.requires.idle c.in-Some.content (returns-clause-number g c) (pass_in c.load-2.new.seat.me.0)
-    (sym (ap (λ (m : Seated _). pass_in m.0) (returns-clause-taken g c).alone))
+    let e = c.load.ensures in let u = e.2 in let x = c.exchange.ensures in let v = pass_in c.args.seat.now.me.0 in let t = c.requires.ours in
+    let few = c.requires.may.cell in let n : ℕ = c.args.cell in let after = c.load-2.new.seat in
+    let out = lifted_seat n v c.args.seat.now.me t.alone few c.lock_word-word.result c.lock_word-word.ensures u.0 c.load.new.seat.me u.2 in
+    let now = exchanged c.load.new.seat.me (lifted n u.0 v) (slot_of n) (Some u.0) out c.slot_of-slot.result c.slot_of-slot.ensures c.exchange.new.seat.me None x.3 in
+    let found = slot_result c.load.new.seat.me (lifted n u.0 v) (slot_of n) (Some u.0) out c.slot_of-slot.result c.slot_of-slot.ensures c.exchange.result x.2 in
+    let alone = given_seat n v c.args.seat.now.me t.alone few c.lock_word-word.result c.lock_word-word.ensures (lifted n u.0 v) (slot_of n)
+    c.exchange.new.seat.me after.me now (c.load-2.ensures.2).0 in
+    held_now _ c.exchange.result u.0 (sym found)
+    (taken_whole _ t.laws _ after.id n v c.requires.idle u.0 (u.1 ∙ cell_at_word n few c.lock_word-word.result c.lock_word-word.ensures) (pass_in after.me.0)
+    (sym (ap (λ (m : Seated _). pass_in m.0) alone)))

@@ -1,43 +1,12 @@
-use Rattle.std.proofs.Common.{◌<◌, ℕ, [], ◌∷◌, refl, sym, ap, ◌∙◌, subst}
-use Rattle.turn_core.specs.Names.{names}
-use Rattle.k42_board.specs.Cells.{cells_noted}
+use Rattle.std.proofs.Common.{ℕ, [], ◌∷◌, sym, subst}
 use Rattle.k42_board.specs.Log.{ComesTo}
-use Rattle.k42_board.specs.Taking.{CELLS, MayPut}
-use Rattle.k42_board.specs.declared.view.PassView.{PassView}
-use Rattle.k42_rule.proofs.PutBack.{may_put}
 use Rattle.k42_mediator.specs.Taken.{released}
-use Rattle.k42_mediator.proofs.GivenBack.{cell_in, comes_back}
-use Rattle.k42_mediator.proofs.Remaining.{none_remains}
-use Rattle.k42_mediator.proofs.SamePass.{same_twice}
-use Rattle.k42_runtime.specs.Systems.{any_layouts}
 use Rattle.k42_runtime.proofs.cells.give_next.Goals as goal
 
-pub put-requires-clause-may : goal.put-requires-clause-may
-put-requires-clause-may c κs =
-    let F = any_layouts c.args.sys.now.procs c.args.sys.now.callers in
-    let v = c.args.pass.now.view in let cell = c.args.cell in let ready = c.requires.ready in
-    subst (λ n. MayPut F c.args.sys.now.layouts c.args.pass.now.seat n cell v) (sym c.number-number.ensures)
-    (may_put F c.args.sys.now.layouts c.args.pass.now.seat cell.number v cell refl ready.cell
-    (record { noted = ready.held.noted; history = ready.held.history; closed = ready.held.closed })
-    (ready.due v (record { visitor = refl; last = refl; handed = refl }) ready.held.noted refl))
-
-pub unlock-requires-after_bounds : goal.unlock-requires-after_bounds
-unlock-requires-after_bounds c κs =
-    let v = c.args.pass.now.view in let n : ℕ = c.number-number.result in let ready = c.requires.ready in let knows = c.put.ensures.back.knows in
-    record {
-      ours = c.put.ensures.same.table ∙ c.requires.ours;
-      may = record {
-        cell = subst (λ m. m < CELLS) (sym c.number-number.ensures) ready.cell;
-        held = ap (λ (w : PassView _). names w.taker.held n) knows ∙ ap (names v.taker.held) c.number-number.ensures ∙ ready.holds;
-        home = ap (λ (w : PassView _). names (cells_noted w.notes) n) knows ∙ none_remains cell_in n v.notes;
-      };
-    }
-
-pub returns-clause-same : goal.returns-clause-same
-returns-clause-same c = same_twice _ _ _ c.put.ensures.same (c.unlock.ensures 0).same
+pub give_held-requires-clause-number : goal.give_held-requires-clause-number
+give_held-requires-clause-number c = sym c.number-number.ensures
 
 pub returns-clause-comes : goal.returns-clause-comes
 returns-clause-comes c =
     let v = c.args.pass.now.view in
-    subst (λ (m : ℕ). ComesTo v (released (m ∷ []) v) c.unlock.new.pass.view) c.number-number.ensures
-    (comes_back _ _ v _ _ c.put.ensures.back.knows (c.unlock.ensures 0).takes.knows)
+    subst (λ (m : ℕ). ComesTo v (released (m ∷ []) v) c.give_held.new.pass.view) c.number-number.ensures c.give_held.ensures.comes

@@ -54,7 +54,7 @@ draw_call-requires-clause-may c κs =
     let agrees = watched_agrees in
     let layout = c.args.layout.now in let v = c.args.pass.now.view in let op = c.args.op.now in let items = c.args.cells.now.items in
     let has = c.requires.has in let is = c.procs-procs.ensures.is in let few : procs ≤ 8 = subst (λ k. k ≤ 8) is c.procs-procs.ensures.few in
-    let reply = c.in-Ok.reply in let new = c.step_row.new.cells in
+    let reply = c.in-Ok.replied in let new = c.step_row.new.cells in
     let made : HasSteppedCells (F.ways_of layout) procs op All reply items new =
     subst (λ (z : ℕ × List (Content _)). HasSteppedCells (F.ways_of layout) z.0 op All reply z.1 new) (λ j. (is j, c.as_mut_slice.ensures.value j)) (c.in-Ok.ensures.replied, c.in-Ok.ensures.moved) in
     let cells = take c.args.cells.now.len (new ++ drop (length new) items) in
@@ -68,7 +68,7 @@ returns-clause-numbers c =
     let agrees = watched_agrees in
     let layout = c.args.layout.now in let v = c.args.pass.now.view in let op = c.args.op.now in let items = c.args.cells.now.items in
     let has = c.requires.has in let is = c.procs-procs.ensures.is in let few : procs ≤ 8 = subst (λ k. k ≤ 8) is c.procs-procs.ensures.few in
-    let reply = c.in-Ok.reply in let new = c.step_row.new.cells in
+    let reply = c.in-Ok.replied in let new = c.step_row.new.cells in
     let made : HasSteppedCells (F.ways_of layout) procs op All reply items new =
     subst (λ (z : ℕ × List (Content _)). HasSteppedCells (F.ways_of layout) z.0 op All reply z.1 new) (λ j. (is j, c.as_mut_slice.ensures.value j)) (c.in-Ok.ensures.replied, c.in-Ok.ensures.moved) in
     let cells = take c.args.cells.now.len (new ++ drop (length new) items) in
@@ -83,7 +83,7 @@ returns-clause-may c =
     let agrees = watched_agrees in
     let layout = c.args.layout.now in let v = c.args.pass.now.view in let op = c.args.op.now in let items = c.args.cells.now.items in
     let has = c.requires.has in let is = c.procs-procs.ensures.is in let few : procs ≤ 8 = subst (λ k. k ≤ 8) is c.procs-procs.ensures.few in
-    let reply = c.in-Ok.reply in let new = c.step_row.new.cells in
+    let reply = c.in-Ok.replied in let new = c.step_row.new.cells in
     let made : HasSteppedCells (F.ways_of layout) procs op All reply items new =
     subst (λ (z : ℕ × List (Content _)). HasSteppedCells (F.ways_of layout) z.0 op All reply z.1 new) (λ j. (is j, c.as_mut_slice.ensures.value j)) (c.in-Ok.ensures.replied, c.in-Ok.ensures.moved) in
     let cells = take c.args.cells.now.len (new ++ drop (length new) items) in
@@ -105,7 +105,7 @@ returns-clause-makes c =
     let agrees = watched_agrees in
     let layout = c.args.layout.now in let v = c.args.pass.now.view in let op = c.args.op.now in let items = c.args.cells.now.items in
     let has = c.requires.has in let is = c.procs-procs.ensures.is in let few : procs ≤ 8 = subst (λ k. k ≤ 8) is c.procs-procs.ensures.few in
-    let reply = c.in-Ok.reply in let new = c.step_row.new.cells in
+    let reply = c.in-Ok.replied in let new = c.step_row.new.cells in
     let made : HasSteppedCells (F.ways_of layout) procs op All reply items new =
     subst (λ (z : ℕ × List (Content _)). HasSteppedCells (F.ways_of layout) z.0 op All reply z.1 new) (λ j. (is j, c.as_mut_slice.ensures.value j)) (c.in-Ok.ensures.replied, c.in-Ok.ensures.moved) in
     let cells = take c.args.cells.now.len (new ++ drop (length new) items) in

@@ -45,7 +45,7 @@ draw_one-requires-clause-may c κs =
     let procs : ℕ = c.args.sys.now.procs in let F = any_layouts procs c.args.sys.now.callers in let declared = c.args.sys.now.layouts in let laws = c.layouts_are_lawful.ensures in
     let layout = c.args.layout.now in let v = c.args.pass.now.view in let op = c.args.op.now in let p : ℕ = c.args.place in let cell = c.args.cell.now in
     let has = c.requires.has in let is = c.procs-procs.ensures.is in let few : procs ≤ 8 = subst (λ k. k ≤ 8) is c.procs-procs.ensures.few in
-    let reply = c.in-Ok.reply in let new = c.step_part.new.cell in
+    let reply = c.step_part.new.reply in let new = c.step_part.new.cell in
     let made : HasSteppedCells (F.ways_of layout) procs op (One p) reply (cell ∷ []) (new ∷ []) =
     subst (λ (k : ℕ). HasSteppedCells (F.ways_of layout) k op (One p) reply (cell ∷ []) (new ∷ [])) is
     (c.in-Ok.ensures.replied, ap (λ (x : Content _). x ∷ []) c.in-Ok.ensures.moved) in
@@ -59,7 +59,7 @@ returns-clause-may c =
     let procs : ℕ = c.args.sys.now.procs in let F = any_layouts procs c.args.sys.now.callers in let declared = c.args.sys.now.layouts in let laws = c.layouts_are_lawful.ensures in
     let layout = c.args.layout.now in let v = c.args.pass.now.view in let op = c.args.op.now in let p : ℕ = c.args.place in let cell = c.args.cell.now in
     let has = c.requires.has in let is = c.procs-procs.ensures.is in let few : procs ≤ 8 = subst (λ k. k ≤ 8) is c.procs-procs.ensures.few in
-    let reply = c.in-Ok.reply in let new = c.step_part.new.cell in
+    let reply = c.step_part.new.reply in let new = c.step_part.new.cell in
     let made : HasSteppedCells (F.ways_of layout) procs op (One p) reply (cell ∷ []) (new ∷ []) =
     subst (λ (k : ℕ). HasSteppedCells (F.ways_of layout) k op (One p) reply (cell ∷ []) (new ∷ [])) is
     (c.in-Ok.ensures.replied, ap (λ (x : Content _). x ∷ []) c.in-Ok.ensures.moved) in
@@ -74,7 +74,7 @@ returns-clause-makes c =
     let procs : ℕ = c.args.sys.now.procs in let F = any_layouts procs c.args.sys.now.callers in let declared = c.args.sys.now.layouts in let laws = c.layouts_are_lawful.ensures in
     let layout = c.args.layout.now in let v = c.args.pass.now.view in let op = c.args.op.now in let p : ℕ = c.args.place in let cell = c.args.cell.now in
     let has = c.requires.has in let is = c.procs-procs.ensures.is in let few : procs ≤ 8 = subst (λ k. k ≤ 8) is c.procs-procs.ensures.few in
-    let reply = c.in-Ok.reply in let new = c.step_part.new.cell in
+    let reply = c.step_part.new.reply in let new = c.step_part.new.cell in
     let made : HasSteppedCells (F.ways_of layout) procs op (One p) reply (cell ∷ []) (new ∷ []) =
     subst (λ (k : ℕ). HasSteppedCells (F.ways_of layout) k op (One p) reply (cell ∷ []) (new ∷ [])) is
     (c.in-Ok.ensures.replied, ap (λ (x : Content _). x ∷ []) c.in-Ok.ensures.moved) in

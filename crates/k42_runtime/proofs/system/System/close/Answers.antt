@@ -1,5 +1,4 @@
 use Rattle.std.proofs.Common.{◌≡◌, ◌++◌, List, length, sym, ap, ◌∙◌, subst, arith}
-use Rattle.k42_kinds.specs.declared.entry.Entry.{Entry}
 use Rattle.k42_rule.specs.Finishing.{AreAtRest, AreLastLists, kept_in, lists_in, logged_in, with_none_kept}
 use Rattle.k42_rule.proofs.GivenLists.{given_rest, given_lists, all_kept}
 use Rattle.k42_stamp.specs.Lists.{AreLists, IsMerged}

@@ -1,6 +1,6 @@
 use Rattle.k42_board.specs.Plan.{layouts_on}
 use Rattle.k42_board.specs.Taking.{AreRowsNoted}
-use Rattle.k42_rule.proofs.taking.take.Given as goal
+use Rattle.k42_rule.proofs.taking.take_into.Given as goal
 
 abbrev pub ghosts-take_cell : goal.ghosts-take_cell
 ghosts-take_cell g a = record {
