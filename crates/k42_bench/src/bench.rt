@@ -1,7 +1,8 @@
 //! How the library is used: a system is started, its passes call and swap on threads, and it is closed.
 ghost use Rattle.std.specs.Prelude.{◌≡◌, IfOk, IfSome};
 ghost use Rattle.k42_board.specs.declared.keep.Keep.TheVariants.{All};
-ghost use Rattle.k42_crews.specs.Ready.{IsFree, AreFree, StaysFree};
+ghost use Rattle.k42_crews.specs.Ready.{IsFree, IsIn, AreFree, StaysFree};
+ghost use Rattle.k42_bench.specs.Staying.{StaysIn};
 
 use crate::load::{Load, op_of, size_due, size_of};
 use k42_crews::{Work, call_once, close, end, start, work_all};
@@ -61,6 +62,70 @@ fn call_often<R: Wait>(
     Ok(())
 }
 
+/// Makes calls in the activity, the first of them of this number. Whether there are more to make.
+fn call_in_activity<R: Wait>(
+    rt: &R,
+    alloc: Global,
+    system: &System,
+    pass: &mut Pass,
+    load: &Load,
+    first: u32,
+) -> Result<bool, NoCall>
+    requires { IsIn system.now pass.old }
+    ensures { StaysIn system.now pass.old pass.new }
+{
+    for number in first..first.saturating_add(load.block) {
+        let Some(op) = op_of(load, pass.caller(), number) else {
+            return Ok(false);
+        };
+        if is_done(pass, load, number) || !system.takes(0, &op) {
+            return Ok(false);
+        }
+        system.call(rt, alloc, pass, 0, op)?;
+    }
+    Ok(true)
+}
+
+/// Makes the calls of one activity. Whether there are more to make.
+fn call_block<R: Wait>(
+    rt: &R,
+    alloc: Global,
+    system: &System,
+    pass: &mut Pass,
+    load: &Load,
+    first: u32,
+) -> Result<bool, NoCall>
+    requires { IsFree system.now pass.old }
+    ensures { StaysFree system.now pass.old pass.new }
+{
+    system.enter(pass);
+    let made = call_in_activity(rt, alloc, system, pass, load, first);
+    system.leave(pass);
+    made
+}
+
+/// Calls as often as `call_often` does, in activities of several calls.
+fn call_in_blocks<R: Wait>(
+    rt: &R,
+    alloc: Global,
+    system: &System,
+    pass: &mut Pass,
+    load: &Load,
+) -> Result<(), Memory>
+    requires { IsFree system.now pass.old }
+    ensures { StaysFree system.now pass.old pass.new }
+{
+    for block in 0..u32::MAX {
+        let first = block.saturating_mul(load.block);
+        match call_block(rt, alloc, system, pass, load, first) {
+            Ok(true) => (),
+            Ok(false) | Err(NoCall::Worn) => return Ok(()),
+            Err(NoCall::Memory) => return Err(Memory),
+        }
+    }
+    Ok(())
+}
+
 /// Swaps so often, to the other layout and back. A pass that is worn swaps no more.
 fn swap_often<R: Wait>(
     rt: &R,
@@ -100,8 +165,10 @@ impl Work for Load {
     ) -> Result<(), Memory> {
         if pass.caller() == self.threads {
             swap_often(rt, alloc, system, pass, self)
-        } else {
+        } else if self.block == 1 {
             call_often(rt, alloc, system, pass, self)
+        } else {
+            call_in_blocks(rt, alloc, system, pass, self)
         }
     }
 }

@@ -21,6 +21,8 @@ pub struct Load {
     pub threads: u32,
     /// At least so many on each thread.
     pub calls: u32,
+    /// How many calls a thread makes in one activity.
+    pub block: u32,
     pub swaps: u32,
     /// Which entries the passes keep.
     pub keep: Keep,

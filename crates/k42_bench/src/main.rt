@@ -18,7 +18,7 @@ use std::sync::Wait;
 use std::thread::Threads;
 
 const USAGE: &str =
-    "usage: k42_bench counter|directory|pages shared|spread near|mix THREADS CALLS SWAPS [keep|unread|none]";
+    "usage: k42_bench counter|directory|pages shared|spread near|mix THREADS CALLS SWAPS [keep|unread|none [block]]";
 
 /// The words behind the program's name. Words that are not UTF-8 are none.
 fn words_of(rt: &HostRuntime) -> Result<Vec<String>, Memory> {

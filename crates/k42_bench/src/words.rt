@@ -3,6 +3,9 @@ use crate::load::{Load, Ops};
 use k42_kinds::{KindName, LayoutName};
 use k42_runtime::Keep;
 
+/// The calls of an activity under `block`.
+const BLOCK: u32 = 16;
+
 fn kind_of(word: &str) -> Option<KindName> {
     if word == "counter" {
         Some(KindName::Counter)
@@ -35,19 +38,27 @@ fn ops_of(word: &str) -> Option<Ops> {
     }
 }
 
-/// Without the word all entries are kept and read. Those that wait for a section which nobody takes are kept alone.
-fn keep_of(words: &[String]) -> Option<Keep> {
-    let [word] = words else {
-        return words.is_empty().then_some(Keep::All);
-    };
-    if word.as_str() == "keep" {
+/// Those that wait for a section which nobody takes are kept alone.
+fn keep_of(word: &str) -> Option<Keep> {
+    if word == "keep" {
         Some(Keep::All)
-    } else if word.as_str() == "unread" {
+    } else if word == "unread" {
         Some(Keep::Sections)
-    } else if word.as_str() == "none" {
+    } else if word == "none" {
         Some(Keep::Nothing)
     } else {
         None
+    }
+}
+
+/// Which entries are kept, and how many calls an activity has. Without these words all entries are kept and read, and
+/// each call has an activity of its own.
+fn keep_and_block_of(words: &[String]) -> Option<(Keep, u32)> {
+    match words {
+        [] => Some((Keep::All, 1)),
+        [keep] => Some((keep_of(keep.as_str())?, 1)),
+        [keep, block] if block.as_str() == "block" => Some((keep_of(keep.as_str())?, BLOCK)),
+        _ => None,
     }
 }
 
@@ -70,13 +81,14 @@ fn number_of(word: &str) -> Option<u32> {
 
 /// The load that the words ask for.
 pub fn load_of(words: &[String]) -> Option<Load> {
-    let [kind, layout, ops, threads, calls, swaps, keep @ ..] = words else {
+    let [kind, layout, ops, threads, calls, swaps, rest @ ..] = words else {
         return None;
     };
     let threads = number_of(threads.as_str())?;
     if threads == 0 || threads > 8 {
         return None;
     }
+    let (keep, block) = keep_and_block_of(rest)?;
     Some(Load {
         kind: kind_of(kind.as_str())?,
         layout: layout_of(layout.as_str())?,
@@ -84,7 +96,8 @@ pub fn load_of(words: &[String]) -> Option<Load> {
         threads,
         calls: number_of(calls.as_str())?,
         swaps: number_of(swaps.as_str())?,
-        keep: keep_of(keep)?,
+        block,
+        keep,
     })
 }
 

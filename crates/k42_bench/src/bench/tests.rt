@@ -19,6 +19,7 @@ fn without_entries_each_thread_makes_its_calls_and_the_object_has_what_they_left
                     ops,
                     threads: 2,
                     calls,
+                    block: 1,
                     swaps: 3,
                     keep: Keep::Nothing,
                 };

@@ -1,6 +1,5 @@
 //! Which words are numbers, and what the last word says.
-use crate::words::{keep_of, number_of};
-use k42_memory::Memory;
+use crate::words::{keep_and_block_of, number_of};
 use k42_runtime::Keep;
 
 #[test]
@@ -24,21 +23,23 @@ fn a_number_has_no_sign_and_no_leading_zero(rt: HostRuntime) {
 }
 
 #[test]
-fn entries_are_kept_unless_the_last_word_says_none(rt: HostRuntime) -> Result<(), Memory> {
-    let cases: [(&[&str], Option<Keep>); 6] = [
-        (&[], Some(Keep::All)),
-        (&["keep"], Some(Keep::All)),
-        (&["unread"], Some(Keep::Sections)),
-        (&["none"], Some(Keep::Nothing)),
+fn entries_are_kept_and_an_activity_has_one_call_unless_the_last_words_say_else(rt: HostRuntime) {
+    let cases: [(&[&str], Option<(Keep, u32)>); 8] = [
+        (&[], Some((Keep::All, 1))),
+        (&["keep"], Some((Keep::All, 1))),
+        (&["unread"], Some((Keep::Sections, 1))),
+        (&["none"], Some((Keep::Nothing, 1))),
+        (&["none", "block"], Some((Keep::Nothing, 16))),
         (&["nothing"], None),
+        (&["block"], None),
         (&["none", "none"], None),
     ];
     for (words, due) in cases {
         let mut given = Vec::new(rt.alloc());
         for word in words {
-            given.push(word.to_string(rt.alloc())?)?;
+            let word = word.to_string(rt.alloc()).expect(&rt, "memory");
+            given.push(word).expect(&rt, "memory");
         }
-        assert_eq!(rt; keep_of(given.as_slice()), due);
+        assert!(rt; keep_and_block_of(given.as_slice()) == due);
     }
-    Ok(())
 }
