@@ -5,12 +5,13 @@ ghost use Rattle.k42_cli.specs.Program as program;
 ghost use Rattle.k42_cli.specs.Outputs.{IsSummedUp};
 ghost use Rattle.k42_cli.specs.Words.{IsKnown};
 
+use crate::entries::Unread;
 use crate::output::Output;
 use crate::words::Form;
 use k42_input::Status;
 use k42_memory::Memory;
 use k42_workers::{Gate, run_script};
-use load_totals::{Summary, summary};
+use load_totals::{Summary, sum_up};
 use script_text::generate;
 use std::alloc::Global;
 use std::sync::Wait;
@@ -55,8 +56,8 @@ pub fn load<R: Threads + Wait + Sync, G: Gate + Sync>(
 {
     let script = generate(alloc, steps)?;
     let history = run_script(rt, alloc, &script, gate)?;
-    let entries = history.collect(alloc)?;
-    let sums = summary(alloc, &script, &entries)?;
+    let reader = history.read(alloc)?;
+    let sums = sum_up(alloc, &script, Unread { reader })?;
     Ok(Output {
         status: Status::Ok,
         text: load_line(alloc, steps, &sums)?,

@@ -8,6 +8,7 @@ ghost use Rattle.k42_cli.specs.Program as program;
 ghost use Rattle.k42_cli.specs.Outputs.{IsRecorded, IsShort, limit_of};
 ghost use Rattle.k42_cli.specs.Words.{IsKnown, version_of};
 
+use crate::entries::Unread;
 use crate::load::load;
 use crate::output::{Output, refusal};
 use crate::words::{Form, Way};
@@ -52,8 +53,8 @@ fn record<R: Threads + Wait + Sync, G: Gate + Sync>(
 {
     let history = history_of(rt, alloc, script, way, gate)?;
     let version = way.version();
-    let entries = history.collect(alloc)?;
-    let text = print_history(alloc, script, &entries, version)?;
+    let reader = history.read(alloc)?;
+    let text = print_history(alloc, script, Unread { reader }, version)?;
     Ok(Output {
         status: Status::Ok,
         text,

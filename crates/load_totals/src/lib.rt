@@ -6,5 +6,5 @@ mod summing;
 mod totals;
 
 pub use laws::loads_come_to_their_numbers;
-pub use summing::summary;
+pub use summing::{sum_up, summary};
 pub use totals::Summary;

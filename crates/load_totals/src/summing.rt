@@ -6,6 +6,7 @@ ghost use Rattle.script_text.specs.Lawful.{IsLawful};
 ghost use Rattle.load_totals.specs.Loads as loads;
 
 use crate::totals::Summary;
+use k42_entries::Entries;
 use k42_kinds::{
     Act, Answer, DirectoryState, Entry, KindName, Op, PagesState, kind_of, step_counter,
     step_directory, step_pages,
@@ -87,15 +88,32 @@ impl Tally {
     }
 }
 
-fn tallied(alloc: Global, entries: &[Entry]) -> Result<Tally, Memory>
-    requires { length entries.now < 2 ^ 32 }
-    ensures { IfOk result (λ tally. tally ≡ loads.tallied entries.now) }
+fn tallied<E: Entries + Drop>(alloc: Global, mut entries: E) -> Result<Tally, Memory>
+    requires { length (E.left entries) < 2 ^ 32 }
+    ensures { IfOk result (λ tally. tally ≡ loads.tallied (E.left entries)) }
 {
     let mut tally = Tally::new(alloc);
-    for entry in entries {
-        tally.add(entry)?;
+    while let Some(entry) = entries.next() {
+        tally.add(&entry)?;
     }
     Ok(tally)
+}
+
+/// What the entries of the lawful history of a generated script come to. One is held at a time.
+pub fn sum_up<E: Entries + Drop>(
+    alloc: Global,
+    script: &Script,
+    entries: E,
+) -> Result<Summary, Memory>
+    requires generated { (n : ℕ) × (n ≤ 10000) × (script.now ≡ generated n) }
+    requires lawful { IsLawful script.now (E.left entries) }
+    ensures exact { IfOk result (λ summary.
+        summary ≡ loads.summary_of (loads.tallied (E.left entries))) }
+    ensures due { (n : ℕ) → n ≤ 10000 → script.now ≡ generated n →
+        IfOk result (λ summary. summary ≡ loads.summary_due n) }
+{
+    let tally = tallied(alloc, entries)?;
+    Ok(tally.sums())
 }
 
 /// What the lawful history of a generated script comes to.
@@ -106,6 +124,5 @@ pub fn summary(alloc: Global, script: &Script, entries: &Vec<Entry>) -> Result<S
     ensures due { (n : ℕ) → n ≤ 10000 → script.now ≡ generated n →
         IfOk result (λ summary. summary ≡ loads.summary_due n) }
 {
-    let tally = tallied(alloc, entries.as_slice())?;
-    Ok(tally.sums())
+    sum_up(alloc, script, entries.as_slice())
 }

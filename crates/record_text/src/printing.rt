@@ -1,10 +1,11 @@
 //! A record or a history is written as text, line by line.
 ghost use Rattle.std.specs.Prelude.{◌≡◌, ◌<◌, ◌∷◌, ◌++◌, [], length, All, IfOk, OnOk};
 ghost use Rattle.std.specs.List.{flat_map};
-ghost use Rattle.record_text.specs.Histories.{HasLine, record_of, history_text};
+ghost use Rattle.record_text.specs.Histories.{HasLine, line_of, record_of, history_text};
+ghost use Rattle.record_text.specs.Printer.LineNumbers.{all_line_numbers};
 ghost use Rattle.record_text.specs.Tokens.{behind_spaces, line_with};
 ghost use Rattle.record_text.specs.Texts as spelling;
-ghost use Rattle.record_text.specs.Spelling.{HasSpelling, HasText};
+ghost use Rattle.record_text.specs.Spelling.{HasSpelling, HasText, version_number};
 
 mod acts;
 mod answers;
@@ -16,6 +17,8 @@ pub use crate::printing::answers::put_answer;
 use crate::printing::tokens::{put_marked, put_number, put_token};
 use crate::record::{Extra, Record, RecordLine};
 use crate::version::Version;
+use k42_entries::Entries;
+use k42_items::Items;
 use k42_kinds::Entry;
 use k42_limits::LINE_FEED;
 use k42_memory::Memory;
@@ -123,26 +126,44 @@ pub fn print(alloc: Global, script: &Script, lines: &Record) -> Result<Vec<u8>, 
     Ok(out)
 }
 
-/// The text of a history: that of the record that `lines_of` gives, of which no more than one line
-/// is held at a time.
-pub fn print_history(
+/// Adds the line of an entry. The numbers are those of the script's lines that ask something.
+fn put_entry(
+    out: &mut Vec<u8>,
+    script: &Script,
+    numbers: &Items<Items<u32>>,
+    entry: &Entry,
+    version: Version,
+) -> Result<(), Memory>
+    requires numbers { numbers.now ≡ all_line_numbers script.now }
+    requires placed { HasLine script.now entry.now }
+    requires spelled { HasSpelling script.now
+        (line_of script.now (version_number version) entry.now) }
+    ensures { OnOk result (out.new.items ≡ out.old.items
+        ++ spelling.line_text script.now (line_of script.now (version_number version) entry.now)) }
+{
+    let number = number_of(numbers, entry);
+    put_line(out, script, &line_at(entry, number, version))
+}
+
+/// The text of a history: that of the record that `lines_of` gives. One entry is held at a time.
+pub fn print_history<E: Entries + Drop>(
     alloc: Global,
     script: &Script,
-    entries: &Vec<Entry>,
+    mut entries: E,
     version: u32,
 ) -> Result<Vec<u8>, Memory>
-    requires placed { All (HasLine script.now) entries.now.items }
-    requires spelled { HasText script.now (record_of script.now entries.now.items version) }
-    ensures { IfOk result (λ text. text.items ≡ history_text script.now entries.now.items version) }
+    requires placed { All (HasLine script.now) (E.left entries) }
+    requires spelled { HasText script.now (record_of script.now (E.left entries) version) }
+    ensures { IfOk result (λ text. text.items ≡ history_text script.now (E.left entries) version) }
 {
     let told_version = Version::of(version);
     let numbers = numbers_of_all(alloc, script)?;
+    let count = entries.len();
     let mut out = Vec::new(alloc);
     put_first(&mut out, version)?;
-    for entry in entries {
-        let number = number_of(&numbers, entry);
-        put_line(&mut out, script, &line_at(entry, number, told_version))?;
+    while let Some(entry) = entries.next() {
+        put_entry(&mut out, script, &numbers, &entry, told_version)?;
     }
-    put_last(&mut out, entries.len())?;
+    put_last(&mut out, count)?;
     Ok(out)
 }

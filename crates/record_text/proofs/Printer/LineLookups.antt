@@ -1,18 +1,14 @@
 -- The numbers of the lines that ask something, looked up by worker and place.
-use Rattle.std.proofs.Common.{◌≡◌, ℕ, zero, suc, ◌+◌, ◌<◌, List, [], ◌∷◌, ◌++◌, length, map, get_or, take, refl, subst, sym, ap, ◌∙◌, All, arith}
-use Rattle.std.proofs.lemmas.List.{map_more, get_or-map, length-map, flat_map_more}
+use Rattle.std.proofs.Common.{◌≡◌, ℕ, zero, suc, ◌+◌, ◌<◌, List, [], ◌∷◌, ◌++◌, length, map, get_or, take, refl, All, arith}
+use Rattle.std.proofs.lemmas.List.{map_more}
 use Rattle.k42_kinds.specs.declared.entry.Entry.{Entry}
 use Rattle.std.specs.Prelude.{slice_get}
-use Rattle.std.specs.List.{flat_map}
 use Rattle.std.specs.Option.{option_map_or}
 use Rattle.script_text.specs.Lawful.{call_lines}
 use Rattle.script_text.specs.declared.script.CallLine.{CallLine}
 use Rattle.script_text.specs.declared.script.WorkerLines.{WorkerLines}
 use Rattle.script_text.specs.declared.script.Script.{Script}
 use Rattle.record_text.specs.Histories.{calls_of, line_number, HasLine, line_at, line_of}
-use Rattle.record_text.specs.Spelling.{HasSpelling}
-use Rattle.record_text.specs.Texts.{line_text}
-use Rattle.record_text.specs.declared.record.RecordLine.{RecordLine}
 use Rattle.record_text.specs.Printer.LineNumbers.{line_numbers, all_line_numbers, numbers_at}
 
 number_among : (lines : List CallLine) (place : ℕ) → place < length lines → get_or (map (λ line. line.line) lines) place 0 ≡ option_map_or (λ line. line.line) (slice_get lines place) 0
@@ -40,19 +36,3 @@ pub lines-more : (script : Script) (version : ℕ) (entries : List Entry) (i : �
 lines-more script version entries i entry within read placed =
     let line : HasLine script entry = rw read (placed i entry within) in
     rw (number_at script entry.caller entry.index line.caller line.index, map_more (line_of script version) entries i entry within, ← read) refl
-
--- the line of an entry has a spelling, where each line of the record has one
-pub line_spelled : (script : Script) (version : ℕ) (entries : List Entry) (i : ℕ) (entry : Entry) → i < length entries → entry ≡ get_or entries i entry → All (HasLine script) entries → All (HasSpelling script) (map (line_of script version) entries) →
-    HasSpelling script (line_at version (get_or (numbers_at (all_line_numbers script) entry.caller) entry.index 0) entry)
-line_spelled script version entries i entry within read placed spelled =
-    let line : HasLine script entry = rw read (placed i entry within) in
-    let there : i < length (map (line_of script version) entries) = rw (length-map entries (line_of script version)) within in
-    let same : get_or (map (line_of script version) entries) i (line_of script version entry) ≡ line_of script version entry =
-    get_or-map (line_of script version) entries i entry (line_of script version entry) within ∙ ap (line_of script version) (sym read) in
-    rw (number_at script entry.caller entry.index line.caller line.index) (subst (HasSpelling script) same (spelled i (line_of script version entry) there))
-
--- the text of one more line
-pub texts-more : (script : Script) (front : List ℕ) (before after : List RecordLine) (line : RecordLine) → before ++ line ∷ [] ≡ after →
-    (front ++ flat_map (line_text script) before) ++ line_text script line ≡ front ++ flat_map (line_text script) after
-texts-more script front before after line all =
-    flat_map_more (line_text script) front before line ∙ ap (λ (lines : List RecordLine). front ++ flat_map (line_text script) lines) all

@@ -1,6 +1,7 @@
-use Rattle.std.proofs.Common.{◌≡◌, refl, sym, ap, ◌∙◌, subst}
+use Rattle.std.proofs.Common.{◌≡◌, List, refl, sym, ap, ◌∙◌, subst}
+use Rattle.k42_kinds.specs.declared.entry.Entry.{Entry}
 use Rattle.script_text.specs.declared.script.Script.{Script}
-use Rattle.load_totals.specs.Loads.{summary_due}
+use Rattle.load_totals.specs.Loads.{summary_due, summary_of, tallied}
 use Rattle.k42_cli.specs.Program.{IsRun, load_line}
 use Rattle.k42_cli.proofs.Records.{run_of}
 use Rattle.k42_cli.proofs.load.load.Goals as goal
@@ -16,7 +17,7 @@ returns g c =
       due = record {
         history = history;
         ran = subst (λ (s : Script). IsRun s history) c.in_ok-script.ensures.script ran;
-        sums = sym (rw c.in_ok-entries.ensures at c.in_ok-sums.ensures.exact) ∙ due;
+        sums = ap (λ (entries : List Entry). summary_of (tallied entries)) (sym c.in_ok-reader.ensures) ∙ sym c.in_ok-sums.ensures.exact ∙ due;
         text = c.in_ok-load_line.ensures ∙ ap (load_line c.args.steps) due;
         held = refl;
       };

@@ -1,0 +1,22 @@
+//! The entries of a history, one after the other.
+
+use k42_entries::Entries;
+use k42_runtime::{Entry, Reader};
+
+/// Those that were not read yet.
+#[derive(Drop)]
+pub struct Unread<'a> {
+    pub reader: Reader<'a>,
+}
+
+impl<'a> Entries for Unread<'a> {
+    ghost left = { λ unread. unread.reader };
+
+    fn len(&self) -> usize {
+        self.reader.len()
+    }
+
+    fn next(&mut self) -> Option<Entry> {
+        self.reader.next()
+    }
+}

@@ -1,0 +1,39 @@
+//! Entries that are given one after the other.
+#![tactic(auto)]
+
+ghost use Rattle.std.specs.Prelude.{◌≡◌, List, length, drop, slice_get};
+ghost use Rattle.k42_kinds.specs.declared.entry.Entry.{Entry};
+
+use k42_kinds::Entry;
+
+/// Entries that are given one after the other, each once. A history gives them without a list of
+/// all, and so does a list.
+pub trait Entries {
+    /// Those that are left, in their order.
+    ghost left: { Self → List Entry };
+
+    /// How many are left.
+    fn len(&self) -> usize
+        ensures { result ≡ length (left self.now) };
+
+    /// Gives the next one.
+    fn next(&mut self) -> Option<Entry>
+        ensures next { result ≡ slice_get (left self.old) 0 }
+        ensures rest { left self.new ≡ drop 1 (left self.old) };
+}
+
+impl Entries for &[Entry] {
+    ghost left = { λ entries. entries.now };
+
+    fn len(&self) -> usize {
+        let entries: &[Entry] = *self;
+        entries.len()
+    }
+
+    fn next(&mut self) -> Option<Entry> {
+        let entries: &[Entry] = *self;
+        let (entry, others) = entries.split_first()?;
+        *self = others;
+        Some(*entry)
+    }
+}
