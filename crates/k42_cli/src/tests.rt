@@ -9,7 +9,6 @@ use k42_workers::{FreeGate, Gate};
 use std::alloc::Global;
 use std::process::Abort;
 use std::sync::Wait;
-use std::test::Fail;
 use std::thread::Threads;
 
 mod gates;
@@ -60,12 +59,13 @@ struct Ran {
 }
 
 /// The words of a command line.
-fn words_in(alloc: Global, line: &str) -> Result<Vec<String>, Fail> {
+fn words_in(rt: &impl Abort, alloc: Global, line: &str) -> Vec<String> {
     let mut words = Vec::new(alloc);
     for word in line.split_whitespace() {
-        words.push(word.to_string(alloc)?)?;
+        let word = word.to_string(alloc).expect(rt, "memory");
+        words.push(word).expect(rt, "memory");
     }
-    Ok(words)
+    words
 }
 
 /// How many entries there are, where a history is kept.
@@ -74,7 +74,7 @@ fn kept_entries(kept: &Option<History>) -> Option<usize> {
 }
 
 /// Runs over a source and a sink of this piece that fail at these reads and writes.
-fn run_in_pieces<R: Threads + Wait + Sync>(
+fn run_in_pieces<R: Threads + Abort + Wait + Sync>(
     rt: &R,
     alloc: Global,
     line: &str,
@@ -82,12 +82,15 @@ fn run_in_pieces<R: Threads + Wait + Sync>(
     piece: usize,
     reads: &[u64],
     writes: &[u64],
-) -> Result<Ran, Fail>
+) -> Ran
     requires { 0 < piece }
 {
-    let words = words_in(alloc, line)?;
-    let mut source = MemSource::new(input.to_vec(alloc)?, piece, reads.to_vec(alloc)?);
-    let mut sink = MemSink::new(alloc, 4096, piece, writes.to_vec(alloc)?)?;
+    let words = words_in(rt, alloc, line);
+    let input = input.to_vec(alloc).expect(rt, "memory");
+    let reads = reads.to_vec(alloc).expect(rt, "memory");
+    let writes = writes.to_vec(alloc).expect(rt, "memory");
+    let mut source = MemSource::new(input, piece, reads);
+    let mut sink = MemSink::new(alloc, 4096, piece, writes).expect(rt, "memory");
     let mut kept = None;
     let status = k42_main(
         rt,
@@ -98,48 +101,79 @@ fn run_in_pieces<R: Threads + Wait + Sync>(
         &FreeGate,
         &mut kept,
     );
-    let text = sink.taken().to_vec(alloc)?;
+    let text = sink.taken().to_vec(alloc).expect(rt, "memory");
     let kept = kept_entries(&kept);
-    Ok(Ran { status, text, kept })
+    Ran { status, text, kept }
 }
 
 /// Runs under a gate over ends that never fail.
-fn run_under<R: Threads + Wait + Sync, G: Gate + Sync>(
+fn run_under<R: Threads + Abort + Wait + Sync, G: Gate + Sync>(
     rt: &R,
     alloc: Global,
     line: &str,
     input: &[u8],
     gate: &G,
-) -> Result<Ran, Fail> {
-    let words = words_in(alloc, line)?;
-    let mut source = QuietSource::new(input.to_vec(alloc)?);
-    let mut sink = QuietSink::new(alloc, 4096)?;
+) -> Ran {
+    let words = words_in(rt, alloc, line);
+    let input = input.to_vec(alloc).expect(rt, "memory");
+    let mut source = QuietSource::new(input);
+    let mut sink = QuietSink::new(alloc, 4096).expect(rt, "memory");
     let mut kept = None;
     let status = k42_main(rt, alloc, &words, &mut source, &mut sink, gate, &mut kept);
-    let text = sink.taken().to_vec(alloc)?;
+    let text = sink.taken().to_vec(alloc).expect(rt, "memory");
     let kept = kept_entries(&kept);
-    Ok(Ran { status, text, kept })
+    Ran { status, text, kept }
+}
+
+/// It ended so, wrote this, and kept so many entries, if it kept a history.
+fn expect_ran(rt: &impl Abort, ran: &Ran, status: Status, text: &[u8], kept: Option<usize>) {
+    assert!(rt; ran.status == status);
+    assert!(rt; ran.text.as_slice() == text);
+    assert!(rt; ran.kept == kept);
+}
+
+/// It ended so, and wrote this.
+fn expect_told(rt: &impl Abort, ran: &Ran, status: Status, text: &[u8], at: &str) {
+    assert!(rt; ran.status == status, "of {at}");
+    assert!(rt; ran.text.as_slice() == text, "of {at}");
 }
 
 #[test]
-fn memory_is_not_lacking_where_there_is_enough(rt: HostRuntime) -> Result<(), Fail> {
-    let ran = run_in_pieces(&rt, rt.alloc(), RUN, ADD_AND_GET, 4096, &[], &[])?;
-    assert_eq!(rt; ran.status, Status::Ok);
-    assert_eq!(rt; ran.text.as_slice(), ADD_AND_GET_RECORD);
-    assert_eq!(rt; ran.kept, Some(2));
-    Ok(())
+fn memory_is_not_lacking_where_there_is_enough(rt: HostRuntime) {
+    let ran = run_in_pieces(&rt, rt.alloc(), RUN, ADD_AND_GET, 4096, &[], &[]);
+    expect_ran(&rt, &ran, Status::Ok, ADD_AND_GET_RECORD, Some(2));
 }
 
 #[test]
-fn a_run_without_calls_over_ends_that_never_fail(rt: HostRuntime) -> Result<(), Fail> {
-    let ran = run_under(&rt, rt.alloc(), RUN, b"procs 1\n", &FreeGate)?;
-    assert_eq!(rt; ran.status, Status::Ok);
-    assert_eq!(rt; ran.text.as_slice(), NO_CALLS_RECORD);
-    Ok(())
+fn a_run_without_calls_over_ends_that_never_fail(rt: HostRuntime) {
+    let ran = run_under(&rt, rt.alloc(), RUN, b"procs 1\n", &FreeGate);
+    expect_told(&rt, &ran, Status::Ok, NO_CALLS_RECORD, RUN);
+}
+
+/// The words are answered by the usage line, and nothing is read or kept.
+fn expect_usage<R: Threads + Abort + Wait + Sync>(rt: &R, alloc: Global, line: &str) {
+    let words = words_in(rt, alloc, line);
+    let mut source = Counted { reads: 0 };
+    let sink = MemSink::new(alloc, 4096, 4096, Vec::new(alloc));
+    let mut sink = sink.expect(rt, "memory");
+    let mut kept = None;
+    let status = k42_main(
+        rt,
+        alloc,
+        &words,
+        &mut source,
+        &mut sink,
+        &FreeGate,
+        &mut kept,
+    );
+    assert!(rt; status == Status::Usage, "of {line}");
+    assert!(rt; sink.taken() == USAGE_LINE, "of {line}");
+    assert!(rt; source.reads == 0, "of {line}");
+    assert!(rt; kept_entries(&kept) == None, "of {line}");
 }
 
 #[test]
-fn words_that_are_no_form_read_nothing(rt: HostRuntime) -> Result<(), Fail> {
+fn words_that_are_no_form_read_nothing(rt: HostRuntime) {
     let cases = [
         "",
         "load",
@@ -157,84 +191,50 @@ fn words_that_are_no_form_read_nothing(rt: HostRuntime) -> Result<(), Fail> {
         "load 8 8",
     ];
     for line in cases {
-        let words = words_in(rt.alloc(), line)?;
-        let mut source = Counted { reads: 0 };
-        let mut sink = MemSink::new(rt.alloc(), 4096, 4096, Vec::new(rt.alloc()))?;
-        let mut kept = None;
-        let status = k42_main(
-            &rt,
-            rt.alloc(),
-            &words,
-            &mut source,
-            &mut sink,
-            &FreeGate,
-            &mut kept,
-        );
-        assert_eq!(rt; status, Status::Usage, "of {line}");
-        assert_eq!(rt; sink.taken(), USAGE_LINE, "of {line}");
-        assert_eq!(rt; source.reads, 0, "of {line}");
-        assert_eq!(rt; kept_entries(&kept), None, "of {line}");
+        expect_usage(&rt, rt.alloc(), line);
     }
-    Ok(())
 }
 
 #[test]
-fn a_failed_read_leaves_the_sink_empty(rt: HostRuntime) -> Result<(), Fail> {
-    let ran = run_in_pieces(&rt, rt.alloc(), RUN, ADD_AND_GET, 4096, &[2], &[])?;
-    assert_eq!(rt; ran.status, Status::ReadFault);
-    assert_eq!(rt; ran.text.len(), 0);
-    assert_eq!(rt; ran.kept, None);
-    Ok(())
+fn a_failed_read_leaves_the_sink_empty(rt: HostRuntime) {
+    let ran = run_in_pieces(&rt, rt.alloc(), RUN, ADD_AND_GET, 4096, &[2], &[]);
+    expect_ran(&rt, &ran, Status::ReadFault, b"", None);
 }
 
 #[test]
-fn a_failed_write_leaves_what_came_before_it(rt: HostRuntime) -> Result<(), Fail> {
-    let ran = run_in_pieces(&rt, rt.alloc(), RUN, ADD_AND_GET, 8, &[], &[3])?;
-    assert_eq!(rt; ran.status, Status::WriteFault);
-    assert_eq!(rt; ran.text.as_slice(), b"k42 record 1\n1 a".as_slice());
-    assert_eq!(rt; ran.kept, None);
-    Ok(())
+fn a_failed_write_leaves_what_came_before_it(rt: HostRuntime) {
+    let ran = run_in_pieces(&rt, rt.alloc(), RUN, ADD_AND_GET, 8, &[], &[3]);
+    expect_ran(&rt, &ran, Status::WriteFault, b"k42 record 1\n1 a", None);
 }
 
 #[test]
-fn each_read_failing_in_turn(rt: HostRuntime) -> Result<(), Fail> {
-    for k in 1..=68 {
-        let ran = run_in_pieces(&rt, rt.alloc(), RUN, ADD_AND_GET, 1, &[k], &[])?;
-        let (status, text): (Status, &[u8]) = if k < 68 {
-            (Status::ReadFault, b"")
-        } else {
-            (Status::Ok, ADD_AND_GET_RECORD)
-        };
-        assert_eq!(rt; ran.status, status, "at read {k}");
-        assert_eq!(rt; ran.text.as_slice(), text, "at read {k}");
+fn each_read_failing_in_turn(rt: HostRuntime) {
+    for k in 1..68 {
+        let ran = run_in_pieces(&rt, rt.alloc(), RUN, ADD_AND_GET, 1, &[k], &[]);
+        assert!(rt; ran.status == Status::ReadFault, "at read {k}");
+        assert!(rt; ran.text.is_empty(), "at read {k}");
     }
-    Ok(())
+    let ran = run_in_pieces(&rt, rt.alloc(), RUN, ADD_AND_GET, 1, &[68], &[]);
+    expect_told(&rt, &ran, Status::Ok, ADD_AND_GET_RECORD, "read 68");
 }
 
 #[test]
-fn each_write_failing_in_turn(rt: HostRuntime) -> Result<(), Fail> {
-    for k in 1..=67u64 {
-        let ran = run_in_pieces(&rt, rt.alloc(), RUN, ADD_AND_GET, 1, &[], &[k])?;
-        let status = if k < 67 {
-            Status::WriteFault
-        } else {
-            Status::Ok
-        };
+fn each_write_failing_in_turn(rt: HostRuntime) {
+    for k in 1..67u64 {
+        let ran = run_in_pieces(&rt, rt.alloc(), RUN, ADD_AND_GET, 1, &[], &[k]);
         let written = ADD_AND_GET_RECORD.iter().take(k as usize - 1);
-        assert_eq!(rt; ran.status, status, "at write {k}");
+        assert!(rt; ran.status == Status::WriteFault, "at write {k}");
         assert!(rt; ran.text.iter().eq(written), "at write {k}");
     }
-    Ok(())
+    let ran = run_in_pieces(&rt, rt.alloc(), RUN, ADD_AND_GET, 1, &[], &[67]);
+    expect_told(&rt, &ran, Status::Ok, ADD_AND_GET_RECORD, "write 67");
 }
 
 #[test]
-fn reads_and_writes_that_fail_under_check(rt: HostRuntime) -> Result<(), Fail> {
+fn reads_and_writes_that_fail_under_check(rt: HostRuntime) {
     let input = b"procs 1\n---\nk42 record 1\nend 0\n";
-    let read = run_in_pieces(&rt, rt.alloc(), "check", input, 8, &[2], &[])?;
-    assert_eq!(rt; read.status, Status::ReadFault);
-    assert_eq!(rt; read.text.len(), 0);
-    let written = run_in_pieces(&rt, rt.alloc(), "check", input, 4, &[], &[2])?;
-    assert_eq!(rt; written.status, Status::WriteFault);
-    assert_eq!(rt; written.text.as_slice(), b"lawf".as_slice());
-    Ok(())
+    let read = run_in_pieces(&rt, rt.alloc(), "check", input, 8, &[2], &[]);
+    expect_told(&rt, &read, Status::ReadFault, b"", "a read");
+    let written = run_in_pieces(&rt, rt.alloc(), "check", input, 4, &[], &[2]);
+    expect_told(&rt, &written, Status::WriteFault, b"lawf", "a write");
 }

@@ -3,15 +3,14 @@ ghost use Rattle.std.specs.Prelude.{◌≡◌, ◌<◌, nat_lt, [], ◌∷◌};
 ghost use Rattle.std.specs.Bool.{OnTrue};
 ghost use Rattle.std.specs.List.{All, list_all};
 ghost use Rattle.phase_core.specs.Event.{event_seen, caller_of, NamesObjects};
-ghost use Rattle.phase_core.specs.State.{new_phases};
+ghost use Rattle.phase_core.specs.State.{new_phases, IsPlan};
 ghost use Rattle.phase_core.specs.Sound.{IsSound};
 
 use gen_core::GenEvent;
 use k42_limits::LAST_INCARNATION;
-use k42_memory::Memory;
 use phase_core::{LocalEntry, PhaseEvent, PhaseState, Place, SwapAt, apply, has_room};
 use std::alloc::Global;
-use std::test::Fail;
+use std::process::Abort;
 
 mod listed;
 
@@ -116,10 +115,13 @@ enum Step {
     Free(u32, u32),
 }
 
-fn event(alloc: Global, step: Step) -> Result<PhaseEvent, Memory> {
-    Ok(match step {
+fn event(rt: &impl Abort, alloc: Global, step: Step) -> PhaseEvent {
+    match step {
         Step::Turn(event) => PhaseEvent::Turn(event),
-        Step::TakeRole(c, notes) => PhaseEvent::TakeRole(c, notes.to_vec(alloc)?),
+        Step::TakeRole(c, notes) => {
+            let notes = notes.to_vec(alloc).expect(rt, "memory");
+            PhaseEvent::TakeRole(c, notes)
+        }
         Step::LookUp(c, o) => PhaseEvent::LookUp(c, o),
         Step::RootLoad(c, o) => PhaseEvent::RootLoad(c, o),
         Step::Install(c, o) => PhaseEvent::Install(c, o),
@@ -135,23 +137,34 @@ fn event(alloc: Global, step: Step) -> Result<PhaseEvent, Memory> {
         Step::Open(c) => PhaseEvent::Open(c),
         Step::Clear(c) => PhaseEvent::Clear(c),
         Step::Free(c, o) => PhaseEvent::Free(c, o),
-    })
+    }
 }
 
 // How many of the steps are answered as they are listed, up to the first that is not.
-fn answered(state: &mut PhaseState, alloc: Global, steps: &[(Step, bool)]) -> Result<usize, Memory>
+fn answered(rt: &impl Abort, alloc: Global, state: &mut PhaseState, steps: &[(Step, bool)]) -> usize
     requires { IsSound state.old }
     ensures { IsSound state.new }
 {
     let mut count = 0;
     for (step, possible) in steps {
-        let event = event(alloc, *step)?;
+        let event = event(rt, alloc, *step);
         if does(state, &event) != *possible {
-            return Ok(count);
+            return count;
         }
         count += 1;
     }
-    Ok(count)
+    count
+}
+
+// A state in which nobody has entered.
+fn start(rt: &impl Abort, alloc: Global, procs: u32, layouts: &[u32], homes: &[u32]) -> PhaseState
+    requires { IsPlan procs layouts.now homes.now }
+    ensures new { result ≡ new_phases procs layouts.now homes.now }
+    ensures sound { IsSound result }
+{
+    let layouts = layouts.to_vec(alloc).expect(rt, "memory");
+    let homes = homes.to_vec(alloc).expect(rt, "memory");
+    PhaseState::new(alloc, procs, layouts, homes).expect(rt, "memory")
 }
 
 fn place(state: &PhaseState, c: usize) -> Option<Place> {
@@ -173,6 +186,12 @@ fn entry(state: &PhaseState, o: usize, p: usize) -> Option<LocalEntry> {
         Some(object) => object.entries.get(p).copied(),
         None => None,
     }
+}
+
+// A caller is at this place, and its swap here.
+fn expect_caller(rt: &impl Abort, state: &PhaseState, c: usize, at: Place, swaps: SwapAt) {
+    assert!(rt; place(state, c) == Some(at));
+    assert!(rt; swap(state, c) == Some(swaps));
 }
 
 // The count, the incarnation, the layout and the number of freed rows of an object.
@@ -212,26 +231,24 @@ const KNOCKED: &[(Step, bool)] = &[
 ];
 
 #[test]
-fn a_call_is_direct_until_a_swap_interposes_and_then_counted(rt: HostRuntime) -> Result<(), Fail> {
-    let layouts = vec![in rt.alloc(); 0]?;
-    let callers = vec![in rt.alloc(); 0, 0]?;
-    let mut state = PhaseState::new(rt.alloc(), 1, layouts, callers)?;
-    assert_eq!(rt; answered(&mut state, rt.alloc(), MISSED)?, 2);
-    assert_eq!(rt; place(&state, 0), Some(Place::Missed(0, 0)));
-    assert_eq!(rt; answered(&mut state, rt.alloc(), INSTALLED)?, 1);
-    assert_eq!(rt; place(&state, 0), Some(Place::Direct(0, 0)));
-    assert_eq!(rt; answered(&mut state, rt.alloc(), INTERPOSED)?, 3);
+fn a_call_is_direct_until_a_swap_interposes_and_then_counted(rt: HostRuntime) {
+    let alloc = rt.alloc();
+    let mut state = start(&rt, alloc, 1, &[0], &[0, 0]);
+    assert!(rt; answered(&rt, alloc, &mut state, MISSED) == 2);
+    assert!(rt; place(&state, 0) == Some(Place::Missed(0, 0)));
+    assert!(rt; answered(&rt, alloc, &mut state, INSTALLED) == 1);
+    assert!(rt; place(&state, 0) == Some(Place::Direct(0, 0)));
+    assert!(rt; answered(&rt, alloc, &mut state, INTERPOSED) == 3);
     let mediator = LocalEntry {
         tag: 2,
         layout: 0,
         cell: 0,
         incarnation: 0,
     };
-    assert_eq!(rt; entry(&state, 0, 0), Some(mediator));
-    assert_eq!(rt; answered(&mut state, rt.alloc(), KNOCKED)?, 3);
-    assert_eq!(rt; place(&state, 0), Some(Place::Tracked(0, 0)));
-    assert_eq!(rt; numbers(&state, 0), Some((1, 0, 0, 0)));
-    Ok(())
+    assert!(rt; entry(&state, 0, 0) == Some(mediator));
+    assert!(rt; answered(&rt, alloc, &mut state, KNOCKED) == 3);
+    assert!(rt; place(&state, 0) == Some(Place::Tracked(0, 0)));
+    assert!(rt; numbers(&state, 0) == Some((1, 0, 0, 0)));
 }
 
 // Caller 1 is in the row as caller 0 begins a swap, and a grace waits for it.
@@ -342,90 +359,86 @@ const GIVEN_UP: &[(Step, bool)] = &[
     (Step::Unblock(0), false),
 ];
 
-// Each stage of a whole swap tells whether all went as listed.
+// Each stage of a whole swap goes as listed.
 
-fn begins_under_a_call(state: &mut PhaseState, alloc: Global) -> Result<bool, Memory>
+fn begin_under_a_call(rt: &impl Abort, alloc: Global, state: &mut PhaseState)
     requires { IsSound state.old }
     ensures { IsSound state.new }
 {
-    let count = answered(state, alloc, CALL_UNDER_A_SWAP)?;
-    Ok(count == 14 && swap(state, 0) == Some(SwapAt::Draining(0)))
+    assert!(rt; answered(rt, alloc, state, CALL_UNDER_A_SWAP) == 14);
+    assert!(rt; swap(state, 0) == Some(SwapAt::Draining(0)));
 }
 
-fn blocks_under_a_call(state: &mut PhaseState, alloc: Global) -> Result<bool, Memory>
+fn block_under_a_call(rt: &impl Abort, alloc: Global, state: &mut PhaseState)
     requires { IsSound state.old }
     ensures { IsSound state.new }
 {
-    let count = answered(state, alloc, COUNTED_BEFORE_THE_MOVE)?;
-    let waits = swap(state, 0) == Some(SwapAt::Blocking(0));
-    Ok(count == 10 && waits && place(state, 1) == Some(Place::Tracked(0, 0)))
+    assert!(rt; answered(rt, alloc, state, COUNTED_BEFORE_THE_MOVE) == 10);
+    assert!(rt; swap(state, 0) == Some(SwapAt::Blocking(0)));
+    assert!(rt; place(state, 1) == Some(Place::Tracked(0, 0)));
 }
 
-fn moves_and_lets_nobody_in(state: &mut PhaseState, alloc: Global) -> Result<bool, Memory>
+fn move_and_let_nobody_in(rt: &impl Abort, alloc: Global, state: &mut PhaseState)
     requires { IsSound state.old }
     ensures { IsSound state.new }
 {
-    let count = answered(state, alloc, MOVED_AND_KNOCKED)?;
-    let moved = swap(state, 0) == Some(SwapAt::Moved(0));
-    Ok(count == 4 && moved && place(state, 1) == Some(Place::Blocked(0)))
+    assert!(rt; answered(rt, alloc, state, MOVED_AND_KNOCKED) == 4);
+    assert!(rt; swap(state, 0) == Some(SwapAt::Moved(0)));
+    assert!(rt; place(state, 1) == Some(Place::Blocked(0)));
 }
 
-fn opens_the_next_row(state: &mut PhaseState, alloc: Global) -> Result<bool, Memory>
+fn open_the_next_row(rt: &impl Abort, alloc: Global, state: &mut PhaseState)
     requires { IsSound state.old }
     ensures { IsSound state.new }
 {
-    let count = answered(state, alloc, OPENED)?;
-    let inside = place(state, 1) == Some(Place::Direct(0, 1));
-    Ok(count == 8 && inside && numbers(state, 0) == Some((0, 1, 1, 0)))
+    assert!(rt; answered(rt, alloc, state, OPENED) == 8);
+    assert!(rt; place(state, 1) == Some(Place::Direct(0, 1)));
+    assert!(rt; numbers(state, 0) == Some((0, 1, 1, 0)));
 }
 
-fn frees_the_former_row(state: &mut PhaseState, alloc: Global) -> Result<bool, Memory>
+fn free_the_former_row(rt: &impl Abort, alloc: Global, state: &mut PhaseState)
     requires { IsSound state.old }
     ensures { IsSound state.new }
 {
-    let count = answered(state, alloc, FREED)?;
-    Ok(count == 13 && numbers(state, 0) == Some((0, 1, 1, 1)))
+    assert!(rt; answered(rt, alloc, state, FREED) == 13);
+    assert!(rt; numbers(state, 0) == Some((0, 1, 1, 1)));
 }
 
-fn swaps_again(state: &mut PhaseState, alloc: Global) -> Result<bool, Memory>
+fn swap_again(rt: &impl Abort, alloc: Global, state: &mut PhaseState)
     requires { IsSound state.old }
     ensures { IsSound state.new }
 {
-    let count = answered(state, alloc, SWAPPED_AGAIN)?;
-    let refused = swap(state, 1) == Some(SwapAt::Refused(0));
-    Ok(count == 18 && refused && numbers(state, 0) == Some((0, 2, 2, 1)))
+    assert!(rt; answered(rt, alloc, state, SWAPPED_AGAIN) == 18);
+    assert!(rt; swap(state, 1) == Some(SwapAt::Refused(0)));
+    assert!(rt; numbers(state, 0) == Some((0, 2, 2, 1)));
 }
 
 #[test]
-fn a_swap_on_two_processors_goes_to_its_end_under_a_caller(rt: HostRuntime) -> Result<(), Fail> {
-    let layouts = vec![in rt.alloc(); 0]?;
-    let callers = vec![in rt.alloc(); 0, 1]?;
-    let mut state = PhaseState::new(rt.alloc(), 2, layouts, callers)?;
-    assert!(rt; begins_under_a_call(&mut state, rt.alloc())?);
-    assert!(rt; blocks_under_a_call(&mut state, rt.alloc())?);
-    assert!(rt; moves_and_lets_nobody_in(&mut state, rt.alloc())?);
-    assert!(rt; opens_the_next_row(&mut state, rt.alloc())?);
-    assert!(rt; frees_the_former_row(&mut state, rt.alloc())?);
-    assert!(rt; swaps_again(&mut state, rt.alloc())?);
-    Ok(())
+fn a_swap_on_two_processors_goes_to_its_end_under_a_caller(rt: HostRuntime) {
+    let alloc = rt.alloc();
+    let mut state = start(&rt, alloc, 2, &[0], &[0, 1]);
+    begin_under_a_call(&rt, alloc, &mut state);
+    block_under_a_call(&rt, alloc, &mut state);
+    move_and_let_nobody_in(&rt, alloc, &mut state);
+    open_the_next_row(&rt, alloc, &mut state);
+    free_the_former_row(&rt, alloc, &mut state);
+    swap_again(&rt, alloc, &mut state);
 }
 
 #[test]
-fn a_swap_that_is_given_up_leaves_the_row_as_it_was(rt: HostRuntime) -> Result<(), Fail> {
-    let layouts = vec![in rt.alloc(); 1]?;
-    let callers = vec![in rt.alloc(); 0]?;
-    let mut state = PhaseState::new(rt.alloc(), 1, layouts, callers)?;
-    assert_eq!(rt; answered(&mut state, rt.alloc(), GIVEN_UP)?, 13);
-    assert_eq!(rt; swap(&state, 0), Some(SwapAt::Idle));
-    assert_eq!(rt; numbers(&state, 0), Some((0, 0, 1, 0)));
+fn a_swap_that_is_given_up_leaves_the_row_as_it_was(rt: HostRuntime) {
+    let alloc = rt.alloc();
+    let mut state = start(&rt, alloc, 1, &[1], &[0]);
+    assert!(rt; answered(&rt, alloc, &mut state, GIVEN_UP) == 13);
+    assert!(rt; swap(&state, 0) == Some(SwapAt::Idle));
+    assert!(rt; numbers(&state, 0) == Some((0, 0, 1, 0)));
     let empty = LocalEntry {
         tag: 0,
         layout: 0,
         cell: 0,
         incarnation: 0,
     };
-    assert_eq!(rt; entry(&state, 0, 0), Some(empty));
-    Ok(())
+    assert!(rt; entry(&state, 0, 0) == Some(empty));
 }
 
 // The one object of a new state goes to its last incarnation.
@@ -444,12 +457,9 @@ fn age(state: &mut PhaseState)
 }
 
 #[test]
-fn a_swap_is_refused_at_the_last_incarnation(rt: HostRuntime) -> Result<(), Fail> {
-    let layouts = vec![in rt.alloc(); 0]?;
-    let callers = vec![in rt.alloc(); 0]?;
-    let mut state = PhaseState::new(rt.alloc(), 1, layouts, callers)?;
+fn a_swap_is_refused_at_the_last_incarnation(rt: HostRuntime) {
+    let mut state = start(&rt, rt.alloc(), 1, &[0], &[0]);
     age(&mut state);
     assert!(rt; does(&mut state, &PhaseEvent::Begin(0, 0)));
-    assert_eq!(rt; swap(&state, 0), Some(SwapAt::Refused(0)));
-    Ok(())
+    assert!(rt; swap(&state, 0) == Some(SwapAt::Refused(0)));
 }

@@ -4,7 +4,6 @@ use record_text::read;
 use script_text::parse;
 use std::alloc::Global;
 use std::process::Abort;
-use std::test::Fail;
 
 const SCRIPT: &[u8] = b"procs 2\n\
 object hits counter shared\n\
@@ -97,46 +96,41 @@ fn drawn(
     record: &[u8],
     verdict: Verdict,
     window: Window,
-) -> Result<Vec<u8>, Fail> {
-    let script = parse(alloc, script)?;
+) -> Vec<u8> {
+    let script = parse(alloc, script).expect(rt, "a script");
     assert!(rt; record.len() < 1 << 31);
-    let written = read(alloc, &script, record)?;
+    let written = read(alloc, &script, record).expect(rt, "a record");
     assert!(rt; window.count <= COLUMNS);
-    Ok(draw(alloc, &script, &written, verdict, window)?)
+    draw(alloc, &script, &written, verdict, window).expect(rt, "memory")
 }
 
 #[test]
-fn lanes_frames_swaps_and_boxes_are_drawn_in_their_places(rt: HostRuntime) -> Result<(), Fail> {
+fn lanes_frames_swaps_and_boxes_are_drawn_in_their_places(rt: HostRuntime) {
     let window = Window {
         before: 0,
         count: COLUMNS,
     };
-    let picture = drawn(&rt, rt.alloc(), SCRIPT, RECORD, Verdict::Lawful, window)?;
+    let picture = drawn(&rt, rt.alloc(), SCRIPT, RECORD, Verdict::Lawful, window);
     assert!(rt; picture.as_slice().ends_with(WHOLE));
-    Ok(())
 }
 
 #[test]
-fn the_faulty_entry_of_a_window_is_framed_and_those_behind_it_are_greyed(
-    rt: HostRuntime,
-) -> Result<(), Fail> {
+fn the_faulty_entry_of_a_window_is_framed_and_those_behind_it_are_greyed(rt: HostRuntime) {
     let verdict = Verdict::Unlawful { line: 4, rule: 6 };
     let window = Window {
         before: 1,
         count: 3,
     };
-    let picture = drawn(&rt, rt.alloc(), SCRIPT, RECORD, verdict, window)?;
+    let picture = drawn(&rt, rt.alloc(), SCRIPT, RECORD, verdict, window);
     assert!(rt; picture.as_slice().ends_with(FAULTY));
-    Ok(())
 }
 
 #[test]
-fn a_watch_and_an_unwatch_have_lines_of_their_own(rt: HostRuntime) -> Result<(), Fail> {
+fn a_watch_and_an_unwatch_have_lines_of_their_own(rt: HostRuntime) {
     let window = Window {
         before: 0,
         count: COLUMNS,
     };
-    let picture = drawn(&rt, rt.alloc(), WATCHED, WATCHES, Verdict::Lawful, window)?;
+    let picture = drawn(&rt, rt.alloc(), WATCHED, WATCHES, Verdict::Lawful, window);
     assert!(rt; picture.as_slice().ends_with(LAYERS));
-    Ok(())
 }

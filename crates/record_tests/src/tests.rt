@@ -11,7 +11,6 @@ use record_text::*;
 use script_text::{CallLine, Item, ObjectLine, Script, WorkerLines};
 use std::alloc::Global;
 use std::process::Abort;
-use std::test::Fail;
 
 /// An entry: its caller, the index of its line, and what came of it.
 #[derive(Drop)]
@@ -39,57 +38,61 @@ struct Case {
 /// A line of a script: its worker, its number and its act.
 type Line = (u32, u32, Act);
 
-fn name(bytes: &[u8]) -> Result<Name, Fail> {
-    Ok(Name::of(bytes).ok_or("no name")?)
+fn name(rt: &impl Abort, bytes: &[u8]) -> Name {
+    Name::of(bytes).expect(rt, "a name")
 }
 
 fn worker_of(
+    rt: &impl Abort,
     alloc: Global,
     lines: &[Line],
     number: usize,
     letter: u8,
-) -> Result<WorkerLines, Fail> {
+) -> WorkerLines {
     let mut items = Items::new(alloc);
-    items.push(Item::Begin)?;
+    items.push(Item::Begin).expect(rt, "memory");
     for (worker, line, act) in lines {
         if *worker as usize == number {
-            items.push(Item::Line(CallLine {
+            let item = Item::Line(CallLine {
                 line: *line,
                 object: 0,
                 act: *act,
-            }))?;
+            });
+            items.push(item).expect(rt, "memory");
         }
     }
-    items.push(Item::End)?;
-    Ok(WorkerLines {
-        name: name(&[letter])?,
+    items.push(Item::End).expect(rt, "memory");
+    WorkerLines {
+        name: name(rt, &[letter]),
         proc: 0,
         items,
-    })
+    }
 }
 
-fn script_of(alloc: Global, case: &Case, lines: &[Line]) -> Result<Script, Fail> {
+fn script_of(rt: &impl Abort, alloc: Global, case: &Case, lines: &[Line]) -> Script {
     let mut workers = Items::new(alloc);
     for (number, letter) in case.workers.iter().enumerate() {
-        workers.push(worker_of(alloc, lines, number, *letter)?)?;
+        let worker = worker_of(rt, alloc, lines, number, *letter);
+        workers.push(worker).expect(rt, "memory");
     }
     let mut objects = Items::new(alloc);
-    objects.push(ObjectLine {
-        name: name(case.object)?,
+    let object = ObjectLine {
+        name: name(rt, case.object),
         kind: case.kind,
         layout: LayoutName::Shared,
-    })?;
-    Ok(Script {
+    };
+    objects.push(object).expect(rt, "memory");
+    Script {
         procs: 1,
         objects,
         workers,
-    })
+    }
 }
 
-fn entries_of(alloc: Global, told: &[Told]) -> Result<Vec<Entry>, Fail> {
+fn entries_of(rt: &impl Abort, alloc: Global, told: &[Told]) -> Vec<Entry> {
     let mut entries = Vec::new(alloc);
     for (i, told) in told.iter().enumerate() {
-        entries.push(Entry {
+        let entry = Entry {
             stamp: i as u64 + 1,
             caller: told.caller,
             index: told.index,
@@ -100,60 +103,41 @@ fn entries_of(alloc: Global, told: &[Told]) -> Result<Vec<Entry>, Fail> {
             answer: told.answer,
             proc: 0,
             generation: told.generation,
-        })?;
+        };
+        entries.push(entry).expect(rt, "memory");
     }
-    Ok(entries)
+    entries
 }
 
 /// The text of a record is read as this record.
-fn expect_read_back(
-    rt: &impl Abort,
-    alloc: Global,
-    script: &Script,
-    lines: &Record,
-    text: &[u8],
-) -> Result<(), Fail> {
+fn expect_read_back(rt: &impl Abort, alloc: Global, script: &Script, lines: &Record, text: &[u8]) {
     assert!(rt; script.objects.len() <= OBJECTS && script.workers.len() <= CALLERS);
     assert!(rt; text.len() < 1 << 31);
-    let again = read(alloc, script, text)?;
-    assert_eq!(rt; again.version, lines.version);
+    let again = read(alloc, script, text).expect(rt, "a record");
+    assert!(rt; again.version == lines.version);
     assert!(rt; again.lines.as_slice() == lines.lines.as_slice());
-    Ok(())
 }
 
-fn text_of(
-    rt: &impl Abort,
-    alloc: Global,
-    case: &Case,
-    lines: &[Line],
-    told: &[Told],
-) -> Result<Vec<u8>, Fail> {
-    let script = script_of(alloc, case, lines)?;
-    let entries = entries_of(alloc, told)?;
+fn text_of(rt: &impl Abort, alloc: Global, case: &Case, lines: &[Line], told: &[Told]) -> Vec<u8> {
+    let script = script_of(rt, alloc, case, lines);
+    let entries = entries_of(rt, alloc, told);
     let version = case.version;
     assert!(rt; is_version(version), "{}", case.shows);
     assert!(rt;
-        has_lines(alloc, &script, entries.as_slice())?,
+        has_lines(rt, alloc, &script, entries.as_slice()),
         "{}",
         case.shows
     );
-    let lines = lines_of(alloc, &script, &entries, version)?;
+    let lines = lines_of(alloc, &script, &entries, version).expect(rt, "memory");
     assert!(rt; has_text(&script, &lines), "{}", case.shows);
-    let text = print(alloc, &script, &lines)?;
-    expect_read_back(rt, alloc, &script, &lines, text.as_slice())?;
-    Ok(text)
+    let text = print(alloc, &script, &lines).expect(rt, "memory");
+    expect_read_back(rt, alloc, &script, &lines, text.as_slice());
+    text
 }
 
-fn expect_text(
-    rt: &impl Abort,
-    alloc: Global,
-    case: &Case,
-    lines: &[Line],
-    told: &[Told],
-) -> Result<(), Fail> {
-    let text = text_of(rt, alloc, case, lines, told)?;
-    assert_eq!(rt; text.as_slice(), case.text, "{}", case.shows);
-    Ok(())
+fn expect_text(rt: &impl Abort, alloc: Global, case: &Case, lines: &[Line], told: &[Told]) {
+    let text = text_of(rt, alloc, case, lines, told);
+    assert!(rt; text.as_slice() == case.text, "{}", case.shows);
 }
 
 fn call(op: Op) -> Act {
@@ -193,7 +177,7 @@ fn end(caller: u32, index: u64, act: Act, answer: Answer, incarnation: u32) -> T
 }
 
 #[test]
-fn calls_of_a_counter(rt: HostRuntime) -> Result<(), Fail> {
+fn calls_of_a_counter(rt: HostRuntime) {
     let alloc = rt.alloc();
     expect_text(
         &rt,
@@ -223,12 +207,11 @@ fn calls_of_a_counter(rt: HostRuntime) -> Result<(), Fail> {
             reply(1, 1, call(Op::Get), Reply::Number(12), 0),
             reply(0, 1, call(Op::Get), Reply::Number(12), 0),
         ],
-    )?;
-    Ok(())
+    );
 }
 
 #[test]
-fn swaps_and_destroys(rt: HostRuntime) -> Result<(), Fail> {
+fn swaps_and_destroys(rt: HostRuntime) {
     let alloc = rt.alloc();
     let get_after = Told {
         caller: 0,
@@ -265,7 +248,7 @@ fn swaps_and_destroys(rt: HostRuntime) -> Result<(), Fail> {
         },
         swap_lines,
         swapped,
-    )?;
+    );
     expect_text(
         &rt,
         alloc,
@@ -294,7 +277,7 @@ fn swaps_and_destroys(rt: HostRuntime) -> Result<(), Fail> {
             end(0, 2, swap(LayoutName::Shared), Answer::Gone, 1),
             end(0, 3, Act::Swap(To::Dead), Answer::Gone, 1),
         ],
-    )?;
+    );
     expect_text(
         &rt,
         alloc,
@@ -320,13 +303,12 @@ fn swaps_and_destroys(rt: HostRuntime) -> Result<(), Fail> {
             end(1, 0, swap(LayoutName::Spread), Answer::Busy(1), 0),
             end(1, 1, swap(LayoutName::Shared), Answer::Spent, 1),
         ],
-    )?;
-    Ok(())
+    );
 }
 
 #[test]
-fn calls_of_a_directory(rt: HostRuntime) -> Result<(), Fail> {
-    let x = name(b"x")?;
+fn calls_of_a_directory(rt: HostRuntime) {
+    let x = name(&rt, b"x");
     let acts = [
         (0, 4, Act::Call(Op::Bind(x, 1))),
         (0, 5, Act::Call(Op::Bind(x, 2))),
@@ -363,12 +345,12 @@ fn calls_of_a_directory(rt: HostRuntime) -> Result<(), Fail> {
             reply(0, 4, acts[4].2, Reply::None, 0),
             reply(0, 5, acts[5].2, Reply::Number(0), 0),
         ],
-    )
+    );
 }
 
 #[test]
-fn calls_of_pages(rt: HostRuntime) -> Result<(), Fail> {
-    let hello = Text::of(b"hello").ok_or("no text")?;
+fn calls_of_pages(rt: HostRuntime) {
+    let hello = Text::of(b"hello").expect(&rt, "a text");
     let acts = [
         (0, 4, Act::Call(Op::Read(0))),
         (0, 5, Act::Call(Op::Write(0, hello))),
@@ -405,17 +387,18 @@ fn calls_of_pages(rt: HostRuntime) -> Result<(), Fail> {
             reply(0, 4, acts[4].2, Reply::Number(1), 0),
             reply(0, 5, acts[5].2, Reply::Number(0), 0),
         ],
-    )
+    );
 }
 
 #[test]
-fn a_record_of_65536_lines(rt: HostRuntime) -> Result<(), Fail> {
+fn a_record_of_65536_lines(rt: HostRuntime) {
     let alloc = rt.alloc();
     let mut lines = Vec::new(alloc);
     let mut entries = Vec::new(alloc);
     for i in 0u32..65536 {
-        lines.push((0, i + 4, add(7)))?;
-        entries.push(reply(0, u64::from(i), add(7), Reply::Done, 0))?;
+        let done = reply(0, u64::from(i), add(7), Reply::Done, 0);
+        lines.push((0, i + 4, add(7))).expect(&rt, "memory");
+        entries.push(done).expect(&rt, "memory");
     }
     let case = Case {
         shows: "many lines",
@@ -425,35 +408,36 @@ fn a_record_of_65536_lines(rt: HostRuntime) -> Result<(), Fail> {
         version: 2,
         text: b"65536 a 65539 hits add 7 = ok @0 p0 g0\nend 65536\n",
     };
-    let text = text_of(&rt, alloc, &case, lines.as_slice(), entries.as_slice())?;
+    let text = text_of(&rt, alloc, &case, lines.as_slice(), entries.as_slice());
     assert!(rt; text.as_slice().ends_with(case.text));
-    Ok(())
 }
 
 /// Two objects and one worker, whose names are as long as a name can be.
-fn script_of_long_names(alloc: Global) -> Result<Script, Fail> {
+fn script_of_long_names(rt: &impl Abort, alloc: Global) -> Script {
     let mut objects = Items::new(alloc);
     for (object, kind) in [
         (b"directory_______", KindName::Directory),
         (b"pages_2_________", KindName::Pages),
     ] {
-        objects.push(ObjectLine {
-            name: name(object)?,
+        let object = ObjectLine {
+            name: name(rt, object),
             kind,
             layout: LayoutName::Spread,
-        })?;
+        };
+        objects.push(object).expect(rt, "memory");
     }
     let mut workers = Items::new(alloc);
-    workers.push(WorkerLines {
-        name: name(b"worker_of_record")?,
+    let worker = WorkerLines {
+        name: name(rt, b"worker_of_record"),
         proc: 7,
         items: Items::new(alloc),
-    })?;
-    Ok(Script {
+    };
+    workers.push(worker).expect(rt, "memory");
+    Script {
         procs: 8,
         objects,
         workers,
-    })
+    }
 }
 
 /// A line whose numbers are the greatest of their types.
@@ -477,11 +461,11 @@ fn widest(object: u32, act: Act, answer: Answer) -> RecordLine {
 }
 
 #[test]
-fn the_widest_lines(rt: HostRuntime) -> Result<(), Fail> {
+fn the_widest_lines(rt: HostRuntime) {
     let alloc = rt.alloc();
-    let script = script_of_long_names(alloc)?;
-    let key = name(b"abcdefghijklmnop")?;
-    let text = Text::of(b"abcdefghijklmnopqrstuvwxyz012345").ok_or("no text")?;
+    let script = script_of_long_names(&rt, alloc);
+    let key = name(&rt, b"abcdefghijklmnop");
+    let text = Text::of(b"abcdefghijklmnopqrstuvwxyz012345").expect(&rt, "a text");
     let mut lines = Items::new(alloc);
     for line in [
         widest(
@@ -494,11 +478,11 @@ fn the_widest_lines(rt: HostRuntime) -> Result<(), Fail> {
         widest(0, call(Op::Size), Answer::Replied(Reply::Number(u64::MAX))),
         widest(1, Act::Swap(To::Dead), Answer::Busy(u32::MAX)),
     ] {
-        lines.push(line)?;
+        lines.push(line).expect(&rt, "memory");
     }
     let record = Record { lines, version: 2 };
     assert!(rt; has_text(&script, &record));
-    let text = print(alloc, &script, &record)?;
+    let text = print(alloc, &script, &record).expect(&rt, "memory");
     let want = b"k42 record 2\n\
         18446744073709551615 worker_of_record 4294967295 directory_______ bind \
         abcdefghijklmnop 18446744073709551615 = taken @4294967295 p4294967295 g4294967295\n\
@@ -511,7 +495,6 @@ fn the_widest_lines(rt: HostRuntime) -> Result<(), Fail> {
         18446744073709551615 worker_of_record 4294967295 destroy pages_2_________ = \
         busy 4294967295 @4294967295 p4294967295 g-\n\
         end 5\n";
-    assert_eq!(rt; text.as_slice(), want.as_slice());
-    expect_read_back(&rt, alloc, &script, &record, text.as_slice())?;
-    Ok(())
+    assert!(rt; text.as_slice() == want.as_slice());
+    expect_read_back(&rt, alloc, &script, &record, text.as_slice());
 }

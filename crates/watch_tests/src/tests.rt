@@ -1,5 +1,5 @@
 //! Watched objects of each kind, in each layout, and on their way from one to the other.
-ghost use Rattle.std.specs.Prelude.{◌≡◌, ◌<◌, ◌≤◌, IfOk};
+ghost use Rattle.std.specs.Prelude.{◌≡◌, ◌<◌, ◌≤◌};
 ghost use Rattle.k42_limits.specs.declared.TheConstants.{PROCESSORS};
 ghost use Rattle.k42_watch.specs.WatchedRows.{IsWatchedRow};
 ghost use Rattle.co_any.specs.Layouts.{whole_of};
@@ -9,12 +9,10 @@ use k42_kinds::{
     Act, AnyState, Kind, KindName, Layout, LayoutName, Name, Op, Reach, Reply, Text, To, empty_row,
     kind_of, step_row,
 };
-use k42_memory::Memory;
 use k42_stamp::{draw_keeps, hand_begins, merged_is_legal};
 use k42_watch::{Layer, Watch, WatchPart};
 use std::alloc::Global;
 use std::process::Abort;
-use std::test::Fail;
 
 type Watched = Watch<AnyLayout>;
 
@@ -31,44 +29,62 @@ fn layout(kind: KindName, tag: u32, layer: Layer) -> Watched
 
 /// The row of the next layout, made of what the parts of a row stand for.
 fn moved<L: Layout>(
+    rt: &impl Abort,
     alloc: Global,
     from: &L,
     to: &L,
     parts: &mut Vec<L::Part>,
-) -> Result<Vec<L::Part>, Memory>
+) -> Vec<L::Part>
     requires known { (L.tag_of from.now ≤ 1) × (L.tag_of to.now ≤ 2) }
     requires same { L.object from.now ≡ L.object to.now }
     requires row { L.whole from.now 8 parts.old.items }
-    ensures { IfOk result (λ next. L.whole to.now 8 next.items) }
+    ensures { L.whole to.now 8 result.items }
 {
-    let state = from.export(alloc, parts)?;
-    let next = to.import(alloc, &to.admit(state), 8)?;
-    Ok(next)
+    let state = from.export(alloc, parts).expect(rt, "memory");
+    to.import(alloc, &to.admit(state), 8).expect(rt, "memory")
 }
 
 /// Makes the operations of the object's kind, for the last and the first processor in turn.
-fn called(alloc: Global, layout: &Watched, row: &mut Row, ops: &[Op]) -> Result<(), Memory>
+fn call(rt: &impl Abort, alloc: Global, layout: &Watched, row: &mut Row, ops: &[Op])
     requires known { layout.now.inner.tag ≤ 2 }
     requires row { IsWatchedRow layout.now.inner.tag (whole_of layout.now.inner.kind layout.now.inner.tag 8) row.old.items }
     ensures { IsWatchedRow layout.now.inner.tag (whole_of layout.now.inner.kind layout.now.inner.tag 8) row.new.items }
 {
     let mut proc = 7;
     for op in ops {
-        if kind_of(op) == Some(layout.inner.kind) {
-            step_row(layout, alloc, row, op, proc, 8)?;
-            proc = 7 - proc;
-        }
+        assert!(rt; kind_of(op) == Some(layout.inner.kind));
+        step_row(layout, alloc, row, op, proc, 8).expect(rt, "memory");
+        proc = 7 - proc;
     }
-    Ok(())
 }
 
-/// What the object tells of its calls.
-fn figure(alloc: Global, layout: &Watched, row: &mut Row) -> Result<Reply, Memory>
+/// The object is to tell so of its calls.
+fn expect_figure(rt: &impl Abort, alloc: Global, layout: &Watched, row: &mut Row, due: Reply)
     requires known { layout.now.inner.tag ≤ 2 }
     requires row { IsWatchedRow layout.now.inner.tag (whole_of layout.now.inner.kind layout.now.inner.tag 8) row.old.items }
     ensures { IsWatchedRow layout.now.inner.tag (whole_of layout.now.inner.kind layout.now.inner.tag 8) row.new.items }
 {
-    step_row(layout, alloc, row, &Op::Seen, 3, 8)
+    let told = step_row(layout, alloc, row, &Op::Seen, 3, 8).expect(rt, "memory");
+    assert!(rt; told == due, "{told:?} in place of {due:?}");
+}
+
+/// The row of an object in its next layout, where it is to tell so of its calls.
+fn carried(
+    rt: &impl Abort,
+    alloc: Global,
+    from: &Watched,
+    to: &Watched,
+    row: &mut Row,
+    due: Reply,
+) -> Row
+    requires known { (from.now.inner.tag ≤ 1) × (to.now.inner.tag ≤ 2) }
+    requires same { from.now.inner.kind ≡ to.now.inner.kind }
+    requires row { IsWatchedRow from.now.inner.tag (whole_of from.now.inner.kind from.now.inner.tag 8) row.old.items }
+    ensures { IsWatchedRow to.now.inner.tag (whole_of to.now.inner.kind to.now.inner.tag 8) result.items }
+{
+    let mut row = moved(rt, alloc, from, to, row);
+    expect_figure(rt, alloc, to, &mut row, due);
+    row
 }
 
 /// Four calls of an object that is watched in its first layout, and four more in the other.
@@ -79,7 +95,7 @@ fn keeps_its_figure(
     calls: &[Op],
     first: u32,
     second: u32,
-) -> Result<(), Memory>
+)
     requires { (first ≤ 1) × (second ≤ 1) }
 {
     let bare = layout(kind, first, Layer::Keep);
@@ -87,25 +103,18 @@ fn keeps_its_figure(
     let other = layout(kind, second, Layer::Keep);
     let taken = layout(kind, second, Layer::Take);
     let dead = layout(kind, 2, Layer::Keep);
-    let mut row = empty_row(&bare, alloc, 8)?;
-    called(alloc, &bare, &mut row, calls)?;
-    assert_eq!(rt; figure(alloc, &bare, &mut row)?, Reply::None);
-    let mut row = moved(alloc, &bare, &placed, &mut row)?;
-    assert_eq!(rt; figure(alloc, &placed, &mut row)?, Reply::Number(0));
-    called(alloc, &placed, &mut row, calls)?;
-    assert_eq!(rt; figure(alloc, &placed, &mut row)?, Reply::Number(4));
-    let mut row = moved(alloc, &placed, &other, &mut row)?;
-    assert_eq!(rt; figure(alloc, &other, &mut row)?, Reply::Number(4));
-    called(alloc, &other, &mut row, calls)?;
-    let mut row = moved(alloc, &other, &bare, &mut row)?;
-    assert_eq!(rt; figure(alloc, &bare, &mut row)?, Reply::Number(8));
-    let mut row = moved(alloc, &bare, &placed, &mut row)?;
-    assert_eq!(rt; figure(alloc, &placed, &mut row)?, Reply::Number(0));
-    let mut row = moved(alloc, &placed, &taken, &mut row)?;
-    assert_eq!(rt; figure(alloc, &taken, &mut row)?, Reply::None);
-    let mut row = moved(alloc, &taken, &dead, &mut row)?;
-    assert_eq!(rt; figure(alloc, &dead, &mut row)?, Reply::Gone);
-    Ok(())
+    let mut row = empty_row(&bare, alloc, 8).expect(rt, "memory");
+    call(rt, alloc, &bare, &mut row, calls);
+    expect_figure(rt, alloc, &bare, &mut row, Reply::None);
+    let mut row = carried(rt, alloc, &bare, &placed, &mut row, Reply::Number(0));
+    call(rt, alloc, &placed, &mut row, calls);
+    expect_figure(rt, alloc, &placed, &mut row, Reply::Number(4));
+    let mut row = carried(rt, alloc, &placed, &other, &mut row, Reply::Number(4));
+    call(rt, alloc, &other, &mut row, calls);
+    let mut row = carried(rt, alloc, &other, &bare, &mut row, Reply::Number(8));
+    let mut row = carried(rt, alloc, &bare, &placed, &mut row, Reply::Number(0));
+    let mut row = carried(rt, alloc, &placed, &taken, &mut row, Reply::None);
+    carried(rt, alloc, &taken, &dead, &mut row, Reply::Gone);
 }
 
 /// Calls of each kind, which need one cell, or all.
@@ -123,16 +132,15 @@ fn calls_of(kind: KindName, name: Name, text: Text) -> [Op; 4] {
 }
 
 #[test]
-fn a_watched_object_keeps_its_figure_across_layouts(rt: HostRuntime) -> Result<(), Fail> {
-    let name = Name::of(b"x").ok_or("no name")?;
-    let text = Text::of(b"hi").ok_or("no text")?;
+fn a_watched_object_keeps_its_figure_across_layouts(rt: HostRuntime) {
+    let name = Name::of(b"x").expect(&rt, "a name");
+    let text = Text::of(b"hi").expect(&rt, "a text");
     for kind in [KindName::Counter, KindName::Directory, KindName::Pages] {
         let calls = calls_of(kind, name, text);
         for (first, second) in [(0, 0), (0, 1), (1, 0), (1, 1)] {
-            keeps_its_figure(&rt, rt.alloc(), kind, &calls, first, second)?;
+            keeps_its_figure(&rt, rt.alloc(), kind, &calls, first, second);
         }
     }
-    Ok(())
 }
 
 #[test]
@@ -148,7 +156,7 @@ fn a_layer_is_asked_for_by_its_act(rt: HostRuntime) {
     ];
     for (tag, layer, to) in cases {
         let asked = layout(KindName::Pages, tag, layer);
-        assert_eq!(rt; asked.act(), Act::Swap(to));
+        assert!(rt; asked.act() == Act::Swap(to));
         assert!(rt; asked.tag() == tag && asked.with_tag(1).layer == Layer::Keep);
     }
 }
@@ -162,21 +170,23 @@ fn a_figure_is_read_where_it_is_kept(rt: HostRuntime) {
 }
 
 #[test]
-fn a_count_wraps_at_2_to_the_64(rt: HostRuntime) -> Result<(), Fail> {
+fn a_count_wraps_at_2_to_the_64(rt: HostRuntime) {
+    let alloc = rt.alloc();
     let watched = layout(KindName::Counter, 0, Layer::Keep);
-    let mut state = watched.empty(rt.alloc());
+    let mut state = watched.empty(alloc);
     state.seen = Some(u64::MAX);
-    watched.step(rt.alloc(), &mut state, &Op::Get)?;
-    assert_eq!(rt;
-        watched.step(rt.alloc(), &mut state, &Op::Seen)?,
-        Reply::Number(0)
-    );
+    watched
+        .step(alloc, &mut state, &Op::Get)
+        .expect(&rt, "memory");
+    let told = watched
+        .step(alloc, &mut state, &Op::Seen)
+        .expect(&rt, "memory");
+    assert!(rt; told == Reply::Number(0));
     state.inner = AnyState::Dead;
-    assert_eq!(rt;
-        watched.step(rt.alloc(), &mut state, &Op::Seen)?,
-        Reply::Gone
-    );
-    Ok(())
+    let told = watched
+        .step(alloc, &mut state, &Op::Seen)
+        .expect(&rt, "memory");
+    assert!(rt; told == Reply::Gone);
 }
 
 #[test]

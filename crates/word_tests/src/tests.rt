@@ -1,21 +1,17 @@
 //! The words that the table shows in the course of four swaps, bit by bit.
-ghost use Rattle.std.specs.Prelude.{OnOk};
 ghost use Rattle.k42_mediator.specs.Swaps.{HasMoved};
-ghost use Rattle.word_tests.specs.Ready.{HoldsNoCell};
+ghost use Rattle.table_crews.specs.Ready.{HoldsNoCell};
 
 use crate::tests::calls::{go_in, go_out, look, visit};
-use crate::tests::crews::{Walk, last, start};
-use crate::tests::phases::{
-    begin_alone, has_moved, has_opened, may_block, may_move, move_now, swap, transfer_to, wait_free,
-};
+use crate::tests::crews::start;
+use crate::tests::phases::{begin_alone, has_opened, move_now, swap, transfer_to, wait_free};
 use co_any::AnyLayout;
 use k42_mediator::{Begun, Moving, Phase, begin, block, end, interpose, open_entries, try_move};
-use k42_memory::Memory;
 use k42_rule::Sys;
 use std::alloc::Global;
 use std::process::Abort;
 use std::sync::Wait;
-use std::test::Fail;
+use table_crews::{Walk, has_moved, may_block, may_move};
 
 mod calls;
 mod crews;
@@ -54,19 +50,18 @@ fn swap_three_times<R: Abort + Wait>(
     sys: &Sys<AnyLayout>,
     swapper: &mut Walk,
     caller: &mut Walk,
-) -> Result<(), Memory>
+)
     requires free { HoldsNoCell sys.now swapper.old × HoldsNoCell sys.now caller.old }
-    ensures free { OnOk result (HoldsNoCell sys.now swapper.new × HoldsNoCell sys.now caller.new) }
+    ensures free { HoldsNoCell sys.now swapper.new × HoldsNoCell sys.now caller.new }
 {
     visit_seven_times(rt, sys, caller);
-    swap(rt, alloc, sys, swapper, 0, 0, 0)?;
-    assert_eq!(rt; look(rt, sys, caller, 0).1, EMPTY);
-    swap(rt, alloc, sys, swapper, 0, 0, 1)?;
-    assert_eq!(rt; look(rt, sys, caller, 0).0, ENTERED);
-    swap(rt, alloc, sys, swapper, 0, 1, 1)?;
+    swap(rt, alloc, sys, swapper, 0, 0, 0);
+    assert!(rt; look(rt, sys, caller, 0).1 == EMPTY);
+    swap(rt, alloc, sys, swapper, 0, 0, 1);
+    assert!(rt; look(rt, sys, caller, 0).0 == ENTERED);
+    swap(rt, alloc, sys, swapper, 0, 1, 1);
     look(rt, sys, caller, 0);
-    assert_eq!(rt; look(rt, sys, caller, 0).1, DIRECT);
-    Ok(())
+    assert!(rt; look(rt, sys, caller, 0).1 == DIRECT);
 }
 
 /// Tries to begin a swap while the fourth one is in that phase, and finds that word.
@@ -75,8 +70,9 @@ fn find(rt: &impl Abort, sys: &Sys<AnyLayout>, observer: &mut Walk, phase: Phase
     ensures free { HoldsNoCell sys.now observer.new }
 {
     assert!(rt; observer.is_idle() && sys.objects() > 0);
-    assert_eq!(rt; begin(sys, observer, 0), Begun::Busy { number: 4, phase });
-    assert_eq!(rt; observer.last_begin().map_or(0, |begin| begin.word), word);
+    let busy = Begun::Busy { number: 4, phase };
+    assert_eq!(rt; begin(sys, observer, 0), busy);
+    assert!(rt; observer.last_begin().map_or(0, |begin| begin.word) == word);
 }
 
 /// Keeps the object shut while two calls are inside.
@@ -93,10 +89,11 @@ fn block_two(
 {
     go_in(rt, sys, caller, 0);
     go_in(rt, sys, other, 0);
-    assert!(rt; may_block(swapper));
+    assert!(rt; may_block::<AnyLayout>(swapper));
     block(sys, swapper);
-    assert!(rt; may_move(swapper));
-    assert_eq!(rt; try_move(sys, swapper), Moving::InFlight { count: 2 });
+    assert!(rt; may_move::<AnyLayout>(swapper));
+    let inside = Moving::InFlight { count: 2 };
+    assert_eq!(rt; try_move(sys, swapper), inside);
     find(rt, sys, observer, Phase::Block, BLOCKED);
     go_out(sys, caller);
     go_out(sys, other);
@@ -108,9 +105,9 @@ fn move_shut(rt: &impl Abort, sys: &Sys<AnyLayout>, swapper: &mut Walk, observer
     ensures free { HoldsNoCell sys.now swapper.new × HoldsNoCell sys.now observer.new }
     ensures moved { HasMoved swapper.new.view }
 {
-    assert!(rt; may_move(swapper));
+    assert!(rt; may_move::<AnyLayout>(swapper));
     move_now(rt, sys, swapper);
-    assert!(rt; has_moved(swapper));
+    assert!(rt; has_moved::<AnyLayout>(swapper));
     find(rt, sys, observer, Phase::Transfer, MOVING);
 }
 
@@ -121,30 +118,22 @@ fn turn(
     sys: &Sys<AnyLayout>,
     swapper: &mut Walk,
     observer: &mut Walk,
-) -> Result<(), Memory>
+)
     requires free { HoldsNoCell sys.now swapper.old × HoldsNoCell sys.now observer.old }
     requires moved { HasMoved swapper.old.view }
 {
-    transfer_to(rt, alloc, sys, swapper, 0, 0)?;
+    transfer_to(rt, alloc, sys, swapper, 0, 0);
     open_entries(sys, swapper);
     find(rt, sys, observer, Phase::Complete, TURNED);
     assert!(rt; has_opened(swapper) && swapper.row_room() > 0);
     end(sys, swapper);
-    Ok(())
 }
 
 #[test]
-fn three_swaps_and_a_fourth_show_the_words_of_the_table(rt: HostRuntime) -> Result<(), Fail> {
-    let (sys, mut passes) = start(rt.alloc())?;
-    let (Some(mut observer), Some(mut other), Some(mut caller), Some(mut swapper)) = (
-        last(&sys, &mut passes),
-        last(&sys, &mut passes),
-        last(&sys, &mut passes),
-        last(&sys, &mut passes),
-    ) else {
-        return Err("no passes")?;
-    };
-    swap_three_times(&rt, rt.alloc(), &sys, &mut swapper, &mut caller)?;
+fn three_swaps_and_a_fourth_show_the_words_of_the_table(rt: HostRuntime) {
+    let alloc = rt.alloc();
+    let (sys, mut swapper, mut caller, mut other, mut observer) = start(&rt, alloc);
+    swap_three_times(&rt, alloc, &sys, &mut swapper, &mut caller);
     begin_alone(&rt, &sys, &mut swapper, 0);
     interpose(&sys, &mut swapper);
     wait_free(&rt, &sys, &mut swapper, 1);
@@ -157,6 +146,5 @@ fn three_swaps_and_a_fourth_show_the_words_of_the_table(rt: HostRuntime) -> Resu
         &mut observer,
     );
     move_shut(&rt, &sys, &mut swapper, &mut observer);
-    turn(&rt, rt.alloc(), &sys, &mut swapper, &mut observer)?;
-    Ok(())
+    turn(&rt, alloc, &sys, &mut swapper, &mut observer);
 }

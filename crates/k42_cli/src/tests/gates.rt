@@ -1,6 +1,7 @@
 //! A gate that holds lines until others were reached or answered.
 use crossbeam_utils::Backoff;
 use k42_workers::Gate;
+use std::process::Abort;
 use std::sync::atomic::{AtomicU32, AtomicU64, Ordering};
 
 /// How many turns a line is held at most.
@@ -83,6 +84,13 @@ impl Holding {
     /// How many lines were held for as many turns as a line is held at most.
     pub fn late(&self) -> u32 {
         self.late.load(Ordering::SeqCst)
+    }
+
+    /// All of these lines were reached and answered, and no other, and so many were late.
+    pub fn expect_lines(&self, rt: &impl Abort, all: u64, late: u32) {
+        assert!(rt; self.reached() == all);
+        assert!(rt; self.answered() == all);
+        assert!(rt; self.late() == late);
     }
 
     fn is_over(&self, until: Until) -> bool {

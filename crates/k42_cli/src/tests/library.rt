@@ -74,12 +74,12 @@ fn a_record_is_lawful_and_another_reply_is_not(rt: HostRuntime) {
         &mut Bytes { rest: SCRIPT },
         &mut Bytes { rest: LAWFUL },
     );
-    assert_eq!(rt; lawful, Ok(()));
+    assert!(rt; lawful == Ok(()));
     let changed = judge(
         rt.alloc(),
         &mut Bytes { rest: SCRIPT },
         &mut Bytes { rest: CHANGED },
     );
     let broken = CheckEnd::Unlawful { line: 3, rule: 5 };
-    assert_eq!(rt; changed, Err(Refusal::Check(broken)));
+    assert!(rt; changed == Err(Refusal::Check(broken)));
 }

@@ -6,7 +6,6 @@ use k42_workers::FreeGate;
 use std::alloc::Global;
 use std::process::Abort;
 use std::sync::Wait;
-use std::test::Fail;
 use std::thread::Threads;
 
 /// Two workers add to one counter and ask for its value.
@@ -70,16 +69,28 @@ fn sixteen_meet() -> Holding {
 }
 
 /// What `check` says of a record.
-pub fn judged<R: Threads + Wait + Sync>(
+pub fn judged<R: Threads + Abort + Wait + Sync>(
     rt: &R,
     alloc: Global,
     script: &[u8],
     record: &[u8],
-) -> Result<Ran, Fail> {
-    let mut input = script.to_vec(alloc)?;
-    input.extend_from_slice(b"---\n")?;
-    input.extend_from_slice(record)?;
+) -> Ran {
+    let pieces = [script, b"---\n", record];
+    let input = pieces.concat(alloc).expect(rt, "memory");
     run_under(rt, alloc, "check", &input, &FreeGate)
+}
+
+/// `check` finds the record lawful.
+pub fn expect_lawful<R: Threads + Abort + Wait + Sync>(
+    rt: &R,
+    alloc: Global,
+    script: &[u8],
+    record: &[u8],
+    told: &[u8],
+) {
+    let found = judged(rt, alloc, script, record);
+    assert!(rt; found.text.as_slice() == told);
+    assert!(rt; found.kept == None);
 }
 
 /// Whether a line of the record stands behind its number as it is told.
@@ -90,71 +101,60 @@ fn has_line(record: &[u8], told: &[u8]) -> bool {
 }
 
 #[test]
-fn two_workers_reach_their_first_lines_side_by_side(rt: HostRuntime) -> Result<(), Fail> {
+fn two_workers_reach_their_first_lines_side_by_side(rt: HostRuntime) {
     for line in ["run", "run 2"] {
         let gate = adds_meet();
-        let ran = run_under(&rt, rt.alloc(), line, TWO_ADD, &gate)?;
-        assert_eq!(rt; ran.status, Status::Ok);
-        assert_eq!(rt; gate.reached(), lines(&[4, 5, 7, 8]));
-        assert_eq!(rt; gate.answered(), lines(&[4, 5, 7, 8]));
-        assert_eq!(rt; gate.late(), 0);
-        assert_eq!(rt; ran.kept, Some(4));
-        let found = judged(&rt, rt.alloc(), TWO_ADD, &ran.text)?;
-        assert_eq!(rt; found.text.as_slice(), b"lawful 4\n".as_slice());
-        assert_eq!(rt; found.kept, None);
+        let ran = run_under(&rt, rt.alloc(), line, TWO_ADD, &gate);
+        assert!(rt; ran.status == Status::Ok);
+        gate.expect_lines(&rt, lines(&[4, 5, 7, 8]), 0);
+        assert!(rt; ran.kept == Some(4));
+        expect_lawful(&rt, rt.alloc(), TWO_ADD, &ran.text, b"lawful 4\n");
     }
-    Ok(())
 }
 
 #[test]
-fn sixteen_workers_reach_their_first_lines_side_by_side(rt: HostRuntime) -> Result<(), Fail> {
+fn sixteen_workers_reach_their_first_lines_side_by_side(rt: HostRuntime) {
     for line in ["run", "run 2"] {
         let gate = sixteen_meet();
-        let ran = run_under(&rt, rt.alloc(), line, SIXTEEN_ADD, &gate)?;
-        assert_eq!(rt; ran.status, Status::Ok);
-        assert_eq!(rt; gate.answered(), gate.reached());
-        assert_eq!(rt; gate.late(), 0);
-        let found = judged(&rt, rt.alloc(), SIXTEEN_ADD, &ran.text)?;
-        assert_eq!(rt; found.text.as_slice(), b"lawful 16\n".as_slice());
+        let ran = run_under(&rt, rt.alloc(), line, SIXTEEN_ADD, &gate);
+        assert!(rt; ran.status == Status::Ok);
+        gate.expect_lines(&rt, gate.reached(), 0);
+        expect_lawful(&rt, rt.alloc(), SIXTEEN_ADD, &ran.text, b"lawful 16\n");
     }
-    Ok(())
 }
 
 #[test]
-fn a_value_behind_both_adds_is_their_sum(rt: HostRuntime) -> Result<(), Fail> {
+fn a_value_behind_both_adds_is_their_sum(rt: HostRuntime) {
     let gate = adds_meet();
-    let ran = run_under(&rt, rt.alloc(), "run", TWO_ADD_SHARED, &gate)?;
-    assert_eq!(rt; ran.status, Status::Ok);
-    assert_eq!(rt; gate.reached(), lines(&[4, 5, 7, 8]));
-    assert_eq!(rt; gate.answered(), lines(&[4, 5, 7, 8]));
-    assert_eq!(rt; gate.late(), 0);
+    let ran = run_under(&rt, rt.alloc(), "run", TWO_ADD_SHARED, &gate);
+    assert!(rt; ran.status == Status::Ok);
+    gate.expect_lines(&rt, lines(&[4, 5, 7, 8]), 0);
     assert!(rt; has_line(&ran.text, b" b 8 hits get = 12 @0"));
-    let found = judged(&rt, rt.alloc(), TWO_ADD_SHARED, &ran.text)?;
-    assert_eq!(rt; found.text.as_slice(), b"lawful 4\n".as_slice());
-    Ok(())
+    expect_lawful(&rt, rt.alloc(), TWO_ADD_SHARED, &ran.text, b"lawful 4\n");
 }
 
-#[test]
-fn of_two_swaps_at_once_one_is_busy(rt: HostRuntime) -> Result<(), Fail> {
-    let gate = swaps_meet();
-    let ran = run_under(&rt, rt.alloc(), "run", TWO_SWAP, &gate)?;
-    assert_eq!(rt; ran.status, Status::Ok);
-    assert_eq!(rt; gate.reached(), lines(&[4, 6, 9, 10]));
-    assert_eq!(rt; gate.answered(), lines(&[4, 6, 9, 10]));
-    assert_eq!(rt; gate.late(), 0);
-    assert_eq!(rt; ran.kept, Some(4));
-    let found = judged(&rt, rt.alloc(), TWO_SWAP, &ran.text)?;
-    assert_eq!(rt; found.text.as_slice(), b"lawful 4\n".as_slice());
-    let first = has_line(&ran.text, b" a 4 swap hits spread = done 1 @0");
-    let second = has_line(&ran.text, b" b 6 swap hits spread = done 1 @0");
+/// Of the swaps at lines 4 and 6 one was done, and the other one was busy.
+fn expect_one_busy(rt: &impl Abort, record: &[u8]) {
+    let first = has_line(record, b" a 4 swap hits spread = done 1 @0");
+    let second = has_line(record, b" b 6 swap hits spread = done 1 @0");
     assert!(rt; first != second);
     let other: &[u8] = if first {
         b" b 6 swap hits spread = busy 1 @0"
     } else {
         b" a 4 swap hits spread = busy 1 @0"
     };
-    assert!(rt; has_line(&ran.text, other));
+    assert!(rt; has_line(record, other));
+}
+
+#[test]
+fn of_two_swaps_at_once_one_is_busy(rt: HostRuntime) {
+    let gate = swaps_meet();
+    let ran = run_under(&rt, rt.alloc(), "run", TWO_SWAP, &gate);
+    assert!(rt; ran.status == Status::Ok);
+    gate.expect_lines(&rt, lines(&[4, 6, 9, 10]), 0);
+    assert!(rt; ran.kept == Some(4));
+    expect_lawful(&rt, rt.alloc(), TWO_SWAP, &ran.text, b"lawful 4\n");
+    expect_one_busy(&rt, &ran.text);
     assert!(rt; has_line(&ran.text, b" c 9 hits add 1 = ok @0"));
     assert!(rt; has_line(&ran.text, b" c 10 hits get = 1 @0"));
-    Ok(())
 }

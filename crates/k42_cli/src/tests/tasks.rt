@@ -1,11 +1,10 @@
 //! Workers that are tasks on one thread.
 use super::gates::{Hold, Holding, NOTHING, Until, lines};
-use super::run_under;
-use super::side_by_side::{TWO_ADD_SHARED, judged};
+use super::side_by_side::{TWO_ADD_SHARED, expect_lawful};
+use super::{expect_ran, expect_told, run_under};
 use k42_input::Status;
 use k42_workers::FreeGate;
 use std::process::Abort;
-use std::test::Fail;
 
 const RUN_TASKS: &str = "run tasks";
 
@@ -45,38 +44,30 @@ const OF_ONE_WORKER: [(&[u8], &[u8]); 4] = [
 ];
 
 #[test]
-fn a_swap_waits_for_the_block_of_another_task(rt: HostRuntime) -> Result<(), Fail> {
-    let ran = run_under(&rt, rt.alloc(), RUN_TASKS, BLOCK_AND_SWAP, &FreeGate)?;
-    assert_eq!(rt; ran.status, Status::Ok);
-    assert_eq!(rt; ran.text.as_slice(), BLOCK_AND_SWAP_RECORD);
-    assert_eq!(rt; ran.kept, Some(5));
-    let found = judged(&rt, rt.alloc(), BLOCK_AND_SWAP, &ran.text)?;
-    assert_eq!(rt; found.text.as_slice(), b"lawful 5\n".as_slice());
-    Ok(())
+fn a_swap_waits_for_the_block_of_another_task(rt: HostRuntime) {
+    let ran = run_under(&rt, rt.alloc(), RUN_TASKS, BLOCK_AND_SWAP, &FreeGate);
+    expect_ran(&rt, &ran, Status::Ok, BLOCK_AND_SWAP_RECORD, Some(5));
+    expect_lawful(&rt, rt.alloc(), BLOCK_AND_SWAP, &ran.text, b"lawful 5\n");
 }
 
 #[test]
-fn tasks_go_on_by_turns(rt: HostRuntime) -> Result<(), Fail> {
-    let ran = run_under(&rt, rt.alloc(), RUN_TASKS, TWO_ADD_SHARED, &FreeGate)?;
-    assert_eq!(rt; ran.status, Status::Ok);
-    assert_eq!(rt; ran.text.as_slice(), TWO_ADD_RECORD);
-    Ok(())
+fn tasks_go_on_by_turns(rt: HostRuntime) {
+    let ran = run_under(&rt, rt.alloc(), RUN_TASKS, TWO_ADD_SHARED, &FreeGate);
+    expect_told(&rt, &ran, Status::Ok, TWO_ADD_RECORD, RUN_TASKS);
 }
 
 #[test]
-fn one_worker_leaves_the_record_that_it_leaves_on_a_thread(rt: HostRuntime) -> Result<(), Fail> {
+fn one_worker_leaves_the_record_that_it_leaves_on_a_thread(rt: HostRuntime) {
     for (script, record) in OF_ONE_WORKER {
         for line in ["run", RUN_TASKS] {
-            let ran = run_under(&rt, rt.alloc(), line, script, &FreeGate)?;
-            assert_eq!(rt; ran.status, Status::Ok);
-            assert_eq!(rt; ran.text.as_slice(), record);
+            let ran = run_under(&rt, rt.alloc(), line, script, &FreeGate);
+            expect_told(&rt, &ran, Status::Ok, record, line);
         }
     }
-    Ok(())
 }
 
 #[test]
-fn while_a_task_is_held_no_other_goes_on(rt: HostRuntime) -> Result<(), Fail> {
+fn while_a_task_is_held_no_other_goes_on(rt: HostRuntime) {
     let gate = Holding::briefly([
         Hold {
             lines: lines(&[4]),
@@ -84,10 +75,7 @@ fn while_a_task_is_held_no_other_goes_on(rt: HostRuntime) -> Result<(), Fail> {
         },
         NOTHING,
     ]);
-    let ran = run_under(&rt, rt.alloc(), RUN_TASKS, TWO_ADD_SHARED, &gate)?;
-    assert_eq!(rt; ran.status, Status::Ok);
-    assert_eq!(rt; gate.late(), 1);
-    assert_eq!(rt; gate.reached(), lines(&[4, 5, 7, 8]));
-    assert_eq!(rt; gate.answered(), lines(&[4, 5, 7, 8]));
-    Ok(())
+    let ran = run_under(&rt, rt.alloc(), RUN_TASKS, TWO_ADD_SHARED, &gate);
+    assert!(rt; ran.status == Status::Ok);
+    gate.expect_lines(&rt, lines(&[4, 5, 7, 8]), 1);
 }

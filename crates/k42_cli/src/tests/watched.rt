@@ -1,11 +1,10 @@
 //! Objects that are watched while they are called.
-use super::run_under;
 use super::side_by_side::judged;
+use super::{expect_told, run_under};
 use k42_input::Status;
 use k42_workers::FreeGate;
 use std::alloc::Global;
 use std::process::Abort;
-use std::test::Fail;
 
 /// A counter is watched across a swap, and no longer.
 const WATCHED: &[u8] = b"procs 1\nobject hits counter shared\nworker a 0\n\
@@ -30,39 +29,36 @@ const IN_AN_ACTIVITY: &[u8] =
     b"procs 1\nobject hits counter shared\nworker a 0\nbegin\nwatch hits\n";
 
 /// The record of the watched counter, with these counts before and behind its swap.
-fn watched_record(alloc: Global, before: &str, behind: &str) -> Result<String, Fail> {
+fn watched_record(rt: &impl Abort, alloc: Global, before: &str, behind: &str) -> String {
     let text = format!(in alloc;
         "k42 record 1\n1 a 4 hits add 5 = ok @0\n2 a 5 watch hits = done 1 @0\n3 a 6 hits add 1 = ok @1\n\
 4 a 7 hits get = 6 @1\n5 a 8 hits seen = {before} @1\n6 a 9 swap hits spread = done 2 @1\n\
 7 a 10 hits seen = {behind} @2\n8 a 11 unwatch hits = done 3 @2\n9 a 12 hits seen = none @3\nend 9\n"
-    )?;
-    Ok(text)
+    );
+    text.expect(rt, "memory")
 }
 
 #[test]
-fn a_watched_object_tells_its_calls_across_a_swap(rt: HostRuntime) -> Result<(), Fail> {
-    let record = watched_record(rt.alloc(), "2", "2")?;
+fn a_watched_object_tells_its_calls_across_a_swap(rt: HostRuntime) {
+    let record = watched_record(&rt, rt.alloc(), "2", "2");
     let cases: [(&str, &[u8]); 3] = [
         ("run", record.as_bytes()),
         ("run 2", WATCHED_RECORD_2),
         ("run tasks", record.as_bytes()),
     ];
     for (line, due) in cases {
-        let ran = run_under(&rt, rt.alloc(), line, WATCHED, &FreeGate)?;
-        assert_eq!(rt; ran.status, Status::Ok, "of {line}");
-        assert_eq!(rt; ran.text.as_slice(), due, "of {line}");
-        let found = judged(&rt, rt.alloc(), WATCHED, due)?;
-        assert_eq!(rt;
-            found.text.as_slice(),
-            b"lawful 9\n".as_slice(),
+        let ran = run_under(&rt, rt.alloc(), line, WATCHED, &FreeGate);
+        expect_told(&rt, &ran, Status::Ok, due, line);
+        let found = judged(&rt, rt.alloc(), WATCHED, due);
+        assert!(rt;
+            found.text.as_slice() == b"lawful 9\n".as_slice(),
             "of {line}"
         );
     }
-    Ok(())
 }
 
 #[test]
-fn a_count_that_is_told_too_high_or_too_low_is_found(rt: HostRuntime) -> Result<(), Fail> {
+fn a_count_that_is_told_too_high_or_too_low_is_found(rt: HostRuntime) {
     let cases: [(&str, &str, &[u8]); 5] = [
         ("3", "2", b"line 6: rule 5\n"),
         ("1", "2", b"line 6: rule 5\n"),
@@ -71,34 +67,24 @@ fn a_count_that_is_told_too_high_or_too_low_is_found(rt: HostRuntime) -> Result<
         ("2", "0", b"line 8: rule 5\n"),
     ];
     for (before, behind, verdict) in cases {
-        let record = watched_record(rt.alloc(), before, behind)?;
-        let found = judged(&rt, rt.alloc(), WATCHED, record.as_bytes())?;
-        assert_eq!(rt; found.status, Status::Unlawful, "of {before} and {behind}");
-        assert_eq!(rt; found.text.as_slice(), verdict, "of {before} and {behind}");
+        let record = watched_record(&rt, rt.alloc(), before, behind);
+        let found = judged(&rt, rt.alloc(), WATCHED, record.as_bytes());
+        expect_told(&rt, &found, Status::Unlawful, verdict, before);
     }
-    Ok(())
 }
 
 #[test]
-fn a_dead_object_is_gone_for_who_watches_it(rt: HostRuntime) -> Result<(), Fail> {
+fn a_dead_object_is_gone_for_who_watches_it(rt: HostRuntime) {
     for line in ["run", "run tasks"] {
-        let ran = run_under(&rt, rt.alloc(), line, DEAD, &FreeGate)?;
-        assert_eq!(rt; ran.status, Status::Ok, "of {line}");
-        assert_eq!(rt; ran.text.as_slice(), DEAD_RECORD, "of {line}");
+        let ran = run_under(&rt, rt.alloc(), line, DEAD, &FreeGate);
+        expect_told(&rt, &ran, Status::Ok, DEAD_RECORD, line);
     }
-    Ok(())
 }
 
 #[test]
-fn a_watch_in_an_activity_is_refused(rt: HostRuntime) -> Result<(), Fail> {
+fn a_watch_in_an_activity_is_refused(rt: HostRuntime) {
     for line in ["run", "run 2", "run tasks"] {
-        let ran = run_under(&rt, rt.alloc(), line, IN_AN_ACTIVITY, &FreeGate)?;
-        assert_eq!(rt; ran.status, Status::Refused, "of {line}");
-        assert_eq!(rt;
-            ran.text.as_slice(),
-            b"line 5: BlockFault\n".as_slice(),
-            "of {line}"
-        );
+        let ran = run_under(&rt, rt.alloc(), line, IN_AN_ACTIVITY, &FreeGate);
+        expect_told(&rt, &ran, Status::Refused, b"line 5: BlockFault\n", line);
     }
-    Ok(())
 }

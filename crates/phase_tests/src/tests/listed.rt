@@ -1,8 +1,7 @@
 //! Long lists of events, each with whether it is possible, and the states to which they come.
-use super::{Step, answered, numbers, place, swap};
+use super::{Step, answered, expect_caller, numbers, start};
 use gen_core::GenEvent;
-use phase_core::{PhaseState, Place, SwapAt};
-use std::test::Fail;
+use phase_core::{Place, SwapAt};
 
 // Events of one processor and two callers.
 const ONE_PROCESSOR: &[(Step, bool)] = &[
@@ -341,60 +340,43 @@ const THREE_CALLERS: &[(Step, bool)] = &[
 ];
 
 #[test]
-fn events_of_one_processor_go_as_listed(rt: HostRuntime) -> Result<(), Fail> {
-    let layouts = vec![in rt.alloc(); 1]?;
-    let callers = vec![in rt.alloc(); 0, 0]?;
-    let mut state = PhaseState::new(rt.alloc(), 1, layouts, callers)?;
-    assert_eq!(rt; answered(&mut state, rt.alloc(), ONE_PROCESSOR)?, 80);
-    assert_eq!(rt; numbers(&state, 0), Some((1, 3, 1, 2)));
-    assert_eq!(rt; place(&state, 0), Some(Place::Tracked(0, 3)));
-    assert_eq!(rt; swap(&state, 0), Some(SwapAt::Idle));
-    assert_eq!(rt; place(&state, 1), Some(Place::Out));
-    assert_eq!(rt; swap(&state, 1), Some(SwapAt::Draining(0)));
-    Ok(())
+fn events_of_one_processor_go_as_listed(rt: HostRuntime) {
+    let alloc = rt.alloc();
+    let mut state = start(&rt, alloc, 1, &[1], &[0, 0]);
+    assert!(rt; answered(&rt, alloc, &mut state, ONE_PROCESSOR) == 80);
+    assert!(rt; numbers(&state, 0) == Some((1, 3, 1, 2)));
+    expect_caller(&rt, &state, 0, Place::Tracked(0, 3), SwapAt::Idle);
+    expect_caller(&rt, &state, 1, Place::Out, SwapAt::Draining(0));
 }
 
 #[test]
-fn events_of_three_processors_go_as_listed(rt: HostRuntime) -> Result<(), Fail> {
-    let layouts = vec![in rt.alloc(); 1]?;
-    let callers = vec![in rt.alloc(); 0, 2]?;
-    let mut state = PhaseState::new(rt.alloc(), 3, layouts, callers)?;
-    assert_eq!(rt; answered(&mut state, rt.alloc(), THREE_PROCESSORS)?, 80);
-    assert_eq!(rt; numbers(&state, 0), Some((0, 0, 1, 0)));
-    assert_eq!(rt; place(&state, 0), Some(Place::AtMediator(0)));
-    assert_eq!(rt; swap(&state, 0), Some(SwapAt::Idle));
-    assert_eq!(rt; place(&state, 1), Some(Place::Out));
-    assert_eq!(rt; swap(&state, 1), Some(SwapAt::Draining(0)));
-    Ok(())
+fn events_of_three_processors_go_as_listed(rt: HostRuntime) {
+    let alloc = rt.alloc();
+    let mut state = start(&rt, alloc, 3, &[1], &[0, 2]);
+    assert!(rt; answered(&rt, alloc, &mut state, THREE_PROCESSORS) == 80);
+    assert!(rt; numbers(&state, 0) == Some((0, 0, 1, 0)));
+    expect_caller(&rt, &state, 0, Place::AtMediator(0), SwapAt::Idle);
+    expect_caller(&rt, &state, 1, Place::Out, SwapAt::Draining(0));
 }
 
 #[test]
-fn events_of_a_dead_object_go_as_listed(rt: HostRuntime) -> Result<(), Fail> {
-    let layouts = vec![in rt.alloc(); 1, 2]?;
-    let callers = vec![in rt.alloc(); 0, 0]?;
-    let mut state = PhaseState::new(rt.alloc(), 1, layouts, callers)?;
-    assert_eq!(rt; answered(&mut state, rt.alloc(), A_DEAD_OBJECT)?, 80);
-    assert_eq!(rt; numbers(&state, 0), Some((0, 1, 1, 1)));
-    assert_eq!(rt; numbers(&state, 1), Some((0, 0, 2, 0)));
-    assert_eq!(rt; place(&state, 0), Some(Place::Out));
-    assert_eq!(rt; swap(&state, 0), Some(SwapAt::Draining(0)));
-    assert_eq!(rt; place(&state, 1), Some(Place::Missed(1, 0)));
-    assert_eq!(rt; swap(&state, 1), Some(SwapAt::Idle));
-    Ok(())
+fn events_of_a_dead_object_go_as_listed(rt: HostRuntime) {
+    let alloc = rt.alloc();
+    let mut state = start(&rt, alloc, 1, &[1, 2], &[0, 0]);
+    assert!(rt; answered(&rt, alloc, &mut state, A_DEAD_OBJECT) == 80);
+    assert!(rt; numbers(&state, 0) == Some((0, 1, 1, 1)));
+    assert!(rt; numbers(&state, 1) == Some((0, 0, 2, 0)));
+    expect_caller(&rt, &state, 0, Place::Out, SwapAt::Draining(0));
+    expect_caller(&rt, &state, 1, Place::Missed(1, 0), SwapAt::Idle);
 }
 
 #[test]
-fn events_of_three_callers_go_as_listed(rt: HostRuntime) -> Result<(), Fail> {
-    let layouts = vec![in rt.alloc(); 1]?;
-    let callers = vec![in rt.alloc(); 0, 0, 0]?;
-    let mut state = PhaseState::new(rt.alloc(), 1, layouts, callers)?;
-    assert_eq!(rt; answered(&mut state, rt.alloc(), THREE_CALLERS)?, 80);
-    assert_eq!(rt; numbers(&state, 0), Some((1, 1, 2, 0)));
-    assert_eq!(rt; place(&state, 0), Some(Place::Tracked(0, 1)));
-    assert_eq!(rt; swap(&state, 0), Some(SwapAt::Idle));
-    assert_eq!(rt; place(&state, 1), Some(Place::Out));
-    assert_eq!(rt; swap(&state, 1), Some(SwapAt::Idle));
-    assert_eq!(rt; place(&state, 2), Some(Place::Missed(0, 1)));
-    assert_eq!(rt; swap(&state, 2), Some(SwapAt::Idle));
-    Ok(())
+fn events_of_three_callers_go_as_listed(rt: HostRuntime) {
+    let alloc = rt.alloc();
+    let mut state = start(&rt, alloc, 1, &[1], &[0, 0, 0]);
+    assert!(rt; answered(&rt, alloc, &mut state, THREE_CALLERS) == 80);
+    assert!(rt; numbers(&state, 0) == Some((1, 1, 2, 0)));
+    expect_caller(&rt, &state, 0, Place::Tracked(0, 1), SwapAt::Idle);
+    expect_caller(&rt, &state, 1, Place::Out, SwapAt::Idle);
+    expect_caller(&rt, &state, 2, Place::Missed(0, 1), SwapAt::Idle);
 }

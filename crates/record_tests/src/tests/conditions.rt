@@ -1,5 +1,5 @@
 //! What `lines_of` and `print` require, tested.
-ghost use Rattle.std.specs.Prelude.{◌≡◌, All, IsTrue, IfOk};
+ghost use Rattle.std.specs.Prelude.{◌≡◌, All, IsTrue};
 ghost use Rattle.record_text.specs.Spelling.{Ends, HasSpelling, HasGeneration, IsOfVersion, IsVersion, HasText};
 ghost use Rattle.script_text.specs.Sound.{NamesPage, IsActOn};
 ghost use Rattle.record_text.specs.Histories.{HasLine};
@@ -8,10 +8,10 @@ ghost use Rattle.record_text.specs.Printer.LineNumbers.{HasNumber};
 use k42_items::Items;
 use k42_kinds::{Act, Answer, Entry, KindName, Op, is_seen, kind_of};
 use k42_limits::PAGES;
-use k42_memory::Memory;
 use record_text::{Record, RecordLine, numbers_of_all};
 use script_text::Script;
 use std::alloc::Global;
+use std::process::Abort;
 
 fn names_page(op: &Op) -> bool
     ensures { IsTrue result → NamesPage op.now }
@@ -122,14 +122,16 @@ fn has_number(numbers: &Items<Items<u32>>, entry: &Entry) -> bool
 }
 
 /// Whether each entry answers a line of the script.
-pub fn has_lines(alloc: Global, script: &Script, entries: &[Entry]) -> Result<bool, Memory>
-    ensures { IfOk result (λ known. IsTrue known → All (HasLine script.now) entries.now) }
+pub fn has_lines(rt: &impl Abort, alloc: Global, script: &Script, entries: &[Entry]) -> bool
+    ensures { IsTrue result → All (HasLine script.now) entries.now }
 {
-    let numbers = numbers_of_all(alloc, script)?;
+    let Ok(numbers) = numbers_of_all(alloc, script) else {
+        panic!(rt; "memory")
+    };
     for entry in entries {
         if !has_number(&numbers, entry) {
-            return Ok(false);
+            return false;
         }
     }
-    Ok(true)
+    true
 }

@@ -4,12 +4,10 @@ use super::name;
 use k42_items::Items;
 use k42_kinds::{Act, Answer, KindName, LayoutName, Op, Reply, To};
 use k42_limits::{CALLERS, OBJECTS};
-use k42_memory::Memory;
 use record_text::*;
 use script_text::{CallLine, Item, ObjectLine, Script, WorkerLines};
 use std::alloc::Global;
 use std::process::Abort;
-use std::test::Fail;
 
 const GET: Act = Act::Call(Op::Get);
 
@@ -23,44 +21,54 @@ type Asked = (u32, u32, Act);
 pub type Due = Option<(u32, u32)>;
 
 fn worker_with(
+    rt: &impl Abort,
     alloc: Global,
     number: u32,
     letter: u8,
     asked: &[Asked],
-) -> Result<WorkerLines, Fail> {
+) -> WorkerLines {
     let mut items = Items::new(alloc);
     for (worker, line, act) in asked {
         if *worker == number {
-            items.push(Item::Line(CallLine {
+            let item = Item::Line(CallLine {
                 line: *line,
                 object: 0,
                 act: *act,
-            }))?;
+            });
+            items.push(item).expect(rt, "memory");
         }
     }
-    Ok(WorkerLines {
-        name: name(&[letter])?,
+    WorkerLines {
+        name: name(rt, &[letter]),
         proc: number,
         items,
-    })
+    }
+}
+
+/// The counter `hits`.
+fn objects(rt: &impl Abort, alloc: Global) -> Items<ObjectLine> {
+    let mut objects = Items::new(alloc);
+    let hits = ObjectLine {
+        name: name(rt, b"hits"),
+        kind: KindName::Counter,
+        layout: LayoutName::Shared,
+    };
+    objects.push(hits).expect(rt, "memory");
+    objects
 }
 
 /// A script with the counter `hits` and the workers `a` and `b`, each on its own processor.
-fn script_with(alloc: Global, asked: &[Asked]) -> Result<Script, Fail> {
-    let mut objects = Items::new(alloc);
-    objects.push(ObjectLine {
-        name: name(b"hits")?,
-        kind: KindName::Counter,
-        layout: LayoutName::Shared,
-    })?;
+fn script_with(rt: &impl Abort, alloc: Global, asked: &[Asked]) -> Script {
     let mut workers = Items::new(alloc);
-    workers.push(worker_with(alloc, 0, b'a', asked)?)?;
-    workers.push(worker_with(alloc, 1, b'b', asked)?)?;
-    Ok(Script {
+    let a = worker_with(rt, alloc, 0, b'a', asked);
+    workers.push(a).expect(rt, "memory");
+    let b = worker_with(rt, alloc, 1, b'b', asked);
+    workers.push(b).expect(rt, "memory");
+    Script {
         procs: 2,
-        objects,
+        objects: objects(rt, alloc),
         workers,
-    })
+    }
 }
 
 fn line_of(said: &Said, extra: Option<Extra>) -> RecordLine {
@@ -76,43 +84,39 @@ fn line_of(said: &Said, extra: Option<Extra>) -> RecordLine {
     }
 }
 
-fn first_version(alloc: Global, said: &[Said]) -> Result<Record, Fail> {
+fn first_version(rt: &impl Abort, alloc: Global, said: &[Said]) -> Record {
     let mut lines = Items::new(alloc);
     for one in said {
-        lines.push(line_of(one, None))?;
+        lines.push(line_of(one, None)).expect(rt, "memory");
     }
-    Ok(Record { lines, version: 1 })
+    Record { lines, version: 1 }
 }
 
 fn second_version(
+    rt: &impl Abort,
     alloc: Global,
     said: &[Said],
     extras: &[(u32, Option<u32>)],
-) -> Result<Record, Fail> {
+) -> Record {
     let mut lines = Items::new(alloc);
     for (one, (proc, generation)) in said.iter().zip(extras.iter()) {
         let extra = Extra {
             proc: *proc,
             generation: *generation,
         };
-        lines.push(line_of(one, Some(extra)))?;
+        lines.push(line_of(one, Some(extra))).expect(rt, "memory");
     }
-    Ok(Record { lines, version: 2 })
+    Record { lines, version: 2 }
 }
 
-pub fn verdict(
-    rt: &impl Abort,
-    alloc: Global,
-    script: &Script,
-    record: &Record,
-) -> Result<Due, Fail> {
+pub fn verdict(rt: &impl Abort, alloc: Global, script: &Script, record: &Record) -> Due {
     assert!(rt; has_text(script, record));
     assert!(rt; script.workers.len() <= CALLERS && script.objects.len() <= OBJECTS);
     assert!(rt; record.lines.len() < 1 << 31);
     match check(alloc, script, record) {
-        Ok(()) => Ok(None),
-        Err(CheckEnd::Unlawful { line, rule }) => Ok(Some((line, rule))),
-        Err(CheckEnd::Memory) => Err(Fail::from(Memory)),
+        Ok(()) => None,
+        Err(CheckEnd::Unlawful { line, rule }) => Some((line, rule)),
+        Err(CheckEnd::Memory) => panic!(rt; "no memory"),
     }
 }
 
@@ -123,12 +127,11 @@ fn expect(
     asked: &[Asked],
     said: &[Said],
     due: Due,
-) -> Result<(), Fail> {
-    let script = script_with(alloc, asked)?;
-    let record = first_version(alloc, said)?;
-    let found = verdict(rt, alloc, &script, &record)?;
-    assert_eq!(rt; found, due, "{}", shows);
-    Ok(())
+) {
+    let script = script_with(rt, alloc, asked);
+    let record = first_version(rt, alloc, said);
+    let found = verdict(rt, alloc, &script, &record);
+    assert!(rt; found == due, "{}", shows);
 }
 
 const SPREAD: Act = Act::Swap(To::Layout(LayoutName::Spread));
@@ -238,37 +241,40 @@ const CHANGES: [(&'static str, [Said; 3], Due); 9] = [
 ];
 
 #[test]
-fn one_change_breaks_one_rule(rt: HostRuntime) -> Result<(), Fail> {
+fn one_change_breaks_one_rule(rt: HostRuntime) {
     let alloc = rt.alloc();
     for (shows, said, due) in &CHANGES {
-        expect(&rt, alloc, shows, &THREE, said, *due)?;
+        expect(&rt, alloc, shows, &THREE, said, *due);
     }
-    Ok(())
 }
 
 /// The worker `a` adds twice in one block, and once more in another.
-fn script_of_blocks(alloc: Global) -> Result<Script, Fail> {
+fn script_of_blocks(rt: &impl Abort, alloc: Global) -> Script {
     let mut items = Items::new(alloc);
     for block in [[5, 6], [9, 10]] {
-        items.push(Item::Begin)?;
+        items.push(Item::Begin).expect(rt, "memory");
         for line in block {
-            items.push(Item::Line(CallLine {
+            let item = Item::Line(CallLine {
                 line,
                 object: 0,
                 act: Act::Call(Op::Add(1)),
-            }))?;
+            });
+            items.push(item).expect(rt, "memory");
         }
-        items.push(Item::End)?;
+        items.push(Item::End).expect(rt, "memory");
     }
-    let mut script = script_with(alloc, &[])?;
     let mut workers = Items::new(alloc);
-    workers.push(WorkerLines {
-        name: name(b"a")?,
+    let worker = WorkerLines {
+        name: name(rt, b"a"),
         proc: 0,
         items,
-    })?;
-    script.workers = workers;
-    Ok(script)
+    };
+    workers.push(worker).expect(rt, "memory");
+    Script {
+        procs: 2,
+        objects: objects(rt, alloc),
+        workers,
+    }
 }
 
 const ADDED: [Said; 4] = [
@@ -330,27 +336,27 @@ const GENERATIONS: [(&'static str, [(u32, Option<u32>); 4], Due); 4] = [
 ];
 
 #[test]
-fn a_block_is_in_one_generation(rt: HostRuntime) -> Result<(), Fail> {
+fn a_block_is_in_one_generation(rt: HostRuntime) {
     let alloc = rt.alloc();
-    let script = script_of_blocks(alloc)?;
+    let script = script_of_blocks(&rt, alloc);
     for (shows, extras, due) in &GENERATIONS {
-        let record = second_version(alloc, &ADDED, extras)?;
-        let found = verdict(&rt, alloc, &script, &record)?;
-        assert_eq!(rt; found, *due, "{}", *shows);
+        let record = second_version(&rt, alloc, &ADDED, extras);
+        let found = verdict(&rt, alloc, &script, &record);
+        assert!(rt; found == *due, "{}", *shows);
     }
-    Ok(())
 }
 
 #[test]
-fn a_record_of_many_refusals(rt: HostRuntime) -> Result<(), Fail> {
+fn a_record_of_many_refusals(rt: HostRuntime) {
     let alloc = rt.alloc();
-    let mut asked = Vec::new(alloc);
+    let mut asked = vec![in alloc; (0, 4, SPREAD)].expect(&rt, "memory");
     let mut said = Vec::new(alloc);
-    asked.push((0, 4, SPREAD))?;
     for i in 0u32..32768 {
-        asked.push((1, i + 7, SPREAD))?;
-        said.push((i as u64 + 1, 1, i + 7, SPREAD, Answer::Busy(1), 0))?;
+        let refused = (i as u64 + 1, 1, i + 7, SPREAD, Answer::Busy(1), 0);
+        asked.push((1, i + 7, SPREAD)).expect(&rt, "memory");
+        said.push(refused).expect(&rt, "memory");
     }
-    said.push((32769, 0, 4, SPREAD, Answer::Swapped(1), 0))?;
-    expect(&rt, alloc, "many", asked.as_slice(), said.as_slice(), None)
+    let done = (32769, 0, 4, SPREAD, Answer::Swapped(1), 0);
+    said.push(done).expect(&rt, "memory");
+    expect(&rt, alloc, "many", asked.as_slice(), said.as_slice(), None);
 }

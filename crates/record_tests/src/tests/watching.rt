@@ -5,19 +5,18 @@ use record_text::*;
 use script_text::parse;
 use std::alloc::Global;
 use std::process::Abort;
-use std::test::Fail;
 
 /// A record of a script, and what is found of it.
 type Case = (&'static str, &'static [u8], &'static [u8], Due);
 
 /// The text is that of a record of the script, which is judged.
-fn found_of(rt: &impl Abort, alloc: Global, script: &[u8], text: &[u8]) -> Result<Due, Fail> {
-    let script = parse(alloc, script)?;
+fn found_of(rt: &impl Abort, alloc: Global, script: &[u8], text: &[u8]) -> Due {
+    let script = parse(alloc, script).expect(rt, "a script");
     assert!(rt; text.len() < 1 << 31);
-    let record = read(alloc, &script, text)?;
+    let record = read(alloc, &script, text).expect(rt, "a record");
     assert!(rt; has_text(&script, &record));
-    let printed = print(alloc, &script, &record)?;
-    assert_eq!(rt; printed.as_slice(), text);
+    let printed = print(alloc, &script, &record).expect(rt, "memory");
+    assert!(rt; printed.as_slice() == text);
     verdict(rt, alloc, &script, &record)
 }
 
@@ -250,12 +249,11 @@ const CASES: [Case; 12] = [
 ];
 
 #[test]
-fn a_watched_object_tells_its_calls(rt: HostRuntime) -> Result<(), Fail> {
+fn a_watched_object_tells_its_calls(rt: HostRuntime) {
     for (shows, script, text, due) in &CASES {
-        let found = found_of(&rt, rt.alloc(), script, text)?;
-        assert_eq!(rt; found, *due, "{}", *shows);
+        let found = found_of(&rt, rt.alloc(), script, text);
+        assert!(rt; found == *due, "{}", *shows);
     }
-    Ok(())
 }
 
 /// A line that stands as the first entry of a record, and is that of no entry.
@@ -279,14 +277,15 @@ const MISSPELT: [(&'static str, &'static [u8]); 7] = [
 ];
 
 #[test]
-fn other_lines_are_none_of_a_record(rt: HostRuntime) -> Result<(), Fail> {
+fn other_lines_are_none_of_a_record(rt: HostRuntime) {
     let alloc = rt.alloc();
-    let script = parse(alloc, ROW)?;
+    let script = parse(alloc, ROW).expect(&rt, "a script");
     for (shows, line) in &MISSPELT {
-        let text = [b"k42 record 1\n".as_slice(), line, b"end 1\n"].concat(alloc)?;
+        let pieces = [b"k42 record 1\n".as_slice(), line, b"end 1\n"];
+        let text = pieces.concat(alloc).expect(&rt, "memory");
         assert!(rt; text.len() < 1 << 31);
         let end = read(alloc, &script, text.as_slice()).err();
-        assert_eq!(rt; end, Some(RecordEnd::Misspelt { line: 2 }), "{}", *shows);
+        let due = RecordEnd::Misspelt { line: 2 };
+        assert!(rt; end == Some(due), "{}", *shows);
     }
-    Ok(())
 }

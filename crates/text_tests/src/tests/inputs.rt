@@ -6,10 +6,10 @@ use std::alloc::Global;
 use std::env::Args;
 use std::io;
 use std::io::ErrorKind;
-use std::test::Fail;
+use std::process::Abort;
 
 #[test]
-fn the_first_line_of_three_dashes_separates(rt: HostRuntime) -> Result<(), Fail> {
+fn the_first_line_of_three_dashes_separates(rt: HostRuntime) {
     let cases: [(&[u8], &[u8], &[u8]); 9] = [
         (b"", b"", b""),
         (b"procs 1\n", b"procs 1\n", b""),
@@ -27,10 +27,9 @@ fn the_first_line_of_three_dashes_separates(rt: HostRuntime) -> Result<(), Fail>
     ];
     for (input, script, text) in cases {
         let parts = separate(input);
-        assert_eq!(rt; parts.script, script, "the script in {input:?}");
-        assert_eq!(rt; parts.text, text, "the record in {input:?}");
+        assert!(rt; parts.script == script, "the script in {input:?}");
+        assert!(rt; parts.text == text, "the record in {input:?}");
     }
-    Ok(())
 }
 
 #[test]
@@ -46,26 +45,24 @@ fn statuses_have_the_numbers_0_to_6(rt: HostRuntime) {
     ];
     let mut number = 0;
     for status in statuses {
-        assert_eq!(rt; status.number(), number, "of {status:?}");
+        assert!(rt; status.number() == number, "of {status:?}");
         number += 1;
     }
 }
 
 /// How many entries the record has that stands in the input, or the line at which it is none.
-fn record_of(alloc: Global, input: &[u8]) -> Result<Result<usize, u32>, Fail> {
-    if input.len() > INPUT_BYTES {
-        return Err(Fail::from("a byte too many"));
-    }
+fn record_of(rt: &impl Abort, alloc: Global, input: &[u8]) -> Result<usize, u32> {
+    assert!(rt; input.len() <= INPUT_BYTES);
     let parts = separate(input);
-    let script = parse(alloc, parts.script)?;
-    match record_in(alloc, &script, input, parts.text)? {
-        RecordFound::Spelled(written) => Ok(Ok(written.lines.len())),
-        RecordFound::Misspelt(line) => Ok(Err(line)),
+    let script = parse(alloc, parts.script).expect(rt, "a script");
+    match record_in(alloc, &script, input, parts.text).expect(rt, "memory") {
+        RecordFound::Spelled(written) => Ok(written.lines.len()),
+        RecordFound::Misspelt(line) => Err(line),
     }
 }
 
 #[test]
-fn a_record_is_found_or_the_line_at_which_it_is_none(rt: HostRuntime) -> Result<(), Fail> {
+fn a_record_is_found_or_the_line_at_which_it_is_none(rt: HostRuntime) {
     let cases: [(&[u8], Result<usize, u32>); 4] = [
         (b"procs 1\n---\nk42 record 1\nend 0\n", Ok(0)),
         (b"procs 1\n", Err(1)),
@@ -73,32 +70,32 @@ fn a_record_is_found_or_the_line_at_which_it_is_none(rt: HostRuntime) -> Result<
         (b"procs 1\n---\nk42 record 1\nend 0\n---\n", Err(3)),
     ];
     for (input, found) in cases {
-        assert_eq!(rt; record_of(rt.alloc(), input)?, found, "in {input:?}");
+        assert!(rt; record_of(&rt, rt.alloc(), input) == found, "in {input:?}");
     }
-    Ok(())
 }
 
 /// The words of a command line, as the system hands them over.
-fn handed_over(alloc: Global, line: &str) -> Result<Args, Fail> {
+fn handed_over(rt: &impl Abort, alloc: Global, line: &str) -> Args {
     let mut words = Vec::new(alloc);
     for word in line.split_whitespace() {
-        words.push(word.to_string(alloc)?)?;
+        let word = word.to_string(alloc).expect(rt, "memory");
+        words.push(word).expect(rt, "memory");
     }
-    Ok(words.into_iter())
+    words.into_iter()
 }
 
 #[test]
-fn words_are_told_where_there_is_memory(rt: HostRuntime) -> Result<(), Fail> {
+fn words_are_told_where_there_is_memory(rt: HostRuntime) {
     let cases = [("k42 run 2", 2), ("k42 check", 1), ("k42", 0), ("", 0)];
     for (line, count) in cases {
-        let words = words_of(rt.alloc(), Ok(handed_over(rt.alloc(), line)?))?;
-        assert_eq!(rt; words.len(), count, "of {line:?}");
+        let args = handed_over(&rt, rt.alloc(), line);
+        let words = words_of(rt.alloc(), Ok(args)).expect(&rt, "memory");
+        assert!(rt; words.len() == count, "of {line:?}");
     }
-    Ok(())
 }
 
 #[test]
-fn words_that_are_not_to_be_had_are_one_empty_word(rt: HostRuntime) -> Result<(), Fail> {
+fn words_that_are_not_to_be_had_are_one_empty_word(rt: HostRuntime) {
     for cause in [
         ErrorKind::InvalidData,
         ErrorKind::PermissionDenied,
@@ -107,9 +104,8 @@ fn words_that_are_not_to_be_had_are_one_empty_word(rt: HostRuntime) -> Result<()
         ErrorKind::Unsupported,
         ErrorKind::Other,
     ] {
-        let words = words_of(rt.alloc(), Err(io::Error::from(cause)))?;
-        assert_eq!(rt; words.len(), 1);
-        assert_eq!(rt; words[0].len(), 0);
+        let args = Err(io::Error::from(cause));
+        let words = words_of(rt.alloc(), args).expect(&rt, "memory");
+        assert!(rt; words.len() == 1 && words[0].is_empty());
     }
-    Ok(())
 }

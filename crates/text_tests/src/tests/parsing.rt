@@ -1,28 +1,36 @@
 //! Scripts with what they say, and others with the line and the cause by which they are refused.
+ghost use Rattle.std.specs.Prelude.{◌≤◌};
+
 use k42_kinds::{Act, KindName, LayoutName, Name, Op, Text, To};
-use script_text::{CallLine, Item, ObjectLine, ParseEnd, ScriptCause, ScriptFault, parse};
-use std::alloc::{AllocError, Global};
+use script_text::{
+    CallLine, Item, ObjectLine, ParseEnd, Script, ScriptCause, ScriptFault, WorkerLines, parse,
+};
+use std::alloc::Global;
 use std::process::Abort;
-use std::test::Fail;
 
 /// The processors, a counter and a worker, so that calls begin at line 4.
 const HEAD: &[u8] = b"procs 1\nobject hits counter shared\nworker a 0\n";
 
 /// The piece so many times over, between what stands before and behind it.
 fn repeated(
+    rt: &impl Abort,
     alloc: Global,
     before: &[u8],
     piece: &[u8],
     times: usize,
     behind: &[u8],
-) -> Result<Vec<u8>, AllocError> {
-    let mut bytes = Vec::new(alloc);
-    bytes.extend_from_slice(before)?;
+) -> Vec<u8> {
+    let mut bytes = before.to_vec(alloc).expect(rt, "memory");
     for _ in 0..times {
-        bytes.extend_from_slice(piece)?;
+        bytes.extend_from_slice(piece).expect(rt, "memory");
     }
-    bytes.extend_from_slice(behind)?;
-    Ok(bytes)
+    bytes.extend_from_slice(behind).expect(rt, "memory");
+    bytes
+}
+
+/// These pieces, one behind the other.
+fn joined(rt: &impl Abort, alloc: Global, before: &[u8], piece: &[u8], behind: &[u8]) -> Vec<u8> {
+    [before, piece, behind].concat(alloc).expect(rt, "memory")
 }
 
 /// Why the bytes are no script, if they are none.
@@ -31,6 +39,18 @@ fn end_of(alloc: Global, bytes: &[u8]) -> Option<ParseEnd> {
         Ok(_) => None,
         Err(end) => Some(end),
     }
+}
+
+/// The bytes, in which this piece is what matters, are refused so, or are a script.
+fn expect_end(rt: &impl Abort, alloc: Global, bytes: &[u8], due: Option<ParseEnd>, piece: &[u8]) {
+    let end = end_of(alloc, bytes);
+    assert!(rt; end == due, "{end:?} of {piece:?}");
+}
+
+/// The only worker of the script.
+fn only_worker<'a>(rt: &impl Abort, script: &'a Script) -> &'a WorkerLines {
+    assert!(rt; script.workers.len() == 1);
+    &script.workers.as_slice()[0]
 }
 
 /// The refusal of this line for this cause.
@@ -49,54 +69,50 @@ fn call(line: u32, op: Op) -> Item {
 }
 
 #[test]
-fn a_script_has_what_its_lines_say(rt: HostRuntime) -> Result<(), Fail> {
+fn a_script_has_what_its_lines_say(rt: HostRuntime) {
     let text = b"# one counter\n\nprocs 8\n  object  hits counter   shared  \n   # its worker\n\
         worker hits 7\nhits add 4294967295\n\n hits add 0\nhits drain\nhits get";
-    let script = parse(rt.alloc(), text)?;
-    let hits = Name::of(b"hits").ok_or("no name")?;
+    let script = parse(rt.alloc(), text).expect(&rt, "a script");
+    let hits = Name::of(b"hits").expect(&rt, "a name");
     let object = ObjectLine {
         name: hits,
         kind: KindName::Counter,
         layout: LayoutName::Shared,
     };
-    assert_eq!(rt; script.procs, 8);
-    assert_eq!(rt; script.objects.as_slice(), [object].as_slice());
-    assert_eq!(rt; script.workers.len(), 1);
-    let worker = &script.workers.as_slice()[0];
-    assert_eq!(rt; worker.name, hits);
-    assert_eq!(rt; worker.proc, 7);
+    assert!(rt; script.procs == 8);
+    assert!(rt; script.objects.as_slice() == [object].as_slice());
+    let worker = only_worker(&rt, &script);
+    assert!(rt; worker.name == hits && worker.proc == 7);
     let items = [
         call(7, Op::Add(4_294_967_295)),
         call(9, Op::Add(0)),
         call(10, Op::Drain),
         call(11, Op::Get),
     ];
-    assert_eq!(rt; worker.items.as_slice(), items.as_slice());
-    Ok(())
+    assert!(rt; worker.items.as_slice() == items.as_slice());
 }
 
 /// Compares the items of the worker that has these calls.
-fn compare(rt: &impl Abort, alloc: Global, calls: &[u8], items: &[Item]) -> Result<(), Fail> {
-    let text = repeated(alloc, HEAD, calls, 1, b"")?;
-    let script = parse(alloc, &text)?;
-    assert_eq!(rt; script.workers.len(), 1);
-    assert_eq!(rt;
-        script.workers.as_slice()[0].items.as_slice(),
-        items,
+fn compare(rt: &impl Abort, alloc: Global, calls: &[u8], items: &[Item]) {
+    let text = joined(rt, alloc, HEAD, calls, b"");
+    let script = parse(alloc, &text).expect(rt, "a script");
+    let worker = only_worker(rt, &script);
+    assert!(rt;
+        worker.items.as_slice() == items,
         "{} bytes of calls",
         calls.len()
     );
-    Ok(())
 }
 
 #[test]
-fn calls_have_the_numbers_of_their_lines(rt: HostRuntime) -> Result<(), Fail> {
-    compare(&rt, rt.alloc(), b"", &[])?;
+fn calls_have_the_numbers_of_their_lines(rt: HostRuntime) {
+    compare(&rt, rt.alloc(), b"", &[]);
     let sum = [call(4, Op::Add(5)), call(5, Op::Get)];
-    compare(&rt, rt.alloc(), b"hits add 5\nhits get\n", &sum)?;
-    let late = repeated(rt.alloc(), b"", b"\n", 1_000_000, b"hits drain\nhits add 1")?;
+    compare(&rt, rt.alloc(), b"hits add 5\nhits get\n", &sum);
+    let behind = b"hits drain\nhits add 1";
+    let late = repeated(&rt, rt.alloc(), b"", b"\n", 1_000_000, behind);
     let last = [call(1_000_004, Op::Drain), call(1_000_005, Op::Add(1))];
-    compare(&rt, rt.alloc(), &late, &last)?;
+    compare(&rt, rt.alloc(), &late, &last);
     let calls = b"hits add 4294967295\nhits add 4294967295\nhits drain\nhits get\n";
     let drained = [
         call(4, Op::Add(4_294_967_295)),
@@ -104,12 +120,11 @@ fn calls_have_the_numbers_of_their_lines(rt: HostRuntime) -> Result<(), Fail> {
         call(6, Op::Drain),
         call(7, Op::Get),
     ];
-    compare(&rt, rt.alloc(), calls, &drained)?;
-    Ok(())
+    compare(&rt, rt.alloc(), calls, &drained);
 }
 
 #[test]
-fn a_script_may_end_after_each_of_its_lines(rt: HostRuntime) -> Result<(), Fail> {
+fn a_script_may_end_after_each_of_its_lines(rt: HostRuntime) {
     let cases: [(&[u8], u32, usize, usize); 6] = [
         (b"procs 1", 1, 0, 0),
         (b"procs 1\n", 1, 0, 0),
@@ -124,51 +139,49 @@ fn a_script_may_end_after_each_of_its_lines(rt: HostRuntime) -> Result<(), Fail>
         ),
     ];
     for (text, procs, objects, workers) in cases {
-        let script = parse(rt.alloc(), text)?;
-        assert_eq!(rt; script.procs, procs, "{text:?}");
-        assert_eq!(rt; script.objects.len(), objects, "{text:?}");
-        assert_eq!(rt; script.workers.len(), workers, "{text:?}");
+        let script = parse(rt.alloc(), text).expect(&rt, "a script");
+        assert!(rt; script.procs == procs, "{text:?}");
+        assert!(rt; script.objects.len() == objects, "{text:?}");
+        assert!(rt; script.workers.len() == workers, "{text:?}");
     }
-    Ok(())
+}
+
+/// A script of so many processors has a worker on this one.
+fn expect_worker_on(rt: &impl Abort, alloc: Global, procs: u8, proc: u8)
+    requires { (procs ≤ 8) × (proc ≤ 8) }
+{
+    let count = [b'0' + procs];
+    let object = b"\nobject o counter shared\n";
+    let head = joined(rt, alloc, b"procs ", &count, object);
+    let place = [b'0' + proc];
+    let text = joined(rt, alloc, &head, b"worker w ", &place);
+    let script = parse(alloc, &text).expect(rt, "a script");
+    assert!(rt; script.procs == u32::from(procs));
+    assert!(rt; only_worker(rt, &script).proc == u32::from(proc));
 }
 
 #[test]
-fn there_are_1_to_8_processors_and_a_worker_on_any_of_them(rt: HostRuntime) -> Result<(), Fail> {
+fn there_are_1_to_8_processors_and_a_worker_on_any_of_them(rt: HostRuntime) {
     for procs in 1u8..=8 {
         for proc in 0..procs {
-            let number = [b'0' + procs];
-            let text = repeated(
-                rt.alloc(),
-                b"procs ",
-                &number,
-                1,
-                b"\nobject o counter shared\n",
-            )?;
-            let place = [b'0' + proc];
-            let text = repeated(rt.alloc(), &text, b"worker w ", 1, &place)?;
-            let script = parse(rt.alloc(), &text)?;
-            assert_eq!(rt; script.procs, u32::from(procs));
-            assert_eq!(rt; script.workers.len(), 1);
-            assert_eq!(rt; script.workers.as_slice()[0].proc, u32::from(proc));
+            expect_worker_on(&rt, rt.alloc(), procs, proc);
         }
     }
-    Ok(())
 }
 
 #[test]
-fn only_the_bytes_from_32_to_126_stand_in_a_script(rt: HostRuntime) -> Result<(), Fail> {
+fn only_the_bytes_from_32_to_126_stand_in_a_script(rt: HostRuntime) {
     for byte in 0u8..=255 {
         if byte != b'\n' {
-            let text = repeated(rt.alloc(), b"procs 1\n# ", &[byte], 1, b"\n")?;
-            let end = if matches!(byte, 32..=126) {
+            let text = joined(&rt, rt.alloc(), b"procs 1\n# ", &[byte], b"\n");
+            let due = if matches!(byte, 32..=126) {
                 None
             } else {
                 Some(refusal(2, ScriptCause::BadByte))
             };
-            assert_eq!(rt; end_of(rt.alloc(), &text), end, "{byte}");
+            expect_end(&rt, rt.alloc(), &text, due, &[byte]);
         }
     }
-    Ok(())
 }
 
 #[test]
@@ -183,7 +196,7 @@ fn a_script_without_processors_is_refused_at_its_last_line(rt: HostRuntime) {
     ];
     for (text, line) in cases {
         let end = refusal(line, ScriptCause::ProcsExpected);
-        assert_eq!(rt; end_of(rt.alloc(), text), Some(end), "{text:?}");
+        expect_end(&rt, rt.alloc(), text, Some(end), text);
     }
 }
 
@@ -193,17 +206,16 @@ fn compare_refusals(
     alloc: Global,
     head: &[u8],
     cases: &[(&[u8], u32, ScriptCause)],
-) -> Result<(), Fail> {
+) {
     for (lines, line, cause) in cases {
-        let text = repeated(alloc, head, lines, 1, b"")?;
+        let text = joined(rt, alloc, head, lines, b"");
         let end = refusal(*line, *cause);
-        assert_eq!(rt; end_of(alloc, &text), Some(end), "{lines:?}");
+        expect_end(rt, alloc, &text, Some(end), lines);
     }
-    Ok(())
 }
 
 #[test]
-fn the_first_line_must_give_1_to_8_processors(rt: HostRuntime) -> Result<(), Fail> {
+fn the_first_line_must_give_1_to_8_processors(rt: HostRuntime) {
     let cases: [(&[u8], u32, ScriptCause); 16] = [
         (b"\xEF\xBB\xBFprocs 1", 1, ScriptCause::BadByte),
         (b"proc", 1, ScriptCause::ProcsExpected),
@@ -226,11 +238,11 @@ fn the_first_line_must_give_1_to_8_processors(rt: HostRuntime) -> Result<(), Fai
         ),
         (b"procs 1\nprocs 1", 2, ScriptCause::UnknownWord),
     ];
-    compare_refusals(&rt, rt.alloc(), b"", &cases)
+    compare_refusals(&rt, rt.alloc(), b"", &cases);
 }
 
 #[test]
-fn each_cause_is_told_at_its_line(rt: HostRuntime) -> Result<(), Fail> {
+fn each_cause_is_told_at_its_line(rt: HostRuntime) {
     let cases: [(&[u8], u32, ScriptCause); 38] = [
         (b"hits frob", 4, ScriptCause::UnknownWord),
         (b"hits", 4, ScriptCause::UnknownWord),
@@ -279,13 +291,14 @@ fn each_cause_is_told_at_its_line(rt: HostRuntime) -> Result<(), Fail> {
         (b"end", 4, ScriptCause::BlockFault),
         (b"begin\nhits get", 5, ScriptCause::BlockFault),
     ];
-    compare_refusals(&rt, rt.alloc(), HEAD, &cases)
+    compare_refusals(&rt, rt.alloc(), HEAD, &cases);
 }
 
 #[test]
-fn a_watch_and_an_unwatch_are_refused_where_a_destroy_is(rt: HostRuntime) -> Result<(), Fail> {
+fn a_watch_and_an_unwatch_are_refused_where_a_destroy_is(rt: HostRuntime) {
+    let alloc = rt.alloc();
     let without_worker: &[u8] = b"procs 1\nobject hits counter shared\n";
-    let open = repeated(rt.alloc(), HEAD, b"begin\nhits seen\n", 1, b"")?;
+    let open = joined(&rt, alloc, HEAD, b"begin\nhits seen\n", b"");
     let cases: [(&[u8], &[u8], u32, ScriptCause); 7] = [
         (b"", b" hits", 1, ScriptCause::ProcsExpected),
         (HEAD, b"", 4, ScriptCause::UnknownWord),
@@ -298,18 +311,16 @@ fn a_watch_and_an_unwatch_are_refused_where_a_destroy_is(rt: HostRuntime) -> Res
     let words: [&[u8]; 3] = [b"destroy", b"watch", b"unwatch"];
     for word in words {
         for (head, behind, line, cause) in cases {
-            let text = repeated(rt.alloc(), head, word, 1, behind)?;
-            let end = Some(refusal(line, cause));
-            assert_eq!(rt; end_of(rt.alloc(), &text), end, "{word:?}{behind:?}");
+            let text = joined(&rt, alloc, head, word, behind);
+            expect_end(&rt, alloc, &text, Some(refusal(line, cause)), behind);
         }
-        let text = repeated(rt.alloc(), HEAD, word, 1, b" hits")?;
-        assert_eq!(rt; end_of(rt.alloc(), &text), None, "{word:?}");
+        let text = joined(&rt, alloc, HEAD, word, b" hits");
+        expect_end(&rt, alloc, &text, None, word);
     }
-    Ok(())
 }
 
 #[test]
-fn a_line_that_asks_something_stands_behind_a_worker_line(rt: HostRuntime) -> Result<(), Fail> {
+fn a_line_that_asks_something_stands_behind_a_worker_line(rt: HostRuntime) {
     let cases: [(&[u8], u32, ScriptCause); 8] = [
         (b"hits get", 3, ScriptCause::WorkerExpected),
         (b"hits seen", 3, ScriptCause::WorkerExpected),
@@ -320,65 +331,62 @@ fn a_line_that_asks_something_stands_behind_a_worker_line(rt: HostRuntime) -> Re
         (b"hits size", 3, ScriptCause::WrongKind),
         (b"destroy other", 3, ScriptCause::UnknownObject),
     ];
-    compare_refusals(
-        &rt,
-        rt.alloc(),
-        b"procs 1\nobject hits counter shared\n",
-        &cases,
-    )
+    let head = b"procs 1\nobject hits counter shared\n";
+    compare_refusals(&rt, rt.alloc(), head, &cases);
+}
+
+/// The word is no name of an object or a worker, and a key of a directory.
+fn expect_key_only(rt: &impl Abort, alloc: Global, word: &[u8]) {
+    let due = Some(refusal(2, ScriptCause::BadName));
+    let object = joined(rt, alloc, b"procs 1\nobject ", word, b" counter shared");
+    expect_end(rt, alloc, &object, due, word);
+    let worker = joined(rt, alloc, b"procs 1\nworker ", word, b" 0");
+    expect_end(rt, alloc, &worker, due, word);
+    let head = b"procs 1\nobject d directory shared\nworker a 0\nd find ";
+    let key = joined(rt, alloc, head, word, b"");
+    expect_end(rt, alloc, &key, None, word);
 }
 
 #[test]
-fn no_reserved_word_is_a_name_but_each_is_a_key(rt: HostRuntime) -> Result<(), Fail> {
+fn no_reserved_word_is_a_name_but_each_is_a_key(rt: HostRuntime) {
     let words: [&[u8]; 9] = [
         b"procs", b"object", b"worker", b"begin", b"end", b"swap", b"destroy", b"watch", b"unwatch",
     ];
     for word in words {
-        let object = repeated(rt.alloc(), b"procs 1\nobject ", word, 1, b" counter shared")?;
-        let end = Some(refusal(2, ScriptCause::BadName));
-        assert_eq!(rt; end_of(rt.alloc(), &object), end, "{word:?}");
-        let worker = repeated(rt.alloc(), b"procs 1\nworker ", word, 1, b" 0")?;
-        assert_eq!(rt; end_of(rt.alloc(), &worker), end, "{word:?}");
-        let head = b"procs 1\nobject d directory shared\nworker a 0\nd find ";
-        let key = repeated(rt.alloc(), head, word, 1, b"")?;
-        assert_eq!(rt; end_of(rt.alloc(), &key), None, "{word:?}");
+        expect_key_only(&rt, rt.alloc(), word);
     }
-    Ok(())
 }
 
 /// Lines that declare so many names, each a letter, behind a line of processors.
-fn declared(alloc: Global, before: &[u8], behind: &[u8], times: u8) -> Result<Vec<u8>, AllocError> {
-    let mut text = Vec::new(alloc);
-    text.extend_from_slice(b"procs 1\n")?;
+fn declared(rt: &impl Abort, alloc: Global, before: &[u8], behind: &[u8], times: u8) -> Vec<u8> {
+    let mut text = b"procs 1\n".as_slice().to_vec(alloc).expect(rt, "memory");
     for place in 0..times.min(26) {
-        text.extend_from_slice(before)?;
-        text.push(b'a' + place)?;
-        text.extend_from_slice(behind)?;
+        let line = joined(rt, alloc, before, &[b'a' + place], behind);
+        text.extend_from_slice(&line).expect(rt, "memory");
     }
-    Ok(text)
+    text
 }
 
 #[test]
-fn there_are_at_most_16_objects_and_16_workers(rt: HostRuntime) -> Result<(), Fail> {
+fn there_are_at_most_16_objects_and_16_workers(rt: HostRuntime) {
     let lines: [(&[u8], &[u8]); 2] = [(b"object ", b" counter shared\n"), (b"worker ", b" 0\n")];
     for (before, behind) in lines {
-        let full = declared(rt.alloc(), before, behind, 16)?;
-        assert_eq!(rt; end_of(rt.alloc(), &full), None);
-        let over = declared(rt.alloc(), before, behind, 17)?;
-        let end = Some(refusal(18, ScriptCause::TooMany));
-        assert_eq!(rt; end_of(rt.alloc(), &over), end);
+        let full = declared(&rt, rt.alloc(), before, behind, 16);
+        expect_end(&rt, rt.alloc(), &full, None, before);
+        let over = declared(&rt, rt.alloc(), before, behind, 17);
+        let end = refusal(18, ScriptCause::TooMany);
+        expect_end(&rt, rt.alloc(), &over, Some(end), before);
     }
-    Ok(())
 }
 
 #[test]
-fn each_worker_has_the_lines_behind_its_own(rt: HostRuntime) -> Result<(), Fail> {
+fn each_worker_has_the_lines_behind_its_own(rt: HostRuntime) {
     let text = b"procs 2\nobject hits counter spread\nworker a 0\nbegin\nhits add 5\n\
         object d directory shared\nend\nswap hits shared\nworker hits 1\nd bind end 7\n\
         destroy d\nobject p pages shared\np write 1023 !~\n";
-    let script = parse(rt.alloc(), text)?;
-    let end = Name::of(b"end").ok_or("no name")?;
-    let written = Text::of(b"!~").ok_or("no text")?;
+    let script = parse(rt.alloc(), text).expect(&rt, "a script");
+    let end = Name::of(b"end").expect(&rt, "a name");
+    let written = Text::of(b"!~").expect(&rt, "a text");
     let first = [
         Item::Begin,
         call(5, Op::Add(5)),
@@ -391,23 +399,22 @@ fn each_worker_has_the_lines_behind_its_own(rt: HostRuntime) -> Result<(), Fail>
         asks(13, 2, Act::Call(Op::Write(1023, written))),
     ];
     let workers = script.workers.as_slice();
-    assert_eq!(rt; workers.len(), 2);
-    assert_eq!(rt; workers[0].items.as_slice(), first.as_slice());
-    assert_eq!(rt; workers[1].items.as_slice(), second.as_slice());
-    assert_eq!(rt; workers[1].proc, 1);
+    assert!(rt; workers.len() == 2);
+    assert!(rt; workers[0].items.as_slice() == first.as_slice());
+    assert!(rt; workers[1].items.as_slice() == second.as_slice());
+    assert!(rt; workers[1].proc == 1);
     let kinds = [KindName::Counter, KindName::Directory, KindName::Pages];
     for (object, kind) in script.objects.as_slice().iter().zip(kinds) {
-        assert_eq!(rt; object.kind, kind);
+        assert!(rt; object.kind == kind);
     }
-    Ok(())
 }
 
 #[test]
-fn objects_of_each_kind_are_watched_and_tell_what_was_seen(rt: HostRuntime) -> Result<(), Fail> {
+fn objects_of_each_kind_are_watched_and_tell_what_was_seen(rt: HostRuntime) {
     let text = b"procs 1\nobject hits counter shared\nobject d directory spread\n\
         object p pages shared\nworker a 0\nwatch hits\nwatch d\nwatch p\n\
         begin\nhits seen\nd seen\np seen\nend\nunwatch p\np seen\nunwatch p\n";
-    let script = parse(rt.alloc(), text)?;
+    let script = parse(rt.alloc(), text).expect(&rt, "a script");
     let items = [
         asks(6, 0, Act::Swap(To::Watch)),
         asks(7, 1, Act::Swap(To::Watch)),
@@ -421,38 +428,29 @@ fn objects_of_each_kind_are_watched_and_tell_what_was_seen(rt: HostRuntime) -> R
         asks(15, 2, Act::Call(Op::Seen)),
         asks(16, 2, Act::Swap(To::Unwatch)),
     ];
-    let workers = script.workers.as_slice();
-    assert_eq!(rt; workers.len(), 1);
-    assert_eq!(rt; workers[0].items.as_slice(), items.as_slice());
-    Ok(())
+    assert!(rt; only_worker(&rt, &script).items.as_slice() == items.as_slice());
 }
 
 #[test]
-fn a_script_has_at_most_65536_calls(rt: HostRuntime) -> Result<(), Fail> {
-    let full = repeated(rt.alloc(), HEAD, b"hits drain\nhits add 7\n", 32_768, b"")?;
-    let script = parse(rt.alloc(), &full)?;
-    assert_eq!(rt; script.workers.len(), 1);
-    let items = &script.workers.as_slice()[0].items;
-    assert_eq!(rt; items.len(), 65_536);
-    assert_eq!(rt; items.as_slice()[65_534], call(65_538, Op::Drain));
-    assert_eq!(rt; items.as_slice()[65_535], call(65_539, Op::Add(7)));
-    let over = repeated(rt.alloc(), HEAD, b"hits get\n", 65_537, b"")?;
-    assert_eq!(rt;
-        end_of(rt.alloc(), &over),
-        Some(refusal(65_540, ScriptCause::TooMany))
-    );
-    let watched = repeated(rt.alloc(), HEAD, b"watch hits\nhits seen\n", 32_768, b"")?;
-    assert_eq!(rt; end_of(rt.alloc(), &watched), None);
-    let over = repeated(rt.alloc(), &watched, b"unwatch hits\n", 1, b"")?;
-    assert_eq!(rt;
-        end_of(rt.alloc(), &over),
-        Some(refusal(65_540, ScriptCause::TooMany))
-    );
-    Ok(())
+fn a_script_has_at_most_65536_calls(rt: HostRuntime) {
+    let alloc = rt.alloc();
+    let full = repeated(&rt, alloc, HEAD, b"hits drain\nhits add 7\n", 32_768, b"");
+    let script = parse(alloc, &full).expect(&rt, "a script");
+    let items = &only_worker(&rt, &script).items;
+    assert!(rt; items.len() == 65_536);
+    assert!(rt; items.as_slice()[65_534] == call(65_538, Op::Drain));
+    assert!(rt; items.as_slice()[65_535] == call(65_539, Op::Add(7)));
+    let end = Some(refusal(65_540, ScriptCause::TooMany));
+    let over = repeated(&rt, alloc, HEAD, b"hits get\n", 65_537, b"");
+    expect_end(&rt, alloc, &over, end, b"hits get\n");
+    let watched = repeated(&rt, alloc, HEAD, b"watch hits\nhits seen\n", 32_768, b"");
+    expect_end(&rt, alloc, &watched, None, b"hits seen\n");
+    let over = joined(&rt, alloc, &watched, b"unwatch hits\n", b"");
+    expect_end(&rt, alloc, &over, end, b"unwatch hits\n");
 }
 
 #[test]
-fn a_script_has_at_most_1048576_bytes(rt: HostRuntime) -> Result<(), Fail> {
+fn a_script_has_at_most_1048576_bytes(rt: HostRuntime) {
     let cases: [(&[u8], &[u8], usize, &[u8], Option<u32>); 9] = [
         (b"procs 1\n", b" ", 1_048_568, b"", None),
         (b"procs 1\n", b" ", 1_048_569, b"", Some(2)),
@@ -465,12 +463,8 @@ fn a_script_has_at_most_1048576_bytes(rt: HostRuntime) -> Result<(), Fail> {
         (b"procs 1\n", b"\n", 1_048_569, b"", Some(1_048_570)),
     ];
     for (before, piece, times, behind, line) in cases {
-        let text = repeated(rt.alloc(), before, piece, times, behind)?;
-        assert_eq!(rt;
-            end_of(rt.alloc(), &text),
-            line.map(|line| refusal(line, ScriptCause::TooLong)),
-            "{times} of {piece:?}"
-        );
+        let text = repeated(&rt, rt.alloc(), before, piece, times, behind);
+        let due = line.map(|line| refusal(line, ScriptCause::TooLong));
+        expect_end(&rt, rt.alloc(), &text, due, piece);
     }
-    Ok(())
 }

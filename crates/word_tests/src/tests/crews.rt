@@ -1,30 +1,26 @@
 //! A system of one shared counter on six processors, and the passes of its four callers.
-ghost use Rattle.std.specs.Prelude.{IfOk, IfSome};
-ghost use Rattle.word_tests.specs.Ready.{HoldsNoCell, HoldNoCells};
+ghost use Rattle.table_crews.specs.Ready.{HoldsNoCell};
 
 use co_any::AnyLayout;
-use k42_kinds::{KindName, LayoutName};
-use k42_memory::Memory;
-use k42_rule::{Keep, Pass, Sys};
+use k42_kinds::LayoutName;
+use k42_rule::Sys;
 use std::alloc::Global;
+use std::process::Abort;
+use table_crews::{Walk, last, start_counter};
 
-pub(super) type Walk = Pass<AnyLayout>;
-
-#[tactic(auto, using(crate::proofs::Crews::any_tags))]
-pub(super) fn start(alloc: Global) -> Result<(Sys<AnyLayout>, Vec<Walk>), Memory>
-    ensures { IfOk result (λ made. HoldNoCells made.0 made.1.items) }
+/// A system, and the passes of its callers 0 to 3.
+pub(super) fn start(rt: &impl Abort, alloc: Global) -> (Sys<AnyLayout>, Walk, Walk, Walk, Walk)
+    ensures zero { HoldsNoCell result.0 result.1 }
+    ensures one { HoldsNoCell result.0 result.2 }
+    ensures two { HoldsNoCell result.0 result.3 }
+    ensures three { HoldsNoCell result.0 result.4 }
 {
-    let layouts = vec![in alloc; AnyLayout::of(KindName::Counter, LayoutName::Shared)]?;
-    let callers = vec![in alloc; 0, 5, 2, 1]?;
-    let (sys, passes) = Sys::start(alloc, layouts, 6, callers, Keep::All)?;
-    Ok((sys, passes))
-}
-
-/// Takes the last pass out of the list.
-pub(super) fn last(sys: &Sys<AnyLayout>, passes: &mut Vec<Walk>) -> Option<Walk>
-    requires free { HoldNoCells sys.now passes.old.items }
-    ensures free { HoldNoCells sys.now passes.new.items }
-    ensures out { IfSome result (λ pass. HoldsNoCell sys.now pass) }
-{
-    passes.pop()
+    let callers = vec![in alloc; 0, 5, 2, 1].expect(rt, "memory");
+    let started = start_counter(alloc, LayoutName::Shared, 6, callers);
+    let (sys, mut passes) = started.expect(rt, "memory");
+    let three = last(&sys, &mut passes).expect(rt, "a pass");
+    let two = last(&sys, &mut passes).expect(rt, "a pass");
+    let one = last(&sys, &mut passes).expect(rt, "a pass");
+    let zero = last(&sys, &mut passes).expect(rt, "a pass");
+    (sys, zero, one, two, three)
 }

@@ -1,24 +1,20 @@
 //! A swap of one pass, phase by phase.
-ghost use Rattle.std.specs.Prelude.{◌≡◌, true, None, OnOk};
-ghost use Rattle.phase_core.specs.declared.caller.SwapAt.TheVariants.{Moved};
-ghost use Rattle.k42_board.specs.Gracing.{MayTakeRole};
-ghost use Rattle.k42_board.specs.Swapping.{object_swapped, MayBlock, MayMove};
+ghost use Rattle.std.specs.Prelude.{◌≡◌, true, None};
+ghost use Rattle.k42_board.specs.Swapping.{MayMove};
 ghost use Rattle.k42_mediator.specs.Swaps.{HasBegun, HasMoved, HasTransferred, HasOpened};
-ghost use Rattle.word_tests.specs.Ready.{HoldsNoCell};
+ghost use Rattle.table_crews.specs.Ready.{HoldsNoCell};
 
-use crate::tests::crews::Walk;
 use co_any::AnyLayout;
-use gen_core::GraceAt;
 use k42_kinds::Layout;
-use k42_limits::{PASS_ENTRIES, PASS_GRACES};
+use k42_limits::PASS_ENTRIES;
 use k42_mediator::{Begun, Moving, begin, block, end, interpose, open_entries, transfer, try_move};
-use k42_memory::Memory;
 use k42_quiesce::{grace, reclaim};
 use k42_rule::Sys;
 use phase_core::SwapAt;
 use std::alloc::Global;
 use std::process::Abort;
 use std::sync::Wait;
+use table_crews::{Walk, has_moved, may_block, may_move, may_wait};
 
 fn has_begun(pass: &Walk) -> bool
     ensures { result ≡ true → HasBegun pass.now.view }
@@ -37,48 +33,18 @@ pub(super) fn begin_alone(rt: &impl Abort, sys: &Sys<AnyLayout>, pass: &mut Walk
     assert!(rt; has_begun(pass));
 }
 
-/// Whether the pass may begin a grace.
-fn may_wait(pass: &Walk) -> bool
-    ensures { result ≡ true → MayTakeRole pass.now.view }
-{
-    !pass.is_active()
-        && pass.grace() == GraceAt::Idle
-        && matches!(pass.swap(), SwapAt::Idle | SwapAt::Interposed(_))
-        && pass.graces() < PASS_GRACES
-}
-
 /// Waits for a grace, which is to free so many rows.
 pub(super) fn wait_free<R: Abort + Wait>(rt: &R, sys: &Sys<AnyLayout>, pass: &mut Walk, freed: u32)
     requires free { HoldsNoCell sys.now pass.old }
     ensures free { HoldsNoCell sys.now pass.new }
 {
-    assert!(rt; may_wait(pass));
+    assert!(rt; may_wait::<AnyLayout>(pass));
     grace(rt, sys, pass);
-    assert_eq!(rt; reclaim(sys, pass), freed);
-}
-
-pub(super) fn may_block(pass: &Walk) -> bool
-    ensures { result ≡ true → MayBlock pass.now.view }
-{
-    matches!(pass.swap(), SwapAt::Drained(_)) && pass.grace() == GraceAt::Idle
-}
-
-#[tactic(auto, using(crate::proofs::Handed::unhanded))]
-pub(super) fn may_move(pass: &Walk) -> bool
-    ensures may { result ≡ true → MayMove pass.now.view }
-    ensures unhanded { result ≡ true → pass.now.view.handed ≡ None }
-{
-    matches!(pass.swap(), SwapAt::Blocking(_))
-}
-
-pub(super) fn has_moved(pass: &Walk) -> bool
-    ensures { result ≡ true → pass.now.view.visitor.swap ≡ Moved (object_swapped pass.now.view) }
-{
-    matches!(pass.swap(), SwapAt::Moved(_))
+    assert!(rt; reclaim(sys, pass) == freed);
 }
 
 /// Begins to move the state of a shut object: nobody is counted.
-#[tactic(auto, using(crate::proofs::Handed::still_unhanded))]
+#[tactic(auto, using(table_crews::proofs::Handed::still_unhanded))]
 pub(super) fn move_now(rt: &impl Abort, sys: &Sys<AnyLayout>, pass: &mut Walk)
     requires free { HoldsNoCell sys.now pass.old }
     requires may { MayMove pass.old.view }
@@ -95,11 +61,11 @@ fn shut(rt: &impl Abort, sys: &Sys<AnyLayout>, pass: &mut Walk)
     ensures free { HoldsNoCell sys.now pass.new }
     ensures moved { HasMoved pass.new.view }
 {
-    assert!(rt; may_block(pass));
+    assert!(rt; may_block::<AnyLayout>(pass));
     block(sys, pass);
-    assert!(rt; may_move(pass));
+    assert!(rt; may_move::<AnyLayout>(pass));
     move_now(rt, sys, pass);
-    assert!(rt; has_moved(pass));
+    assert!(rt; has_moved::<AnyLayout>(pass));
 }
 
 /// Hands the state on to the layout of that tag.
@@ -110,18 +76,18 @@ pub(super) fn transfer_to(
     pass: &mut Walk,
     object: u32,
     tag: u32,
-) -> Result<(), Memory>
+)
     requires free { HoldsNoCell sys.now pass.old }
     requires moved { HasMoved pass.old.view }
-    ensures free { OnOk result (HoldsNoCell sys.now pass.new) }
-    ensures transferred { OnOk result (HasTransferred pass.new.view) }
+    ensures free { HoldsNoCell sys.now pass.new }
+    ensures transferred { HasTransferred pass.new.view }
 {
     assert!(rt; object < sys.objects() && tag <= 2);
     assert!(rt; pass.swap() == SwapAt::Moved(object));
-    pass.reserve()?;
+    pass.reserve().expect(rt, "memory");
     assert!(rt; pass.drawn() < PASS_ENTRIES);
     let to = sys.declared(object).with_tag(tag);
-    transfer(alloc, sys, pass, &to)
+    transfer(alloc, sys, pass, &to).expect(rt, "memory");
 }
 
 pub(super) fn has_opened(pass: &Walk) -> bool
@@ -150,15 +116,14 @@ pub(super) fn swap<R: Abort + Wait>(
     object: u32,
     tag: u32,
     freed: u32,
-) -> Result<(), Memory>
+)
     requires free { HoldsNoCell sys.now pass.old }
-    ensures free { OnOk result (HoldsNoCell sys.now pass.new) }
+    ensures free { HoldsNoCell sys.now pass.new }
 {
     begin_alone(rt, sys, pass, object);
     interpose(sys, pass);
     wait_free(rt, sys, pass, freed);
     shut(rt, sys, pass);
-    transfer_to(rt, alloc, sys, pass, object, tag)?;
+    transfer_to(rt, alloc, sys, pass, object, tag);
     open(rt, sys, pass);
-    Ok(())
 }

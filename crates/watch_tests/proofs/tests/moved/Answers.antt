@@ -8,7 +8,8 @@ import-requires-clause-served g c =
     let to = c.args.to.now in
     let stands = laws.stands from 8 c.args.parts.now.items (omega (arith, c.requires.known.0)) (omega arith) c.requires.row in
     let admits = laws.admits to from ((g.L.Layout.ways from).combine c.args.parts.now.items) c.requires.known.1 c.requires.known.0 c.requires.same stands.served in
-    rw (c.admit.ensures, c.in_ok-state.ensures.state) admits
+    let state = rw c.expect-state.ensures at c.export.ensures.state in
+    rw (c.admit.ensures, state) admits
 
 pub returns : goal.returns
 returns g c =
@@ -17,5 +18,7 @@ returns g c =
     let to = c.args.to.now in
     let stands = laws.stands from 8 c.args.parts.now.items (omega (arith, c.requires.known.0)) (omega arith) c.requires.row in
     let admits = laws.admits to from ((g.L.Layout.ways from).combine c.args.parts.now.items) c.requires.known.1 c.requires.known.0 c.requires.same stands.served in
-    let served = rw (← c.in_ok-state.ensures.state, ← c.admit.ensures) at admits in
-    subst (λ items. g.L.Layout.whole to 8 items) (sym c.in_ok-next.ensures) (laws.imports to 8 c.admit.result c.requires.known.1 (omega arith) served).whole
+    let state = rw c.expect-state.ensures at c.export.ensures.state in
+    let next = rw c.expect.ensures at c.import.ensures in
+    let served = rw (← state, ← c.admit.ensures) at admits in
+    subst (λ items. g.L.Layout.whole to 8 items) (sym next) (laws.imports to 8 c.admit.result c.requires.known.1 (omega arith) served).whole
