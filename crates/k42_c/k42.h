@@ -1,0 +1,233 @@
+/* k42.h - Kilbotu for C: clustered objects that threads call, each through a pass of its own.
+
+   A system has objects (counters, directories, page caches) and passes. A pass is what one thread calls with; it has
+   a handle, a k42_pass. Calls are made in an activity, between k42_enter and k42_leave. Once all passes were given
+   back by k42_close, the last handle has one legal history of all calls, if the system keeps one.
+
+       k42_object hits = {K42_COUNTER, K42_SPREAD};
+       uint32_t homes[2] = {0, 1};
+       k42_pass pass[2] = {0};
+       k42_start(2, &hits, 1, homes, 2, K42_KEEP_ALL, pass, 2);
+       k42_enter(&pass[0]);
+       while (k42_add(&pass[0], 0, 1) == K42_AGAIN)
+           sched_yield();
+       k42_leave(&pass[0]);
+
+   NOBODY WAITS. No call blocks, sleeps or spins. Where something is in the way for a moment, nothing is done and the
+   status is K42_AGAIN: do something else, or yield, and call again. A pass may stay in its activity meanwhile.
+
+   STATUS. Each call returns one, and each status but K42_DONE, K42_NONE, K42_TAKEN, K42_GONE and K42_MISSING says that
+   nothing was done: no object, no handle and no place that a pointer leads to has changed. (k42_close may go on from
+   where it was held up.)
+
+   WHAT THE CALLER PROMISES, and nothing checks:
+   - a k42_pass is set to 0 before its first use, and from then on only passed by its address; it may be moved as a
+     whole where no call is under way, but not copied and not written;
+   - one call at a time is made with a handle, or reads it. Different handles of one system are for different threads,
+     at the same time. A handle may change its thread where the change is ordered, as by pthread_create, pthread_join
+     or a mutex;
+   - no pointer is null, also where its length is 0, and what it leads to is of the length that is given, initialised,
+     and used by nobody else during the call;
+   - rattle_alloc, rattle_realloc and rattle_dealloc, through which the library asks for memory, are as those of
+     heap.c: over one allocator that aligns as malloc does, and that never calls back into the library;
+   - no call is made in a signal handler, nor in the child of a fork of a process with threads.
+
+   Link with libk42_c.a, with heap.c or your own of these three functions, and with -pthread where there are threads. */
+#ifndef K42_H
+#define K42_H
+
+#include <stddef.h>
+#include <stdint.h>
+
+#ifdef __cplusplus
+extern "C" {
+#endif
+
+/* What a call returns. */
+enum {
+    K42_DONE = 0,
+    K42_NONE = 1,       /* done: there is no such key, the page was never written, or the object has no layer */
+    K42_TAKEN = 2,      /* done: the key was bound already, and leads where it led */
+    K42_GONE = 3,       /* done: the object was destroyed */
+    K42_MISSING = 4,    /* done: the pass was given back, and others are missing still */
+    K42_AGAIN = 5,      /* something is in the way for a moment */
+    K42_MEMORY = 6,     /* out of memory */
+    K42_WORN = 7,       /* the pass has made 2^58 calls, and makes no more */
+    K42_EMPTY = 8,      /* the handle has no pass */
+    K42_FULL = 9,       /* a handle has a pass already */
+    K42_TURN = 10,      /* out of turn: this is not for a pass that is where this one is */
+    K42_OBJECT = 11,    /* there is no such object */
+    K42_KIND = 12,      /* the object is of another kind */
+    K42_ARGUMENT = 13,  /* a key, a text, a page, a number of the plan or a length is none */
+    K42_PROCESSORS = 14, /* there are 1 to 8 processors */
+    K42_OBJECTS = 15,   /* there are 1 to 16 objects */
+    K42_PASSES = 16,    /* there are 1 to 16 passes */
+    K42_PROCESSOR = 17, /* a pass's processor is not there */
+};
+
+/* A handle. It is empty while it is 0. */
+typedef struct {
+    uint64_t opaque[3];
+} k42_pass;
+
+/* The kinds of objects, all empty at first. */
+enum { K42_COUNTER = 0, K42_DIRECTORY = 1, K42_PAGES = 2 };
+
+/* How an object is kept: by one representative for all processors, or by one for each. */
+enum { K42_SHARED = 0, K42_SPREAD = 1 };
+
+/* Which entries are kept for the history. */
+enum { K42_KEEP_NOTHING = 0, K42_KEEP_ALL = 1 };
+
+/* An object, as it starts. */
+typedef struct {
+    uint32_t kind;
+    uint32_t layout;
+} k42_object;
+
+/* NAME   k42_start - starts a system
+
+   It has so many processors, 1 to 8, these objects, 1 to 16, and a pass for each handle, 1 to 16. homes says of each
+   pass its processor, from 0: calls of passes at different processors meet seldom where an object is K42_SPREAD.
+   keep says which entries are kept. Under K42_KEEP_ALL each call keeps one until the system is closed, in 24 bytes and
+   more; under K42_KEEP_NOTHING a call needs no memory for the history, however long the system runs.
+
+   STATUS   K42_DONE: each handle has a pass with nothing under way. K42_FULL: a handle is not empty. K42_ARGUMENT:
+   home_count and pass_count differ, or a kind, a layout or keep is none. K42_PROCESSORS, K42_OBJECTS, K42_PASSES,
+   K42_PROCESSOR: the first of these that does not hold. K42_MEMORY. */
+uint32_t k42_start(uint32_t processors, const k42_object *objects, size_t object_count, const uint32_t *homes,
+                   size_t home_count, uint32_t keep, k42_pass *passes, size_t pass_count);
+
+/* NAME   k42_enter, k42_leave - begin and end an activity of the pass
+
+   Calls are made in an activity, and an activity may have any number of calls. A system frees nothing that an open
+   activity might still read, so leave it before you wait for anything.
+
+   STATUS   K42_DONE. K42_EMPTY. K42_TURN: k42_enter in an activity, k42_leave outside, or the pass was given back. */
+uint32_t k42_enter(k42_pass *pass);
+uint32_t k42_leave(k42_pass *pass);
+
+/* Calls. Objects are numbered from 0, in the order of k42_start. Each call is tried once.
+
+   STATUS   of all: K42_DONE. K42_AGAIN: another pass is at the object. K42_MEMORY: the call was not made. K42_WORN.
+   K42_EMPTY. K42_TURN: the pass is in no activity. K42_OBJECT. K42_KIND. K42_GONE. What else there is stands below.
+   A number goes to its place only where the call answers it. */
+
+/* NAME   k42_add, k42_get, k42_drain - of counters
+
+   k42_add adds the amount, modulo 2^64. k42_get reads the value. k42_drain reads it and sets it to 0. */
+uint32_t k42_add(k42_pass *pass, uint32_t object, uint32_t amount);
+uint32_t k42_get(k42_pass *pass, uint32_t object, uint64_t *value);
+uint32_t k42_drain(k42_pass *pass, uint32_t object, uint64_t *value);
+
+/* NAME   k42_bind, k42_find, k42_unbind, k42_size - of directories
+
+   A key has 1 to 16 bytes: a letter a to z, and then such letters, digits and '_'. It need not end with a zero byte.
+   k42_bind binds it to a number. k42_find reads the number. k42_unbind reads it and unbinds the key. k42_size counts
+   the keys that are bound.
+
+   STATUS   K42_TAKEN: k42_bind of a key that is bound. K42_NONE: k42_find, k42_unbind of one that is not.
+   K42_ARGUMENT: the bytes are no key. */
+uint32_t k42_bind(k42_pass *pass, uint32_t object, const char *key, size_t length, uint64_t number);
+uint32_t k42_find(k42_pass *pass, uint32_t object, const char *key, size_t length, uint64_t *number);
+uint32_t k42_unbind(k42_pass *pass, uint32_t object, const char *key, size_t length, uint64_t *number);
+uint32_t k42_size(k42_pass *pass, uint32_t object, uint64_t *count);
+
+/* The text of a page: so many bytes, and zeros behind them. */
+typedef struct {
+    uint32_t length;
+    char bytes[32];
+} k42_text;
+
+/* NAME   k42_write, k42_read, k42_dirty, k42_clean - of page caches
+
+   Pages are numbered from 0 to 65,535. A text has 1 to 32 bytes from '!' to '~'. k42_write writes it, which makes the
+   page dirty. k42_read reads the page. k42_dirty counts the dirty pages. k42_clean counts them and makes all clean.
+
+   STATUS   K42_NONE: k42_read of a page that was never written. K42_ARGUMENT: there is no such page, or the bytes are
+   no text. */
+uint32_t k42_write(k42_pass *pass, uint32_t object, uint32_t page, const char *text, size_t length);
+uint32_t k42_read(k42_pass *pass, uint32_t object, uint32_t page, k42_text *text);
+uint32_t k42_dirty(k42_pass *pass, uint32_t object, uint64_t *count);
+uint32_t k42_clean(k42_pass *pass, uint32_t object, uint64_t *count);
+
+/* NAME   k42_seen - of every object: how many calls its layer has counted
+
+   STATUS   K42_NONE: it has no layer. */
+uint32_t k42_seen(k42_pass *pass, uint32_t object, uint64_t *count);
+
+/* NAME   k42_close - gives the pass back, and with the last closes the system
+
+   Each handle is closed once its pass has nothing under way, by any thread. Where others are missing, the handle is
+   empty then, and missing says how many. The last handle has the history under K42_KEEP_ALL, to be read and then
+   dropped; under K42_KEEP_NOTHING it is empty.
+
+   STATUS   K42_DONE: it was the last, and missing is 0. K42_MISSING. K42_AGAIN: another pass is being given back in
+   this moment. K42_MEMORY. After these two call again: the pass may be taken by then, and its handle for k42_close and
+   k42_drop alone. K42_EMPTY. K42_TURN: the pass is in an activity, or the handle has a history. */
+uint32_t k42_close(k42_pass *pass, uint32_t *missing);
+
+/* NAME   k42_drop - empties a handle
+
+   It drops the history that the handle has, or its pass: then the others are never closed, but miss this one for ever.
+
+   STATUS   K42_DONE. K42_EMPTY. K42_TURN: the pass is in an activity. */
+uint32_t k42_drop(k42_pass *pass);
+
+/* What an entry asked: the calls in the order in which they stand above. */
+enum {
+    K42_ADD = 0,
+    K42_GET = 1,
+    K42_DRAIN = 2,
+    K42_BIND = 3,
+    K42_FIND = 4,
+    K42_UNBIND = 5,
+    K42_SIZE = 6,
+    K42_WRITE = 7,
+    K42_READ = 8,
+    K42_DIRTY = 9,
+    K42_CLEAN = 10,
+    K42_SEEN = 11,
+};
+
+/* A key: so many bytes, and zeros behind them. */
+typedef struct {
+    uint32_t length;
+    char bytes[16];
+} k42_key;
+
+/* An entry of a history: who asked what of which object, and how it was answered. What it has none of is 0. */
+typedef struct {
+    uint64_t place;       /* in the history, from 1 */
+    uint64_t index;       /* among those of its pass, from 0 */
+    uint64_t number;      /* what was added or bound */
+    uint64_t reply;       /* the number that was answered */
+    uint32_t pass;        /* in the order of k42_start, from 0 */
+    uint32_t processor;
+    uint32_t generation;  /* of the activity */
+    uint32_t object;
+    uint32_t incarnation; /* of the object: 0 for the first */
+    uint32_t asked;       /* K42_ADD to K42_SEEN */
+    uint32_t status;      /* K42_DONE, K42_NONE, K42_TAKEN or K42_GONE */
+    uint32_t page;
+    k42_key key;
+    k42_text text;        /* what was written, or read */
+} k42_entry;
+
+/* NAME   k42_entries - counts the entries of the history
+
+   STATUS   K42_DONE. K42_EMPTY. K42_TURN: the handle has no history. */
+uint32_t k42_entries(k42_pass *pass, uint64_t *entries);
+
+/* NAME   k42_history - reads entries of the history
+
+   It writes entries into their room, beginning with the one that has so many before it, and says how many it has told:
+   fewer than there is room for where the history ends. Each call begins at the front, so read much at once.
+
+   STATUS   K42_DONE. K42_MEMORY. K42_EMPTY. K42_TURN: the handle has no history. */
+uint32_t k42_history(k42_pass *pass, uint64_t before, k42_entry *entries, size_t room, size_t *told);
+
+#ifdef __cplusplus
+}
+#endif
+#endif

@@ -1,0 +1,14 @@
+use Rattle.std.proofs.Common.{refl}
+use Rattle.std.specs.Prelude.{Err}
+use Rattle.k42_c.specs.Closing.{HasClosed}
+use Rattle.k42_c.specs.declared.refusal.Refusal.TheVariants.{Empty}
+use Rattle.k42_c.proofs.EmptyHandles.{kept_empty}
+use Rattle.k42_c.proofs.exports.passes.k42_close.Goals as goal
+
+pub returns-in_default : goal.returns-in_default
+returns-in_default c = record {
+  told = Err Empty;
+  closed = kept_empty HasClosed _ _ c.in_default.ensures.taken c.in_default.ensures.empty (refl, refl);
+  status_is = refl;
+  missing_is = refl;
+}

@@ -1,0 +1,8 @@
+use Rattle.std.proofs.Common.{refl}
+use Rattle.k42_c.specs.Closing.{HasDropped}
+use Rattle.k42_c.specs.Exports.{done_code}
+use Rattle.k42_c.proofs.EmptyHandles.{told_empty}
+use Rattle.k42_c.proofs.exports.passes.k42_drop.Goals as goal
+
+pub returns-in_default : goal.returns-in_default
+returns-in_default c = told_empty done_code HasDropped _ _ c.in_default.ensures.taken c.in_default.ensures.empty (refl, refl)

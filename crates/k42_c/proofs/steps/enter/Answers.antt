@@ -1,0 +1,9 @@
+use Rattle.std.proofs.Common.{◌≡◌, rules, refl}
+use Rattle.k42_c.specs.declared.seat.Seat.TheVariants.{Rests}
+use Rattle.k42_c.proofs.Stepped.{entered}
+use Rattle.k42_c.proofs.steps.enter.Goals as goal
+
+pub returns-in-Rests : goal.returns-in-Rests
+returns-in-Rests c =
+    let was : c.args.seat.now ≡ Rests c.in-Rests.rests = search rules in
+    entered _ _ _ was record { home = refl; same = search rules; entered = search rules }

@@ -1,0 +1,18 @@
+-- That passes are free is a proposition.
+use Rattle.std.proofs.Common.{List, [], ◌∷◌}
+use Rattle.std.proofs.Props.{props}
+use Rattle.std.specs.Coded.{×_prop, Unit-prop, Coded-set}
+use Rattle.co_any.specs.contracts.part.AnyPart as any
+use Rattle.k42_crews.specs.Ready.{IsFree, AreFree}
+use Rattle.k42_runtime.specs.Systems.{SystemSeen, SystemPart, SystemPass}
+use Rattle.k42_watch.specs.contracts.watch.WatchPart as watched
+
+part_set : IsSet SystemPart
+part_set = Coded-set (watched.the_row any.the_row).coded
+
+IsFree-prop : (system : SystemSeen) (pass : SystemPass) → IsProp (IsFree system pass)
+IsFree-prop system pass = hlevel (props, part_set)
+
+pub AreFree-prop : (system : SystemSeen) (passes : List SystemPass) → IsProp (AreFree system passes)
+AreFree-prop system [] = Unit-prop
+AreFree-prop system (pass ∷ passes) = ×_prop (IsFree-prop system pass) (AreFree-prop system passes)

@@ -1,0 +1,12 @@
+pub mod Holding
+pub mod FreeProps
+pub mod Handles
+pub mod Calling
+pub mod Seats
+pub mod Closing
+pub mod Codes
+pub mod Plain
+pub mod Reading
+pub mod Spelling
+pub mod Starting
+pub mod Exports

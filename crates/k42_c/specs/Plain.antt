@@ -1,0 +1,116 @@
+-- Keys, texts and entries as plain structs.
+use Rattle.std.specs.Prelude.{ℕ, List, [], length, take, Option, Some, None as Nothing}
+use Rattle.std.specs.Option.{unwrap_or}
+use Rattle.k42_kinds.specs.Padded.{padded}
+use Rattle.k42_kinds.specs.declared.entry.Act.{Act}
+use Rattle.k42_kinds.specs.declared.entry.Act.TheVariants as acts
+use Rattle.k42_kinds.specs.declared.entry.Answer.{Answer}
+use Rattle.k42_kinds.specs.declared.entry.Answer.TheVariants as answers
+use Rattle.k42_kinds.specs.declared.entry.Entry.{Entry}
+use Rattle.k42_kinds.specs.declared.entry.To.{To}
+use Rattle.k42_kinds.specs.declared.entry.To.TheVariants as tos
+use Rattle.k42_kinds.specs.declared.operation.LayoutName.TheVariants as layouts
+use Rattle.k42_kinds.specs.declared.operation.Op.{Op}
+use Rattle.k42_kinds.specs.declared.operation.Op.TheVariants as ops
+use Rattle.k42_kinds.specs.declared.operation.Reply.TheVariants as replies
+use Rattle.k42_limits.specs.declared.TheConstants.{NAME_BYTES, TEXT_BYTES}
+use Rattle.k42_c.specs.Codes.{reply_code}
+use Rattle.k42_c.specs.declared.coding.TheConstants.{DONE, GONE, MEMORY, BUSY, SPENT}
+use Rattle.k42_c.specs.declared.plain.K42Entry.{K42Entry}
+use Rattle.k42_c.specs.declared.plain.K42Key.{K42Key}
+use Rattle.k42_c.specs.declared.plain.K42Text.{K42Text}
+
+-- no name is longer than the array, nor is a text
+abbrev pub plain_key : List ℕ → K42Key
+plain_key name =
+    let kept = padded NAME_BYTES (take NAME_BYTES name) in record { length = kept.len; bytes = kept.cells }
+
+abbrev pub plain_text : List ℕ → K42Text
+plain_text text =
+    let kept = padded TEXT_BYTES (take TEXT_BYTES text) in record { length = kept.len; bytes = kept.cells }
+
+-- the number of an operation, in the order of `Op`, and that of a swap behind them
+abbrev pub op_number : Op → ℕ
+op_number (ops.Add amount) = 0
+op_number ops.Get = 1
+op_number ops.Drain = 2
+op_number (ops.Bind key number) = 3
+op_number (ops.Find key) = 4
+op_number (ops.Unbind key) = 5
+op_number ops.Size = 6
+op_number (ops.Write page text) = 7
+op_number (ops.Read page) = 8
+op_number ops.Dirty = 9
+op_number ops.Clean = 10
+op_number ops.Seen = 11
+
+abbrev pub to_number : To → ℕ
+to_number (tos.Layout layouts.Shared) = 12
+to_number (tos.Layout layouts.Spread) = 13
+to_number tos.Dead = 14
+to_number tos.Watch = 15
+to_number tos.Unwatch = 16
+
+abbrev pub act_number : Act → ℕ
+act_number (acts.Call op) = op_number op
+act_number (acts.Swap to) = to_number to
+
+-- what was added or bound
+abbrev pub number_asked : Act → ℕ
+number_asked (acts.Call (ops.Add amount)) = amount
+number_asked (acts.Call (ops.Bind key number)) = number
+number_asked _ = 0
+
+abbrev pub page_asked : Act → ℕ
+page_asked (acts.Call (ops.Write page text)) = page
+page_asked (acts.Call (ops.Read page)) = page
+page_asked _ = 0
+
+abbrev pub key_asked : Act → List ℕ
+key_asked (acts.Call (ops.Bind key number)) = key
+key_asked (acts.Call (ops.Find key)) = key
+key_asked (acts.Call (ops.Unbind key)) = key
+key_asked _ = []
+
+abbrev pub text_asked : Act → List ℕ
+text_asked (acts.Call (ops.Write page text)) = text
+text_asked _ = []
+
+-- the text that was read, or else that was written
+abbrev pub text_told : Act → Answer → List ℕ
+text_told act (answers.Replied (replies.Text text)) = text
+text_told act _ = text_asked act
+
+abbrev pub answer_code : Answer → ℕ
+answer_code (answers.Replied reply) = reply_code reply
+answer_code (answers.Swapped number) = DONE
+answer_code (answers.Busy number) = BUSY
+answer_code answers.Spent = SPENT
+answer_code answers.Gone = GONE
+answer_code (answers.Abandoned number) = MEMORY
+
+-- the number that was replied, or which a swap has
+abbrev pub number_told : Answer → ℕ
+number_told (answers.Replied (replies.Number number)) = number
+number_told (answers.Swapped number) = number
+number_told (answers.Busy number) = number
+number_told (answers.Abandoned number) = number
+number_told _ = 0
+
+abbrev pub plain_entry : Entry → K42Entry
+plain_entry entry = record {
+  place = entry.stamp;
+  index = entry.index;
+  number = number_asked entry.act;
+  reply = number_told entry.answer;
+  caller = entry.caller;
+  processor = entry.proc;
+  generation = unwrap_or entry.generation 0;
+  object = entry.object;
+  incarnation = entry.incarnation;
+  asked = act_number entry.act;
+  status = answer_code entry.answer;
+  page = page_asked entry.act;
+  key = plain_key (key_asked entry.act);
+  text = plain_text (text_told entry.act entry.answer);
+}

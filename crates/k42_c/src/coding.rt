@@ -1,0 +1,134 @@
+//! The numbers by which C tells statuses, kinds and the like. `k42.h` has the same.
+ghost use Rattle.std.specs.Prelude.{◌≡◌};
+ghost use Rattle.k42_c.specs.Codes.{keep_named, kind_named, layout_named, given_code, refusal_code, reply_code, status_of_call};
+
+use crate::closing::Given;
+use crate::refusal::Refusal;
+use k42_runtime::{Keep, KindName, LayoutName, PlanFault, Reply};
+
+pub(crate) const DONE: u32 = 0;
+
+pub(crate) const NONE: u32 = 1;
+
+pub(crate) const TAKEN: u32 = 2;
+
+pub(crate) const GONE: u32 = 3;
+
+pub(crate) const MISSING: u32 = 4;
+
+pub(crate) const AGAIN: u32 = 5;
+
+pub(crate) const MEMORY: u32 = 6;
+
+pub(crate) const WORN: u32 = 7;
+
+pub(crate) const EMPTY: u32 = 8;
+
+pub(crate) const FULL: u32 = 9;
+
+pub(crate) const TURN: u32 = 10;
+
+pub(crate) const OBJECT: u32 = 11;
+
+pub(crate) const KIND: u32 = 12;
+
+pub(crate) const ARGUMENT: u32 = 13;
+
+pub(crate) const PROCESSORS: u32 = 14;
+
+pub(crate) const OBJECTS: u32 = 15;
+
+pub(crate) const PASSES: u32 = 16;
+
+pub(crate) const PROCESSOR: u32 = 17;
+
+pub(crate) const BUSY: u32 = 18;
+
+pub(crate) const SPENT: u32 = 19;
+
+/// The kind of this number.
+pub(crate) fn kind_named(code: u32) -> Option<KindName>
+    ensures { result ≡ kind_named code }
+{
+    match code {
+        0 => Some(KindName::Counter),
+        1 => Some(KindName::Directory),
+        2 => Some(KindName::Pages),
+        _ => None,
+    }
+}
+
+/// The layout of this number.
+pub(crate) fn layout_named(code: u32) -> Option<LayoutName>
+    ensures { result ≡ layout_named code }
+{
+    match code {
+        0 => Some(LayoutName::Shared),
+        1 => Some(LayoutName::Spread),
+        _ => None,
+    }
+}
+
+/// What is kept under this number.
+pub(crate) fn keep_named(code: u32) -> Option<Keep>
+    ensures { result ≡ keep_named code }
+{
+    match code {
+        0 => Some(Keep::Nothing),
+        1 => Some(Keep::All),
+        _ => None,
+    }
+}
+
+/// The status of a reply.
+pub(crate) fn reply_code(reply: &Reply) -> u32
+    ensures { result ≡ reply_code reply.now }
+{
+    match reply {
+        Reply::Done | Reply::Number(_) | Reply::Text(_) => DONE,
+        Reply::None | Reply::Zero => NONE,
+        Reply::Taken => TAKEN,
+        Reply::Gone => GONE,
+    }
+}
+
+/// The status of a refusal.
+pub(crate) fn refusal_code(refusal: Refusal) -> u32
+    ensures { result ≡ refusal_code refusal }
+{
+    match refusal {
+        Refusal::Again => AGAIN,
+        Refusal::Memory => MEMORY,
+        Refusal::Worn => WORN,
+        Refusal::Empty => EMPTY,
+        Refusal::Full => FULL,
+        Refusal::Turn => TURN,
+        Refusal::Object => OBJECT,
+        Refusal::Kind => KIND,
+        Refusal::Argument => ARGUMENT,
+        Refusal::Plan(PlanFault::Procs) => PROCESSORS,
+        Refusal::Plan(PlanFault::Objects) => OBJECTS,
+        Refusal::Plan(PlanFault::Callers) => PASSES,
+        Refusal::Plan(PlanFault::Processor { .. }) => PROCESSOR,
+    }
+}
+
+/// The status of a call.
+pub(crate) fn call_code(told: &Result<Reply, Refusal>) -> u32
+    ensures { result ≡ status_of_call told.now }
+{
+    match told {
+        Ok(reply) => reply_code(reply),
+        Err(why) => refusal_code(*why),
+    }
+}
+
+/// The status of a pass that was given back.
+pub(crate) fn given_code(given: Given) -> u32
+    ensures { result ≡ given_code given }
+{
+    match given {
+        Given::Missing(_) => MISSING,
+        Given::History | Given::Nothing => DONE,
+    }
+}

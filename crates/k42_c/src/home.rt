@@ -1,0 +1,22 @@
+//! What the handles of one system share.
+ghost use Rattle.std.specs.Prelude.{◌≡◌};
+
+use k42_desk::{Desk, Fits};
+use k42_runtime::{Pass, System};
+
+/// Passes that are given back are those of the system, with nothing under way.
+pub struct Crew;
+
+impl Fits<System, Vec<Pass>> for Crew {
+    ghost use Rattle.k42_crews.specs.Ready.{AreFree};
+
+    ghost fits = { λ system passes. AreFree system passes.items };
+}
+
+/// The system, and the passes that were given back.
+#[derive(Drop)]
+pub struct Home {
+    pub(crate) system: System,
+    pub(crate) desk: Desk<System, Vec<Pass>, Crew>,
+    ghost same: { desk.key ≡ system },
+}

@@ -1,0 +1,84 @@
+//! What is passed to C as plain structs, which `k42.h` declares.
+ghost use Rattle.std.specs.Prelude.{◌≡◌};
+ghost use Rattle.k42_c.specs.Plain.{plain_key, plain_text};
+
+use k42_kinds::{Name, Text};
+use k42_limits::{NAME_BYTES, TEXT_BYTES};
+
+/// An object, as it starts, by the numbers of its kind and layout.
+#[repr(C)]
+#[derive(Drop)]
+pub struct K42Object {
+    pub kind: u32,
+    pub layout: u32,
+}
+
+/// A key of a directory, and zeros behind it.
+#[repr(C)]
+#[derive(Drop)]
+pub struct K42Key {
+    pub length: u32,
+    pub bytes: [u8; NAME_BYTES],
+}
+
+/// The text of a page, and zeros behind it.
+#[repr(C)]
+#[derive(Drop)]
+pub struct K42Text {
+    pub length: u32,
+    pub bytes: [u8; TEXT_BYTES],
+}
+
+/// An entry of a history. What it has none of is 0.
+#[repr(C)]
+#[derive(Drop)]
+pub struct K42Entry {
+    /// From 1.
+    pub place: u64,
+    /// Among its caller's, from 0.
+    pub index: u64,
+    /// What was added or bound.
+    pub number: u64,
+    /// The number that was replied.
+    pub reply: u64,
+    pub caller: u32,
+    pub processor: u32,
+    pub generation: u32,
+    pub object: u32,
+    pub incarnation: u32,
+    /// The number of the operation.
+    pub asked: u32,
+    pub status: u32,
+    pub page: u32,
+    pub key: K42Key,
+    /// What was written, or read.
+    pub text: K42Text,
+}
+
+/// The bytes of a name.
+pub(crate) fn plain_key(name: &Name) -> K42Key
+    ensures { result ≡ plain_key name.now }
+{
+    let source = name.bytes();
+    let length = source.len().min(NAME_BYTES);
+    let mut bytes = [0; NAME_BYTES];
+    bytes[..length].copy_from_slice(&source[..length]);
+    K42Key {
+        length: length as u32,
+        bytes,
+    }
+}
+
+/// The bytes of a text.
+pub(crate) fn plain_text(text: &Text) -> K42Text
+    ensures { result ≡ plain_text text.now }
+{
+    let source = text.bytes();
+    let length = source.len().min(TEXT_BYTES);
+    let mut bytes = [0; TEXT_BYTES];
+    bytes[..length].copy_from_slice(&source[..length]);
+    K42Text {
+        length: length as u32,
+        bytes,
+    }
+}

@@ -1,0 +1,205 @@
+//! The history that the last pass has left, as plain structs.
+ghost use Rattle.std.specs.Prelude.{◌≡◌, ◌≤◌, ◌++◌, length, map, take, drop, IfOk, IfSome, OnErr, MatchOption};
+ghost use Rattle.k42_c.specs.Plain.{act_number, op_number, answer_code, key_asked, number_asked, number_told, page_asked, plain_entry, plain_key, plain_text, text_told};
+ghost use Rattle.k42_c.specs.Reading.{HasCounted, HasRead, HasReadFrom, history_in};
+
+use crate::coding::{BUSY, DONE, GONE, MEMORY, SPENT, reply_code};
+use crate::plain::{K42Entry, K42Key, K42Text, plain_key, plain_text};
+use crate::refusal::Refusal;
+use crate::seat::{End, Seat};
+use crate::steps::refusal_of;
+use k42_kinds::{Act, Answer, Entry, LayoutName, Op, Reply, To};
+use k42_limits::{NAME_BYTES, TEXT_BYTES};
+use k42_runtime::{History, Reader};
+use std::alloc::Global;
+
+fn op_number(op: &Op) -> u32
+    ensures { result ≡ op_number op.now }
+{
+    match op {
+        Op::Add(_) => 0,
+        Op::Get => 1,
+        Op::Drain => 2,
+        Op::Bind(_, _) => 3,
+        Op::Find(_) => 4,
+        Op::Unbind(_) => 5,
+        Op::Size => 6,
+        Op::Write(_, _) => 7,
+        Op::Read(_) => 8,
+        Op::Dirty => 9,
+        Op::Clean => 10,
+        Op::Seen => 11,
+    }
+}
+
+fn act_number(act: &Act) -> u32
+    ensures { result ≡ act_number act.now }
+{
+    match act {
+        Act::Call(op) => op_number(op),
+        Act::Swap(To::Layout(LayoutName::Shared)) => 12,
+        Act::Swap(To::Layout(LayoutName::Spread)) => 13,
+        Act::Swap(To::Dead) => 14,
+        Act::Swap(To::Watch) => 15,
+        Act::Swap(To::Unwatch) => 16,
+    }
+}
+
+fn number_asked(act: &Act) -> u64
+    ensures { result ≡ number_asked act.now }
+{
+    match act {
+        Act::Call(Op::Add(amount)) => u64::from(*amount),
+        Act::Call(Op::Bind(_, number)) => *number,
+        _ => 0,
+    }
+}
+
+fn page_asked(act: &Act) -> u32
+    ensures { result ≡ page_asked act.now }
+{
+    match act {
+        Act::Call(Op::Write(page, _) | Op::Read(page)) => u32::from(*page),
+        _ => 0,
+    }
+}
+
+fn key_asked(act: &Act) -> K42Key
+    ensures { result ≡ plain_key (key_asked act.now) }
+{
+    match act {
+        Act::Call(Op::Bind(key, _) | Op::Find(key) | Op::Unbind(key)) => plain_key(key),
+        _ => K42Key {
+            length: 0,
+            bytes: [0; NAME_BYTES],
+        },
+    }
+}
+
+fn text_told(act: &Act, answer: &Answer) -> K42Text
+    ensures { result ≡ plain_text (text_told act.now answer.now) }
+{
+    match (act, answer) {
+        (_, Answer::Replied(Reply::Text(text))) | (Act::Call(Op::Write(_, text)), _) => {
+            plain_text(text)
+        }
+        _ => K42Text {
+            length: 0,
+            bytes: [0; TEXT_BYTES],
+        },
+    }
+}
+
+fn answer_code(answer: &Answer) -> u32
+    ensures { result ≡ answer_code answer.now }
+{
+    match answer {
+        Answer::Replied(reply) => reply_code(reply),
+        Answer::Swapped(_) => DONE,
+        Answer::Busy(_) => BUSY,
+        Answer::Spent => SPENT,
+        Answer::Gone => GONE,
+        Answer::Abandoned(_) => MEMORY,
+    }
+}
+
+fn number_told(answer: &Answer) -> u64
+    ensures { result ≡ number_told answer.now }
+{
+    match answer {
+        Answer::Replied(Reply::Number(number)) => *number,
+        Answer::Swapped(number) | Answer::Busy(number) | Answer::Abandoned(number) => {
+            u64::from(*number)
+        }
+        _ => 0,
+    }
+}
+
+fn plain_entry(entry: &Entry) -> K42Entry
+    ensures { result ≡ plain_entry entry.now }
+{
+    K42Entry {
+        place: entry.stamp,
+        index: entry.index,
+        number: number_asked(&entry.act),
+        reply: number_told(&entry.answer),
+        caller: entry.caller,
+        processor: entry.proc,
+        generation: entry.generation.unwrap_or(0),
+        object: entry.object,
+        incarnation: entry.incarnation,
+        asked: act_number(&entry.act),
+        status: answer_code(&entry.answer),
+        page: page_asked(&entry.act),
+        key: key_asked(&entry.act),
+        text: text_told(&entry.act, &entry.answer),
+    }
+}
+
+/// The history of the seat, if it has one.
+fn history_in(seat: &Seat) -> Option<&History>
+    ensures { MatchOption result (history_in seat.now ≡ None) (λ history. history_in seat.now ≡ Some history.now) }
+{
+    match seat {
+        Seat::Ends(end) => match end.as_ref() {
+            End::History(history) => Some(history),
+            _ => None,
+        },
+        _ => None,
+    }
+}
+
+/// How many entries it has.
+pub(crate) fn count(seat: &Seat) -> Result<u64, Refusal>
+    ensures { HasCounted seat.now result }
+{
+    match history_in(seat) {
+        Some(history) => Ok(history.len() as u64),
+        None => Err(refusal_of(seat)),
+    }
+}
+
+/// Reads past so many entries, as far as there are any.
+fn skip(reader: &mut Reader<'_>, count: u64)
+    ensures { reader.new ≡ drop count reader.old }
+{
+    for _ in 0..count {
+        if reader.next().is_none() {
+            return;
+        }
+    }
+}
+
+/// Reads entries into the places for them, as far as there are both, and answers how many.
+fn fill(reader: &mut Reader<'_>, entries: &mut [K42Entry]) -> usize
+    ensures { HasRead reader.old entries.old entries.new result }
+{
+    let mut read = 0;
+    while read < entries.len() {
+        let Some(entry) = reader.next() else {
+            return read;
+        };
+        entries[read] = plain_entry(&entry);
+        read += 1;
+    }
+    read
+}
+
+/// Reads entries of the history, from one of them on.
+pub(crate) fn read(
+    alloc: Global,
+    seat: &Seat,
+    from: u64,
+    entries: &mut [K42Entry],
+) -> Result<usize, Refusal>
+    ensures { HasReadFrom seat.now from entries.old entries.new result }
+{
+    let Some(history) = history_in(seat) else {
+        return Err(refusal_of(seat));
+    };
+    let Ok(mut reader) = history.read(alloc) else {
+        return Err(Refusal::Memory);
+    };
+    skip(&mut reader, from);
+    Ok(fill(&mut reader, entries))
+}
