@@ -13,12 +13,23 @@
            sched_yield();
        k42_leave(&pass[0]);
 
-   NOBODY WAITS. No call blocks, sleeps or spins. Where something is in the way for a moment, nothing is done and the
-   status is K42_AGAIN: do something else, or yield, and call again. A pass may stay in its activity meanwhile.
+   An object is swapped to another implementation while other passes call it:
 
-   STATUS. Each call returns one, and each status but K42_DONE, K42_NONE, K42_TAKEN, K42_GONE and K42_MISSING says that
-   nothing was done: no object, no handle and no place that a pointer leads to has changed. (k42_close may go on from
-   where it was held up.)
+       k42_swapping swap;
+       uint32_t status = k42_swap(&pass[1], 0, K42_SHARED, &swap);
+       while (status == K42_UNDERWAY) {
+           sched_yield();
+           status = k42_step(&pass[1], &swap);
+       }
+
+   NOBODY WAITS. No call blocks, sleeps or spins. Where something is in the way for a moment, nothing is done and the
+   status is K42_AGAIN: do something else, or yield, and call again. A pass may stay in its activity meanwhile. A swap
+   that is held up is K42_UNDERWAY: it is stepped on, as often as you like.
+
+   STATUS. Each call returns one. K42_DONE, K42_NONE, K42_TAKEN, K42_GONE, K42_MISSING, K42_BUSY and K42_SPENT say that
+   it was done, K42_UNDERWAY that it goes on. Each other says that nothing was done: no object, no handle and no place
+   that a pointer leads to has changed. (k42_close may go on from where it was held up, and a swap that comes to
+   K42_MEMORY later than at its first step is given up.)
 
    WHAT THE CALLER PROMISES, and nothing checks:
    - a k42_pass is set to 0 before its first use, and from then on only passed by its address; it may be moved as a
@@ -63,6 +74,9 @@ enum {
     K42_OBJECTS = 15,   /* there are 1 to 16 objects */
     K42_PASSES = 16,    /* there are 1 to 16 passes */
     K42_PROCESSOR = 17, /* a pass's processor is not there */
+    K42_BUSY = 18,      /* done: another swap of the object is under way */
+    K42_SPENT = 19,     /* done: the object has had its last swap */
+    K42_UNDERWAY = 20,  /* the pass goes on with it at its next step */
 };
 
 /* A handle. It is empty while it is 0. */
@@ -151,10 +165,64 @@ uint32_t k42_read(k42_pass *pass, uint32_t object, uint32_t page, k42_text *text
 uint32_t k42_dirty(k42_pass *pass, uint32_t object, uint64_t *count);
 uint32_t k42_clean(k42_pass *pass, uint32_t object, uint64_t *count);
 
-/* NAME   k42_seen - of every object: how many calls its layer has counted
+/* NAME   k42_seen - of every object: how many calls its layer has counted, see k42_watch
 
    STATUS   K42_NONE: it has no layer. */
 uint32_t k42_seen(k42_pass *pass, uint32_t object, uint64_t *count);
+
+/* What holds a swap or a reclaim up. */
+enum {
+    K42_NOTHING = 0,
+    K42_LEFT = 1,   /* activities that began before it, on a processor, are open still */
+    K42_ROLE = 2,   /* a pass is in a swap or a reclaim that frees rows */
+    K42_INSIDE = 3, /* calls are inside the object still */
+    K42_CELL = 4,   /* a pass is at the object */
+};
+
+/* How far a swap is. What it has none of is 0. */
+typedef struct {
+    uint32_t number; /* among the swaps of the object, from 1: of this swap, or under K42_BUSY of the other one */
+    uint32_t cause;  /* K42_LEFT to K42_CELL, under K42_UNDERWAY */
+    uint32_t at;     /* of K42_LEFT the processor; of K42_ROLE and K42_CELL the pass, in the order of k42_start */
+    uint32_t count;  /* of K42_LEFT the activities; of K42_INSIDE the calls */
+} k42_swapping;
+
+/* NAME   k42_swap, k42_destroy, k42_watch, k42_unwatch - replace the implementation of an object
+
+   They begin a swap of the object, by a pass that is in no activity, and make its first step. k42_swap goes to a layout,
+   K42_SHARED or K42_SPREAD, and keeps what the object has; it may be the layout in which it is. k42_destroy ends the
+   object: each later call is answered K42_GONE. k42_watch places a layer round the object that counts its calls, from 0,
+   also where it has one; k42_unwatch takes it away.
+
+   A swap waits for the activities that are open, for the calls that are inside, and for the graces of other passes;
+   others call the object meanwhile. Once it is K42_UNDERWAY the pass does nothing but k42_step. An object has at most
+   1,048,575 swaps.
+
+   STATUS   K42_UNDERWAY: go on by k42_step. How it ends, at this step or a later one, is told below. K42_MEMORY, K42_WORN:
+   nothing was begun; a pass begins 2^27 swaps and reclaims. K42_EMPTY. K42_TURN: the pass is in an activity, or has a
+   swap or a reclaim under way, or was given back. K42_OBJECT. K42_ARGUMENT: the layout is none. */
+uint32_t k42_swap(k42_pass *pass, uint32_t object, uint32_t layout, k42_swapping *swap);
+uint32_t k42_destroy(k42_pass *pass, uint32_t object, k42_swapping *swap);
+uint32_t k42_watch(k42_pass *pass, uint32_t object, k42_swapping *swap);
+uint32_t k42_unwatch(k42_pass *pass, uint32_t object, k42_swapping *swap);
+
+/* NAME   k42_step - goes on with the swap of the pass
+
+   STATUS   K42_UNDERWAY. K42_DONE: the object has its new implementation. K42_BUSY, K42_SPENT: it was not swapped, and
+   the history tells so. K42_GONE: it was destroyed before. K42_MEMORY: the swap was given up, and the object is as it
+   was. After each of these but the first the pass rests. K42_EMPTY. K42_TURN: the pass has no swap under way. */
+uint32_t k42_step(k42_pass *pass, k42_swapping *swap);
+
+/* NAME   k42_reclaim - frees what the swaps of the pass have left
+
+   A swap leaves the former representatives with its pass, which frees them at its next swap; k42_reclaim frees them
+   without one. It begins where the pass is in no activity, and goes on where it is K42_UNDERWAY: call it until it is
+   done. rows says how many rows of representatives it has freed.
+
+   STATUS   K42_DONE: the pass has none left, and rests. K42_UNDERWAY: an activity that might read them is open.
+   K42_AGAIN: another pass frees rows, and nothing was begun. K42_WORN: see k42_swap. K42_EMPTY. K42_TURN: the pass is in
+   an activity, or has a swap under way, or was given back. */
+uint32_t k42_reclaim(k42_pass *pass, uint32_t *rows);
 
 /* NAME   k42_close - gives the pass back, and with the last closes the system
 
@@ -164,17 +232,18 @@ uint32_t k42_seen(k42_pass *pass, uint32_t object, uint64_t *count);
 
    STATUS   K42_DONE: it was the last, and missing is 0. K42_MISSING. K42_AGAIN: another pass is being given back in
    this moment. K42_MEMORY. After these two call again: the pass may be taken by then, and its handle for k42_close and
-   k42_drop alone. K42_EMPTY. K42_TURN: the pass is in an activity, or the handle has a history. */
+   k42_drop alone. K42_EMPTY. K42_TURN: the pass is in an activity, or has a swap or a reclaim under way, or the handle
+   has a history. */
 uint32_t k42_close(k42_pass *pass, uint32_t *missing);
 
 /* NAME   k42_drop - empties a handle
 
    It drops the history that the handle has, or its pass: then the others are never closed, but miss this one for ever.
 
-   STATUS   K42_DONE. K42_EMPTY. K42_TURN: the pass is in an activity. */
+   STATUS   K42_DONE. K42_EMPTY. K42_TURN: the pass is in an activity, or has a swap or a reclaim under way. */
 uint32_t k42_drop(k42_pass *pass);
 
-/* What an entry asked: the calls in the order in which they stand above. */
+/* What an entry asked: the calls in the order in which they stand above, and the swaps. */
 enum {
     K42_ADD = 0,
     K42_GET = 1,
@@ -188,6 +257,11 @@ enum {
     K42_DIRTY = 9,
     K42_CLEAN = 10,
     K42_SEEN = 11,
+    K42_TO_SHARED = 12,
+    K42_TO_SPREAD = 13,
+    K42_TO_DEAD = 14,
+    K42_TO_WATCH = 15,
+    K42_TO_UNWATCH = 16,
 };
 
 /* A key: so many bytes, and zeros behind them. */
@@ -201,14 +275,14 @@ typedef struct {
     uint64_t place;       /* in the history, from 1 */
     uint64_t index;       /* among those of its pass, from 0 */
     uint64_t number;      /* what was added or bound */
-    uint64_t reply;       /* the number that was answered */
+    uint64_t reply;       /* the number that was answered, or that a swap has */
     uint32_t pass;        /* in the order of k42_start, from 0 */
     uint32_t processor;
     uint32_t generation;  /* of the activity */
     uint32_t object;
     uint32_t incarnation; /* of the object: 0 for the first */
-    uint32_t asked;       /* K42_ADD to K42_SEEN */
-    uint32_t status;      /* K42_DONE, K42_NONE, K42_TAKEN or K42_GONE */
+    uint32_t asked;       /* K42_ADD to K42_TO_UNWATCH */
+    uint32_t status;      /* K42_DONE, K42_NONE, K42_TAKEN or K42_GONE; of swaps also K42_BUSY, K42_SPENT, or K42_MEMORY */
     uint32_t page;
     k42_key key;
     k42_text text;        /* what was written, or read */
