@@ -163,7 +163,7 @@ pub(crate) fn give_up(seat: &mut Seat) -> Result<(), Refusal>
     ensures { HasDropped seat.old seat.new result }
 {
     match seat {
-        Seat::Gone | Seat::Works(_) => Err(refusal_of(seat)),
+        Seat::Gone | Seat::Works(_) | Seat::Swaps(_) | Seat::Reclaims(_) => Err(refusal_of(seat)),
         _ => {
             *seat = Seat::Gone;
             Ok(())

@@ -1,10 +1,11 @@
 //! The numbers by which C tells statuses, kinds and the like. `k42.h` has the same.
 ghost use Rattle.std.specs.Prelude.{◌≡◌};
-ghost use Rattle.k42_c.specs.Codes.{keep_named, kind_named, layout_named, given_code, refusal_code, reply_code, status_of_call};
+ghost use Rattle.k42_c.specs.Codes.{keep_named, kind_named, layout_named, given_code, progress_code, refusal_code, reply_code, status_of_call, to_named};
 
 use crate::closing::Given;
 use crate::refusal::Refusal;
-use k42_runtime::{Keep, KindName, LayoutName, PlanFault, Reply};
+use crate::swapping::Progress;
+use k42_runtime::{Keep, KindName, LayoutName, PlanFault, Reply, Swapped, To};
 
 pub(crate) const DONE: u32 = 0;
 
@@ -46,6 +47,16 @@ pub(crate) const BUSY: u32 = 18;
 
 pub(crate) const SPENT: u32 = 19;
 
+pub(crate) const UNDERWAY: u32 = 20;
+
+pub(crate) const LEFT: u32 = 1;
+
+pub(crate) const ROLE: u32 = 2;
+
+pub(crate) const INSIDE: u32 = 3;
+
+pub(crate) const CELL: u32 = 4;
+
 /// The kind of this number.
 pub(crate) fn kind_named(code: u32) -> Option<KindName>
     ensures { result ≡ kind_named code }
@@ -66,6 +77,16 @@ pub(crate) fn layout_named(code: u32) -> Option<LayoutName>
         0 => Some(LayoutName::Shared),
         1 => Some(LayoutName::Spread),
         _ => None,
+    }
+}
+
+/// A swap to the layout of this number.
+pub(crate) fn to_named(code: u32) -> Option<To>
+    ensures { result ≡ to_named code }
+{
+    match layout_named(code) {
+        Some(layout) => Some(To::Layout(layout)),
+        None => None,
     }
 }
 
@@ -130,5 +151,18 @@ pub(crate) fn given_code(given: Given) -> u32
     match given {
         Given::Missing(_) => MISSING,
         Given::History | Given::Nothing => DONE,
+    }
+}
+
+/// The status of a swap.
+pub(crate) fn progress_code(progress: Progress) -> u32
+    ensures { result ≡ progress_code progress }
+{
+    match progress {
+        Progress::Underway(_) => UNDERWAY,
+        Progress::Ended(Swapped::Done(_)) => DONE,
+        Progress::Ended(Swapped::Busy(_)) => BUSY,
+        Progress::Ended(Swapped::Spent) => SPENT,
+        Progress::Ended(Swapped::Gone) => GONE,
     }
 }
