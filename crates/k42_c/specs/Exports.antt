@@ -4,13 +4,16 @@ use Rattle.k42_kinds.specs.declared.operation.Op.{Op}
 use Rattle.k42_kinds.specs.declared.operation.Reply.{Reply}
 use Rattle.k42_kinds.specs.declared.operation.Reply.TheVariants.{Number, Text}
 use Rattle.k42_c.specs.Closing.{HasClosed}
-use Rattle.k42_c.specs.Codes.{freeing_code, given_code, progress_code, reply_code, status_of}
+use Rattle.k42_c.specs.Codes.{freeing_code, given_code, parked_code, progress_code, reply_code, status_of}
+use Rattle.k42_c.specs.Parking.{HasGivenSection}
 use Rattle.k42_c.specs.Plain.{plain_progress, plain_text}
 use Rattle.k42_c.specs.Reclaiming.{HasReclaimed}
 use Rattle.k42_c.specs.Seats.{HasAnswered}
 use Rattle.k42_c.specs.declared.closing.Given.{Given}
 use Rattle.k42_c.specs.declared.closing.Given.TheVariants as givens
 use Rattle.k42_c.specs.declared.coding.TheConstants.{DONE}
+use Rattle.k42_c.specs.declared.parking.Parked.{Parked}
+use Rattle.k42_c.specs.declared.parking.Parked.TheVariants as parked
 use Rattle.k42_c.specs.declared.plain.K42Swapping.{K42Swapping}
 use Rattle.k42_c.specs.declared.plain.K42Text.{K42Text}
 use Rattle.k42_c.specs.declared.reclaiming.Freeing.{Freeing}
@@ -59,6 +62,17 @@ pub record TellsGiven (from to : Seat) (old new status : ℕ) : Type 0 where
   pub closed : HasClosed from to told
   pub status_is : status ≡ status_of given_code told
   pub missing_is : new ≡ missing_at told old
+
+abbrev pub missing_of : Result Parked Refusal → ℕ → ℕ
+missing_of (Ok (parked.Missing count)) old = count
+missing_of (Ok parked.Section) old = 0
+missing_of (Err why) old = old
+
+pub record TellsParked (from to : Seat) (old new status : ℕ) : Type 0 where
+  pub told : Result Parked Refusal
+  pub given : HasGivenSection from to told
+  pub status_is : status ≡ status_of parked_code told
+  pub missing_is : new ≡ missing_of told old
 
 -- a count, which goes to its place where there is one
 abbrev pub count_at : Result ℕ Refusal → ℕ → ℕ

@@ -8,6 +8,7 @@ pub mod Seats
 pub mod Swapping
 pub mod Reclaiming
 pub mod Closing
+pub mod Parking
 pub mod Codes
 pub mod Plain
 pub mod Reading

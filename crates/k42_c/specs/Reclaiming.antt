@@ -1,8 +1,6 @@
 -- What becomes of a seat whose rows are to be freed.
 use Rattle.std.specs.Prelude.{◌≡◌, ◌≤◌, ⊥, ℕ, [], List, length, Option, Some, None, Result, Ok, Err}
 use Rattle.std.specs.Arc.{arc_value}
-use Rattle.std.specs.Global.{Global}
-use Rattle.std.specs.declared.arc.Arc.{Arc}
 use Rattle.k42_limits.specs.declared.TheConstants.{PASS_GRACES}
 use Rattle.k42_board.specs.Log.{Grows}
 use Rattle.k42_board.specs.Noting.{notes_due}
@@ -14,8 +12,7 @@ use Rattle.k42_quiesce.specs.Gracing.{IsLeft}
 use Rattle.k42_quiesce.specs.Reclaiming.{Reclaims as Frees, AreRowsFreed}
 use Rattle.k42_runtime.specs.Swaps.{IsRoleElsewhere}
 use Rattle.k42_runtime.specs.Systems.{SystemSeen, SystemPart, SystemPass, layouts_in}
-use Rattle.k42_c.specs.Seats.{refusal_of, IsKept}
-use Rattle.k42_c.specs.declared.home.Home.{Home}
+use Rattle.k42_c.specs.Seats.{SharedHome, refusal_of, IsKept}
 use Rattle.k42_c.specs.declared.reclaiming.Freeing.{Freeing}
 use Rattle.k42_c.specs.declared.reclaiming.Freeing.TheVariants.{Underway, Freed}
 use Rattle.k42_c.specs.declared.refusal.Refusal.{Refusal}
@@ -70,12 +67,12 @@ HasReclaimedTo system None old (Err Worn) new = (PASS_GRACES ≤ old.view.graces
 HasReclaimedTo system grace old (Err why) new = ⊥
 
 -- and goes on, or rests
-abbrev pub IsLeftBy : Result Freeing Refusal → Arc Home Global → SystemPass → Seat → Type 0
+abbrev pub IsLeftBy : Result Freeing Refusal → SharedHome → SystemPass → Seat → Type 0
 IsLeftBy (Ok Underway) home pass seat = (new : Reclaiming) × (seat ≡ Reclaims new) × (new.home ≡ home) × (new.pass.value ≡ pass)
 IsLeftBy told home pass seat = (new : Resting) × (seat ≡ Rests new) × (new.home ≡ home) × (new.pass.value ≡ pass)
 
 -- A step of a grace, and of what it frees.
-pub record HasMadeStep (home : Arc Home Global) (grace : Option ℕ) (old : SystemPass) (seat : Seat) (told : Result Freeing Refusal) : Type 0 where
+pub record HasMadeStep (home : SharedHome) (grace : Option ℕ) (old : SystemPass) (seat : Seat) (told : Result Freeing Refusal) : Type 0 where
   pub pass : SystemPass
   pub reclaimed : HasReclaimedTo (arc_value home).system grace old told pass
   pub seat_is : IsLeftBy told home pass seat

@@ -1,8 +1,9 @@
 //! The numbers by which C tells statuses, kinds and the like. `k42.h` has the same.
 ghost use Rattle.std.specs.Prelude.{◌≡◌};
-ghost use Rattle.k42_c.specs.Codes.{keep_named, kind_named, layout_named, given_code, progress_code, refusal_code, reply_code, status_of_call, to_named};
+ghost use Rattle.k42_c.specs.Codes.{keep_named, kind_named, layout_named, given_code, parked_code, progress_code, refusal_code, reply_code, status_of_call, to_named};
 
 use crate::closing::Given;
+use crate::parking::Parked;
 use crate::refusal::Refusal;
 use crate::swapping::Progress;
 use k42_runtime::{Keep, KindName, LayoutName, PlanFault, Reply, Swapped, To};
@@ -48,6 +49,8 @@ pub(crate) const BUSY: u32 = 18;
 pub(crate) const SPENT: u32 = 19;
 
 pub(crate) const UNDERWAY: u32 = 20;
+
+pub(crate) const SECTIONS: u32 = 21;
 
 pub(crate) const LEFT: u32 = 1;
 
@@ -97,6 +100,7 @@ pub(crate) fn keep_named(code: u32) -> Option<Keep>
     match code {
         0 => Some(Keep::Nothing),
         1 => Some(Keep::All),
+        2 => Some(Keep::Sections),
         _ => None,
     }
 }
@@ -127,6 +131,7 @@ pub(crate) fn refusal_code(refusal: Refusal) -> u32
         Refusal::Object => OBJECT,
         Refusal::Kind => KIND,
         Refusal::Argument => ARGUMENT,
+        Refusal::Sections => SECTIONS,
         Refusal::Plan(PlanFault::Procs) => PROCESSORS,
         Refusal::Plan(PlanFault::Objects) => OBJECTS,
         Refusal::Plan(PlanFault::Callers) => PASSES,
@@ -164,5 +169,15 @@ pub(crate) fn progress_code(progress: Progress) -> u32
         Progress::Ended(Swapped::Busy(_)) => BUSY,
         Progress::Ended(Swapped::Spent) => SPENT,
         Progress::Ended(Swapped::Gone) => GONE,
+    }
+}
+
+/// The status of a pass that was put to the desk.
+pub(crate) fn parked_code(parked: Parked) -> u32
+    ensures { result ≡ parked_code parked }
+{
+    match parked {
+        Parked::Missing(_) => MISSING,
+        Parked::Section => DONE,
     }
 }

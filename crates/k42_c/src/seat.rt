@@ -8,7 +8,7 @@ ghost use Rattle.k42_c.specs.GoingProps.{IsReclaiming-prop, IsSwapping-prop};
 
 use crate::home::Home;
 use k42_quiesce::Grace;
-use k42_runtime::{History, Pass, Swap, System};
+use k42_runtime::{History, Journal, Pass, Swap, System};
 use std::alloc::Global;
 use std::sync::Arc;
 
@@ -47,6 +47,16 @@ pub struct Reclaims {
     ghost reclaims: { IsReclaiming (arc_value home).system grace pass.value } by { IsReclaiming-prop (arc_value home).system grace pass.value },
 }
 
+/// A pass that lies at the desk of its home, for a section.
+#[derive(Drop)]
+pub struct Parks {
+    pub(crate) home: Arc<Home, Global>,
+    /// Whose pass it is.
+    pub(crate) caller: u32,
+    /// The section, if this pass was the last to come.
+    pub(crate) section: Box<End, Global>,
+}
+
 /// All passes, in a home that whoever gave the others back has not left yet.
 #[derive(Drop)]
 pub struct Closes {
@@ -67,7 +77,7 @@ pub struct Whole {
     ghost all: { AreAll system passes.items },
 }
 
-/// What is there once all passes were given back.
+/// What is there once all passes were given back, or were put to the desk.
 #[derive(Drop)]
 pub enum End {
     /// Nothing yet.
@@ -75,6 +85,8 @@ pub enum End {
     /// There was no memory for the history.
     Whole(Whole),
     History(History),
+    /// What the passes have drawn since the last one.
+    Section(Journal),
 }
 
 /// What a handle has in it.
@@ -85,6 +97,7 @@ pub enum Seat {
     Works(Works),
     Swaps(Swaps),
     Reclaims(Reclaims),
+    Parks(Parks),
     Closes(Closes),
     Ends(Box<End, Global>),
 }
