@@ -187,7 +187,7 @@ enum {
 /* How far a swap is, where the status is K42_UNDERWAY, K42_DONE, K42_BUSY, K42_SPENT or K42_GONE; under others it stays
    as it is. What it has none of is 0. */
 typedef struct {
-    uint32_t number; /* among the swaps of the object, from 1: of this swap, or under K42_BUSY of the other one */
+    uint32_t number; /* among the swaps of the object, from 1: under K42_DONE of this one, under K42_BUSY of the other */
     uint32_t cause;  /* K42_LEFT to K42_CELL, under K42_UNDERWAY */
     uint32_t at;     /* of K42_LEFT the processor; of K42_ROLE and K42_CELL the pass, in the order of k42_start */
     uint32_t count;  /* of K42_LEFT the activities; of K42_INSIDE the calls */
@@ -223,7 +223,8 @@ uint32_t k42_step(k42_pass *pass, k42_swapping *swap);
 
    A swap leaves the former representatives of the object, a row of them, with its pass, which frees them at the next
    swap that it carries out; k42_reclaim frees them without one. It begins at a pass that rests, and goes on where it is
-   K42_UNDERWAY: call it until it is done. Under K42_DONE rows says how many rows it has freed.
+   K42_UNDERWAY: call it until it is done, also where there is nothing to free. Under K42_DONE rows says how many rows it
+   has freed.
 
    STATUS   K42_DONE: the pass has none left, and rests. K42_UNDERWAY: an activity that might read them is open.
    K42_AGAIN: another pass frees rows, and nothing was begun. K42_WORN: see k42_swap. K42_EMPTY. K42_TURN: the pass does

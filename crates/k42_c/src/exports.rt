@@ -1,4 +1,4 @@
-//! What C calls, as `k42.h` says.
+//! What C calls, as `k42.h` says. What is on the way of a call is inlined, since each export knows its operation.
 ghost use Rattle.k42_c.specs.Codes.{reply_code};
 ghost use Rattle.k42_c.specs.Exports.{Tells, TellsNumber};
 ghost use Rattle.k42_c.specs.Handles.{seat_of};
@@ -20,6 +20,7 @@ use k42_runtime::{Op, Reply};
 use std::alloc::Global;
 
 /// Tries the operation once, if there is one.
+#[inline(always)]
 fn tried(alloc: Global, pass: &mut K42Pass, object: u32, op: Option<Op>) -> Result<Reply, Refusal>
     ensures { HasAnswered object op (seat_of pass.old) (seat_of pass.new) result }
 {
@@ -35,6 +36,7 @@ fn tried(alloc: Global, pass: &mut K42Pass, object: u32, op: Option<Op>) -> Resu
 }
 
 /// The same, and tells the status.
+#[inline(always)]
 fn status(alloc: Global, pass: &mut K42Pass, object: u32, op: Option<Op>) -> u32
     ensures { Tells reply_code (HasAnswered object op (seat_of pass.old) (seat_of pass.new)) result }
 {
@@ -42,6 +44,7 @@ fn status(alloc: Global, pass: &mut K42Pass, object: u32, op: Option<Op>) -> u32
 }
 
 /// The same, and writes the number that was replied.
+#[inline(always)]
 fn number_of(
     alloc: Global,
     pass: &mut K42Pass,

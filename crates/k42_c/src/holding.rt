@@ -11,6 +11,7 @@ use std::alloc::Global;
 use std::mem::replace;
 
 /// Takes the seat out, and leaves the handle empty.
+#[inline(always)]
 pub(crate) fn take(alloc: Global, handle: &mut K42Pass) -> Option<Box<Seat, Global>>
     ensures taken { MatchOption result (seat_of handle.old ≡ seats.Gone) (λ held. held.value ≡ seat_of handle.old) }
     ensures empty { seat_of handle.new ≡ seats.Gone }
@@ -29,6 +30,7 @@ pub(crate) fn take(alloc: Global, handle: &mut K42Pass) -> Option<Box<Seat, Glob
 }
 
 /// Puts the seat into a handle that is empty.
+#[inline(always)]
 pub(crate) fn put(handle: &mut K42Pass, seat: Box<Seat, Global>)
     requires { seat_of handle.old ≡ seats.Gone }
     ensures { seat_of handle.new ≡ seat.value }

@@ -1,6 +1,7 @@
 //! What is done with a seat until its pass is given back.
 ghost use Rattle.k42_c.specs.Calling.{HasServed};
 ghost use Rattle.k42_c.specs.Seats.{HasAnswered, HasEntered, HasLeft, refusal_of};
+ghost use Rattle.k42_c.specs.declared.seat.Seat.TheVariants as seats;
 ghost use Rattle.std.specs.Prelude.{◌≡◌};
 
 use crate::refusal::Refusal;
@@ -19,44 +20,60 @@ pub(crate) fn refusal_of(seat: &Seat) -> Refusal
     }
 }
 
+/// Puts another seat in place of one that is gone.
+#[inline(always)]
+fn fill(seat: &mut Seat, new: Seat)
+    requires { seat.old ≡ seats.Gone }
+    ensures { seat.new ≡ new }
+{
+    // Nothing is to be dropped, which an assignment would look for.
+    match replace(seat, new) {
+        Seat::Gone => (),
+        _ => unreachable!(),
+    }
+}
+
 /// Begins an activity.
+#[inline(always)]
 pub(crate) fn enter(seat: &mut Seat) -> Result<(), Refusal>
     ensures { HasEntered seat.old seat.new result }
 {
+    if !matches!(seat, Seat::Rests(_)) {
+        return Err(refusal_of(seat));
+    }
     match replace(seat, Seat::Gone) {
         Seat::Rests(rests) => {
             let Rests { home, mut pass } = rests;
             home.system.enter(&mut pass);
-            *seat = Seat::Works(Works { home, pass });
+            fill(seat, Seat::Works(Works { home, pass }));
             Ok(())
         }
-        other => {
-            *seat = other;
-            Err(refusal_of(seat))
-        }
+        _ => unreachable!(),
     }
 }
 
 /// Ends the activity.
+#[inline(always)]
 pub(crate) fn leave(seat: &mut Seat) -> Result<(), Refusal>
     ensures { HasLeft seat.old seat.new result }
 {
+    if !matches!(seat, Seat::Works(_)) {
+        return Err(refusal_of(seat));
+    }
     match replace(seat, Seat::Gone) {
         Seat::Works(works) => {
             let Works { home, mut pass } = works;
             home.system.leave(&mut pass);
-            *seat = Seat::Rests(Rests { home, pass });
+            fill(seat, Seat::Rests(Rests { home, pass }));
             Ok(())
         }
-        other => {
-            *seat = other;
-            Err(refusal_of(seat))
-        }
+        _ => unreachable!(),
     }
 }
 
 impl Works {
     /// Tries the operation once.
+    #[inline(always)]
     fn call(&mut self, alloc: Global, object: u32, op: Op) -> Result<Reply, Refusal>
         ensures { HasServed object op self.old self.new result }
     {
@@ -77,6 +94,7 @@ impl Works {
 }
 
 /// Tries the operation once, if the arguments spelled one.
+#[inline(always)]
 pub(crate) fn call(
     alloc: Global,
     seat: &mut Seat,
