@@ -25,8 +25,8 @@ static struct object {
 static size_t object_count, missing_passes;
 static pthread_mutex_t lock = PTHREAD_MUTEX_INITIALIZER;
 
-uint32_t k42_start(uint32_t processors, const k42_object *asked, size_t count, const uint32_t *homes, size_t home_count,
-                   uint32_t keep, k42_pass *passes, size_t pass_count) {
+uint32_t k42_start(uint32_t processors, const k42_object *asked, size_t count, const uint32_t *homes,
+                   size_t home_count, uint32_t keep, k42_pass *passes, size_t pass_count) {
     (void)processors, (void)homes, (void)home_count, (void)keep;
     object_count = count;
     missing_passes = pass_count;
