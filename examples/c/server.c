@@ -34,8 +34,8 @@ enum { OBJECTS = 3, MOST_THREADS = 4, LINE = 256, ANSWER = 64, EVENTS = 64, BACK
 
 /* Each thread calls with one pass and swaps with another, since a pass with a swap under way does nothing else. */
 struct loop {
+    _Alignas(64) k42_pass calls, swaps;
     pthread_t thread;
-    k42_pass calls, swaps;
     int poll;
     int mail[2];                /* a pipe of the sockets that are given to it, which ends where it is to end */
     struct connection *first;   /* of its connections */
