@@ -77,6 +77,7 @@ enum {
     K42_BUSY = 18,      /* done: another swap of the object is under way */
     K42_SPENT = 19,     /* done: the object has had its last swap */
     K42_UNDERWAY = 20,  /* the pass goes on with it at its next step */
+    K42_SECTIONS = 21,  /* the system keeps no sections */
 };
 
 /* A handle. It is empty while it is 0. */
@@ -91,7 +92,7 @@ enum { K42_COUNTER = 0, K42_DIRECTORY = 1, K42_PAGES = 2 };
 enum { K42_SHARED = 0, K42_SPREAD = 1 };
 
 /* Which entries are kept for the history. */
-enum { K42_KEEP_NOTHING = 0, K42_KEEP_ALL = 1 };
+enum { K42_KEEP_NOTHING = 0, K42_KEEP_ALL = 1, K42_KEEP_SECTIONS = 2 };
 
 /* An object, as it starts. */
 typedef struct {
@@ -104,7 +105,8 @@ typedef struct {
    It has so many processors, 1 to 8, these objects, 1 to 16, and a pass for each handle, 1 to 16. homes says of each
    pass its processor, from 0: calls of passes at different processors meet seldom where an object is K42_SPREAD.
    keep says which entries are kept. Under K42_KEEP_ALL each call keeps one until the system is closed, in 24 bytes and
-   more; under K42_KEEP_NOTHING a call needs no memory for the history, however long the system runs.
+   more; under K42_KEEP_SECTIONS until k42_section has given it; under K42_KEEP_NOTHING a call needs no memory for the
+   history, however long the system runs.
 
    STATUS   K42_DONE: each handle has a pass with nothing under way. K42_FULL: a handle is not empty. K42_ARGUMENT:
    home_count and pass_count differ, or a kind, a layout or keep is none. K42_PROCESSORS, K42_OBJECTS, K42_PASSES,
@@ -228,7 +230,7 @@ uint32_t k42_reclaim(k42_pass *pass, uint32_t *rows);
 
    Each handle is closed once its pass has nothing under way, by any thread. Where others are missing, the handle is
    empty then, and missing says how many. The last handle has the history under K42_KEEP_ALL, to be read and then
-   dropped; under K42_KEEP_NOTHING it is empty.
+   dropped; else it is empty.
 
    STATUS   K42_DONE: it was the last, and missing is 0. K42_MISSING. K42_AGAIN: another pass is being given back in
    this moment. K42_MEMORY. After these two call again: the pass may be taken by then, and its handle for k42_close and
@@ -272,7 +274,7 @@ typedef struct {
 
 /* An entry of a history: who asked what of which object, and how it was answered. What it has none of is 0. */
 typedef struct {
-    uint64_t place;       /* in the history, from 1 */
+    uint64_t place;       /* in the history, from 1; of sections, end to end */
     uint64_t index;       /* among those of its pass, from 0 */
     uint64_t number;      /* what was added or bound */
     uint64_t reply;       /* the number that was answered, or that a swap has */
@@ -288,17 +290,34 @@ typedef struct {
     k42_text text;        /* what was written, or read */
 } k42_entry;
 
-/* NAME   k42_entries - counts the entries of the history
+/* NAME   k42_section, k42_resume - take the history of a running system in sections
 
-   STATUS   K42_DONE. K42_EMPTY. K42_TURN: the handle has no history. */
+   Under K42_KEEP_SECTIONS. Each pass with nothing under way is parked by k42_section, by any thread; missing says how
+   many are not. The handle of the last has the section then, to be read by k42_entries and k42_history: what the passes
+   have drawn since the last section, in order, as the history has it. Each handle takes its pass up by k42_resume, and
+   goes on; that of the section drops it. The sections, end to end, are the history of the system, up to the last.
+   A handle that is parked may call k42_section again, as where there was no memory, and may be resumed before the
+   section. Where it is dropped instead, its pass is given back, as by k42_close.
+
+   STATUS   K42_DONE: of k42_section, it was the last, and missing is 0. K42_MISSING. K42_AGAIN: another pass is being
+   parked or taken up in this moment, or the pass is not there, since others have closed the system. K42_MEMORY: of
+   k42_section, call again: the pass may be parked by then. K42_SECTIONS. K42_EMPTY. K42_TURN: of k42_section, the pass is
+   in an activity, or has a swap or a reclaim under way, or the handle has a section or a history; of k42_resume, it is
+   not parked. */
+uint32_t k42_section(k42_pass *pass, uint32_t *missing);
+uint32_t k42_resume(k42_pass *pass);
+
+/* NAME   k42_entries - counts the entries of the history, or of the section
+
+   STATUS   K42_DONE. K42_EMPTY. K42_TURN: the handle has neither. */
 uint32_t k42_entries(k42_pass *pass, uint64_t *entries);
 
-/* NAME   k42_history - reads entries of the history
+/* NAME   k42_history - reads entries of the history, or of the section
 
    It writes entries into their room, beginning with the one that has so many before it, and says how many it has told:
    fewer than there is room for where the history ends. Each call begins at the front, so read much at once.
 
-   STATUS   K42_DONE. K42_MEMORY. K42_EMPTY. K42_TURN: the handle has no history. */
+   STATUS   K42_DONE. K42_MEMORY. K42_EMPTY. K42_TURN: the handle has neither. */
 uint32_t k42_history(k42_pass *pass, uint64_t before, k42_entry *entries, size_t room, size_t *told);
 
 #ifdef __cplusplus

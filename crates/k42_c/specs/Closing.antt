@@ -17,7 +17,7 @@ use Rattle.k42_c.specs.declared.seat.Whole.{Whole as Gathered}
 use Rattle.k42_c.specs.declared.seat.End.{End}
 use Rattle.k42_c.specs.declared.seat.End.TheVariants.{Open, Whole, History}
 use Rattle.k42_c.specs.declared.seat.Seat.{Seat}
-use Rattle.k42_c.specs.declared.seat.Seat.TheVariants.{Gone, Rests, Closes, Ends}
+use Rattle.k42_c.specs.declared.seat.Seat.TheVariants.{Gone, Rests, Parks, Closes, Ends}
 
 -- these are passes of the system with nothing under way, and this is one of them
 pub record AreGiven (system : SystemSeen) (pass : SystemPass) (passes : List SystemPass) : Type 0 where
@@ -76,5 +76,6 @@ HasClosed old seat told = IsKept (refusal_of old) old seat told
 abbrev pub HasDropped : Seat → Seat → Result (Unit {0}) Refusal → Type 0
 HasDropped (Rests old) seat told = (told ≡ Ok tt) × (seat ≡ Gone)
 HasDropped (Closes old) seat told = (told ≡ Ok tt) × (seat ≡ Gone)
+HasDropped (Parks old) seat told = (told ≡ Ok tt) × (seat ≡ Gone)
 HasDropped (Ends old) seat told = (told ≡ Ok tt) × (seat ≡ Gone)
 HasDropped old seat told = IsKept (refusal_of old) old seat told

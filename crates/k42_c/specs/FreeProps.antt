@@ -7,7 +7,7 @@ use Rattle.k42_crews.specs.Ready.{IsFree, AreFree}
 use Rattle.k42_runtime.specs.Systems.{SystemSeen, SystemPart, SystemPass}
 use Rattle.k42_watch.specs.contracts.watch.WatchPart as watched
 
-part_set : IsSet SystemPart
+pub part_set : IsSet SystemPart
 part_set = Coded-set (watched.the_row any.the_row).coded
 
 IsFree-prop : (system : SystemSeen) (pass : SystemPass) → IsProp (IsFree system pass)

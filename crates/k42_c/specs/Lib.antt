@@ -1,9 +1,14 @@
 pub mod Holding
 pub mod FreeProps
+pub mod Going
+pub mod GoingProps
 pub mod Handles
 pub mod Calling
 pub mod Seats
+pub mod Swapping
+pub mod Reclaiming
 pub mod Closing
+pub mod Parking
 pub mod Codes
 pub mod Plain
 pub mod Reading

@@ -15,10 +15,15 @@ use Rattle.k42_kinds.specs.declared.operation.Op.TheVariants as ops
 use Rattle.k42_kinds.specs.declared.operation.Reply.TheVariants as replies
 use Rattle.k42_limits.specs.declared.TheConstants.{NAME_BYTES, TEXT_BYTES}
 use Rattle.k42_c.specs.Codes.{reply_code}
-use Rattle.k42_c.specs.declared.coding.TheConstants.{DONE, GONE, MEMORY, BUSY, SPENT}
+use Rattle.k42_runtime.specs.declared.swaps.Cause.TheVariants as causes
+use Rattle.k42_runtime.specs.declared.swaps.Swapped.TheVariants as ends
+use Rattle.k42_c.specs.declared.coding.TheConstants.{DONE, GONE, MEMORY, BUSY, SPENT, LEFT, ROLE, INSIDE, CELL}
 use Rattle.k42_c.specs.declared.plain.K42Entry.{K42Entry}
 use Rattle.k42_c.specs.declared.plain.K42Key.{K42Key}
+use Rattle.k42_c.specs.declared.plain.K42Swapping.{K42Swapping}
 use Rattle.k42_c.specs.declared.plain.K42Text.{K42Text}
+use Rattle.k42_c.specs.declared.swapping.Progress.{Progress}
+use Rattle.k42_c.specs.declared.swapping.Progress.TheVariants.{Underway, Ended}
 
 -- no name is longer than the array, nor is a text
 abbrev pub plain_key : List ℕ → K42Key
@@ -114,3 +119,13 @@ plain_entry entry = record {
   key = plain_key (key_asked entry.act);
   text = plain_text (text_told entry.act entry.answer);
 }
+
+-- how far a swap is: under which number it ended, or what holds it up, at which processor or pass, and how many there
+abbrev pub plain_progress : Progress → K42Swapping
+plain_progress (Underway (causes.Left proc left)) = record { number = 0; cause = LEFT; at = proc; count = left }
+plain_progress (Underway (causes.RoleHeld holder)) = record { number = 0; cause = ROLE; at = holder; count = 0 }
+plain_progress (Underway (causes.InFlight count)) = record { number = 0; cause = INSIDE; at = 0; count = count }
+plain_progress (Underway (causes.CellHeld holder)) = record { number = 0; cause = CELL; at = holder; count = 0 }
+plain_progress (Ended (ends.Done number)) = record { number = number; cause = 0; at = 0; count = 0 }
+plain_progress (Ended (ends.Busy number)) = record { number = number; cause = 0; at = 0; count = 0 }
+plain_progress (Ended end) = record { number = 0; cause = 0; at = 0; count = 0 }

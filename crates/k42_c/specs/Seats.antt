@@ -5,12 +5,19 @@ use Rattle.k42_kinds.specs.declared.operation.Reply.{Reply}
 use Rattle.k42_board.specs.Seen.{IsSamePass}
 use Rattle.k42_quiesce.specs.Activities as activities
 use Rattle.k42_c.specs.Calling.{HasServed}
+use Rattle.std.specs.Global.{Global}
+use Rattle.std.specs.declared.arc.Arc.{Arc}
+use Rattle.k42_c.specs.declared.home.Home.{Home}
 use Rattle.k42_c.specs.declared.refusal.Refusal.{Refusal}
 use Rattle.k42_c.specs.declared.refusal.Refusal.TheVariants.{Empty, Turn, Argument}
 use Rattle.k42_c.specs.declared.seat.Rests.{Rests as Resting}
 use Rattle.k42_c.specs.declared.seat.Works.{Works as Working}
 use Rattle.k42_c.specs.declared.seat.Seat.{Seat}
 use Rattle.k42_c.specs.declared.seat.Seat.TheVariants.{Gone, Rests, Works}
+
+-- what the handles of one system share
+abbrev pub SharedHome : Type 0
+SharedHome = Arc Home Global
 
 -- what is told of a seat that may not do what is asked
 abbrev pub refusal_of : Seat → Refusal

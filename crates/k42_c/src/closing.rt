@@ -40,7 +40,7 @@ fn place_of(passes: &[Pass], caller: u32) -> usize
 
 /// Puts the pass among the others, in the order of callers.
 #[tactic(auto, using(crate::proofs::Given::inserted))]
-fn add(system: &System, passes: &mut Vec<Pass>, pass: Pass)
+pub(crate) fn add(system: &System, passes: &mut Vec<Pass>, pass: Pass)
     requires others { AreFree system.now passes.old.items }
     requires one { IsFree system.now pass }
     requires room { vec_len passes.old < vec_capacity passes.old }
@@ -163,7 +163,7 @@ pub(crate) fn give_up(seat: &mut Seat) -> Result<(), Refusal>
     ensures { HasDropped seat.old seat.new result }
 {
     match seat {
-        Seat::Gone | Seat::Works(_) => Err(refusal_of(seat)),
+        Seat::Gone | Seat::Works(_) | Seat::Swaps(_) | Seat::Reclaims(_) => Err(refusal_of(seat)),
         _ => {
             *seat = Seat::Gone;
             Ok(())

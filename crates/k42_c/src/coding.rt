@@ -1,10 +1,12 @@
 //! The numbers by which C tells statuses, kinds and the like. `k42.h` has the same.
 ghost use Rattle.std.specs.Prelude.{◌≡◌};
-ghost use Rattle.k42_c.specs.Codes.{keep_named, kind_named, layout_named, given_code, refusal_code, reply_code, status_of_call};
+ghost use Rattle.k42_c.specs.Codes.{keep_named, kind_named, layout_named, given_code, parked_code, progress_code, refusal_code, reply_code, status_of_call, to_named};
 
 use crate::closing::Given;
+use crate::parking::Parked;
 use crate::refusal::Refusal;
-use k42_runtime::{Keep, KindName, LayoutName, PlanFault, Reply};
+use crate::swapping::Progress;
+use k42_runtime::{Keep, KindName, LayoutName, PlanFault, Reply, Swapped, To};
 
 pub(crate) const DONE: u32 = 0;
 
@@ -46,6 +48,18 @@ pub(crate) const BUSY: u32 = 18;
 
 pub(crate) const SPENT: u32 = 19;
 
+pub(crate) const UNDERWAY: u32 = 20;
+
+pub(crate) const SECTIONS: u32 = 21;
+
+pub(crate) const LEFT: u32 = 1;
+
+pub(crate) const ROLE: u32 = 2;
+
+pub(crate) const INSIDE: u32 = 3;
+
+pub(crate) const CELL: u32 = 4;
+
 /// The kind of this number.
 pub(crate) fn kind_named(code: u32) -> Option<KindName>
     ensures { result ≡ kind_named code }
@@ -69,6 +83,16 @@ pub(crate) fn layout_named(code: u32) -> Option<LayoutName>
     }
 }
 
+/// A swap to the layout of this number.
+pub(crate) fn to_named(code: u32) -> Option<To>
+    ensures { result ≡ to_named code }
+{
+    match layout_named(code) {
+        Some(layout) => Some(To::Layout(layout)),
+        None => None,
+    }
+}
+
 /// What is kept under this number.
 pub(crate) fn keep_named(code: u32) -> Option<Keep>
     ensures { result ≡ keep_named code }
@@ -76,6 +100,7 @@ pub(crate) fn keep_named(code: u32) -> Option<Keep>
     match code {
         0 => Some(Keep::Nothing),
         1 => Some(Keep::All),
+        2 => Some(Keep::Sections),
         _ => None,
     }
 }
@@ -106,6 +131,7 @@ pub(crate) fn refusal_code(refusal: Refusal) -> u32
         Refusal::Object => OBJECT,
         Refusal::Kind => KIND,
         Refusal::Argument => ARGUMENT,
+        Refusal::Sections => SECTIONS,
         Refusal::Plan(PlanFault::Procs) => PROCESSORS,
         Refusal::Plan(PlanFault::Objects) => OBJECTS,
         Refusal::Plan(PlanFault::Callers) => PASSES,
@@ -130,5 +156,28 @@ pub(crate) fn given_code(given: Given) -> u32
     match given {
         Given::Missing(_) => MISSING,
         Given::History | Given::Nothing => DONE,
+    }
+}
+
+/// The status of a swap.
+pub(crate) fn progress_code(progress: Progress) -> u32
+    ensures { result ≡ progress_code progress }
+{
+    match progress {
+        Progress::Underway(_) => UNDERWAY,
+        Progress::Ended(Swapped::Done(_)) => DONE,
+        Progress::Ended(Swapped::Busy(_)) => BUSY,
+        Progress::Ended(Swapped::Spent) => SPENT,
+        Progress::Ended(Swapped::Gone) => GONE,
+    }
+}
+
+/// The status of a pass that was put to the desk.
+pub(crate) fn parked_code(parked: Parked) -> u32
+    ensures { result ≡ parked_code parked }
+{
+    match parked {
+        Parked::Missing(_) => MISSING,
+        Parked::Section => DONE,
     }
 }

@@ -8,6 +8,8 @@ mod counters;
 mod directories;
 mod pages;
 mod passes;
+mod sections;
+mod swaps;
 
 use crate::coding::call_code;
 use crate::held::K42Pass;

@@ -1,9 +1,12 @@
 //! What is passed to C as plain structs, which `k42.h` declares.
 ghost use Rattle.std.specs.Prelude.{◌≡◌};
-ghost use Rattle.k42_c.specs.Plain.{plain_key, plain_text};
+ghost use Rattle.k42_c.specs.Plain.{plain_key, plain_progress, plain_text};
 
+use crate::coding::{CELL, INSIDE, LEFT, ROLE};
+use crate::swapping::Progress;
 use k42_kinds::{Name, Text};
 use k42_limits::{NAME_BYTES, TEXT_BYTES};
+use k42_runtime::{Cause, Swapped};
 
 /// An object, as it starts, by the numbers of its kind and layout.
 #[repr(C)]
@@ -53,6 +56,39 @@ pub struct K42Entry {
     pub key: K42Key,
     /// What was written, or read.
     pub text: K42Text,
+}
+
+/// How far a swap is. What it has none of is 0.
+#[repr(C)]
+#[derive(Drop)]
+pub struct K42Swapping {
+    /// Among the swaps of the object, from 1.
+    pub number: u32,
+    /// What holds it up.
+    pub cause: u32,
+    /// The processor, or the pass.
+    pub at: u32,
+    pub count: u32,
+}
+
+/// How far a swap is.
+pub(crate) fn plain_progress(progress: Progress) -> K42Swapping
+    ensures { result ≡ plain_progress progress }
+{
+    let (number, cause, at, count) = match progress {
+        Progress::Underway(Cause::Left { proc, left }) => (0, LEFT, proc, left),
+        Progress::Underway(Cause::RoleHeld { holder }) => (0, ROLE, holder, 0),
+        Progress::Underway(Cause::InFlight { count }) => (0, INSIDE, 0, count),
+        Progress::Underway(Cause::CellHeld { holder }) => (0, CELL, holder, 0),
+        Progress::Ended(Swapped::Done(number) | Swapped::Busy(number)) => (number, 0, 0, 0),
+        Progress::Ended(Swapped::Spent | Swapped::Gone) => (0, 0, 0, 0),
+    };
+    K42Swapping {
+        number,
+        cause,
+        at,
+        count,
+    }
 }
 
 /// The bytes of a name.

@@ -1,7 +1,7 @@
-//! The history that the last pass has left, as plain structs.
-ghost use Rattle.std.specs.Prelude.{◌≡◌, ◌≤◌, ◌++◌, length, map, take, drop, IfOk, IfSome, OnErr, MatchOption};
+//! The history or section that the last pass has left, as plain structs.
+ghost use Rattle.std.specs.Prelude.{◌≡◌, ◌≤◌, ◌++◌, length, map, take, drop, Some, None, IfOk, IfSome, IsSome, MatchOption};
 ghost use Rattle.k42_c.specs.Plain.{act_number, op_number, answer_code, key_asked, number_asked, number_told, page_asked, plain_entry, plain_key, plain_text, text_told};
-ghost use Rattle.k42_c.specs.Reading.{HasCounted, HasRead, HasReadFrom, history_in};
+ghost use Rattle.k42_c.specs.Reading.{HasCounted, HasRead, HasReadFrom, entries_at, entries_in};
 
 use crate::coding::{BUSY, DONE, GONE, MEMORY, SPENT, reply_code};
 use crate::plain::{K42Entry, K42Key, K42Text, plain_key, plain_text};
@@ -10,7 +10,8 @@ use crate::seat::{End, Seat};
 use crate::steps::refusal_of;
 use k42_kinds::{Act, Answer, Entry, LayoutName, Op, Reply, To};
 use k42_limits::{NAME_BYTES, TEXT_BYTES};
-use k42_runtime::{History, Reader};
+use k42_memory::Memory;
+use k42_runtime::Reader;
 use std::alloc::Global;
 
 fn op_number(op: &Op) -> u32
@@ -136,15 +137,13 @@ fn plain_entry(entry: &Entry) -> K42Entry
     }
 }
 
-/// The history of the seat, if it has one.
-fn history_in(seat: &Seat) -> Option<&History>
-    ensures { MatchOption result (history_in seat.now ≡ None) (λ history. history_in seat.now ≡ Some history.now) }
+/// What the passes have left in the seat, if they have left something there.
+fn end_in(seat: &Seat) -> Option<&End>
+    ensures { MatchOption result (entries_in seat.now ≡ None) (λ end. entries_in seat.now ≡ entries_at end.now) }
 {
     match seat {
-        Seat::Ends(end) => match end.as_ref() {
-            End::History(history) => Some(history),
-            _ => None,
-        },
+        Seat::Ends(end) => Some(end.as_ref()),
+        Seat::Parks(parks) => Some(parks.section.as_ref()),
         _ => None,
     }
 }
@@ -153,9 +152,22 @@ fn history_in(seat: &Seat) -> Option<&History>
 pub(crate) fn count(seat: &Seat) -> Result<u64, Refusal>
     ensures { HasCounted seat.now result }
 {
-    match history_in(seat) {
-        Some(history) => Ok(history.len() as u64),
-        None => Err(refusal_of(seat)),
+    match end_in(seat) {
+        Some(End::History(history)) => Ok(history.len() as u64),
+        Some(End::Section(section)) => Ok(section.len() as u64),
+        _ => Err(refusal_of(seat)),
+    }
+}
+
+/// A reader of its entries, if it has some.
+fn reader_of(alloc: Global, seat: &Seat) -> Option<Result<Reader<'_>, Memory>>
+    ensures is { MatchOption result (entries_in seat.now ≡ None) (λ read. IfOk read (λ reader. entries_in seat.now ≡ Some reader)) }
+    ensures some { IfSome result (λ _. IsSome (entries_in seat.now)) }
+{
+    match end_in(seat) {
+        Some(End::History(history)) => Some(history.read(alloc)),
+        Some(End::Section(section)) => Some(section.read(alloc)),
+        _ => None,
     }
 }
 
@@ -194,11 +206,10 @@ pub(crate) fn read(
 ) -> Result<usize, Refusal>
     ensures { HasReadFrom seat.now from entries.old entries.new result }
 {
-    let Some(history) = history_in(seat) else {
-        return Err(refusal_of(seat));
-    };
-    let Ok(mut reader) = history.read(alloc) else {
-        return Err(Refusal::Memory);
+    let mut reader = match reader_of(alloc, seat) {
+        Some(Ok(reader)) => reader,
+        Some(Err(Memory)) => return Err(Refusal::Memory),
+        None => return Err(refusal_of(seat)),
     };
     skip(&mut reader, from);
     Ok(fill(&mut reader, entries))

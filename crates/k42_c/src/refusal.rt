@@ -21,6 +21,8 @@ pub enum Refusal {
     Kind,
     /// An argument spells nothing.
     Argument,
+    /// The system keeps no sections.
+    Sections,
     /// There is no such system.
     Plan(PlanFault),
 }

@@ -3,9 +3,12 @@ ghost use Rattle.std.specs.Prelude.{◌≡◌};
 ghost use Rattle.std.specs.Arc.{arc_value};
 ghost use Rattle.k42_crews.specs.Ready.{IsFree, IsIn, AreFree, AreAll};
 ghost use Rattle.k42_c.specs.FreeProps.{AreFree-prop};
+ghost use Rattle.k42_c.specs.Going.{IsReclaiming, IsSwapping};
+ghost use Rattle.k42_c.specs.GoingProps.{IsReclaiming-prop, IsSwapping-prop};
 
 use crate::home::Home;
-use k42_runtime::{History, Pass, System};
+use k42_quiesce::Grace;
+use k42_runtime::{History, Journal, Pass, Swap, System};
 use std::alloc::Global;
 use std::sync::Arc;
 
@@ -24,6 +27,34 @@ pub struct Works {
     pub(crate) home: Arc<Home, Global>,
     pub(crate) pass: Box<Pass, Global>,
     ghost works: { IsIn (arc_value home).system pass.value },
+}
+
+/// A pass with a swap under way.
+#[derive(Drop)]
+pub struct Swaps {
+    pub(crate) home: Arc<Home, Global>,
+    pub(crate) pass: Box<Pass, Global>,
+    pub(crate) swap: Swap,
+    ghost swaps: { IsSwapping (arc_value home).system swap pass.value } by { IsSwapping-prop (arc_value home).system swap pass.value },
+}
+
+/// A pass whose grace is to free its rows.
+#[derive(Drop)]
+pub struct Reclaims {
+    pub(crate) home: Arc<Home, Global>,
+    pub(crate) pass: Box<Pass, Global>,
+    pub(crate) grace: Grace,
+    ghost reclaims: { IsReclaiming (arc_value home).system grace pass.value } by { IsReclaiming-prop (arc_value home).system grace pass.value },
+}
+
+/// A pass that lies at the desk of its home, for a section.
+#[derive(Drop)]
+pub struct Parks {
+    pub(crate) home: Arc<Home, Global>,
+    /// Whose pass it is.
+    pub(crate) caller: u32,
+    /// The section, if this pass was the last to come.
+    pub(crate) section: Box<End, Global>,
 }
 
 /// All passes, in a home that whoever gave the others back has not left yet.
@@ -46,7 +77,7 @@ pub struct Whole {
     ghost all: { AreAll system passes.items },
 }
 
-/// What is there once all passes were given back.
+/// What is there once all passes were given back, or were put to the desk.
 #[derive(Drop)]
 pub enum End {
     /// Nothing yet.
@@ -54,6 +85,8 @@ pub enum End {
     /// There was no memory for the history.
     Whole(Whole),
     History(History),
+    /// What the passes have drawn since the last one.
+    Section(Journal),
 }
 
 /// What a handle has in it.
@@ -62,6 +95,9 @@ pub enum Seat {
     Gone,
     Rests(Rests),
     Works(Works),
+    Swaps(Swaps),
+    Reclaims(Reclaims),
+    Parks(Parks),
     Closes(Closes),
     Ends(Box<End, Global>),
 }

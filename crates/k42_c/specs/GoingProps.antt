@@ -1,0 +1,31 @@
+-- That a pass goes on with what it has under way is a proposition.
+use Rattle.std.proofs.Common.{ℕ, length, Option, Some, None}
+use Rattle.std.proofs.Props.{props}
+use Rattle.k42_board.specs.declared.view.PassView.{PassView}
+use Rattle.k42_runtime.specs.Swaps.{SwapSeen, IsAtStage, IsWaiting}
+use Rattle.k42_runtime.specs.Systems.{SystemSeen, SystemPart, SystemPass}
+use Rattle.k42_runtime.specs.declared.swaps.Stage.{Stage}
+use Rattle.k42_runtime.specs.declared.swaps.Stage.TheVariants as stages
+use Rattle.k42_c.specs.FreeProps.{part_set}
+use Rattle.k42_c.specs.Going.{HasRole, IsReclaiming, IsSwapping}
+
+IsWaiting-prop : (object : ℕ) (holder : Option ℕ) (v : PassView SystemPart) → IsProp (IsWaiting object holder v)
+IsWaiting-prop object None v = hlevel (props, part_set)
+IsWaiting-prop object (Some holder) v = hlevel (props, part_set)
+
+IsAtStage-prop : (stage : Stage) (objects : ℕ) (swap : SwapSeen) (pass : SystemPass) → IsProp (IsAtStage stage objects swap pass)
+IsAtStage-prop stages.New objects swap pass = hlevel (props, part_set)
+IsAtStage-prop stages.Waiting objects swap pass = hlevel (props, part_set, IsWaiting-prop swap.object swap.holder pass.view)
+IsAtStage-prop stages.Shut objects swap pass = hlevel (props, part_set)
+IsAtStage-prop stages.Marking objects swap pass = hlevel (props, part_set)
+IsAtStage-prop stages.Over objects swap pass = hlevel (props, part_set)
+
+pub IsSwapping-prop : (system : SystemSeen) (swap : SwapSeen) (pass : SystemPass) → IsProp (IsSwapping system swap pass)
+IsSwapping-prop system swap pass = hlevel (props, part_set, IsAtStage-prop swap.stage (length system.plan.objects) swap pass)
+
+HasRole-prop : (grace : Option ℕ) (v : PassView SystemPart) → IsProp (HasRole grace v)
+HasRole-prop None v = hlevel (props, part_set)
+HasRole-prop (Some holder) v = hlevel (props, part_set)
+
+pub IsReclaiming-prop : (system : SystemSeen) (grace : Option ℕ) (pass : SystemPass) → IsProp (IsReclaiming system grace pass)
+IsReclaiming-prop system grace pass = hlevel (props, part_set, HasRole-prop grace pass.view)

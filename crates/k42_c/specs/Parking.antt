@@ -1,0 +1,90 @@
+-- What becomes of a seat whose pass is put to the desk of its home for a section.
+use Rattle.std.specs.Prelude.{◌≡◌, ◌≢◌, ◌⊎◌, ⊥, ℕ, ◌-◌, Bool, true, false, if◌then◌else◌, List, length, Result, Ok, Err, IsSomeAnd, slice_get}
+use Rattle.std.specs.Arc.{arc_value}
+use Rattle.k42_board.specs.declared.keep.Keep.TheVariants as keeps
+use Rattle.k42_crews.specs.Ready.{AreFree, AreAll, MayGive}
+use Rattle.k42_kinds.specs.declared.entry.Entry.{Entry}
+use Rattle.k42_runtime.specs.Sections.{IsSection}
+use Rattle.k42_runtime.specs.Systems.{SystemSeen, SystemPass}
+use Rattle.k42_c.specs.Closing.{AreGiven}
+use Rattle.k42_c.specs.Seats.{SharedHome, refusal_of, IsKept}
+use Rattle.k42_c.specs.declared.parking.Parked.{Parked}
+use Rattle.k42_c.specs.declared.parking.Parked.TheVariants as told
+use Rattle.k42_c.specs.declared.refusal.Refusal.{Refusal}
+use Rattle.k42_c.specs.declared.refusal.Refusal.TheVariants.{Again, Memory, Sections, Turn}
+use Rattle.k42_c.specs.declared.seat.End.{End}
+use Rattle.k42_c.specs.declared.seat.End.TheVariants.{Section}
+use Rattle.k42_c.specs.declared.seat.Parks.{Parks as Parking}
+use Rattle.k42_c.specs.declared.seat.Rests.{Rests as Resting}
+use Rattle.k42_c.specs.declared.seat.Seat.{Seat}
+use Rattle.k42_c.specs.declared.seat.Seat.TheVariants.{Parks, Rests}
+
+-- Passes that lie at the desk have given a section, or some are missing.
+abbrev pub HaveGiven : SystemSeen → List SystemPass → List SystemPass → End → End → Result Parked Refusal → Type 0
+HaveGiven system old new from to (Ok told.Section) =
+    MayGive system old × ((section : List Entry) × (to ≡ Section section) × IsSection old new section)
+HaveGiven system old new from to (Ok (told.Missing count)) =
+    (¬ AreAll system old) × (count ≡ length system.plan.callers - length old) × (new ≡ old) × (to ≡ from)
+HaveGiven system old new from to (Err Memory) = MayGive system old × (new ≡ old) × (to ≡ from)
+HaveGiven system old new from to (Err Sections) = (¬ MayGive system old) × (new ≡ old) × (to ≡ from)
+HaveGiven system old new from to (Err why) = ⊥
+
+-- the pass of this caller lies there, with these
+pub record IsParked (home : SharedHome) (caller : ℕ) (old : List SystemPass) (from : End) (seat : Seat) (told : Result Parked Refusal) : Type 0 where
+  pub kept : Parking
+  pub seat_is : seat ≡ Parks kept
+  pub home_is : kept.home ≡ home
+  pub caller_is : kept.caller ≡ caller
+  pub new : List SystemPass
+  pub given : HaveGiven (arc_value home).system old new from kept.section.value told
+
+-- it was put there, and they tried to give a section
+pub record HasParked (old : Resting) (seat : Seat) (told : Result Parked Refusal) : Type 0 where
+  pub keeps : (arc_value old.home).system.plan.keep ≡ keeps.Sections
+  pub passes : List SystemPass
+  pub there : AreGiven (arc_value old.home).system old.pass.value passes
+  pub from : End
+  pub parked : IsParked old.home old.pass.value.view.number passes from seat told
+
+abbrev pub HasParkedOrNot : Resting → Seat → Result Parked Refusal → Type 0
+HasParkedOrNot old seat told =
+    HasParked old seat told
+    ⊎ (((arc_value old.home).system.plan.keep ≢ keeps.Sections × IsKept Sections (Rests old) seat told)
+    ⊎ (IsKept Again (Rests old) seat told ⊎ IsKept Memory (Rests old) seat told))
+
+-- whether it has a section
+abbrev pub is_section : End → Bool
+is_section (Section section) = true
+is_section _ = false
+
+-- it lay there already, and they tried again
+pub record HasTriedAgain (old : Parking) (seat : Seat) (told : Result Parked Refusal) : Type 0 where
+  pub passes : List SystemPass
+  pub free : AreFree (arc_value old.home).system passes
+  pub parked : IsParked old.home old.caller passes old.section.value seat told
+
+abbrev pub HasTriedOrNot : Parking → Seat → Result Parked Refusal → Type 0
+HasTriedOrNot old seat told =
+    if is_section old.section.value then IsKept Turn (Parks old) seat told
+    else (HasTriedAgain old seat told ⊎ IsKept Again (Parks old) seat told)
+
+abbrev pub HasGivenSection : Seat → Seat → Result Parked Refusal → Type 0
+HasGivenSection (Rests old) seat told = HasParkedOrNot old seat told
+HasGivenSection (Parks old) seat told = HasTriedOrNot old seat told
+HasGivenSection old seat told = IsKept (refusal_of old) old seat told
+
+-- the pass of this caller stands there
+abbrev pub IsAt : ℕ → List SystemPass → ℕ → Type 0
+IsAt caller passes place = IsSomeAnd (slice_get passes place) (λ pass. pass.view.number ≡ caller)
+
+-- the pass of that caller was taken up, or was not there, or there was no memory
+abbrev pub HasTakenUp : Parking → Seat → Result (Unit {0}) Refusal → Type 0
+HasTakenUp old seat (Ok done) =
+    (new : Resting) × (seat ≡ Rests new) × (new.home ≡ old.home) × (new.pass.value.view.number ≡ old.caller)
+HasTakenUp old seat (Err Again) = seat ≡ Parks old
+HasTakenUp old seat (Err Memory) = seat ≡ Parks old
+HasTakenUp old seat (Err why) = ⊥
+
+abbrev pub HasResumed : Seat → Seat → Result (Unit {0}) Refusal → Type 0
+HasResumed (Parks old) seat told = HasTakenUp old seat told
+HasResumed old seat told = IsKept (refusal_of old) old seat told

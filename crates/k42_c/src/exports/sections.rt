@@ -1,0 +1,46 @@
+//! Sections of the history of a running system.
+ghost use Rattle.k42_c.specs.Exports.{Tells, TellsParked, done_code};
+ghost use Rattle.k42_c.specs.Handles.{seat_of};
+ghost use Rattle.k42_c.specs.Parking.{HasResumed};
+
+use super::passes::done_code;
+use crate::coding::{EMPTY, parked_code, refusal_code};
+use crate::held::K42Pass;
+use crate::holding::{put, take};
+use crate::parking::{Parked, give_section, resume};
+use std::alloc::Global;
+
+/// Puts the pass to the others for a section, which the last leaves in its handle.
+#[unsafe(no_mangle)]
+pub extern "C" fn k42_section(alloc: Global, pass: &mut K42Pass, missing: &mut u32) -> u32
+    ensures { TellsParked (seat_of pass.old) (seat_of pass.new) missing.old missing.new result }
+{
+    let Some(mut held) = take(alloc, pass) else {
+        return EMPTY;
+    };
+    let told = give_section(alloc, &mut held);
+    put(pass, held);
+    match told {
+        Ok(parked) => {
+            *missing = match parked {
+                Parked::Missing(count) => count,
+                Parked::Section => 0,
+            };
+            parked_code(parked)
+        }
+        Err(why) => refusal_code(why),
+    }
+}
+
+/// Takes the pass up again, and drops the section.
+#[unsafe(no_mangle)]
+pub extern "C" fn k42_resume(alloc: Global, pass: &mut K42Pass) -> u32
+    ensures { Tells done_code (HasResumed (seat_of pass.old) (seat_of pass.new)) result }
+{
+    let Some(mut held) = take(alloc, pass) else {
+        return EMPTY;
+    };
+    let told = resume(alloc, &mut held);
+    put(pass, held);
+    done_code(told)
+}

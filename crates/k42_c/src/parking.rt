@@ -1,0 +1,182 @@
+//! Passes are put to the desk of their home for a section, and are taken up again.
+ghost use Rattle.std.specs.Prelude.{◌≡◌, IfSome};
+ghost use Rattle.k42_crews.specs.Ready.{AreFree};
+ghost use Rattle.k42_c.specs.Parking.{HasGivenSection, HasParkedOrNot, HasResumed, HasTakenUp, HasTriedOrNot, HaveGiven, IsAt, is_section};
+
+use crate::closing::add;
+use crate::refusal::Refusal;
+use crate::seat::{End, Parks, Rests, Seat};
+use crate::steps::refusal_of;
+use k42_crews::{are_all, section};
+use k42_memory::Memory;
+use k42_runtime::{Keep, Pass, System};
+use std::alloc::Global;
+use std::mem::replace;
+
+/// What has come of a pass that was put to the desk.
+#[derive(Clone, Copy, Debug, PartialEq, Eq)]
+pub enum Parked {
+    /// So many others are missing still.
+    Missing(u32),
+    /// All are there, and the seat has their section.
+    Section,
+}
+
+/// Makes the section of the passes, where they are all.
+fn give(
+    alloc: Global,
+    system: &System,
+    passes: &mut Vec<Pass>,
+    end: &mut End,
+) -> Result<Parked, Refusal>
+    requires { AreFree system.now passes.old.items }
+    ensures free { AreFree system.now passes.new.items }
+    ensures given { HaveGiven system.now passes.old.items passes.new.items end.old end.new result }
+{
+    if !are_all(system, passes.as_slice()) {
+        let missing = (system.callers() as usize).saturating_sub(passes.len()) as u32;
+        return Ok(Parked::Missing(missing));
+    }
+    match section(alloc, system, passes.as_mut_slice()) {
+        Ok(Some(journal)) => {
+            *end = End::Section(journal);
+            Ok(Parked::Section)
+        }
+        Ok(None) => Err(Refusal::Sections),
+        Err(Memory) => Err(Refusal::Memory),
+    }
+}
+
+/// Puts the pass to the desk.
+fn park(alloc: Global, rests: Rests) -> (Seat, Result<Parked, Refusal>)
+    ensures { HasParkedOrNot rests result.0 result.1 }
+{
+    if rests.home.system.keep() != Keep::Sections {
+        return (Seat::Rests(rests), Err(Refusal::Sections));
+    }
+    let Ok(mut section) = Box::new(alloc, End::Open) else {
+        return (Seat::Rests(rests), Err(Refusal::Memory));
+    };
+    let Some((mut passes, loan)) = rests.home.desk.take() else {
+        return (Seat::Rests(rests), Err(Refusal::Again));
+    };
+    if passes.reserve(1).is_err() {
+        rests.home.desk.put_back(passes, loan);
+        return (Seat::Rests(rests), Err(Refusal::Memory));
+    }
+    let Rests { home, pass } = rests;
+    let caller = pass.caller();
+    add(&home.system, &mut passes, Box::into_inner(pass));
+    let told = give(alloc, &home.system, &mut passes, &mut section);
+    home.desk.put_back(passes, loan);
+    let parks = Parks {
+        home,
+        caller,
+        section,
+    };
+    (Seat::Parks(parks), told)
+}
+
+/// Whether it has a section.
+fn is_section(end: &End) -> bool
+    ensures { result ≡ is_section end.now }
+{
+    matches!(end, End::Section(_))
+}
+
+/// Tries again, for a pass that lies there.
+fn try_again(alloc: Global, mut parks: Parks) -> (Seat, Result<Parked, Refusal>)
+    ensures { HasTriedOrNot parks result.0 result.1 }
+{
+    if is_section(parks.section.as_ref()) {
+        return (Seat::Parks(parks), Err(Refusal::Turn));
+    }
+    let Some((mut passes, loan)) = parks.home.desk.take() else {
+        return (Seat::Parks(parks), Err(Refusal::Again));
+    };
+    let told = give(alloc, &parks.home.system, &mut passes, &mut parks.section);
+    parks.home.desk.put_back(passes, loan);
+    (Seat::Parks(parks), told)
+}
+
+/// Where the pass of this caller is.
+fn place_at(passes: &[Pass], caller: u32) -> Option<usize>
+    ensures { IfSome result (λ place. IsAt caller passes.now place) }
+{
+    for place in 0..passes.len() {
+        if passes[place].caller() == caller {
+            return Some(place);
+        }
+    }
+    None
+}
+
+/// Takes the pass up.
+fn take_up(alloc: Global, parks: Parks) -> (Seat, Result<(), Refusal>)
+    ensures { HasTakenUp parks result.0 result.1 }
+{
+    let Some((mut passes, loan)) = parks.home.desk.take() else {
+        return (Seat::Parks(parks), Err(Refusal::Again));
+    };
+    let Some(place) = place_at(passes.as_slice(), parks.caller) else {
+        parks.home.desk.put_back(passes, loan);
+        return (Seat::Parks(parks), Err(Refusal::Again));
+    };
+    match Box::new(alloc, passes.remove(place)) {
+        Ok(pass) => {
+            parks.home.desk.put_back(passes, loan);
+            let Parks { home, .. } = parks;
+            (Seat::Rests(Rests { home, pass }), Ok(()))
+        }
+        Err(back) => {
+            add(&parks.home.system, &mut passes, back.value);
+            parks.home.desk.put_back(passes, loan);
+            (Seat::Parks(parks), Err(Refusal::Memory))
+        }
+    }
+}
+
+/// The seat once its pass has given to a section.
+fn given(alloc: Global, seat: Seat) -> (Seat, Result<Parked, Refusal>)
+    ensures { HasGivenSection seat result.0 result.1 }
+{
+    match seat {
+        Seat::Rests(rests) => park(alloc, rests),
+        Seat::Parks(parks) => try_again(alloc, parks),
+        other => {
+            let why = refusal_of(&other);
+            (other, Err(why))
+        }
+    }
+}
+
+/// The seat once its pass was taken up.
+fn resumed(alloc: Global, seat: Seat) -> (Seat, Result<(), Refusal>)
+    ensures { HasResumed seat result.0 result.1 }
+{
+    match seat {
+        Seat::Parks(parks) => take_up(alloc, parks),
+        other => {
+            let why = refusal_of(&other);
+            (other, Err(why))
+        }
+    }
+}
+
+/// Puts the pass to the desk for a section, which the last makes.
+pub(crate) fn give_section(alloc: Global, seat: &mut Seat) -> Result<Parked, Refusal>
+    ensures { HasGivenSection seat.old seat.new result }
+{
+    let (new, told) = given(alloc, replace(seat, Seat::Gone));
+    *seat = new;
+    told
+}
+
+/// Takes the pass up again.
+pub(crate) fn resume(alloc: Global, seat: &mut Seat) -> Result<(), Refusal>
+    ensures { HasResumed seat.old seat.new result }
+{
+    let (new, told) = resumed(alloc, replace(seat, Seat::Gone));
+    *seat = new;
+    told
+}
