@@ -42,7 +42,7 @@ struct loader {
     uint64_t answered, failed; /* requests */
     uint32_t *times;           /* of requests, in nanoseconds */
     uint32_t swapped, unswapped, longest_swap;
-    bool is_swapping;
+    bool is_swapping, is_cut;  /* a swap is asked for; the server does not speak as it should */
 };
 
 static uint64_t now(void) {
@@ -64,9 +64,7 @@ static bool connects(struct connection *it, uint16_t port) {
 
 static void ask(struct connection *it, const char *line) {
     it->sent_at = now();
-    size_t length = strlen(line);
-    if (send(it->socket, line, length, MSG_NOSIGNAL) != (ssize_t)length)
-        fprintf(stderr, "a request is not sent\n");
+    send(it->socket, line, strlen(line), MSG_NOSIGNAL); /* or else no answer comes */
 }
 
 /* Asks the next request of the mix, and notes what is due. Keys and pages are the connection's own. */
@@ -131,14 +129,6 @@ static bool is_right(struct connection *it) {
     return right;
 }
 
-/* Takes what came. Says whether the whole answer is there; an end is none that is right. */
-static bool has_answer(struct connection *it) {
-    ssize_t got = recv(it->socket, it->in + it->got, LINE - 1 - it->got, MSG_DONTWAIT);
-    it->got += got > 0 ? (size_t)got : 0;
-    it->in[it->got] = 0;
-    return got == 0 || it->got == LINE - 1 || (it->got > 0 && it->in[it->got - 1] == '\n');
-}
-
 /* --- Loaders --- */
 
 /* Asks for the swaps that are due by now: they lie evenly among the requests, one after the other. */
@@ -152,8 +142,15 @@ static void swap_on(struct loader *loader) {
     ask_swap(loader->swapper);
 }
 
+/* Takes what came, and goes on where it is the whole answer. */
 static void take_answer(struct loader *loader, struct connection *it) {
-    if (!has_answer(it))
+    ssize_t got = recv(it->socket, it->in + it->got, LINE - 1 - it->got, MSG_DONTWAIT);
+    loader->is_cut = loader->is_cut || got <= 0 || it->got + (size_t)got == LINE - 1;
+    if (loader->is_cut)
+        return;
+    it->got += (size_t)got;
+    it->in[it->got] = 0;
+    if (it->in[it->got - 1] != '\n')
         return;
     uint64_t time = now() - it->sent_at;
     bool right = is_right(it);
@@ -183,7 +180,7 @@ static void *work(void *at) {
     struct epoll_event events[EVENTS];
     for (uint32_t i = 0; i < loader->count; i++)
         ask_next(&loader->connections[i]);
-    while (!is_done(loader)) {
+    while (!is_done(loader) && !loader->is_cut) {
         swap_on(loader);
         int count = epoll_wait(loader->poll, events, EVENTS, PATIENCE_MS);
         if (count <= 0)
