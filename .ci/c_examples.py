@@ -16,13 +16,15 @@ FLAGS = ["-std=c11", "-Wall", "-Wextra", "-Werror", "-O2", "-I", str(TOP / "crat
 # Those that call the library, with the files that each is built of, and those that do not.
 CALLING = {
     "page": ["page.c", "heap.c"],
-    "statuses": ["statuses.c"],
+    "statuses": ["statuses.c", "seeing.c"],
+    "swaps": ["swaps.c", "seeing.c"],
+    "sections": ["sections.c", "seeing.c"],
     "cost": ["cost.c", "heap.c"],
     "server": ["server.c", "heap.c"],
 }
 OTHERS = {"plain": ["server.c", "plain.c"], "load": ["load.c"]}
 # Those that are run alone, with their words.
-ALONE = {"page": [], "statuses": [], "cost": ["10000", "2"]}
+ALONE = {"page": [], "statuses": [], "swaps": [], "sections": [], "cost": ["10000", "2"]}
 # The servers, with a free port and so many threads; the load has so many connections, requests of each, and swaps.
 SERVERS, SERVED, LOAD = ["server", "plain"], ["0", "2"], ["64", "1000", "1000"]
 # A machine at other work is late: so often the load may be run until it is in time.
