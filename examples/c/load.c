@@ -133,10 +133,10 @@ static bool is_right(struct connection *it) {
 
 /* Asks for the swaps that are due by now: they lie evenly among the requests, one after the other. */
 static void swap_on(struct loader *loader) {
-    uint64_t all = (uint64_t)loader->count * loader->requests;
-    if (loader->is_swapping || loader->swapper->asked == loader->swaps)
+    uint64_t all = (uint64_t)loader->count * loader->requests, ended = loader->swapped + loader->unswapped;
+    if (loader->is_swapping || ended == loader->swaps)
         return;
-    if (loader->answered < all && loader->answered * loader->swaps < loader->swapper->asked * all)
+    if (loader->answered < all && loader->answered * loader->swaps < ended * all)
         return;
     loader->is_swapping = true;
     ask_swap(loader->swapper);

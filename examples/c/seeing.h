@@ -15,7 +15,7 @@ enum { HITS = 0, NAMES = 1, CACHE = 2, NO_OBJECT = 3, OBJECTS = 3, TRIES = 10000
 
 extern atomic_long grants; /* how many requests more are granted; all where it is below 0 */
 
-/* A thread tells that it has arrived, and waits to be released: as it next frees, or at its next request but so many. */
+/* A thread tells that it came, and waits to be released: where it frees next, or at its next request but so many. */
 enum { NOWHERE = -1 };
 extern _Thread_local bool waits_to_free;
 extern _Thread_local int waits_to_ask;

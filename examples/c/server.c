@@ -30,7 +30,7 @@
 #include <sys/socket.h>
 #include <unistd.h>
 
-enum { OBJECTS = 3, MOST_THREADS = 4, LINE = 256, ANSWER = 64, EVENTS = 64, BACKLOG = 1024 };
+enum { OBJECTS = 3, MOST_THREADS = 4, LINE = 256, ANSWER = 64, EVENTS = 64, BACKLOG = 1024, SPINS = 100 };
 
 /* Each thread calls with one pass and swaps with another, since a pass with a swap under way does nothing else. */
 struct loop {
@@ -42,6 +42,7 @@ struct loop {
     struct connection *swapper; /* which waits for its swap */
     k42_swapping swapping;
     uint32_t swap;              /* K42_UNDERWAY while a swap goes on */
+    uint32_t tries;             /* how often what is held up was tried since something went on */
     bool is_held, is_ended;     /* something is to be tried again; the thread is to end */
 };
 
@@ -203,6 +204,7 @@ static void answer(struct loop *loop, struct connection *it, uint32_t status) {
         due = snprintf(it->out, ANSWER, "ok\n");
     it->due = (size_t)due;
     it->is_asking = false;
+    loop->tries = 0;
 }
 
 /* Tries all requests in one activity, which is left before anything is waited for. */
@@ -284,7 +286,7 @@ static void settle_all(struct loop *loop) {
 
 /* Takes a connection that is given to the loop, or learns that it is to end. */
 static void take_mail(struct loop *loop) {
-    int socket, one = 1;
+    int socket;
     loop->is_ended = read(loop->mail[0], &socket, sizeof socket) != sizeof socket;
     if (loop->is_ended)
         return;
@@ -295,16 +297,17 @@ static void take_mail(struct loop *loop) {
         close(socket);
         return;
     }
-    setsockopt(socket, IPPROTO_TCP, TCP_NODELAY, &one, sizeof one);
+    setsockopt(socket, IPPROTO_TCP, TCP_NODELAY, &(int){1}, sizeof(int));
     it->socket = socket;
     it->interest = EPOLLIN;
     it->next = loop->first;
     loop->first = it;
 }
 
+/* Where something is held up, the loop just looks for others, and after a while waits for them a millisecond. */
 static void turn(struct loop *loop) {
     struct epoll_event events[EVENTS];
-    int count = epoll_wait(loop->poll, events, EVENTS, loop->is_held ? 0 : -1);
+    int count = epoll_wait(loop->poll, events, EVENTS, !loop->is_held ? -1 : loop->tries++ < SPINS ? 0 : 1);
     for (int i = 0; i < count; i++) {
         if (events[i].data.ptr)
             receive(events[i].data.ptr, events[i].events);
@@ -315,8 +318,6 @@ static void turn(struct loop *loop) {
     step_swap(loop);
     loop->is_held = loop->swap == K42_UNDERWAY;
     settle_all(loop);
-    if (loop->is_held && count == 0)
-        sched_yield();
 }
 
 static void give_back(k42_pass *pass) {
@@ -356,10 +357,9 @@ static bool begins(struct loop *loop, const k42_pass *passes) {
 static bool listens(uint16_t port) {
     struct sockaddr_in place = {.sin_family = AF_INET, .sin_port = htons(port)};
     socklen_t length = sizeof place;
-    int one = 1;
     place.sin_addr.s_addr = htonl(INADDR_LOOPBACK);
     listener = socket(AF_INET, SOCK_STREAM, 0);
-    setsockopt(listener, SOL_SOCKET, SO_REUSEADDR, &one, sizeof one);
+    setsockopt(listener, SOL_SOCKET, SO_REUSEADDR, &(int){1}, sizeof(int));
     if (bind(listener, (struct sockaddr *)&place, length) != 0 || listen(listener, BACKLOG) != 0 ||
         getsockname(listener, (struct sockaddr *)&place, &length) != 0)
         return false;
