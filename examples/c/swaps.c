@@ -6,7 +6,7 @@
 #include <pthread.h>
 #include <stdio.h>
 
-enum { PASSES = 4, SWAPPER = 0, ENTRIES = 100000 };
+enum { PASSES = 4, SWAPPER = 0, ENTRIES = 100000, SWAPS_OF_AN_OBJECT = 1048575 };
 
 static k42_pass none, passes[PASSES];
 /* Those that swap are at the first processor, those that call at the second. */
@@ -240,6 +240,30 @@ static void show_reclaim(void) {
     end();
 }
 
+/* --- The last swap of an object --- */
+
+/* A system of its own, that keeps nothing: after so many swaps there is none more, but calls go on. */
+static void show_spent(void) {
+    static const k42_object hits = {K42_COUNTER, K42_SPREAD};
+    static const uint32_t home = 0;
+    k42_pass pass = {0};
+    uint32_t missing = 0;
+    begin("k42_swap, for the last time");
+    see(k42_start(1, &hits, 1, &home, 1, K42_KEEP_NOTHING, &pass, 1), K42_DONE);
+    for (uint32_t i = 1; i < SWAPS_OF_AN_OBJECT; i++)
+        wrong = k42_swap(&pass, HITS, i % 2 ? K42_SHARED : K42_SPREAD, &swap) != K42_DONE || swap.number != i || wrong;
+    see_ended(k42_swap(&pass, HITS, K42_SHARED, &swap), K42_DONE, SWAPS_OF_AN_OBJECT);
+    see_ended(k42_swap(&pass, HITS, K42_SPREAD, &swap), K42_SPENT, 0);
+    see_ended(k42_destroy(&pass, HITS, &swap), K42_SPENT, 0);
+    see_ended(k42_watch(&pass, HITS, &swap), K42_SPENT, 0);
+    see_ended(k42_unwatch(&pass, HITS, &swap), K42_SPENT, 0);
+    k42_enter(&pass);
+    see(k42_add(&pass, HITS, 5), K42_DONE);
+    k42_leave(&pass);
+    see(k42_close(&pass, &missing), K42_DONE);
+    end();
+}
+
 /* --- The history --- */
 
 static void show_entry(const k42_entry *entry) {
@@ -322,5 +346,6 @@ int main(void) {
     show_destroy();
     show_reclaim();
     show_end();
+    show_spent();
     return verdict();
 }
