@@ -16,6 +16,7 @@
 #include <string.h>
 #include <sys/epoll.h>
 #include <sys/socket.h>
+#include <sys/time.h>
 #include <time.h>
 #include <unistd.h>
 
@@ -53,10 +54,11 @@ static uint64_t now(void) {
 
 static bool connects(struct connection *it, uint16_t port) {
     struct sockaddr_in place = {.sin_family = AF_INET, .sin_port = htons(port)};
-    int one = 1;
+    const struct timeval patience = {.tv_sec = PATIENCE_MS / 1000};
     place.sin_addr.s_addr = htonl(INADDR_LOOPBACK);
     it->socket = socket(AF_INET, SOCK_STREAM, 0);
-    setsockopt(it->socket, IPPROTO_TCP, TCP_NODELAY, &one, sizeof one);
+    setsockopt(it->socket, IPPROTO_TCP, TCP_NODELAY, &(int){1}, sizeof(int));
+    setsockopt(it->socket, SOL_SOCKET, SO_RCVTIMEO, &patience, sizeof patience);
     return connect(it->socket, (struct sockaddr *)&place, sizeof place) == 0;
 }
 
