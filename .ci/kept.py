@@ -1,4 +1,4 @@
-"""The kept programs: whether they are those that the gate built, and whether `k42` and `k42-view` run them where they may.
+"""What is kept: whether it is what the gate built, and whether `k42` and `k42-view` run the kept programs where they may.
 
 The launchers are tried on a copy of the repository, with a path on which there is no kit.
 """
@@ -13,6 +13,8 @@ from transcripts import TOP
 
 KEPT = pathlib.Path("dist") / "x86_64-linux"
 CHANGED = pathlib.Path("crates") / "k42_kinds" / "src" / "lib.rt"
+# What the gate builds of these crates, and keeps.
+BUILT = {"k42_cli": "k42_cli", "k42_view": "k42_view", "k42_bench": "k42_bench", "k42_c": "libk42_c.a"}
 TOOLS = ("awk", "bash", "cat", "diff", "dirname", "find", "grep", "paste", "sed", "sha256sum", "sort", "uname", "xargs")
 SECONDS, TIMES = 1, 3
 NO_KIT = 127
@@ -103,19 +105,20 @@ def compared(top):
 
 
 def comparison_faults(copy):
-    """What is wrong with the comparison where a byte of a kept program, or a source, is changed."""
-    for crate in ("k42_cli", "k42_view", "k42_bench"):
+    """What is wrong with the comparison where a byte of a kept program, or of the library for C, is changed."""
+    for crate, name in BUILT.items():
         out = copy / "crates" / crate / "out"
         out.mkdir()
-        shutil.copy2(TOP / "crates" / crate / "out" / crate, out / crate)
+        shutil.copy2(TOP / "crates" / crate / "out" / name, out / name)
     if compared(copy) != compared(TOP):
-        yield "a copy of the kept programs is not compared as they are"
-    kept = copy / KEPT / "k42"
-    data = bytearray(kept.read_bytes())
-    data[len(data) // 2] ^= 1
-    kept.write_bytes(data)
-    if not any(line.startswith(str(KEPT / "k42") + " ") for line in compared(copy)):
-        yield "a changed byte of a kept program is not seen"
+        yield "a copy of what is kept is not compared as that is"
+    for name in ("k42", "libk42_c.a", "k42.h"):
+        kept = copy / KEPT / name
+        data = bytearray(kept.read_bytes())
+        data[len(data) // 2] ^= 1
+        kept.write_bytes(data)
+        if not any(line.startswith(str(KEPT / name) + " ") for line in compared(copy)):
+            yield f"a changed byte of {name} is not seen"
 
 
 def faults():
@@ -130,6 +133,6 @@ def faults():
         yield from tried.kept_faults()
         yield from comparison_faults(tried.copy)
         shutil.copy2(TOP / KEPT / "k42", tried.copy / KEPT / "k42")
-        for crate in ("k42_cli", "k42_view", "k42_bench"):
+        for crate in BUILT:
             shutil.rmtree(tried.copy / "crates" / crate / "out")
         yield from tried.refusals()

@@ -13,7 +13,8 @@
            sched_yield();
        k42_leave(&pass[0]);
 
-   An object is swapped to another implementation while other passes call it:
+   An object is swapped to another implementation while other passes call it. Leave your own activities first: a swap
+   waits for those that are open.
 
        k42_swapping swap;
        uint32_t status = k42_swap(&pass[1], 0, K42_SHARED, &swap);
@@ -27,9 +28,11 @@
    that is held up is K42_UNDERWAY: it is stepped on, as often as you like.
 
    STATUS. Each call returns one. K42_DONE, K42_NONE, K42_TAKEN, K42_GONE, K42_MISSING, K42_BUSY and K42_SPENT say that
-   it was done, K42_UNDERWAY that it goes on. Each other says that nothing was done: no object, no handle and no place
-   that a pointer leads to has changed. (k42_close may go on from where it was held up, and a swap that comes to
-   K42_MEMORY later than at its first step is given up.)
+   it was answered, K42_UNDERWAY that it goes on. Each other says that nothing was done: no object, no handle and no
+   place that a pointer leads to has changed. But a swap that comes to K42_MEMORY may have been given up, of which the
+   history has an entry; and k42_close and k42_section may have taken the pass by then, and go on from there.
+
+   A pass RESTS where it is in no activity, has no swap and no reclaim under way, is not parked, and was not given back.
 
    WHAT THE CALLER PROMISES, and nothing checks:
    - a k42_pass is set to 0 before its first use, and from then on only passed by its address; it may be moved as a
@@ -59,14 +62,14 @@ enum {
     K42_DONE = 0,
     K42_NONE = 1,       /* done: there is no such key, the page was never written, or the object has no layer */
     K42_TAKEN = 2,      /* done: the key was bound already, and leads where it led */
-    K42_GONE = 3,       /* done: the object was destroyed */
+    K42_GONE = 3,       /* done: the object was destroyed; of a parked pass: the system was closed */
     K42_MISSING = 4,    /* done: the pass was given back, and others are missing still */
     K42_AGAIN = 5,      /* something is in the way for a moment */
     K42_MEMORY = 6,     /* out of memory */
     K42_WORN = 7,       /* the pass has made 2^58 calls, and makes no more */
     K42_EMPTY = 8,      /* the handle has no pass */
     K42_FULL = 9,       /* a handle has a pass already */
-    K42_TURN = 10,      /* out of turn: this is not for a pass that is where this one is */
+    K42_TURN = 10,      /* out of turn: the pass does not rest, or is not where this call asks it to be */
     K42_OBJECT = 11,    /* there is no such object */
     K42_KIND = 12,      /* the object is of another kind */
     K42_ARGUMENT = 13,  /* a key, a text, a page, a number of the plan or a length is none */
@@ -74,8 +77,8 @@ enum {
     K42_OBJECTS = 15,   /* there are 1 to 16 objects */
     K42_PASSES = 16,    /* there are 1 to 16 passes */
     K42_PROCESSOR = 17, /* a pass's processor is not there */
-    K42_BUSY = 18,      /* done: another swap of the object is under way */
-    K42_SPENT = 19,     /* done: the object has had its last swap */
+    K42_BUSY = 18,      /* answered: another swap of the object is under way */
+    K42_SPENT = 19,     /* answered: the object has had its last swap */
     K42_UNDERWAY = 20,  /* the pass goes on with it at its next step */
     K42_SECTIONS = 21,  /* the system keeps no sections */
 };
@@ -119,7 +122,7 @@ uint32_t k42_start(uint32_t processors, const k42_object *objects, size_t object
    Calls are made in an activity, and an activity may have any number of calls. A system frees nothing that an open
    activity might still read, so leave it before you wait for anything.
 
-   STATUS   K42_DONE. K42_EMPTY. K42_TURN: k42_enter in an activity, k42_leave outside, or the pass was given back. */
+   STATUS   K42_DONE. K42_EMPTY. K42_TURN: of k42_enter, the pass does not rest; of k42_leave, it is in no activity. */
 uint32_t k42_enter(k42_pass *pass);
 uint32_t k42_leave(k42_pass *pass);
 
@@ -172,16 +175,17 @@ uint32_t k42_clean(k42_pass *pass, uint32_t object, uint64_t *count);
    STATUS   K42_NONE: it has no layer. */
 uint32_t k42_seen(k42_pass *pass, uint32_t object, uint64_t *count);
 
-/* What holds a swap or a reclaim up. */
+/* What holds a swap up. */
 enum {
     K42_NOTHING = 0,
     K42_LEFT = 1,   /* activities that began before it, on a processor, are open still */
-    K42_ROLE = 2,   /* a pass is in a swap or a reclaim that frees rows */
+    K42_ROLE = 2,   /* another pass is in a swap or a reclaim that frees former representatives */
     K42_INSIDE = 3, /* calls are inside the object still */
     K42_CELL = 4,   /* a pass is at the object */
 };
 
-/* How far a swap is. What it has none of is 0. */
+/* How far a swap is, where the status is K42_UNDERWAY, K42_DONE, K42_BUSY, K42_SPENT or K42_GONE; under others it stays
+   as it is. What it has none of is 0. */
 typedef struct {
     uint32_t number; /* among the swaps of the object, from 1: of this swap, or under K42_BUSY of the other one */
     uint32_t cause;  /* K42_LEFT to K42_CELL, under K42_UNDERWAY */
@@ -191,18 +195,18 @@ typedef struct {
 
 /* NAME   k42_swap, k42_destroy, k42_watch, k42_unwatch - replace the implementation of an object
 
-   They begin a swap of the object, by a pass that is in no activity, and make its first step. k42_swap goes to a layout,
-   K42_SHARED or K42_SPREAD, and keeps what the object has; it may be the layout in which it is. k42_destroy ends the
-   object: each later call is answered K42_GONE. k42_watch places a layer round the object that counts its calls, from 0,
-   also where it has one; k42_unwatch takes it away.
+   They begin a swap of the object, by a pass that rests, and make its first step. k42_swap goes to a layout, K42_SHARED
+   or K42_SPREAD, and keeps what the object has; it may be the layout in which it is. k42_destroy ends the object: each
+   later call is answered K42_GONE. k42_watch places a layer round the object that counts its calls, from 0, also where
+   it has one; k42_unwatch takes it away.
 
-   A swap waits for the activities that are open, for the calls that are inside, and for the graces of other passes;
-   others call the object meanwhile. Once it is K42_UNDERWAY the pass does nothing but k42_step. An object has at most
-   1,048,575 swaps.
+   A swap waits for the activities that are open, for the calls that are inside, and for other passes that free former
+   representatives; others call the object meanwhile. Once it is K42_UNDERWAY the pass does nothing but k42_step. An
+   object has at most 1,048,575 swaps of all four kinds, not counting those that were given up.
 
-   STATUS   K42_UNDERWAY: go on by k42_step. How it ends, at this step or a later one, is told below. K42_MEMORY, K42_WORN:
-   nothing was begun; a pass begins 2^27 swaps and reclaims. K42_EMPTY. K42_TURN: the pass is in an activity, or has a
-   swap or a reclaim under way, or was given back. K42_OBJECT. K42_ARGUMENT: the layout is none. */
+   STATUS   K42_UNDERWAY: go on by k42_step. How it ends, at this step or a later one, is told below. K42_MEMORY: nothing
+   was begun, or it was given up. K42_WORN: nothing was begun; a pass begins 2^27 swaps and reclaims. K42_EMPTY.
+   K42_TURN: the pass does not rest. K42_OBJECT. K42_ARGUMENT: the layout is none. */
 uint32_t k42_swap(k42_pass *pass, uint32_t object, uint32_t layout, k42_swapping *swap);
 uint32_t k42_destroy(k42_pass *pass, uint32_t object, k42_swapping *swap);
 uint32_t k42_watch(k42_pass *pass, uint32_t object, k42_swapping *swap);
@@ -217,13 +221,13 @@ uint32_t k42_step(k42_pass *pass, k42_swapping *swap);
 
 /* NAME   k42_reclaim - frees what the swaps of the pass have left
 
-   A swap leaves the former representatives with its pass, which frees them at its next swap; k42_reclaim frees them
-   without one. It begins where the pass is in no activity, and goes on where it is K42_UNDERWAY: call it until it is
-   done. rows says how many rows of representatives it has freed.
+   A swap leaves the former representatives of the object, a row of them, with its pass, which frees them at the next
+   swap that it carries out; k42_reclaim frees them without one. It begins at a pass that rests, and goes on where it is
+   K42_UNDERWAY: call it until it is done. Under K42_DONE rows says how many rows it has freed.
 
    STATUS   K42_DONE: the pass has none left, and rests. K42_UNDERWAY: an activity that might read them is open.
-   K42_AGAIN: another pass frees rows, and nothing was begun. K42_WORN: see k42_swap. K42_EMPTY. K42_TURN: the pass is in
-   an activity, or has a swap under way, or was given back. */
+   K42_AGAIN: another pass frees rows, and nothing was begun. K42_WORN: see k42_swap. K42_EMPTY. K42_TURN: the pass does
+   not rest, and has no reclaim under way. */
 uint32_t k42_reclaim(k42_pass *pass, uint32_t *rows);
 
 /* NAME   k42_close - gives the pass back, and with the last closes the system
@@ -232,15 +236,18 @@ uint32_t k42_reclaim(k42_pass *pass, uint32_t *rows);
    empty then, and missing says how many. The last handle has the history under K42_KEEP_ALL, to be read and then
    dropped; else it is empty.
 
-   STATUS   K42_DONE: it was the last, and missing is 0. K42_MISSING. K42_AGAIN: another pass is being given back in
-   this moment. K42_MEMORY. After these two call again: the pass may be taken by then, and its handle for k42_close and
-   k42_drop alone. K42_EMPTY. K42_TURN: the pass is in an activity, or has a swap or a reclaim under way, or the handle
-   has a history. */
+   A pass that is parked counts as given back. Where it is the last that was missing, this one waits for its handle to be
+   resumed, which empties it, or dropped.
+
+   STATUS   K42_DONE: it was the last, and missing is 0. K42_MISSING. K42_AGAIN: another pass is being given back, parked
+   or taken up in this moment. K42_MEMORY. After these two call again: the pass may be taken by then, and its handle for
+   k42_close and k42_drop alone. K42_EMPTY. K42_TURN: the pass does not rest, or the handle has a history. */
 uint32_t k42_close(k42_pass *pass, uint32_t *missing);
 
 /* NAME   k42_drop - empties a handle
 
-   It drops the history that the handle has, or its pass: then the others are never closed, but miss this one for ever.
+   It drops the history that the handle has, or its pass: then the others are never closed, and have no section, but miss
+   this one for ever. A pass that is parked is given back, as by k42_close, and its section dropped.
 
    STATUS   K42_DONE. K42_EMPTY. K42_TURN: the pass is in an activity, or has a swap or a reclaim under way. */
 uint32_t k42_drop(k42_pass *pass);
@@ -292,18 +299,21 @@ typedef struct {
 
 /* NAME   k42_section, k42_resume - take the history of a running system in sections
 
-   Under K42_KEEP_SECTIONS. Each pass with nothing under way is parked by k42_section, by any thread; missing says how
-   many are not. The handle of the last has the section then, to be read by k42_entries and k42_history: what the passes
-   have drawn since the last section, in order, as the history has it. Each handle takes its pass up by k42_resume, and
-   goes on; that of the section drops it. The sections, end to end, are the history of the system, up to the last.
-   A handle that is parked may call k42_section again, as where there was no memory, and may be resumed before the
-   section. Where it is dropped instead, its pass is given back, as by k42_close.
+   Under K42_KEEP_SECTIONS. Each pass that rests is parked by k42_section; missing says how many are not. The handle of the
+   last has the section then, to be read by k42_entries and k42_history: what the passes have drawn since the last
+   section, in order, as the history has it. Each handle takes its pass up by k42_resume, and goes on; that of the section
+   drops it. The sections, end to end, are the history of the system, up to the last.
 
-   STATUS   K42_DONE: of k42_section, it was the last, and missing is 0. K42_MISSING. K42_AGAIN: another pass is being
-   parked or taken up in this moment, or the pass is not there, since others have closed the system. K42_MEMORY: of
-   k42_section, call again: the pass may be parked by then. K42_SECTIONS. K42_EMPTY. K42_TURN: of k42_section, the pass is
-   in an activity, or has a swap or a reclaim under way, or the handle has a section or a history; of k42_resume, it is
-   not parked. */
+   So let one thread park all handles, or let all threads wait, by means of their own, until one has K42_DONE, before any
+   resumes: a pass that is taken up before is missing again. Once all are parked, k42_section of a handle without a
+   section gives another, which has nothing. A pass that was given back counts as parked.
+
+   STATUS   of k42_section: K42_DONE: all are parked, the handle has a section, and missing is 0. K42_MISSING. K42_MEMORY:
+   call again; the pass may be parked by then. K42_SECTIONS. K42_TURN: the pass does not rest and is not parked, or the
+   handle has a section or a history.
+   STATUS   of k42_resume: K42_DONE: the pass rests. K42_MEMORY: it is parked still. K42_TURN: it is not parked.
+   STATUS   of both: K42_AGAIN: another pass is being parked, taken up or given back in this moment. K42_GONE: the others
+   have closed the system with this pass, and the handle is empty. K42_EMPTY. */
 uint32_t k42_section(k42_pass *pass, uint32_t *missing);
 uint32_t k42_resume(k42_pass *pass);
 
@@ -314,7 +324,7 @@ uint32_t k42_entries(k42_pass *pass, uint64_t *entries);
 
 /* NAME   k42_history - reads entries of the history, or of the section
 
-   It writes entries into their room, beginning with the one that has so many before it, and says how many it has told:
+   It writes entries into their room, beginning with the one that has so many before it there, and says how many it has told:
    fewer than there is room for where the history ends. Each call begins at the front, so read much at once.
 
    STATUS   K42_DONE. K42_MEMORY. K42_EMPTY. K42_TURN: the handle has neither. */

@@ -3,5 +3,7 @@ pub mod Cells
 pub mod EmptyHandles
 pub mod Given
 pub mod ReadEntries
+pub mod Reclaimed
 pub mod Started
 pub mod Stepped
+pub mod Swapped

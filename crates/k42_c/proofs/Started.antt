@@ -1,9 +1,15 @@
 -- Handles that are empty, and a start that has ended.
-use Rattle.std.proofs.Common.{◌≡◌, List, [], ◌∷◌, length, map, Bool, true, false, refl, sym, ap, arith}
+use Rattle.std.proofs.Common.{◌≡◌, ℕ, Option, Some, None, List, [], ◌∷◌, length, map, Bool, true, false, refl, sym, ap, arith}
 use Rattle.std.specs.List.{list_any}
 use Rattle.std.specs.Prelude.{◌||◌, if◌then◌else◌, Result, Ok, Err, OnOk}
 use Rattle.k42_c.specs.Handles.{is_full, seat_of}
-use Rattle.k42_c.specs.Starting.{AreGone}
+use Rattle.k42_board.specs.declared.keep.Keep.{Keep}
+use Rattle.k42_runtime.specs.Plans.{PlanSeen, plan_fault}
+use Rattle.k42_runtime.specs.declared.plan.ObjectPlan.{ObjectPlan}
+use Rattle.k42_runtime.specs.declared.plan.PlanFault.{PlanFault}
+use Rattle.k42_c.specs.Codes.{keep_named}
+use Rattle.k42_c.specs.Starting.{AreGone, objects_coded, plan_by, plan_coded, plan_or}
+use Rattle.k42_c.specs.declared.plain.K42Object.{K42Object}
 use Rattle.k42_c.specs.declared.held.K42Pass.{K42Pass}
 use Rattle.k42_c.specs.declared.seat.Seat.{Seat}
 use Rattle.k42_c.specs.declared.seat.Seat.TheVariants.{Gone}
@@ -34,3 +40,19 @@ gone_same (x ∷ xs) (y ∷ ys) one other many =
     let more : length xs ≡ length ys = omega (arith, many) in
     let rest = gone_same xs ys one.1 other.1 more in
     cc
+
+-- a plan that is spelled has a caller for each home
+callers_or : (fault : Option PlanFault) (made plan : PlanSeen) → plan_or fault made ≡ Ok plan → plan.callers ≡ made.callers
+callers_or (Some fault) made plan is = absurd (cc)
+callers_or None made plan is = let same : made ≡ plan = cc in sym (ap (λ (p : PlanSeen). p.callers) same)
+
+callers_by : (procs : ℕ) (objects : Option (List ObjectPlan)) (homes : List ℕ) (keep : Option Keep) (plan : PlanSeen) → plan_by procs objects homes keep ≡ Ok plan
+    → plan.callers ≡ homes
+callers_by procs (Some objects) homes (Some keep) plan is =
+    callers_or (plan_fault procs objects homes) (record { procs = procs; objects = objects; callers = homes; keep = keep }) plan is
+callers_by procs (Some objects) homes None plan is = absurd (cc)
+callers_by procs None homes keep plan is = absurd (cc)
+
+pub plan_callers : (procs : ℕ) (objects : List K42Object) (homes : List ℕ) (keep : ℕ) (plan : PlanSeen) → plan_coded procs objects homes keep ≡ Ok plan
+    → plan.callers ≡ homes
+plan_callers procs objects homes keep plan is = callers_by procs (objects_coded [] objects) homes (keep_named keep) plan is

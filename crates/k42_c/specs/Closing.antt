@@ -1,5 +1,5 @@
 -- What becomes of a seat whose pass is given back.
-use Rattle.std.specs.Prelude.{◌≡◌, ◌≢◌, ◌⊎◌, ℕ, ◌-◌, Bool, true, false, List, length, Contains, Option, Some, None, Result, Ok, Err}
+use Rattle.std.specs.Prelude.{◌≡◌, ◌≢◌, ◌⊎◌, ℕ, ◌-◌, Bool, true, false, List, ◌∷◌, ◌++◌, length, Contains, Option, Some, None, Result, Ok, Err}
 use Rattle.std.specs.Arc.{arc_value}
 use Rattle.k42_board.specs.declared.keep.Keep.TheVariants.{All}
 use Rattle.k42_crews.specs.Ready.{AreFree, AreAll}
@@ -18,6 +18,13 @@ use Rattle.k42_c.specs.declared.seat.End.{End}
 use Rattle.k42_c.specs.declared.seat.End.TheVariants.{Open, Whole, History}
 use Rattle.k42_c.specs.declared.seat.Seat.{Seat}
 use Rattle.k42_c.specs.declared.seat.Seat.TheVariants.{Gone, Rests, Parks, Closes, Ends}
+
+-- the pass stands among those that were there
+pub record IsAdded (old : List SystemPass) (pass : SystemPass) (new : List SystemPass) : Type 0 where
+  pub before : List SystemPass
+  pub behind : List SystemPass
+  pub old_is : old ≡ before ++ behind
+  pub new_is : new ≡ before ++ pass ∷ behind
 
 -- these are passes of the system with nothing under way, and this is one of them
 pub record AreGiven (system : SystemSeen) (pass : SystemPass) (passes : List SystemPass) : Type 0 where
@@ -63,7 +70,7 @@ is_whole (Whole kept) = true
 is_whole _ = false
 
 abbrev pub HasEndedAgain : End → Seat → Seat → Result Given Refusal → Type 0
-HasEndedAgain (Whole old) from seat told = HasFinished old.system old.passes.items seat told
+HasEndedAgain (Whole old) from seat told = HasFinished old.system old.passes.items seat told × (told ≢ Err Again)
 HasEndedAgain _ from seat told = IsKept Turn from seat told
 
 abbrev pub HasClosed : Seat → Seat → Result Given Refusal → Type 0

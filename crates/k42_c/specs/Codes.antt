@@ -17,6 +17,8 @@ use Rattle.k42_c.specs.declared.closing.Given.TheVariants as givens
 use Rattle.k42_c.specs.declared.coding.TheConstants.{DONE, NONE, TAKEN, GONE, MISSING, AGAIN, MEMORY, WORN, EMPTY, FULL, TURN, OBJECT, KIND, ARGUMENT, PROCESSORS, OBJECTS, PASSES, PROCESSOR, BUSY, SPENT, UNDERWAY, SECTIONS}
 use Rattle.k42_c.specs.declared.parking.Parked.{Parked}
 use Rattle.k42_c.specs.declared.parking.Parked.TheVariants as parked
+use Rattle.k42_c.specs.declared.parking.Resumed.{Resumed}
+use Rattle.k42_c.specs.declared.parking.Resumed.TheVariants as resumed
 use Rattle.k42_c.specs.declared.refusal.Refusal.{Refusal}
 use Rattle.k42_c.specs.declared.refusal.Refusal.TheVariants as refusals
 use Rattle.k42_c.specs.declared.reclaiming.Freeing.{Freeing}
@@ -86,6 +88,11 @@ freeing_code (freeings.Freed count) = DONE
 abbrev pub parked_code : Parked → ℕ
 parked_code (parked.Missing count) = MISSING
 parked_code parked.Section = DONE
+parked_code parked.Closed = GONE
+
+abbrev pub resumed_code : Resumed → ℕ
+resumed_code resumed.Back = DONE
+resumed_code resumed.Closed = GONE
 
 -- the status of what was done, or of why it was not
 abbrev pub status_of : {A : Type 0} → (A → ℕ) → Result A Refusal → ℕ

@@ -66,6 +66,7 @@ pub record TellsGiven (from to : Seat) (old new status : ℕ) : Type 0 where
 abbrev pub missing_of : Result Parked Refusal → ℕ → ℕ
 missing_of (Ok (parked.Missing count)) old = count
 missing_of (Ok parked.Section) old = 0
+missing_of (Ok parked.Closed) old = old
 missing_of (Err why) old = old
 
 pub record TellsParked (from to : Seat) (old new status : ℕ) : Type 0 where

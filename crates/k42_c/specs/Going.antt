@@ -1,8 +1,8 @@
 -- What a pass has under way that is stepped.
-use Rattle.std.specs.Prelude.{◌≡◌, ℕ, ⊥, false, true, length, Option, Some, None}
+use Rattle.std.specs.Prelude.{◌≡◌, ℕ, ⊤, false, true, length, Option, Some, None}
 use Rattle.k42_board.specs.declared.view.PassView.{PassView}
 use Rattle.phase_core.specs.Stages.{is_idle}
-use Rattle.k42_quiesce.specs.Gracing.{MayGoOn}
+use Rattle.k42_quiesce.specs.Gracing.{MayStep}
 use Rattle.k42_runtime.specs.Swaps.{SwapSeen, IsAtStage, is_over}
 use Rattle.k42_runtime.specs.Systems.{SystemSeen, IsPassHere, SystemPart, SystemPass}
 
@@ -12,15 +12,15 @@ pub record IsSwapping (system : SystemSeen) (swap : SwapSeen) (pass : SystemPass
   pub stage : IsAtStage swap.stage (length system.plan.objects) swap pass
   pub going : is_over swap.stage ≡ false
 
--- the grace has the role, and waits until all have left
-abbrev pub HasRole : Option ℕ → PassView SystemPart → Type 0
-HasRole None v = ⊥
-HasRole (Some holder) v = MayGoOn holder v
+-- a grace that has the role was granted all rows that the pass has
+abbrev pub IsForAll : Option ℕ → PassView SystemPart → Type 0
+IsForAll None v = ⊤
+IsForAll (Some holder) v = v.granted ≡ length v.rows
 
--- it is to free all rows that the pass has
+-- a grace of the pass may be stepped, which is to free all its rows
 pub record IsReclaiming (system : SystemSeen) (grace : Option ℕ) (pass : SystemPass) : Type 0 where
   pub here : IsPassHere system pass
-  pub role : HasRole grace pass.view
+  pub may : MayStep grace pass.view
   pub inactive : pass.view.turn.active ≡ None
   pub swap : is_idle pass.view.visitor.swap ≡ true
-  pub all : pass.view.granted ≡ length pass.view.rows
+  pub all : IsForAll grace pass.view

@@ -7,7 +7,8 @@ use Rattle.k42_runtime.specs.Systems.{SystemSeen, SystemPart, SystemPass}
 use Rattle.k42_runtime.specs.declared.swaps.Stage.{Stage}
 use Rattle.k42_runtime.specs.declared.swaps.Stage.TheVariants as stages
 use Rattle.k42_c.specs.FreeProps.{part_set}
-use Rattle.k42_c.specs.Going.{HasRole, IsReclaiming, IsSwapping}
+use Rattle.k42_quiesce.specs.Gracing.{MayStep}
+use Rattle.k42_c.specs.Going.{IsForAll, IsReclaiming, IsSwapping}
 
 IsWaiting-prop : (object : ℕ) (holder : Option ℕ) (v : PassView SystemPart) → IsProp (IsWaiting object holder v)
 IsWaiting-prop object None v = hlevel (props, part_set)
@@ -23,9 +24,13 @@ IsAtStage-prop stages.Over objects swap pass = hlevel (props, part_set)
 pub IsSwapping-prop : (system : SystemSeen) (swap : SwapSeen) (pass : SystemPass) → IsProp (IsSwapping system swap pass)
 IsSwapping-prop system swap pass = hlevel (props, part_set, IsAtStage-prop swap.stage (length system.plan.objects) swap pass)
 
-HasRole-prop : (grace : Option ℕ) (v : PassView SystemPart) → IsProp (HasRole grace v)
-HasRole-prop None v = hlevel (props, part_set)
-HasRole-prop (Some holder) v = hlevel (props, part_set)
+MayStep-prop : (grace : Option ℕ) (v : PassView SystemPart) → IsProp (MayStep grace v)
+MayStep-prop None v = hlevel (props, part_set)
+MayStep-prop (Some holder) v = hlevel (props, part_set)
+
+IsForAll-prop : (grace : Option ℕ) (v : PassView SystemPart) → IsProp (IsForAll grace v)
+IsForAll-prop None v = hlevel (props, part_set)
+IsForAll-prop (Some holder) v = hlevel (props, part_set)
 
 pub IsReclaiming-prop : (system : SystemSeen) (grace : Option ℕ) (pass : SystemPass) → IsProp (IsReclaiming system grace pass)
-IsReclaiming-prop system grace pass = hlevel (props, part_set, HasRole-prop grace pass.view)
+IsReclaiming-prop system grace pass = hlevel (props, part_set, MayStep-prop grace pass.view, IsForAll-prop grace pass.view)

@@ -1,5 +1,5 @@
 -- What becomes of a seat whose pass is put to the desk of its home for a section.
-use Rattle.std.specs.Prelude.{◌≡◌, ◌≢◌, ◌⊎◌, ⊥, ℕ, ◌-◌, Bool, true, false, if◌then◌else◌, List, length, Result, Ok, Err, IsSomeAnd, slice_get}
+use Rattle.std.specs.Prelude.{◌≡◌, ◌≢◌, ◌⊎◌, ℕ, ◌-◌, Bool, true, false, List, length, Result, Ok, Err, IsSomeAnd, slice_get}
 use Rattle.std.specs.Arc.{arc_value}
 use Rattle.k42_board.specs.declared.keep.Keep.TheVariants as keeps
 use Rattle.k42_crews.specs.Ready.{AreFree, AreAll, MayGive}
@@ -9,25 +9,28 @@ use Rattle.k42_runtime.specs.Systems.{SystemSeen, SystemPass}
 use Rattle.k42_c.specs.Closing.{AreGiven}
 use Rattle.k42_c.specs.Seats.{SharedHome, refusal_of, IsKept}
 use Rattle.k42_c.specs.declared.parking.Parked.{Parked}
-use Rattle.k42_c.specs.declared.parking.Parked.TheVariants as told
+use Rattle.k42_c.specs.declared.parking.Parked.TheVariants as parked
+use Rattle.k42_c.specs.declared.parking.Resumed.{Resumed}
+use Rattle.k42_c.specs.declared.parking.Resumed.TheVariants as resumed
 use Rattle.k42_c.specs.declared.refusal.Refusal.{Refusal}
 use Rattle.k42_c.specs.declared.refusal.Refusal.TheVariants.{Again, Memory, Sections, Turn}
 use Rattle.k42_c.specs.declared.seat.End.{End}
-use Rattle.k42_c.specs.declared.seat.End.TheVariants.{Section}
+use Rattle.k42_c.specs.declared.seat.End.TheVariants.{Open, Section}
 use Rattle.k42_c.specs.declared.seat.Parks.{Parks as Parking}
 use Rattle.k42_c.specs.declared.seat.Rests.{Rests as Resting}
 use Rattle.k42_c.specs.declared.seat.Seat.{Seat}
-use Rattle.k42_c.specs.declared.seat.Seat.TheVariants.{Parks, Rests}
+use Rattle.k42_c.specs.declared.seat.Seat.TheVariants.{Gone, Parks, Rests}
 
 -- Passes that lie at the desk have given a section, or some are missing.
-abbrev pub HaveGiven : SystemSeen → List SystemPass → List SystemPass → End → End → Result Parked Refusal → Type 0
-HaveGiven system old new from to (Ok told.Section) =
+abbrev pub HaveTried : SystemSeen → List SystemPass → List SystemPass → End → End → Result Parked Refusal → Type 0
+HaveTried system old new from to (Ok parked.Section) =
     MayGive system old × ((section : List Entry) × (to ≡ Section section) × IsSection old new section)
-HaveGiven system old new from to (Ok (told.Missing count)) =
+HaveTried system old new from to (Ok (parked.Missing count)) =
     (¬ AreAll system old) × (count ≡ length system.plan.callers - length old) × (new ≡ old) × (to ≡ from)
-HaveGiven system old new from to (Err Memory) = MayGive system old × (new ≡ old) × (to ≡ from)
-HaveGiven system old new from to (Err Sections) = (¬ MayGive system old) × (new ≡ old) × (to ≡ from)
-HaveGiven system old new from to (Err why) = ⊥
+HaveTried system old new from to (Err Memory) = AreAll system old × (new ≡ old) × (to ≡ from)
+HaveTried system old new from to (Err Sections) = AreAll system old × (¬ MayGive system old) × (new ≡ old) × (to ≡ from)
+HaveTried system old new from to (Ok parked.Closed) = ⊥
+HaveTried system old new from to (Err why) = ⊥
 
 -- the pass of this caller lies there, with these
 pub record IsParked (home : SharedHome) (caller : ℕ) (old : List SystemPass) (from : End) (seat : Seat) (told : Result Parked Refusal) : Type 0 where
@@ -36,21 +39,23 @@ pub record IsParked (home : SharedHome) (caller : ℕ) (old : List SystemPass) (
   pub home_is : kept.home ≡ home
   pub caller_is : kept.caller ≡ caller
   pub new : List SystemPass
-  pub given : HaveGiven (arc_value home).system old new from kept.section.value told
+  pub given : HaveTried (arc_value home).system old new from kept.section.value told
 
 -- it was put there, and they tried to give a section
 pub record HasParked (old : Resting) (seat : Seat) (told : Result Parked Refusal) : Type 0 where
-  pub keeps : (arc_value old.home).system.plan.keep ≡ keeps.Sections
   pub passes : List SystemPass
   pub there : AreGiven (arc_value old.home).system old.pass.value passes
-  pub from : End
-  pub parked : IsParked old.home old.pass.value.view.number passes from seat told
+  pub parked : IsParked old.home old.pass.value.view.number passes Open seat told
 
-abbrev pub HasParkedOrNot : Resting → Seat → Result Parked Refusal → Type 0
-HasParkedOrNot old seat told =
-    HasParked old seat told
-    ⊎ (((arc_value old.home).system.plan.keep ≢ keeps.Sections × IsKept Sections (Rests old) seat told)
-    ⊎ (IsKept Again (Rests old) seat told ⊎ IsKept Memory (Rests old) seat told))
+pub record HasParkedOrNot (old : Resting) (seat : Seat) (told : Result Parked Refusal) : Type 0 where
+  pub none : (arc_value old.home).system.plan.keep ≢ keeps.Sections → IsKept Sections (Rests old) seat told
+  pub some :
+      (arc_value old.home).system.plan.keep ≡ keeps.Sections
+      → HasParked old seat told ⊎ (IsKept Again (Rests old) seat told ⊎ IsKept Memory (Rests old) seat told)
+
+-- the pass of this caller stands there
+abbrev pub IsAt : ℕ → List SystemPass → ℕ → Type 0
+IsAt caller passes place = IsSomeAnd (slice_get passes place) (λ pass. pass.view.number ≡ caller)
 
 -- whether it has a section
 abbrev pub is_section : End → Bool
@@ -61,30 +66,32 @@ is_section _ = false
 pub record HasTriedAgain (old : Parking) (seat : Seat) (told : Result Parked Refusal) : Type 0 where
   pub passes : List SystemPass
   pub free : AreFree (arc_value old.home).system passes
+  pub place : ℕ
+  pub at : IsAt old.caller passes place
   pub parked : IsParked old.home old.caller passes old.section.value seat told
 
+abbrev pub HasTriedBy : Bool → Parking → Seat → Result Parked Refusal → Type 0
+HasTriedBy true old seat told = IsKept Turn (Parks old) seat told
+HasTriedBy false old seat told =
+    HasTriedAgain old seat told ⊎ (IsKept Again (Parks old) seat told ⊎ ((told ≡ Ok parked.Closed) × (seat ≡ Gone)))
+
 abbrev pub HasTriedOrNot : Parking → Seat → Result Parked Refusal → Type 0
-HasTriedOrNot old seat told =
-    if is_section old.section.value then IsKept Turn (Parks old) seat told
-    else (HasTriedAgain old seat told ⊎ IsKept Again (Parks old) seat told)
+HasTriedOrNot old seat told = HasTriedBy (is_section old.section.value) old seat told
 
 abbrev pub HasGivenSection : Seat → Seat → Result Parked Refusal → Type 0
 HasGivenSection (Rests old) seat told = HasParkedOrNot old seat told
 HasGivenSection (Parks old) seat told = HasTriedOrNot old seat told
 HasGivenSection old seat told = IsKept (refusal_of old) old seat told
 
--- the pass of this caller stands there
-abbrev pub IsAt : ℕ → List SystemPass → ℕ → Type 0
-IsAt caller passes place = IsSomeAnd (slice_get passes place) (λ pass. pass.view.number ≡ caller)
-
--- the pass of that caller was taken up, or was not there, or there was no memory
-abbrev pub HasTakenUp : Parking → Seat → Result (Unit {0}) Refusal → Type 0
-HasTakenUp old seat (Ok done) =
+-- the pass of that caller was taken up, or is there no more, or there was no memory
+abbrev pub HasTakenUp : Parking → Seat → Result Resumed Refusal → Type 0
+HasTakenUp old seat (Ok resumed.Back) =
     (new : Resting) × (seat ≡ Rests new) × (new.home ≡ old.home) × (new.pass.value.view.number ≡ old.caller)
+HasTakenUp old seat (Ok resumed.Closed) = seat ≡ Gone
 HasTakenUp old seat (Err Again) = seat ≡ Parks old
 HasTakenUp old seat (Err Memory) = seat ≡ Parks old
 HasTakenUp old seat (Err why) = ⊥
 
-abbrev pub HasResumed : Seat → Seat → Result (Unit {0}) Refusal → Type 0
+abbrev pub HasResumed : Seat → Seat → Result Resumed Refusal → Type 0
 HasResumed (Parks old) seat told = HasTakenUp old seat told
 HasResumed old seat told = IsKept (refusal_of old) old seat told

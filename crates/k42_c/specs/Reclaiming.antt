@@ -1,5 +1,5 @@
 -- What becomes of a seat whose rows are to be freed.
-use Rattle.std.specs.Prelude.{◌≡◌, ◌≤◌, ⊥, ℕ, [], List, length, Option, Some, None, Result, Ok, Err}
+use Rattle.std.specs.Prelude.{◌≡◌, ◌≤◌, ℕ, ◌+◌, [], List, length, Option, Some, None, Result, Ok, Err}
 use Rattle.std.specs.Arc.{arc_value}
 use Rattle.k42_limits.specs.declared.TheConstants.{PASS_GRACES}
 use Rattle.k42_board.specs.Log.{Grows}
@@ -27,6 +27,11 @@ abbrev pub notes_of : Option ℕ → PassView SystemPart → List (Option ℕ)
 notes_of None v = notes_due v
 notes_of (Some holder) v = v.visitor.noted
 
+-- how many graces it begins
+abbrev pub graces_begun : Option ℕ → ℕ
+graces_begun None = 1
+graces_begun (Some holder) = 0
+
 -- it waits for an activity that was open as it began, and has freed nothing
 pub record IsHeldUp (grace : Option ℕ) (old new : SystemPass) : Type 0 where
   pub same : IsSamePass old new
@@ -34,6 +39,7 @@ pub record IsHeldUp (grace : Option ℕ) (old new : SystemPass) : Type 0 where
   pub rows : new.view.rows ≡ old.view.rows
   pub noted : new.view.visitor.noted ≡ notes_of grace old.view
   pub grows : Grows old.view.log new.view.log
+  pub graces : new.view.graces ≡ old.view.graces + graces_begun grace
   pub proc : ℕ
   pub left : ℕ
   pub is_left : IsLeft proc left old.view new.view
@@ -47,6 +53,7 @@ pub record HasFreed (system : SystemSeen) (grace : Option ℕ) (count : ℕ) (ol
   pub none : new.view.rows ≡ []
   pub log : List Taken
   pub grows : Grows old.view.log log
+  pub graces : new.view.graces ≡ old.view.graces + graces_begun grace
   pub freed : Frees system.sys.procs (length system.sys.layouts) (notes_of grace old.view) log new.view.log count
   pub rows : Always (layouts_in system) system.sys.layouts new.seat new.view (AreRowsFreed old.view.rows)
 
@@ -55,6 +62,7 @@ pub record HasFoundRole (old new : SystemPass) : Type 0 where
   pub same : IsSamePass old new
   pub drawn : new.view.taker ≡ old.view.taker
   pub rows : new.view.rows ≡ old.view.rows
+  pub graces : new.view.graces ≡ old.view.graces
   pub holder : ℕ
   pub elsewhere : IsRoleElsewhere holder old.view new.view
 
@@ -62,22 +70,22 @@ pub record HasFoundRole (old new : SystemPass) : Type 0 where
 abbrev pub HasReclaimedTo : SystemSeen → Option ℕ → SystemPass → Result Freeing Refusal → SystemPass → Type 0
 HasReclaimedTo system grace old (Ok (Freed count)) new = HasFreed system grace count old new
 HasReclaimedTo system grace old (Ok Underway) new = IsHeldUp grace old new
-HasReclaimedTo system None old (Err Again) new = HasFoundRole old new
-HasReclaimedTo system None old (Err Worn) new = (PASS_GRACES ≤ old.view.graces) × (new ≡ old)
+HasReclaimedTo system grace old (Err Again) new = (grace ≡ None) × HasFoundRole old new
+HasReclaimedTo system grace old (Err Worn) new = (grace ≡ None) × (PASS_GRACES ≤ old.view.graces) × (new ≡ old)
 HasReclaimedTo system grace old (Err why) new = ⊥
 
 -- and goes on, or rests
-abbrev pub IsLeftBy : Result Freeing Refusal → SharedHome → SystemPass → Seat → Type 0
-IsLeftBy (Ok Underway) home pass seat = (new : Reclaiming) × (seat ≡ Reclaims new) × (new.home ≡ home) × (new.pass.value ≡ pass)
-IsLeftBy told home pass seat = (new : Resting) × (seat ≡ Rests new) × (new.home ≡ home) × (new.pass.value ≡ pass)
+abbrev pub GoesOnOrRests : Result Freeing Refusal → SharedHome → SystemPass → Seat → Type 0
+GoesOnOrRests (Ok Underway) home pass seat = (new : Reclaiming) × (seat ≡ Reclaims new) × (new.home ≡ home) × (new.pass.value ≡ pass)
+GoesOnOrRests told home pass seat = (new : Resting) × (seat ≡ Rests new) × (new.home ≡ home) × (new.pass.value ≡ pass)
 
 -- A step of a grace, and of what it frees.
-pub record HasMadeStep (home : SharedHome) (grace : Option ℕ) (old : SystemPass) (seat : Seat) (told : Result Freeing Refusal) : Type 0 where
+pub record HasSteppedGrace (home : SharedHome) (grace : Option ℕ) (old : SystemPass) (seat : Seat) (told : Result Freeing Refusal) : Type 0 where
   pub pass : SystemPass
   pub reclaimed : HasReclaimedTo (arc_value home).system grace old told pass
-  pub seat_is : IsLeftBy told home pass seat
+  pub seat_is : GoesOnOrRests told home pass seat
 
 abbrev pub HasReclaimed : Seat → Seat → Result Freeing Refusal → Type 0
-HasReclaimed (Rests old) seat told = HasMadeStep old.home None old.pass.value seat told
-HasReclaimed (Reclaims old) seat told = HasMadeStep old.home old.grace old.pass.value seat told
+HasReclaimed (Rests old) seat told = HasSteppedGrace old.home None old.pass.value seat told
+HasReclaimed (Reclaims old) seat told = HasSteppedGrace old.home old.grace old.pass.value seat told
 HasReclaimed old seat told = IsKept (refusal_of old) old seat told

@@ -6,7 +6,7 @@ use Rattle.k42_board.specs.Seen.{IsSamePass}
 use Rattle.k42_quiesce.specs.Activities as activities
 use Rattle.k42_c.specs.Calling.{HasServed}
 use Rattle.std.specs.Global.{Global}
-use Rattle.std.specs.declared.arc.Arc.{Arc}
+use Rattle.std_alloc.specs.declared.arc.Arc.{Arc}
 use Rattle.k42_c.specs.declared.home.Home.{Home}
 use Rattle.k42_c.specs.declared.refusal.Refusal.{Refusal}
 use Rattle.k42_c.specs.declared.refusal.Refusal.TheVariants.{Empty, Turn, Argument}
@@ -33,11 +33,13 @@ pub record HasBegun (old : Resting) (new : Working) : Type 0 where
   pub home : new.home ≡ old.home
   pub same : IsSamePass old.pass.value new.pass.value
   pub entered : activities.HasEntered new.pass.value.view
+  pub drawn : new.pass.value.view.taker ≡ old.pass.value.view.taker
 
 -- and has ended
 pub record HasEnded (old : Working) (new : Resting) : Type 0 where
   pub home : new.home ≡ old.home
   pub same : IsSamePass old.pass.value new.pass.value
+  pub drawn : new.pass.value.view.taker ≡ old.pass.value.view.taker
 
 abbrev pub HasEntered : Seat → Seat → Result (Unit {0}) Refusal → Type 0
 HasEntered (Rests old) seat told = (told ≡ Ok tt) × ((new : Working) × (seat ≡ Works new) × HasBegun old new)

@@ -25,19 +25,19 @@ told_by steps.Memory = Err Memory
 told_by steps.Worn = Err Worn
 
 -- its pass goes on with the swap, or rests
-abbrev pub IsLeftBy : Step → Swapping → SwapSeen → SystemPass → Seat → Type 0
-IsLeftBy (steps.Again cause) old swap pass seat =
+abbrev pub GoesOnOrRests : Step → Swapping → SwapSeen → SystemPass → Seat → Type 0
+GoesOnOrRests (steps.Again cause) old swap pass seat =
     (new : Swapping) × (seat ≡ Swaps new) × (new.home ≡ old.home) × (new.swap ≡ swap) × (new.pass.value ≡ pass)
-IsLeftBy step old swap pass seat = (new : Resting) × (seat ≡ Rests new) × (new.home ≡ old.home) × (new.pass.value ≡ pass)
+GoesOnOrRests step old swap pass seat = (new : Resting) × (seat ≡ Rests new) × (new.home ≡ old.home) × (new.pass.value ≡ pass)
 
 -- One step of the swap was made.
-pub record HasMadeStep (old : Swapping) (seat : Seat) (told : Result Progress Refusal) : Type 0 where
+pub record HasSteppedSwap (old : Swapping) (seat : Seat) (told : Result Progress Refusal) : Type 0 where
   pub step : Step
   pub swap : SwapSeen
   pub pass : SystemPass
   pub stepped : HasStepped (arc_value old.home).system step old.swap swap old.pass.value pass
   pub told_is : told ≡ told_by step
-  pub seat_is : IsLeftBy step old swap pass seat
+  pub seat_is : GoesOnOrRests step old swap pass seat
 
 -- the pass with a swap that has not begun
 pub record IsNew (object : ℕ) (to : To) (old : Resting) (new : Swapping) : Type 0 where
@@ -50,7 +50,7 @@ pub record HasTriedSwap (object : ℕ) (to : To) (old : Resting) (seat : Seat) (
   pub missing : length (arc_value old.home).system.plan.objects ≤ object → IsKept Object (Rests old) seat told
   pub stepped :
       object < length (arc_value old.home).system.plan.objects
-      → (new : Swapping) × IsNew object to old new × HasMadeStep new seat told
+      → (new : Swapping) × IsNew object to old new × HasSteppedSwap new seat told
 
 -- a swap to what the arguments spell, if they spell it
 abbrev pub HasSwapped : ℕ → Option To → Seat → Seat → Result Progress Refusal → Type 0
@@ -59,5 +59,5 @@ HasSwapped object (Some to) (Rests old) seat told = HasTriedSwap object to old s
 HasSwapped object (Some to) old seat told = IsKept (refusal_of old) old seat told
 
 abbrev pub HasGoneOn : Seat → Seat → Result Progress Refusal → Type 0
-HasGoneOn (Swaps old) seat told = HasMadeStep old seat told
+HasGoneOn (Swaps old) seat told = HasSteppedSwap old seat told
 HasGoneOn old seat told = IsKept (refusal_of old) old seat told

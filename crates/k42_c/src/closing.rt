@@ -1,8 +1,9 @@
 //! Passes are given back one by one, and the last leaves the history.
-ghost use Rattle.std.specs.Prelude.{◌≡◌, ◌<◌, ◌≤◌, length, vec_len, vec_capacity};
+ghost use Rattle.std.specs.Prelude.{◌≡◌, ◌≢◌, Err, ◌<◌, ◌≤◌, length, vec_len, vec_capacity};
 ghost use Rattle.std.specs.Arc.{arc_value};
 ghost use Rattle.k42_crews.specs.Ready.{IsFree, AreFree};
-ghost use Rattle.k42_c.specs.Closing.{AreGiven, HasClosed, HasDropped, HasEndedAgain, HasFinished, HasGivenBack, is_whole};
+ghost use Rattle.k42_c.specs.Closing.{AreGiven, HasClosed, HasDropped, HasEndedAgain, HasFinished, HasGivenBack, IsAdded, is_whole};
+ghost use Rattle.k42_c.specs.declared.refusal.Refusal.TheVariants as refusals;
 ghost use Rattle.k42_c.specs.declared.seat.Seat.TheVariants as seats;
 
 use crate::home::Home;
@@ -39,12 +40,13 @@ fn place_of(passes: &[Pass], caller: u32) -> usize
 }
 
 /// Puts the pass among the others, in the order of callers.
-#[tactic(auto, using(crate::proofs::Given::inserted))]
+#[tactic(auto, using(crate::proofs::Given::inserted, crate::proofs::Given::inserted_there))]
 pub(crate) fn add(system: &System, passes: &mut Vec<Pass>, pass: Pass)
     requires others { AreFree system.now passes.old.items }
     requires one { IsFree system.now pass }
     requires room { vec_len passes.old < vec_capacity passes.old }
-    ensures { AreGiven system.now pass passes.new.items }
+    ensures given { AreGiven system.now pass passes.new.items }
+    ensures added { IsAdded passes.old.items pass passes.new.items }
 {
     let place = place_of(passes.as_slice(), pass.caller());
     match passes.insert(place, pass) {
@@ -55,7 +57,8 @@ pub(crate) fn add(system: &System, passes: &mut Vec<Pass>, pass: Pass)
 
 /// Closes the system, or ends it where nobody has kept entries.
 fn finish(alloc: Global, whole: Whole, mut end: Box<End, Global>) -> (Seat, Result<Given, Refusal>)
-    ensures { HasFinished whole.system whole.passes.items result.0 result.1 }
+    ensures finished { HasFinished whole.system whole.passes.items result.0 result.1 }
+    ensures waits_for_nobody { result.1 ≢ Err refusals.Again }
 {
     let Whole { system, passes } = whole;
     if system.keep() != Keep::All {

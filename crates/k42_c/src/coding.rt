@@ -1,9 +1,9 @@
 //! The numbers by which C tells statuses, kinds and the like. `k42.h` has the same.
 ghost use Rattle.std.specs.Prelude.{◌≡◌};
-ghost use Rattle.k42_c.specs.Codes.{keep_named, kind_named, layout_named, given_code, parked_code, progress_code, refusal_code, reply_code, status_of_call, to_named};
+ghost use Rattle.k42_c.specs.Codes.{keep_named, kind_named, layout_named, given_code, parked_code, progress_code, refusal_code, resumed_code, reply_code, status_of_call, to_named};
 
 use crate::closing::Given;
-use crate::parking::Parked;
+use crate::parking::{Parked, Resumed};
 use crate::refusal::Refusal;
 use crate::swapping::Progress;
 use k42_runtime::{Keep, KindName, LayoutName, PlanFault, Reply, Swapped, To};
@@ -179,5 +179,16 @@ pub(crate) fn parked_code(parked: Parked) -> u32
     match parked {
         Parked::Missing(_) => MISSING,
         Parked::Section => DONE,
+        Parked::Closed => GONE,
+    }
+}
+
+/// The status of a pass that was to be taken up.
+pub(crate) fn resumed_code(resumed: Resumed) -> u32
+    ensures { result ≡ resumed_code resumed }
+{
+    match resumed {
+        Resumed::Back => DONE,
+        Resumed::Closed => GONE,
     }
 }

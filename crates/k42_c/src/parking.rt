@@ -1,7 +1,7 @@
 //! Passes are put to the desk of their home for a section, and are taken up again.
 ghost use Rattle.std.specs.Prelude.{◌≡◌, IfSome};
 ghost use Rattle.k42_crews.specs.Ready.{AreFree};
-ghost use Rattle.k42_c.specs.Parking.{HasGivenSection, HasParkedOrNot, HasResumed, HasTakenUp, HasTriedOrNot, HaveGiven, IsAt, is_section};
+ghost use Rattle.k42_c.specs.Parking.{HasGivenSection, HasParkedOrNot, HasResumed, HasTakenUp, HasTriedOrNot, HaveTried, IsAt, is_section};
 
 use crate::closing::add;
 use crate::refusal::Refusal;
@@ -20,6 +20,16 @@ pub enum Parked {
     Missing(u32),
     /// All are there, and the seat has their section.
     Section,
+    /// It is there no more: the others have closed the system with it.
+    Closed,
+}
+
+/// What has come of a pass that was to be taken up.
+#[derive(Clone, Copy, Debug, PartialEq, Eq)]
+pub enum Resumed {
+    Back,
+    /// It is there no more.
+    Closed,
 }
 
 /// Makes the section of the passes, where they are all.
@@ -31,7 +41,7 @@ fn give(
 ) -> Result<Parked, Refusal>
     requires { AreFree system.now passes.old.items }
     ensures free { AreFree system.now passes.new.items }
-    ensures given { HaveGiven system.now passes.old.items passes.new.items end.old end.new result }
+    ensures given { HaveTried system.now passes.old.items passes.new.items end.old end.new result }
 {
     if !are_all(system, passes.as_slice()) {
         let missing = (system.callers() as usize).saturating_sub(passes.len()) as u32;
@@ -84,21 +94,6 @@ fn is_section(end: &End) -> bool
     matches!(end, End::Section(_))
 }
 
-/// Tries again, for a pass that lies there.
-fn try_again(alloc: Global, mut parks: Parks) -> (Seat, Result<Parked, Refusal>)
-    ensures { HasTriedOrNot parks result.0 result.1 }
-{
-    if is_section(parks.section.as_ref()) {
-        return (Seat::Parks(parks), Err(Refusal::Turn));
-    }
-    let Some((mut passes, loan)) = parks.home.desk.take() else {
-        return (Seat::Parks(parks), Err(Refusal::Again));
-    };
-    let told = give(alloc, &parks.home.system, &mut passes, &mut parks.section);
-    parks.home.desk.put_back(passes, loan);
-    (Seat::Parks(parks), told)
-}
-
 /// Where the pass of this caller is.
 fn place_at(passes: &[Pass], caller: u32) -> Option<usize>
     ensures { IfSome result (λ place. IsAt caller passes.now place) }
@@ -111,8 +106,27 @@ fn place_at(passes: &[Pass], caller: u32) -> Option<usize>
     None
 }
 
+/// Tries again, for a pass that lies there.
+fn try_again(alloc: Global, mut parks: Parks) -> (Seat, Result<Parked, Refusal>)
+    ensures { HasTriedOrNot parks result.0 result.1 }
+{
+    if is_section(parks.section.as_ref()) {
+        return (Seat::Parks(parks), Err(Refusal::Turn));
+    }
+    let Some((mut passes, loan)) = parks.home.desk.take() else {
+        return (Seat::Parks(parks), Err(Refusal::Again));
+    };
+    if place_at(passes.as_slice(), parks.caller).is_none() {
+        parks.home.desk.put_back(passes, loan);
+        return (Seat::Gone, Ok(Parked::Closed));
+    }
+    let told = give(alloc, &parks.home.system, &mut passes, &mut parks.section);
+    parks.home.desk.put_back(passes, loan);
+    (Seat::Parks(parks), told)
+}
+
 /// Takes the pass up.
-fn take_up(alloc: Global, parks: Parks) -> (Seat, Result<(), Refusal>)
+fn take_up(alloc: Global, parks: Parks) -> (Seat, Result<Resumed, Refusal>)
     ensures { HasTakenUp parks result.0 result.1 }
 {
     let Some((mut passes, loan)) = parks.home.desk.take() else {
@@ -120,13 +134,13 @@ fn take_up(alloc: Global, parks: Parks) -> (Seat, Result<(), Refusal>)
     };
     let Some(place) = place_at(passes.as_slice(), parks.caller) else {
         parks.home.desk.put_back(passes, loan);
-        return (Seat::Parks(parks), Err(Refusal::Again));
+        return (Seat::Gone, Ok(Resumed::Closed));
     };
     match Box::new(alloc, passes.remove(place)) {
         Ok(pass) => {
             parks.home.desk.put_back(passes, loan);
             let Parks { home, .. } = parks;
-            (Seat::Rests(Rests { home, pass }), Ok(()))
+            (Seat::Rests(Rests { home, pass }), Ok(Resumed::Back))
         }
         Err(back) => {
             add(&parks.home.system, &mut passes, back.value);
@@ -151,7 +165,7 @@ fn given(alloc: Global, seat: Seat) -> (Seat, Result<Parked, Refusal>)
 }
 
 /// The seat once its pass was taken up.
-fn resumed(alloc: Global, seat: Seat) -> (Seat, Result<(), Refusal>)
+fn taken_up(alloc: Global, seat: Seat) -> (Seat, Result<Resumed, Refusal>)
     ensures { HasResumed seat result.0 result.1 }
 {
     match seat {
@@ -173,10 +187,10 @@ pub(crate) fn give_section(alloc: Global, seat: &mut Seat) -> Result<Parked, Ref
 }
 
 /// Takes the pass up again.
-pub(crate) fn resume(alloc: Global, seat: &mut Seat) -> Result<(), Refusal>
+pub(crate) fn resume(alloc: Global, seat: &mut Seat) -> Result<Resumed, Refusal>
     ensures { HasResumed seat.old seat.new result }
 {
-    let (new, told) = resumed(alloc, replace(seat, Seat::Gone));
+    let (new, told) = taken_up(alloc, replace(seat, Seat::Gone));
     *seat = new;
     told
 }

@@ -1,6 +1,6 @@
 //! Rows that are freed, a step at a time.
 ghost use Rattle.std.specs.Prelude.{None};
-ghost use Rattle.k42_c.specs.Reclaiming.{HasMadeStep, HasReclaimed};
+ghost use Rattle.k42_c.specs.Reclaiming.{HasSteppedGrace, HasReclaimed};
 
 use crate::refusal::Refusal;
 use crate::seat::{Reclaims, Rests, Seat};
@@ -18,15 +18,15 @@ pub enum Freeing {
     Freed(u32),
 }
 
-/// Begins a grace for the rows of the pass, and frees them where it is quiet at once.
-fn begin(rests: Rests) -> (Seat, Result<Freeing, Refusal>)
-    ensures { HasMadeStep rests.home None rests.pass.value result.0 result.1 }
+/// Steps the grace, and frees the rows once it is quiet.
+fn step(reclaims: Reclaims) -> (Seat, Result<Freeing, Refusal>)
+    ensures { HasSteppedGrace reclaims.home reclaims.grace reclaims.pass.value result.0 result.1 }
 {
-    if rests.pass.graces() >= PASS_GRACES {
-        return (Seat::Rests(rests), Err(Refusal::Worn));
-    }
-    let Rests { home, mut pass } = rests;
-    let mut grace = Grace::new();
+    let Reclaims {
+        home,
+        mut pass,
+        mut grace,
+    } = reclaims;
     let table = home.system.table();
     match grace.step(table, &mut pass) {
         GraceStep::Quiet => {
@@ -43,26 +43,16 @@ fn begin(rests: Rests) -> (Seat, Result<Freeing, Refusal>)
     }
 }
 
-/// Goes on with the grace, and frees the rows once it is quiet.
-fn go_on(reclaims: Reclaims) -> (Seat, Result<Freeing, Refusal>)
-    ensures { HasMadeStep reclaims.home reclaims.grace reclaims.pass.value result.0 result.1 }
+/// Begins a grace for the rows of the pass.
+fn begin(rests: Rests) -> (Seat, Result<Freeing, Refusal>)
+    ensures { HasSteppedGrace rests.home None rests.pass.value result.0 result.1 }
 {
-    let Reclaims {
-        home,
-        mut pass,
-        mut grace,
-    } = reclaims;
-    let table = home.system.table();
-    match grace.step(table, &mut pass) {
-        GraceStep::Quiet => {
-            let rows = free(table, &mut pass);
-            (Seat::Rests(Rests { home, pass }), Ok(Freeing::Freed(rows)))
-        }
-        GraceStep::Again(_) => (
-            Seat::Reclaims(Reclaims { home, pass, grace }),
-            Ok(Freeing::Underway),
-        ),
+    if rests.pass.graces() >= PASS_GRACES {
+        return (Seat::Rests(rests), Err(Refusal::Worn));
     }
+    let Rests { home, pass } = rests;
+    let grace = Grace::new();
+    step(Reclaims { home, pass, grace })
 }
 
 /// The seat once its reclaim has begun, or gone on.
@@ -71,7 +61,7 @@ fn reclaimed(seat: Seat) -> (Seat, Result<Freeing, Refusal>)
 {
     match seat {
         Seat::Rests(rests) => begin(rests),
-        Seat::Reclaims(reclaims) => go_on(reclaims),
+        Seat::Reclaims(reclaims) => step(reclaims),
         other => {
             let why = refusal_of(&other);
             (other, Err(why))

@@ -2,6 +2,7 @@
 ghost use Rattle.std.specs.Prelude.{◌≡◌};
 ghost use Rattle.std.specs.Arc.{arc_value};
 ghost use Rattle.k42_crews.specs.Ready.{IsFree, IsIn, AreFree, AreAll};
+ghost use Rattle.k42_board.specs.declared.keep.Keep.TheVariants.{Sections};
 ghost use Rattle.k42_c.specs.FreeProps.{AreFree-prop};
 ghost use Rattle.k42_c.specs.Going.{IsReclaiming, IsSwapping};
 ghost use Rattle.k42_c.specs.GoingProps.{IsReclaiming-prop, IsSwapping-prop};
@@ -55,6 +56,7 @@ pub struct Parks {
     pub(crate) caller: u32,
     /// The section, if this pass was the last to come.
     pub(crate) section: Box<End, Global>,
+    ghost keeps: { (arc_value home).system.plan.keep ≡ Sections },
 }
 
 /// All passes, in a home that whoever gave the others back has not left yet.

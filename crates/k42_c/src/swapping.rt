@@ -1,6 +1,6 @@
 //! Swaps, a step at a time.
 ghost use Rattle.std.specs.Prelude.{Some};
-ghost use Rattle.k42_c.specs.Swapping.{HasGoneOn, HasMadeStep, HasSwapped, HasTriedSwap};
+ghost use Rattle.k42_c.specs.Swapping.{HasGoneOn, HasSteppedSwap, HasSwapped, HasTriedSwap};
 
 use crate::refusal::Refusal;
 use crate::seat::{Rests, Seat, Swaps};
@@ -19,7 +19,7 @@ pub enum Progress {
 
 /// Makes a step of the swap.
 fn step(alloc: Global, swaps: Swaps) -> (Seat, Result<Progress, Refusal>)
-    ensures { HasMadeStep swaps result.0 result.1 }
+    ensures { HasSteppedSwap swaps result.0 result.1 }
 {
     let Swaps {
         home,

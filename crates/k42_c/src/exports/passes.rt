@@ -19,7 +19,7 @@ use crate::steps::{enter, leave};
 use std::alloc::Global;
 
 /// The status of what has nothing more to tell.
-pub(crate) fn done_code(told: Result<(), Refusal>) -> u32
+fn done_code(told: Result<(), Refusal>) -> u32
     ensures { Tells done_code (λ outcome. outcome ≡ told) result }
 {
     match told {

@@ -1,12 +1,12 @@
 //! Sections of the history of a running system.
-ghost use Rattle.k42_c.specs.Exports.{Tells, TellsParked, done_code};
+ghost use Rattle.k42_c.specs.Codes.{resumed_code};
+ghost use Rattle.k42_c.specs.Exports.{Tells, TellsParked};
 ghost use Rattle.k42_c.specs.Handles.{seat_of};
 ghost use Rattle.k42_c.specs.Parking.{HasResumed};
 
-use super::passes::done_code;
-use crate::coding::{EMPTY, parked_code, refusal_code};
+use crate::coding::{EMPTY, parked_code, refusal_code, resumed_code};
 use crate::held::K42Pass;
-use crate::holding::{put, take};
+use crate::holding::{settle, take};
 use crate::parking::{Parked, give_section, resume};
 use std::alloc::Global;
 
@@ -19,13 +19,14 @@ pub extern "C" fn k42_section(alloc: Global, pass: &mut K42Pass, missing: &mut u
         return EMPTY;
     };
     let told = give_section(alloc, &mut held);
-    put(pass, held);
+    settle(pass, held);
     match told {
         Ok(parked) => {
-            *missing = match parked {
-                Parked::Missing(count) => count,
-                Parked::Section => 0,
-            };
+            match parked {
+                Parked::Missing(count) => *missing = count,
+                Parked::Section => *missing = 0,
+                Parked::Closed => (),
+            }
             parked_code(parked)
         }
         Err(why) => refusal_code(why),
@@ -35,12 +36,15 @@ pub extern "C" fn k42_section(alloc: Global, pass: &mut K42Pass, missing: &mut u
 /// Takes the pass up again, and drops the section.
 #[unsafe(no_mangle)]
 pub extern "C" fn k42_resume(alloc: Global, pass: &mut K42Pass) -> u32
-    ensures { Tells done_code (HasResumed (seat_of pass.old) (seat_of pass.new)) result }
+    ensures { Tells resumed_code (HasResumed (seat_of pass.old) (seat_of pass.new)) result }
 {
     let Some(mut held) = take(alloc, pass) else {
         return EMPTY;
     };
     let told = resume(alloc, &mut held);
-    put(pass, held);
-    done_code(told)
+    settle(pass, held);
+    match told {
+        Ok(resumed) => resumed_code(resumed),
+        Err(why) => refusal_code(why),
+    }
 }
