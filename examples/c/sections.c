@@ -31,13 +31,17 @@ static void add(k42_pass *pass, uint32_t amount) {
     k42_leave(pass);
 }
 
+static void see_entries(k42_pass *pass, uint64_t count) {
+    uint64_t entries = 0;
+    see(k42_entries(pass, &entries), K42_DONE);
+    see_number(entries, count);
+}
+
 /* The section has just these calls. */
 static void see_section(k42_pass *pass, const uint32_t *amounts, size_t count) {
     static k42_entry read[ENTRIES];
-    uint64_t entries = 0;
     size_t told = 0;
-    see(k42_entries(pass, &entries), K42_DONE);
-    see_number(entries, count);
+    see_entries(pass, count);
     grants = 0;
     see(k42_history(pass, 0, read, ENTRIES, &told), K42_MEMORY);
     grants = -1;
@@ -155,24 +159,66 @@ static void show_close(void) {
     end();
 }
 
-/* A pass that is parked is given back where its handle is dropped, and holds the others up until then. */
-static void show_drop(void) {
-    begin("k42_drop");
+/* --- Passes that are given back --- */
+
+/* One that was given back counts as parked. */
+static void show_given_back(void) {
+    begin("k42_section");
     see(start(K42_KEEP_SECTIONS, PASSES), K42_DONE);
-    see_missing(k42_section(first, &missing), K42_MISSING, 2);
-    see(k42_drop(first), K42_DONE);
-    see_missing(k42_close(second, &missing), K42_MISSING, 1);
-    see_missing(k42_close(third, &missing), K42_DONE, 0);
+    add(first, 8);
+    see_missing(k42_close(first, &missing), K42_MISSING, 2);
+    see_missing(k42_section(second, &missing), K42_MISSING, 1);
+    see_missing(k42_section(third, &missing), K42_DONE, 0);
+    see_entries(third, 1);
+    see_missing(k42_section(second, &missing), K42_DONE, 0);
+    see_entries(second, 0);
     end();
     begin("k42_drop");
+    see(k42_drop(third), K42_DONE);
+    see(k42_resume(second), K42_DONE);
+    see_missing(k42_close(second, &missing), K42_DONE, 0);
+    end();
+}
+
+/* One that is parked counts as given back. The last that was missing waits for its handle. */
+static void see_closed(void) {
     see(start(K42_KEEP_SECTIONS, PASSES), K42_DONE);
     see_missing(k42_section(first, &missing), K42_MISSING, 2);
     see_missing(k42_close(second, &missing), K42_MISSING, 1);
     see(k42_close(third, &missing), K42_AGAIN);
-    see(k42_resume(first), K42_AGAIN);
-    see(k42_section(first, &missing), K42_AGAIN);
+    see(k42_close(third, &missing), K42_AGAIN);
+}
+
+static void show_gone(void) {
+    begin("k42_section");
+    see_closed();
+    see(k42_section(first, &missing), K42_GONE);
+    see(k42_section(first, &missing), K42_EMPTY);
+    see_missing(k42_close(third, &missing), K42_DONE, 0);
+    end();
+    begin("k42_resume");
+    see_closed();
+    see(k42_resume(first), K42_GONE);
+    see(k42_resume(first), K42_EMPTY);
+    see_missing(k42_close(third, &missing), K42_DONE, 0);
+    end();
+    begin("k42_drop");
+    see_closed();
     see(k42_drop(first), K42_DONE);
     see_missing(k42_close(third, &missing), K42_DONE, 0);
+    end();
+}
+
+/* A pass that is dropped and was not parked is missing for ever. */
+static void show_dropped(void) {
+    begin("k42_drop");
+    see(start(K42_KEEP_SECTIONS, PASSES), K42_DONE);
+    see(k42_drop(first), K42_DONE);
+    see_missing(k42_section(second, &missing), K42_MISSING, 2);
+    see_missing(k42_section(third, &missing), K42_MISSING, 1);
+    see(k42_drop(second), K42_DONE);
+    see(k42_resume(third), K42_DONE);
+    see_missing(k42_close(third, &missing), K42_MISSING, 1);
     end();
 }
 
@@ -183,6 +229,8 @@ int main(void) {
     show_parking();
     show_sections();
     show_close();
-    show_drop();
+    show_given_back();
+    show_gone();
+    show_dropped();
     return verdict();
 }

@@ -149,7 +149,8 @@ static void show_causes(void) {
     end();
 }
 
-/* It needs memory for the new representatives. Given up, it leaves an entry, and its number to the next. */
+/* It needs memory for the new representatives. Given up, it leaves an entry, and its number to the next. So it does at
+   its first step too, where there was room for the entry. */
 static void show_memory(void) {
     begin("k42_step");
     k42_enter(caller);
@@ -158,7 +159,11 @@ static void show_memory(void) {
     grants = 0;
     see(k42_step(swapper, &swap), K42_MEMORY);
     grants = -1;
-    made++;
+    see(k42_step(swapper, &swap), K42_TURN);
+    grants = 0;
+    see(k42_swap(swapper, HITS, K42_SPREAD, &swap), K42_MEMORY);
+    grants = -1;
+    made += 2;
     see(k42_step(swapper, &swap), K42_TURN);
     see_ended(k42_swap(swapper, HITS, K42_SPREAD, &swap), K42_DONE, 9);
     end();
