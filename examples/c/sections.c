@@ -56,7 +56,7 @@ static void see_section(k42_pass *pass, const uint32_t *amounts, size_t count) {
 /* --- Another thread is parking its pass, or takes it up --- */
 
 static void *park_slowly(void *at) {
-    waits_to_ask = 1;
+    waits_to_free = true;
     *(uint32_t *)at = k42_section(first, &missing);
     return 0;
 }

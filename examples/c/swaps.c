@@ -99,11 +99,14 @@ static void *get_slowly(void *at) {
     return 0;
 }
 
-/* Steps the swap where a call has begun after it, and waits for memory inside the object. */
+/* Steps the swap where a call has begun after it, and waits for memory inside the object: for the entry of a second call
+   there is room. */
 static void see_inside(void) {
     uint32_t status = K42_MEMORY;
     pthread_t thread;
     k42_enter(other);
+    see(k42_get(other, HITS, &number), K42_DONE);
+    made++;
     if (pthread_create(&thread, 0, get_slowly, &status) != 0)
         return;
     sem_wait(&arrived);
