@@ -1,13 +1,21 @@
 -- A pass that is put among free passes is one of them, and they stay free.
-use Rattle.std.proofs.Common.{◌≡◌, ℕ, zero, suc, List, [], ◌∷◌, ◌++◌, Option, Some, None, false, take, drop, length, refl, sym, ap, ◌∙◌, subst, arith}
+use Rattle.std.proofs.Common.{◌≡◌, ◌⊎◌, ℕ, Bool, zero, suc, List, [], ◌∷◌, ◌++◌, Option, Some, None, false, take, drop, refl, sym, ap, ◌∙◌, subst, arith}
 use lib.ListN.{take-append-drop}
 use Rattle.std.proofs.lemmas.Option.{same_Some}
-use Rattle.std.specs.Prelude.{Contains, IfSome, insert, is_none, slice_get, slice_index_or}
+use Rattle.std.specs.Prelude.{IfSome, Ok, Result, insert, is_none, slice_get, slice_index_or}
 use Rattle.std.proofs.lemmas.List.Elements.{Contains-append_right}
 use Rattle.k42_crews.specs.Ready.{IsFree, AreFree}
 use Rattle.k42_runtime.specs.Systems.{SystemSeen, SystemPass}
 use Rattle.k42_c.specs.Closing.{AreGiven, IsAdded}
-use Rattle.k42_c.specs.Parking.{IsAt}
+use Rattle.k42_c.specs.Parking.{HasTriedAgain, HasTriedBy, HasTriedOrNot, IsAt, is_section}
+use Rattle.k42_c.specs.Seats.{IsKept}
+use Rattle.k42_c.specs.declared.parking.Parked.{Parked}
+use Rattle.k42_c.specs.declared.parking.Parked.TheVariants.{Closed}
+use Rattle.k42_c.specs.declared.refusal.Refusal.{Refusal}
+use Rattle.k42_c.specs.declared.refusal.Refusal.TheVariants.{Again}
+use Rattle.k42_c.specs.declared.seat.Parks.{Parks as Parking}
+use Rattle.k42_c.specs.declared.seat.Seat.{Seat}
+use Rattle.k42_c.specs.declared.seat.Seat.TheVariants.{Gone, Parks}
 
 insert_free : (system : SystemSeen) (pass : SystemPass) → IsFree system pass → (place : ℕ) (passes : List SystemPass) → AreFree system passes
     → AreFree system (insert passes place pass)
@@ -49,3 +57,8 @@ inserted_there place passes pass = record { before = take place passes; behind =
 pub place_found : (caller : ℕ) (passes : List SystemPass) (found : Option ℕ) → is_none found ≡ false → IfSome found (IsAt caller passes) → (place : ℕ) × IsAt caller passes place
 place_found caller passes None some at = absurd (cc)
 place_found caller passes (Some place) some at = (place, at)
+
+-- a pass without a section tries again, or cannot
+pub tried_fresh : (old : Parking) (seat : Seat) (told : Result Parked Refusal) → is_section old.section.value ≡ false
+    → HasTriedAgain old seat told ⊎ (IsKept Again (Parks old) seat told ⊎ ((told ≡ Ok Closed) × (seat ≡ Gone))) → HasTriedOrNot old seat told
+tried_fresh old seat told fresh is = subst (λ (b : Bool). HasTriedBy b old seat told) (sym fresh) is

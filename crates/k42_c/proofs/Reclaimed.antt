@@ -1,5 +1,5 @@
 -- A step of the grace that is to free the rows of a pass, and what it frees.
-use Rattle.std.proofs.Common.{◌≡◌, ℕ, ◌+◌, Bool, true, false, ◌&&◌, List, [], ◌∷◌, Option, Some, None, length, take, drop, refl, sym, ap, ◌∙◌, subst, arith}
+use Rattle.std.proofs.Common.{◌≡◌, ℕ, ◌+◌, Bool, true, false, ◌&&◌, [], Option, Some, None, length, take, drop, refl, sym, ap, ◌∙◌, subst, arith}
 use Rattle.std.specs.Prelude.{is_none}
 use Rattle.std.proofs.Math.ListN.{drop_of_length-le}
 use Rattle.std.proofs.Math.Seq.{take-length}
@@ -21,7 +21,7 @@ use Rattle.k42_quiesce.proofs.GoingOn.{not_taken}
 use Rattle.k42_board.specs.Words.{role_word}
 use Rattle.k42_board.specs.declared.view.PassView.{PassView}
 use Rattle.k42_board.specs.declared.view.StepName.TheVariants as steps
-use Rattle.k42_quiesce.specs.Gracing.{GoesOn, IsLeft, with_role}
+use Rattle.k42_quiesce.specs.Gracing.{GoesOn, with_role}
 use Rattle.k42_quiesce.specs.Reclaiming.{reclaimed_view}
 use Rattle.k42_runtime.specs.Systems.{SystemSeen, IsAtRest, SystemPart, SystemPass}
 use Rattle.k42_c.specs.Going.{IsReclaiming}
@@ -121,12 +121,9 @@ goes_on system grace next old new is has ours e looking = subst (λ (at : Option
 pub granted_all : (grace : Option ℕ) (v w : PassView SystemPart) → HasRole grace v w → take w.granted w.rows ≡ v.rows
 granted_all grace v w has = ap (λ n. take n w.rows) has.all ∙ take-length w.rows ∙ has.rows
 
--- once they are freed, the pass has none, and rests
+-- once they are freed, the pass has none
 pub none_left : (grace : Option ℕ) (v w x : PassView SystemPart) → HasRole grace v w → x ≡ reclaimed_view w x → x.rows ≡ []
 none_left grace v w x has knows = ap (λ (y : PassView SystemPart). y.rows) knows ∙ ap (λ n. drop n w.rows) has.all ∙ drop_of_length-le w.rows {i = length w.rows} (omega arith)
-
-pub rests_now : (grace : Option ℕ) (v w x : PassView SystemPart) → HasRole grace v w → x ≡ reclaimed_view w x → IsAtRest x
-rests_now grace v w x has knows = ap (λ (y : PassView SystemPart). is_at_rest y) knows ∙ (λ j. is_none (has.inactive j) && has.swap j)
 
 -- the role was another's: nothing of the pass is other than before but its log
 idle_by : (idle : Bool) (active : Option ℕ) → idle && is_none active ≡ true → idle ≡ true
@@ -138,8 +135,12 @@ rests_before system old is =
     let idle = idle_by (is_resting old.view.turn.grace) old.view.turn.active is.may.free in
     λ j. is_none (is.inactive j) && idle j && is.swap j
 
+-- it has found the role with this caller
+abbrev pub HasTried : ℕ → PassView SystemPart → PassView SystemPart → Type 0
+HasTried holder v w = w ≡ took steps.TakeRole role_word (holder + 1) (role_view (holder + 1) v)
+
 pub freed_rests : (system : SystemSeen) (grace : Option ℕ) (old new : SystemPass) (holder : ℕ) → IsReclaiming system grace old → grace ≡ None → IsPassOf system.sys new
-    → new.view ≡ took steps.TakeRole role_word (holder + 1) (role_view (holder + 1) old.view) → IsFree system new
+    → HasTried holder old.view new.view → IsFree system new
 freed_rests system grace old new holder is none ours tried =
     let was : IsReclaiming system None old = subst (λ (at : Option ℕ). IsReclaiming system at old) none is in
     let knows = not_taken old.view new.view (holder + 1) tried (omega arith) in
@@ -153,7 +154,7 @@ freed_rests system grace old new holder is none ours tried =
       rests = ap (λ (v : PassView SystemPart). is_at_rest v) knows ∙ rests_before system old was;
     }
 
-pub found_role : (old new : SystemPass) (holder : ℕ) → IsSamePass old new → new.view ≡ took steps.TakeRole role_word (holder + 1) (role_view (holder + 1) old.view)
+pub found_role : (old new : SystemPass) (holder : ℕ) → IsSamePass old new → HasTried holder old.view new.view
     → RoleFound old.view (holder + 1) → HasFoundRole old new
 found_role old new holder same tried finds =
     let knows = not_taken old.view new.view (holder + 1) tried (omega arith) in

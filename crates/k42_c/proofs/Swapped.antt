@@ -1,5 +1,5 @@
 -- A step of a swap is said of its seat.
-use Rattle.std.proofs.Common.{◌≡◌, sym, subst}
+use Rattle.std.proofs.Common.{◌≡◌, subst}
 use Rattle.std.specs.Prelude.{Result}
 use Rattle.std.specs.Arc.{arc_value}
 use Rattle.k42_runtime.specs.Swaps.{SwapSeen, HasStepped}

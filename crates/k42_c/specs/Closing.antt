@@ -1,5 +1,5 @@
 -- What becomes of a seat whose pass is given back.
-use Rattle.std.specs.Prelude.{◌≡◌, ◌≢◌, ◌⊎◌, ℕ, ◌-◌, Bool, true, false, List, ◌∷◌, ◌++◌, length, Contains, Option, Some, None, Result, Ok, Err}
+use Rattle.std.specs.Prelude.{◌≡◌, ◌≢◌, ◌⊎◌, ◌-◌, Bool, true, false, List, ◌∷◌, ◌++◌, length, Contains, Option, Some, None, Result, Ok, Err}
 use Rattle.std.specs.Arc.{arc_value}
 use Rattle.k42_board.specs.declared.keep.Keep.TheVariants.{All}
 use Rattle.k42_crews.specs.Ready.{AreFree, AreAll}
@@ -10,12 +10,12 @@ use Rattle.k42_c.specs.Seats.{refusal_of, IsKept}
 use Rattle.k42_c.specs.declared.closing.Given.{Given}
 use Rattle.k42_c.specs.declared.closing.Given.TheVariants as givens
 use Rattle.k42_c.specs.declared.refusal.Refusal.{Refusal}
-use Rattle.k42_c.specs.declared.refusal.Refusal.TheVariants.{Again, Empty, Memory, Turn}
+use Rattle.k42_c.specs.declared.refusal.Refusal.TheVariants.{Again, Memory, Turn}
 use Rattle.k42_c.specs.declared.seat.Rests.{Rests as Resting}
 use Rattle.k42_c.specs.declared.seat.Closes.{Closes as Closing}
 use Rattle.k42_c.specs.declared.seat.Whole.{Whole as Gathered}
 use Rattle.k42_c.specs.declared.seat.End.{End}
-use Rattle.k42_c.specs.declared.seat.End.TheVariants.{Open, Whole, History}
+use Rattle.k42_c.specs.declared.seat.End.TheVariants.{Whole, History}
 use Rattle.k42_c.specs.declared.seat.Seat.{Seat}
 use Rattle.k42_c.specs.declared.seat.Seat.TheVariants.{Gone, Rests, Parks, Closes, Ends}
 

@@ -1,6 +1,5 @@
 -- What C is told of what was done.
-use Rattle.std.specs.Prelude.{◌≡◌, ℕ, Option, Some, None, Result, Ok, Err}
-use Rattle.k42_kinds.specs.declared.operation.Op.{Op}
+use Rattle.std.specs.Prelude.{◌≡◌, ℕ, Result, Ok, Err}
 use Rattle.k42_kinds.specs.declared.operation.Reply.{Reply}
 use Rattle.k42_kinds.specs.declared.operation.Reply.TheVariants.{Number, Text}
 use Rattle.k42_c.specs.Closing.{HasClosed}
@@ -8,7 +7,6 @@ use Rattle.k42_c.specs.Codes.{freeing_code, given_code, parked_code, progress_co
 use Rattle.k42_c.specs.Parking.{HasGivenSection}
 use Rattle.k42_c.specs.Plain.{plain_progress, plain_text}
 use Rattle.k42_c.specs.Reclaiming.{HasReclaimed}
-use Rattle.k42_c.specs.Seats.{HasAnswered}
 use Rattle.k42_c.specs.declared.closing.Given.{Given}
 use Rattle.k42_c.specs.declared.closing.Given.TheVariants as givens
 use Rattle.k42_c.specs.declared.coding.TheConstants.{DONE}

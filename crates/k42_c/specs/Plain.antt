@@ -1,5 +1,5 @@
 -- Keys, texts and entries as plain structs.
-use Rattle.std.specs.Prelude.{ℕ, List, [], length, take, Option, Some, None as Nothing}
+use Rattle.std.specs.Prelude.{ℕ, List, [], take}
 use Rattle.std.specs.Option.{unwrap_or}
 use Rattle.k42_kinds.specs.Padded.{padded}
 use Rattle.k42_kinds.specs.declared.entry.Act.{Act}

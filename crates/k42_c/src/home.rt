@@ -4,7 +4,7 @@ ghost use Rattle.std.specs.Prelude.{◌≡◌};
 use k42_desk::{Desk, Fits};
 use k42_runtime::{Pass, System};
 
-/// Passes that are given back are those of the system, with nothing under way.
+/// Passes that are given back or parked are those of the system, with nothing under way.
 pub struct Crew;
 
 impl Fits<System, Vec<Pass>> for Crew {
@@ -13,7 +13,7 @@ impl Fits<System, Vec<Pass>> for Crew {
     ghost fits = { λ system passes. AreFree system passes.items };
 }
 
-/// The system, and the passes that were given back.
+/// The system, and the passes that were given back or parked.
 #[derive(Drop)]
 pub struct Home {
     pub(crate) system: System,

@@ -107,7 +107,7 @@ fn place_at(passes: &[Pass], caller: u32) -> Option<usize>
 }
 
 /// Tries again, for a pass that lies there.
-fn try_again(alloc: Global, mut parks: Parks) -> (Seat, Result<Parked, Refusal>)
+fn try_again(alloc: Global, parks: Parks) -> (Seat, Result<Parked, Refusal>)
     ensures { HasTriedOrNot parks result.0 result.1 }
 {
     if is_section(parks.section.as_ref()) {
@@ -120,8 +120,18 @@ fn try_again(alloc: Global, mut parks: Parks) -> (Seat, Result<Parked, Refusal>)
         parks.home.desk.put_back(passes, loan);
         return (Seat::Gone, Ok(Parked::Closed));
     }
-    let told = give(alloc, &parks.home.system, &mut passes, &mut parks.section);
-    parks.home.desk.put_back(passes, loan);
+    let Parks {
+        home,
+        caller,
+        mut section,
+    } = parks;
+    let told = give(alloc, &home.system, &mut passes, &mut section);
+    home.desk.put_back(passes, loan);
+    let parks = Parks {
+        home,
+        caller,
+        section,
+    };
     (Seat::Parks(parks), told)
 }
 

@@ -31,10 +31,7 @@ fn step(alloc: Global, swaps: Swaps) -> (Seat, Result<Progress, Refusal>)
             Seat::Swaps(Swaps { home, pass, swap }),
             Ok(Progress::Underway(cause)),
         ),
-        Step::Ended(end) => (
-            Seat::Rests(Rests { home, pass }),
-            Ok(Progress::Ended(end)),
-        ),
+        Step::Ended(end) => (Seat::Rests(Rests { home, pass }), Ok(Progress::Ended(end))),
         Step::Memory => (Seat::Rests(Rests { home, pass }), Err(Refusal::Memory)),
         Step::Worn => (Seat::Rests(Rests { home, pass }), Err(Refusal::Worn)),
     }

@@ -14,4 +14,7 @@ close-requires c =
     may_close c.args.whole.system c.args.whole.passes.items planned keeps c.args.whole.free c.args.whole.all
 
 pub returns-in-Err : goal.returns-in-Err
-returns-in-Err c = (_, refl, c.in-Err.ensures.err.0, c.in-Err.ensures.err.1)
+returns-in-Err c = record {
+  finished = (_, refl, c.in-Err.ensures.err.0, c.in-Err.ensures.err.1);
+  waits_for_nobody = λ e. absurd (cc);
+}

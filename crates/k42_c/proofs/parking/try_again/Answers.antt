@@ -1,17 +1,15 @@
-use Rattle.std.proofs.Common.{◌≡◌, Bool, false, inl, inr, rules, refl, sym, subst}
+use Rattle.std.proofs.Common.{◌≡◌, false, inl, inr, rules, refl}
 use Rattle.std.specs.Arc.{arc_value}
-use Rattle.std.specs.Prelude.{IfSome, Ok, is_none}
+use Rattle.std.specs.Prelude.{IfSome, is_none}
 use Rattle.k42_crews.specs.Ready.{AreFree}
-use Rattle.k42_c.specs.Parking.{HasTriedBy, HaveTried, IsAt, is_section}
-use Rattle.k42_c.specs.declared.parking.Parked.TheVariants.{Closed}
-use Rattle.k42_c.specs.declared.seat.Seat.TheVariants.{Gone, Parks}
-use Rattle.k42_c.proofs.Given.{place_found}
+use Rattle.k42_c.specs.Parking.{HaveTried, IsAt, is_section}
+use Rattle.k42_c.proofs.Given.{place_found, tried_fresh}
 use Rattle.k42_c.proofs.parking.try_again.Goals as goal
 
 pub returns-then-is_none : goal.returns-then-is_none
 returns-then-is_none c =
     let fresh : is_section c.args.parks.section.value ≡ false = search rules in
-    subst (λ (b : Bool). HasTriedBy b c.args.parks Gone (Ok Closed)) (sym fresh) (inr (inr (refl, refl)))
+    tried_fresh c.args.parks _ _ fresh (inr (inr (refl, refl)))
 
 pub returns : goal.returns
 returns c =
@@ -22,7 +20,7 @@ returns c =
     let at : IfSome c.place_at.result (IsAt c.args.parks.caller c.in-Some.passes.items) = search rules in
     let there = place_found c.args.parks.caller c.in-Some.passes.items c.place_at.result some at in
     let given : HaveTried system c.in-Some.passes.items c.give-told.new.passes.items c.args.parks.section.value c.give-told.new.end c.give-told.result = search rules in
-    subst (λ (b : Bool). HasTriedBy b c.args.parks (Parks _) c.give-told.result) (sym fresh) (inl (record {
+    tried_fresh c.args.parks _ _ fresh (inl (record {
       passes = c.in-Some.passes.items;
       free = free;
       place = there.0;

@@ -1,4 +1,4 @@
-use Rattle.std.proofs.Common.{rules, ◌≡◌, ◌∙◌, ◌++◌, ◌∷◌, [], take, drop, replicate, length, min, ap, sym}
+use Rattle.std.proofs.Common.{rules, ◌≡◌, ◌∙◌, ◌++◌, take, drop, replicate, length, min, ap}
 use Rattle.k42_limits.specs.declared.TheConstants.{TEXT_BYTES}
 use Rattle.k42_c.proofs.Cells.{copied, counted}
 use Rattle.k42_c.proofs.plain.plain_text.Goals as goal

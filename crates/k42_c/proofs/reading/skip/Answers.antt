@@ -1,5 +1,5 @@
 use Rattle.std.proofs.Common.{◌≡◌, ◌∙◌, ◌≤◌, drop, true, rules, ap, sym}
-use Rattle.std.specs.Prelude.{None, is_none, slice_get}
+use Rattle.std.specs.Prelude.{is_none, slice_get}
 use Rattle.k42_c.proofs.ReadEntries.{none_is, skip_all, skip_one}
 use Rattle.k42_c.proofs.reading.skip.Goals as goal
 

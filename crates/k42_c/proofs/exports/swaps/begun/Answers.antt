@@ -3,7 +3,6 @@ use Rattle.std.specs.Prelude.{Err}
 use Rattle.k42_c.specs.Handles.{seat_of}
 use Rattle.k42_c.specs.Swapping.{HasSwapped}
 use Rattle.k42_c.specs.declared.refusal.Refusal.TheVariants.{Argument, Empty}
-use Rattle.k42_c.specs.declared.seat.Seat.TheVariants.{Gone}
 use Rattle.k42_kinds.specs.declared.entry.To.{To}
 use Rattle.k42_c.proofs.EmptyHandles.{kept_empty}
 use Rattle.k42_c.proofs.exports.swaps.begun.Goals as goal
