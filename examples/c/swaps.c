@@ -99,8 +99,8 @@ static void *get_slowly(void *at) {
     return 0;
 }
 
-/* Steps the swap where a call has begun after it, and waits for memory inside the object: for the entry of a second call
-   there is room. */
+/* Steps the swap where a call has begun after it, and waits for memory inside the object: there is room for the entry
+   of a second call. */
 static void see_inside(void) {
     uint32_t status = K42_MEMORY;
     pthread_t thread;
