@@ -1,9 +1,11 @@
-"""The examples in C: each is built against the library for C by the machine's compiler, run, and compared with what it is to write."""
+"""The examples in C: each is built by the machine's compiler, against the library for C where it calls it, run, and compared with
+what it is to write. The server is run under a load, and beside it one of which the calls are made of a lock."""
 
 import pathlib
 import shutil
 import subprocess
 import tempfile
+import threading
 
 from transcripts import TOP
 
@@ -11,9 +13,23 @@ BUILT = TOP / "crates" / "k42_c" / "out" / "libk42_c.a"
 KEPT = TOP / "dist" / "x86_64-linux" / "libk42_c.a"
 EXAMPLES = TOP / "examples" / "c"
 FLAGS = ["-std=c11", "-Wall", "-Wextra", "-Werror", "-O2", "-I", str(TOP / "crates" / "k42_c")]
-# Each with the files that it is built of, and how many seconds it may take.
-PROGRAMS = {"page": ["page.c", "heap.c"], "statuses": ["statuses.c"]}
-# The second: how often each thread of the first example calls under valgrind.
+# Those that call the library, with the files that each is built of, and those that do not.
+CALLING = {
+    "page": ["page.c", "heap.c"],
+    "statuses": ["statuses.c", "seeing.c"],
+    "swaps": ["swaps.c", "seeing.c"],
+    "sections": ["sections.c", "seeing.c"],
+    "cost": ["cost.c", "heap.c"],
+    "server": ["server.c", "heap.c"],
+}
+OTHERS = {"plain": ["server.c", "plain.c"], "load": ["load.c"]}
+# Those that are run alone, with their words.
+ALONE = {"page": [], "statuses": [], "swaps": [], "sections": [], "cost": ["10000", "2"]}
+# The servers, with a free port and so many threads; the load has so many connections, requests of each, and swaps.
+SERVERS, SERVED, LOAD = ["server", "plain"], ["0", "2"], ["64", "1000", "1000"]
+# A machine at other work is late: so often the load may be run until it is in time.
+LOADS = 3
+# How many seconds each may take, and how often each thread of the first example calls under valgrind.
 SECONDS, CALLS = 60, "1000"
 # So does valgrind end where it has found an error, or a block that was not freed.
 FOUND = 99
@@ -31,7 +47,8 @@ def library():
 def built(folder, name, archive):
     """The program of an example, or what the compiler says."""
     program = folder / name
-    words = [*FLAGS, "-o", program, *(EXAMPLES / it for it in PROGRAMS[name]), archive, "-pthread"]
+    parts = [*CALLING[name], archive] if name in CALLING else OTHERS[name]
+    words = [*FLAGS, "-o", program, *(EXAMPLES / part for part in parts), "-pthread"]
     run = subprocess.run(["cc", *words], capture_output=True, text=True, check=False)
     return program, run.stderr if run.returncode != 0 else ""
 
@@ -56,6 +73,32 @@ def checked_faults(program):
         yield from run_faults("page", [*checks, program, CALLS], due)
 
 
+def loaded(server, load):
+    """How a server and its load end, and what the load writes. A server that takes too long is ended, which ends its load."""
+    with subprocess.Popen([server, *SERVED], stdout=subprocess.PIPE) as serving:
+        watch = threading.Timer(SECONDS, serving.kill)
+        watch.start()
+        port = serving.stdout.readline().split()[-1:]
+        run = subprocess.run([load, *port, *LOAD], capture_output=True, check=False)
+        serving.wait()
+        watch.cancel()
+    return serving.returncode, run.returncode, run.stdout, run.stderr
+
+
+def load_faults(folder):
+    """What is wrong with the server under the load. How fast it was is told, and beside it how fast the one of a lock was."""
+    for name in SERVERS:
+        for _ in range(LOADS):
+            ended, load_ended, written, said = loaded(folder / name, folder / "load")
+            if b"late" not in written:
+                break
+        is_due = (load_ended, written) == (0, (EXAMPLES / "load.out").read_bytes())
+        if ended != 0 or (name == "server" and not is_due):
+            yield f"examples/c/load.c: the server {name} ends with {ended}, the load with {load_ended}, writing {written} and {said}"
+        else:
+            print(f"house: examples/c/load.c, the server {name}: {said.decode().strip()}")
+
+
 def faults():
     """All faults of the examples."""
     archive = library()
@@ -63,11 +106,13 @@ def faults():
         yield "no libk42_c.a is of these sources: .ci/build k42_c makes one"
         return
     with tempfile.TemporaryDirectory() as place:
-        for name in PROGRAMS:
-            program, said = built(pathlib.Path(place), name, archive)
-            if said:
-                yield f"examples/c/{name}.c is not compiled: {said}"
-                continue
-            yield from run_faults(name, [program], (EXAMPLES / f"{name}.out").read_bytes())
-            if name == "page":
-                yield from checked_faults(program)
+        folder = pathlib.Path(place)
+        unbuilt = {name: said for name in [*CALLING, *OTHERS] for said in [built(folder, name, archive)[1]] if said}
+        for name, said in unbuilt.items():
+            yield f"examples/c/{name}.c is not compiled: {said}"
+        if unbuilt:
+            return
+        for name, words in ALONE.items():
+            yield from run_faults(name, [folder / name, *words], (EXAMPLES / f"{name}.out").read_bytes())
+        yield from checked_faults(folder / "page")
+        yield from load_faults(folder)

@@ -1,123 +1,17 @@
-/* Each call of k42.h, with each status that it can be brought to: a line for each call, and OK at the end where the
-   history has just the calls that were made. K42_WORN takes 2^58 calls, and nothing here destroys an object. */
-#include "k42.h"
+/* Each call of objects, and each by which systems and passes begin and end, with each status that it can be brought
+   to: a line for each, and OK at the end where the history has just the calls that were made. K42_WORN takes 2^58
+   calls. Of swaps and of K42_GONE swaps.c tells, of sections sections.c. */
+#include "seeing.h"
 
 #include <pthread.h>
-#include <sched.h>
-#include <semaphore.h>
-#include <stdatomic.h>
-#include <stdbool.h>
 #include <stdio.h>
-#include <stdlib.h>
 
-enum { HITS = 0, NAMES = 1, CACHE = 2, NO_OBJECT = 3, OBJECTS = 3, PASSES = 3, TRIES = 100000000 };
-
-/* --- A heap that refuses, or lets a thread wait where it frees --- */
-
-struct tried {
-    bool ok;
-    void *p;
-};
-
-static char nothing;
-static atomic_long grants = -1; /* how many requests more are granted; all where it is below 0 */
-static _Thread_local bool waits;
-static sem_t arrived, released;
-
-static bool is_granted(void) {
-    if (grants > 0)
-        grants--;
-    else if (grants == 0)
-        return false;
-    return true;
-}
-
-struct tried rattle_alloc(size_t n, size_t align) {
-    void *p = is_granted() ? malloc(n ? n : align) : 0;
-    return (struct tried){p != 0, p ? p : &nothing};
-}
-
-struct tried rattle_realloc(void *p, size_t kept, size_t n, size_t align) {
-    (void)kept;
-    p = is_granted() ? realloc(p, n ? n : align) : 0;
-    return (struct tried){p != 0, p ? p : &nothing};
-}
-
-void rattle_dealloc(void *p) {
-    if (waits) {
-        waits = false;
-        sem_post(&arrived);
-        sem_wait(&released);
-    }
-    free(p);
-}
-
-/* --- What is seen --- */
-
-static const char *const names[] = {"DONE",  "NONE",  "TAKEN",  "GONE",     "MISSING",    "AGAIN",   "MEMORY", "WORN",     "EMPTY",
-                                    "FULL",  "TURN",  "OBJECT", "KIND",     "ARGUMENT",   "PROCESSORS", "OBJECTS", "PASSES", "PROCESSOR"};
-static bool wrong;
-static atomic_ulong made; /* calls that have left an entry */
-
-static void begin(const char *call) {
-    printf("%s", call);
-}
-
-static void see(uint32_t status, uint32_t due) {
-    if (status == due) {
-        printf(" %s", names[due]);
-    } else {
-        printf(" %u-and-not-%s", status, names[due]);
-        wrong = true;
-    }
-}
-
-static void end(void) {
-    printf("\n");
-}
-
-/* --- The calls of objects --- */
+enum { PASSES = 3 };
 
 static k42_pass none, passes[PASSES];
 static k42_pass *const resting = &passes[0], *const working = &passes[1], *const other = &passes[2];
-static _Thread_local uint64_t number;
-static _Thread_local k42_text text;
 
-static uint32_t add(k42_pass *pass, uint32_t object) { return k42_add(pass, object, 5); }
-static uint32_t get(k42_pass *pass, uint32_t object) { return k42_get(pass, object, &number); }
-static uint32_t drain(k42_pass *pass, uint32_t object) { return k42_drain(pass, object, &number); }
-static uint32_t seen(k42_pass *pass, uint32_t object) { return k42_seen(pass, object, &number); }
-static uint32_t bind_front(k42_pass *pass, uint32_t object) { return k42_bind(pass, object, "front", 5, 7); }
-static uint32_t find_front(k42_pass *pass, uint32_t object) { return k42_find(pass, object, "front", 5, &number); }
-static uint32_t unbind_back(k42_pass *pass, uint32_t object) { return k42_unbind(pass, object, "back", 4, &number); }
-static uint32_t size(k42_pass *pass, uint32_t object) { return k42_size(pass, object, &number); }
-static uint32_t write_hello(k42_pass *pass, uint32_t object) { return k42_write(pass, object, 5, "hello", 5); }
-static uint32_t read_hello(k42_pass *pass, uint32_t object) { return k42_read(pass, object, 5, &text); }
-static uint32_t dirty(k42_pass *pass, uint32_t object) { return k42_dirty(pass, object, &number); }
-static uint32_t clean(k42_pass *pass, uint32_t object) { return k42_clean(pass, object, &number); }
-
-static const struct call {
-    const char *name;
-    uint32_t (*make)(k42_pass *, uint32_t);
-    uint32_t object; /* that takes it */
-    uint32_t status; /* of the first call that is made */
-    uint32_t stranger; /* of another kind, if there is one that does not take it */
-} calls[] = {
-    {"k42_add", add, HITS, K42_DONE, NAMES},          {"k42_get", get, HITS, K42_DONE, CACHE},
-    {"k42_drain", drain, HITS, K42_DONE, NAMES},      {"k42_bind", bind_front, NAMES, K42_DONE, CACHE},
-    {"k42_find", find_front, NAMES, K42_DONE, HITS},  {"k42_unbind", unbind_back, NAMES, K42_NONE, CACHE},
-    {"k42_size", size, NAMES, K42_DONE, HITS},        {"k42_write", write_hello, CACHE, K42_DONE, NAMES},
-    {"k42_read", read_hello, CACHE, K42_DONE, HITS},  {"k42_dirty", dirty, CACHE, K42_DONE, NAMES},
-    {"k42_clean", clean, CACHE, K42_DONE, HITS},      {"k42_seen", seen, HITS, K42_NONE, NO_OBJECT},
-};
-
-/* Makes a call, and counts it where it leaves an entry. */
-static uint32_t tell(const struct call *call, k42_pass *pass) {
-    uint32_t status = call->make(pass, call->object);
-    if (status <= K42_TAKEN)
-        made++;
-    return status;
-}
+/* --- The calls of objects --- */
 
 static atomic_bool stops;
 
@@ -231,7 +125,7 @@ static void show_start(void) {
     see(k42_start(2, objects, OBJECTS, away, PASSES, K42_KEEP_ALL, passes, PASSES), K42_PROCESSOR);
     see(k42_start(2, strange, 1, homes, PASSES, K42_KEEP_ALL, passes, PASSES), K42_ARGUMENT);
     see(k42_start(2, strange + 1, 1, homes, PASSES, K42_KEEP_ALL, passes, PASSES), K42_ARGUMENT);
-    see(k42_start(2, objects, OBJECTS, homes, PASSES, 2, passes, PASSES), K42_ARGUMENT);
+    see(k42_start(2, objects, OBJECTS, homes, PASSES, 3, passes, PASSES), K42_ARGUMENT);
     see(k42_start(2, objects, OBJECTS, homes, 2, K42_KEEP_ALL, passes, PASSES), K42_ARGUMENT);
     grants = 0;
     see(start(passes, K42_KEEP_ALL), K42_MEMORY);
@@ -272,7 +166,7 @@ static void show_activities(void) {
 
 static void *close_slowly(void *at) {
     uint32_t missing = 0;
-    waits = true;
+    waits_to_free = true;
     *(uint32_t *)at = k42_close(other, &missing);
     return 0;
 }
@@ -297,14 +191,14 @@ static void show_close(void) {
     see(close_beside(&status), K42_AGAIN);
     see(status, K42_MISSING);
     see(k42_close(resting, &missing), K42_MISSING);
-    printf(" (%u)", missing);
+    see_number(missing, 1);
     see(k42_close(resting, &missing), K42_EMPTY);
     see(k42_leave(working), K42_DONE);
-    for (grants = 0; (status = k42_close(working, &missing)) == K42_MEMORY; grants = 1)
-        see(status, K42_MEMORY);
+    grants = 0;
+    see(k42_close(working, &missing), K42_MEMORY);
     grants = -1;
-    see(status, K42_DONE);
-    printf(" (%u)", missing);
+    see(k42_close(working, &missing), K42_DONE);
+    see_number(missing, 0);
     see(k42_close(working, &missing), K42_TURN);
     see(k42_enter(working), K42_TURN);
     see(tell(&calls[0], working), K42_TURN);
@@ -321,9 +215,9 @@ static void show_history(void) {
     see(k42_history(working, 0, first, 2, &told), K42_MEMORY);
     grants = -1;
     see(k42_history(working, 0, first, 2, &told), K42_DONE);
-    printf(" (%zu)", told);
+    see_number(told, 2);
     see(k42_history(working, entries, first, 2, &told), K42_DONE);
-    printf(" (%zu)", told);
+    see_number(told, 0);
     end();
     wrong = wrong || entries != made || first[0].place != 1 || first[0].asked != K42_ADD || first[0].number != 5;
 }
@@ -341,7 +235,7 @@ static void show_end(void) {
     see(k42_drop(&passes[0]), K42_DONE);
     see(k42_close(&passes[1], &missing), K42_MISSING);
     see(k42_close(&passes[2], &missing), K42_MISSING);
-    printf(" (%u)", missing);
+    see_number(missing, 1);
     end();
 }
 
@@ -350,12 +244,11 @@ int main(void) {
     sem_init(&released, 0, 0);
     show_start();
     show_activities();
-    for (size_t i = 0; i < sizeof calls / sizeof *calls; i++)
+    for (int i = 0; i < CALLS; i++)
         show_call(&calls[i]);
     show_answers();
     show_close();
     show_history();
     show_end();
-    printf(wrong ? "WRONG\n" : "OK\n");
-    return wrong;
+    return verdict();
 }
