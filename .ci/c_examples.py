@@ -86,17 +86,22 @@ def loaded(server, load):
 
 
 def load_faults(folder):
-    """What is wrong with the server under the load. How fast it was is told, and beside it how fast the one of a lock was."""
-    for name in SERVERS:
-        for _ in range(LOADS):
-            ended, load_ended, written, said = loaded(folder / name, folder / "load")
-            if b"late" not in written:
-                break
-        is_due = (load_ended, written) == (0, (EXAMPLES / "load.out").read_bytes())
-        if ended != 0 or (name == "server" and not is_due):
-            yield f"examples/c/load.c: the server {name} ends with {ended}, the load with {load_ended}, writing {written} and {said}"
-        else:
+    """What is wrong with the server under the load, and beside it with the one of a lock. How fast both were is told. A machine at
+    other work answers late: that is a fault where the server is late and that of the lock is not."""
+    due = (EXAMPLES / "load.out").read_bytes()
+    late = (1, due.replace(b"in time", b"late"))
+    for _ in range(LOADS):
+        rounds = {name: loaded(folder / name, folder / "load") for name in SERVERS}
+        for name, (ended, load_ended, written, said) in rounds.items():
+            if ended != 0 or (load_ended, written) not in ((0, due), late):
+                yield f"examples/c/load.c: the server {name} ends with {ended}, the load with {load_ended}, writing {written} and {said}"
+                return
             print(f"house: examples/c/load.c, the server {name}: {said.decode().strip()}")
+        in_time = {name: load_ended == 0 for name, (_, load_ended, _, _) in rounds.items()}
+        if in_time["server"]:
+            return
+    if in_time["plain"]:
+        yield "examples/c/load.c: the server is late, and that of a lock is not"
 
 
 def faults():

@@ -184,10 +184,10 @@ enum {
     K42_CELL = 4,   /* a pass is at the object */
 };
 
-/* How far a swap is, where the status is K42_UNDERWAY, K42_DONE, K42_BUSY, K42_SPENT or K42_GONE; under others it stays
-   as it is. What it has none of is 0. */
+/* How far a swap is, where the status is K42_UNDERWAY, K42_DONE, K42_BUSY, K42_SPENT or K42_GONE; under others it
+   stays as it is. What it has none of is 0. */
 typedef struct {
-    uint32_t number; /* among the swaps of the object, from 1: under K42_DONE of this one, under K42_BUSY of the other */
+    uint32_t number; /* among the object's swaps, from 1: under K42_DONE of this one, under K42_BUSY of the other */
     uint32_t cause;  /* K42_LEFT to K42_CELL, under K42_UNDERWAY */
     uint32_t at;     /* of K42_LEFT the processor; of K42_ROLE and K42_CELL the pass, in the order of k42_start */
     uint32_t count;  /* of K42_LEFT the activities; of K42_INSIDE the calls */
@@ -195,18 +195,18 @@ typedef struct {
 
 /* NAME   k42_swap, k42_destroy, k42_watch, k42_unwatch - replace the implementation of an object
 
-   They begin a swap of the object, by a pass that rests, and make its first step. k42_swap goes to a layout, K42_SHARED
-   or K42_SPREAD, and keeps what the object has; it may be the layout in which it is. k42_destroy ends the object: each
-   later call is answered K42_GONE. k42_watch places a layer round the object that counts its calls, from 0, also where
-   it has one; k42_unwatch takes it away.
+   They begin a swap of the object, by a pass that rests, and make its first step. k42_swap goes to a layout,
+   K42_SHARED or K42_SPREAD, and keeps what the object has; it may be the layout in which it is. k42_destroy ends the
+   object: each later call is answered K42_GONE. k42_watch places a layer round the object that counts its calls, from
+   0, also where it has one; k42_unwatch takes it away.
 
    A swap waits for the activities that are open, for the calls that are inside, and for other passes that free former
    representatives; others call the object meanwhile. Once it is K42_UNDERWAY the pass does nothing but k42_step. An
    object has at most 1,048,575 swaps of all four kinds, not counting those that were given up.
 
-   STATUS   K42_UNDERWAY: go on by k42_step. How it ends, at this step or a later one, is told below. K42_MEMORY: nothing
-   was begun, or it was given up. K42_WORN: nothing was begun; a pass begins 2^27 swaps and reclaims. K42_EMPTY.
-   K42_TURN: the pass does not rest. K42_OBJECT. K42_ARGUMENT: the layout is none. */
+   STATUS   K42_UNDERWAY: go on by k42_step. How it ends, at this step or a later one, is told below. K42_MEMORY:
+   nothing was begun, or it was given up. K42_WORN: nothing was begun; a pass begins 2^27 swaps and reclaims.
+   K42_EMPTY. K42_TURN: the pass does not rest. K42_OBJECT. K42_ARGUMENT: the layout is none. */
 uint32_t k42_swap(k42_pass *pass, uint32_t object, uint32_t layout, k42_swapping *swap);
 uint32_t k42_destroy(k42_pass *pass, uint32_t object, k42_swapping *swap);
 uint32_t k42_watch(k42_pass *pass, uint32_t object, k42_swapping *swap);
@@ -222,13 +222,13 @@ uint32_t k42_step(k42_pass *pass, k42_swapping *swap);
 /* NAME   k42_reclaim - frees what the swaps of the pass have left
 
    A swap leaves the former representatives of the object, a row of them, with its pass, which frees them at the next
-   swap that it carries out; k42_reclaim frees them without one. It begins at a pass that rests, and goes on where it is
-   K42_UNDERWAY: call it until it is done, also where there is nothing to free. Under K42_DONE rows says how many rows it
-   has freed.
+   swap that it carries out; k42_reclaim frees them without one. It begins at a pass that rests, and goes on where it
+   is K42_UNDERWAY: call it until it is done, also where there is nothing to free. Under K42_DONE rows says how many
+   rows it has freed.
 
    STATUS   K42_DONE: the pass has none left, and rests. K42_UNDERWAY: an activity that might read them is open.
-   K42_AGAIN: another pass frees rows, and nothing was begun. K42_WORN: see k42_swap. K42_EMPTY. K42_TURN: the pass does
-   not rest, and has no reclaim under way. */
+   K42_AGAIN: another pass frees rows, and nothing was begun. K42_WORN: see k42_swap. K42_EMPTY. K42_TURN: the pass
+   does not rest, and has no reclaim under way. */
 uint32_t k42_reclaim(k42_pass *pass, uint32_t *rows);
 
 /* NAME   k42_close - gives the pass back, and with the last closes the system
@@ -237,18 +237,18 @@ uint32_t k42_reclaim(k42_pass *pass, uint32_t *rows);
    empty then, and missing says how many. The last handle has the history under K42_KEEP_ALL, to be read and then
    dropped; else it is empty.
 
-   A pass that is parked counts as given back. Where it is the last that was missing, this one waits for its handle to be
-   resumed, which empties it, or dropped.
+   A pass that is parked counts as given back. Where it is the last that was missing, this one waits for its handle to
+   be resumed, which empties it, or dropped.
 
-   STATUS   K42_DONE: it was the last, and missing is 0. K42_MISSING. K42_AGAIN: another pass is being given back, parked
-   or taken up in this moment. K42_MEMORY. After these two call again: the pass may be taken by then, and its handle for
-   k42_close and k42_drop alone. K42_EMPTY. K42_TURN: the pass does not rest, or the handle has a history. */
+   STATUS   K42_DONE: it was the last, and missing is 0. K42_MISSING. K42_AGAIN: another pass is being given back,
+   parked or taken up in this moment. K42_MEMORY. After these two call again: the pass may be taken by then, and its
+   handle for k42_close and k42_drop alone. K42_EMPTY. K42_TURN: the pass does not rest, or the handle has a history. */
 uint32_t k42_close(k42_pass *pass, uint32_t *missing);
 
 /* NAME   k42_drop - empties a handle
 
-   It drops the history that the handle has, or its pass: then the others are never closed, and have no section, but miss
-   this one for ever. A pass that is parked is given back, as by k42_close, and its section dropped.
+   It drops the history that the handle has, or its pass: then the others are never closed, and have no section, but
+   miss this one for ever. A pass that is parked is given back, as by k42_close, and its section dropped.
 
    STATUS   K42_DONE. K42_EMPTY. K42_TURN: the pass is in an activity, or has a swap or a reclaim under way. */
 uint32_t k42_drop(k42_pass *pass);
@@ -292,7 +292,7 @@ typedef struct {
     uint32_t object;
     uint32_t incarnation; /* of the object: 0 for the first */
     uint32_t asked;       /* K42_ADD to K42_TO_UNWATCH */
-    uint32_t status;      /* K42_DONE, K42_NONE, K42_TAKEN or K42_GONE; of swaps also K42_BUSY, K42_SPENT, or K42_MEMORY */
+    uint32_t status;      /* K42_DONE, K42_NONE, K42_TAKEN or K42_GONE; of swaps also K42_BUSY, K42_SPENT, K42_MEMORY */
     uint32_t page;
     k42_key key;
     k42_text text;        /* what was written, or read */
@@ -300,21 +300,21 @@ typedef struct {
 
 /* NAME   k42_section, k42_resume - take the history of a running system in sections
 
-   Under K42_KEEP_SECTIONS. Each pass that rests is parked by k42_section; missing says how many are not. The handle of the
-   last has the section then, to be read by k42_entries and k42_history: what the passes have drawn since the last
-   section, in order, as the history has it. Each handle takes its pass up by k42_resume, and goes on; that of the section
-   drops it. The sections, end to end, are the history of the system, up to the last.
+   Under K42_KEEP_SECTIONS. Each pass that rests is parked by k42_section; missing says how many are not. The handle of
+   the last has the section then, to be read by k42_entries and k42_history: what the passes have drawn since the last
+   section, in order, as the history has it. Each handle takes its pass up by k42_resume, and goes on; that of the
+   section drops it. The sections, end to end, are the history of the system, up to the last.
 
-   So let one thread park all handles, or let all threads wait, by means of their own, until one has K42_DONE, before any
-   resumes: a pass that is taken up before is missing again. Once all are parked, k42_section of a handle without a
+   So let one thread park all handles, or let all threads wait, by means of their own, until one has K42_DONE, before
+   any resumes: a pass that is taken up before is missing again. Once all are parked, k42_section of a handle without a
    section gives another, which has nothing. A pass that was given back counts as parked.
 
-   STATUS   of k42_section: K42_DONE: all are parked, the handle has a section, and missing is 0. K42_MISSING. K42_MEMORY:
-   call again; the pass may be parked by then. K42_SECTIONS. K42_TURN: the pass does not rest and is not parked, or the
-   handle has a section or a history.
+   STATUS   of k42_section: K42_DONE: all are parked, the handle has a section, and missing is 0. K42_MISSING.
+   K42_MEMORY: call again; the pass may be parked by then. K42_SECTIONS. K42_TURN: the pass does not rest and is not
+   parked, or the handle has a section or a history.
    STATUS   of k42_resume: K42_DONE: the pass rests. K42_MEMORY: it is parked still. K42_TURN: it is not parked.
-   STATUS   of both: K42_AGAIN: another pass is being parked, taken up or given back in this moment. K42_GONE: the others
-   have closed the system with this pass, and the handle is empty. K42_EMPTY. */
+   STATUS   of both: K42_AGAIN: another pass is being parked, taken up or given back in this moment. K42_GONE: the
+   others have closed the system with this pass, and the handle is empty. K42_EMPTY. */
 uint32_t k42_section(k42_pass *pass, uint32_t *missing);
 uint32_t k42_resume(k42_pass *pass);
 
@@ -325,8 +325,8 @@ uint32_t k42_entries(k42_pass *pass, uint64_t *entries);
 
 /* NAME   k42_history - reads entries of the history, or of the section
 
-   It writes entries into their room, beginning with the one that has so many before it there, and says how many it has told:
-   fewer than there is room for where the history ends. Each call begins at the front, so read much at once.
+   It writes entries into their room, beginning with the one that has so many before it there, and says how many it has
+   told: fewer than there is room for where the history ends. Each call begins at the front, so read much at once.
 
    STATUS   K42_DONE. K42_MEMORY. K42_EMPTY. K42_TURN: the handle has neither. */
 uint32_t k42_history(k42_pass *pass, uint64_t before, k42_entry *entries, size_t room, size_t *told);

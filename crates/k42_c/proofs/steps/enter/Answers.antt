@@ -1,6 +1,5 @@
 use Rattle.std.proofs.Common.{◌≡◌, ◌∙◌, rules, refl, sym, ap, subst}
 use Rattle.std.specs.Prelude.{Ok}
-
 use Rattle.k42_board.specs.declared.view.PassView.{PassView}
 use Rattle.k42_runtime.specs.Systems.{SystemPart, SystemPass}
 use Rattle.k42_c.specs.Seats.{HasEntered}
