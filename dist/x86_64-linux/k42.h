@@ -43,7 +43,8 @@
    - no pointer is null, also where its length is 0, and what it leads to is of the length that is given, initialised,
      and used by nobody else during the call;
    - rattle_alloc, rattle_realloc and rattle_dealloc, through which the library asks for memory, are as those of
-     heap.c: over one allocator that aligns as malloc does, and that never calls back into the library;
+     heap.c: over one allocator that aligns as malloc does, and that never calls back into the library. Where that
+     allocator waits for a lock of its own, so does the call;
    - no call is made in a signal handler, nor in the child of a fork of a process with threads.
 
    Link with libk42_c.a, with heap.c or your own of these three functions, and with -pthread where there are threads. */
