@@ -20,15 +20,16 @@ CALLING = {
     "swaps": ["swaps.c", "seeing.c"],
     "sections": ["sections.c", "seeing.c"],
     "cost": ["cost.c", "heap.c"],
+    "worn": ["worn.c", "heap.c"],
     "server": ["server.c", "heap.c"],
 }
 OTHERS = {"plain": ["server.c", "plain.c"], "load": ["load.c"]}
 # Those that are run alone, with their words.
-ALONE = {"page": [], "statuses": [], "swaps": [], "sections": [], "cost": ["10000", "2"]}
+ALONE = {"page": [], "statuses": [], "swaps": [], "sections": [], "cost": ["10000", "2"], "worn": []}
 # The servers, with a free port and so many threads; the load has so many connections, requests of each, and swaps.
 SERVERS, SERVED, LOAD = ["server", "plain"], ["0", "2"], ["64", "1000", "1000"]
 # How many seconds each may take, and how often each thread of the first example calls under valgrind.
-SECONDS, CALLS = 60, "1000"
+SECONDS, CALLS = 300, "1000"
 # So does valgrind end where it has found an error, or a block that was not freed.
 FOUND = 99
 

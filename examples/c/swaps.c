@@ -1,6 +1,6 @@
 /* Each call of k42.h by which objects are swapped and rows are freed, with each status that it can be brought to and
    each cause that holds a swap up; and that a pass with one under way does nothing else. A line for each, and OK at
-   the end where the history has just the calls and swaps that were made. K42_WORN takes 2^27 swaps of a pass. */
+   the end where the history has just the calls and swaps that were made. worn.c shows K42_WORN. */
 #include "seeing.h"
 
 #include <pthread.h>
