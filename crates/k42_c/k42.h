@@ -64,10 +64,10 @@ enum {
     K42_NONE = 1,       /* done: there is no such key, the page was never written, or the object has no layer */
     K42_TAKEN = 2,      /* done: the key was bound already, and leads where it led */
     K42_GONE = 3,       /* done: the object was destroyed; of a parked pass: the system was closed */
-    K42_MISSING = 4,    /* done: the pass was given back, and others are missing still */
+    K42_MISSING = 4,    /* done: the pass was given back, or parked, and others are missing still */
     K42_AGAIN = 5,      /* something is in the way for a moment */
     K42_MEMORY = 6,     /* out of memory */
-    K42_WORN = 7,       /* the pass has made 2^58 calls, and makes no more */
+    K42_WORN = 7,       /* the pass has made 2^58 calls, or has begun 2^27 swaps and reclaims, and no more are made */
     K42_EMPTY = 8,      /* the handle has no pass */
     K42_FULL = 9,       /* a handle has a pass already */
     K42_TURN = 10,      /* out of turn: the pass does not rest, or is not where this call asks it to be */
