@@ -1,11 +1,11 @@
 -- A pass that is put among free passes is one of them, and they stay free.
-use Rattle.std.proofs.Common.{◌≡◌, ◌⊎◌, ℕ, Bool, zero, suc, List, [], ◌∷◌, ◌++◌, Option, Some, None, false, take, drop, refl, sym, ap, ◌∙◌, subst, arith}
+use Rattle.std.proofs.Common.{◌≡◌, ◌≤◌, ◌⊎◌, ℕ, length, Bool, zero, suc, List, [], ◌∷◌, ◌++◌, Option, Some, None, false, take, drop, refl, sym, ap, ◌∙◌, subst, arith}
 use lib.ListN.{take-append-drop}
 use Rattle.std.proofs.lemmas.Option.{same_Some}
 use Rattle.std.specs.Prelude.{IfSome, Ok, Result, insert, is_none, slice_get, slice_index_or}
 use Rattle.std.proofs.lemmas.List.Elements.{Contains-append_right}
 use Rattle.k42_crews.specs.Ready.{IsFree, AreFree}
-use Rattle.k42_runtime.specs.Systems.{SystemSeen, SystemPass}
+use Rattle.k42_runtime.specs.Systems.{IsPlanned, SystemSeen, SystemPass}
 use Rattle.k42_c.specs.Closing.{AreGiven, IsAdded}
 use Rattle.k42_c.specs.Parking.{HasTriedAgain, HasTriedBy, HasTriedOrNot, IsAt, is_section}
 use Rattle.k42_c.specs.Seats.{IsKept}
@@ -16,6 +16,9 @@ use Rattle.k42_c.specs.declared.refusal.Refusal.TheVariants.{Again}
 use Rattle.k42_c.specs.declared.seat.Parks.{Parks as Parking}
 use Rattle.k42_c.specs.declared.seat.Seat.{Seat}
 use Rattle.k42_c.specs.declared.seat.Seat.TheVariants.{Gone, Parks}
+
+pub few_callers : (system : SystemSeen) → IsPlanned system → length system.plan.callers ≤ 16
+few_callers system planned = planned.sound.turns.limits.few_callers
 
 insert_free : (system : SystemSeen) (pass : SystemPass) → IsFree system pass → (place : ℕ) (passes : List SystemPass) → AreFree system passes
     → AreFree system (insert passes place pass)

@@ -1,11 +1,12 @@
 -- What becomes of a seat whose pass is given back.
-use Rattle.std.specs.Prelude.{◌≡◌, ◌≢◌, ◌⊎◌, ◌-◌, Bool, true, false, List, ◌∷◌, ◌++◌, length, Contains, Option, Some, None, Result, Ok, Err}
+use Rattle.std.specs.Prelude.{◌≡◌, ◌≢◌, ◌⊎◌, Bool, true, false, List, ◌∷◌, ◌++◌, Contains, Option, Some, None, Result, Ok, Err}
 use Rattle.std.specs.Arc.{arc_value}
 use Rattle.k42_board.specs.declared.keep.Keep.TheVariants.{All}
 use Rattle.k42_crews.specs.Ready.{AreFree, AreAll}
 use Rattle.k42_rule.specs.Finishing.{lists_in}
 use Rattle.k42_runtime.specs.Histories.{HistorySeen, IsClosed, HasHistory}
 use Rattle.k42_runtime.specs.Systems.{SystemSeen, SystemPass}
+use Rattle.k42_c.specs.Missing.{missing_in}
 use Rattle.k42_c.specs.Seats.{refusal_of, IsKept}
 use Rattle.k42_c.specs.declared.closing.Given.{Given}
 use Rattle.k42_c.specs.declared.closing.Given.TheVariants as givens
@@ -43,19 +44,19 @@ HasFinished system passes seat (Ok givens.History) =
     × ((history : HistorySeen) × (end_in seat ≡ Some (History history)) × IsClosed system.plan (lists_in passes) history)
 HasFinished system passes seat (Ok givens.Nothing) =
     (system.plan.keep ≢ All) × (seat ≡ Gone) × HasHistory system.plan (lists_in passes)
-HasFinished system passes seat (Ok (givens.Missing count)) = ⊥
+HasFinished system passes seat (Ok (givens.Missing which)) = ⊥
 HasFinished system passes seat (Err Again) =
     (kept : Closing) × (seat ≡ Closes kept) × ((arc_value kept.home).system ≡ system) × (kept.passes.items ≡ passes)
 HasFinished system passes seat (Err Memory) =
     (kept : Gathered) × (end_in seat ≡ Some (Whole kept)) × (kept.system ≡ system) × (kept.passes.items ≡ passes)
 HasFinished system passes seat (Err _) = ⊥
 
--- The pass is among those that were given back, of which some are missing, or they are all there.
+-- The pass is among those that were given back, and it is told which are missing, or they are all there.
 pub record HasGiven (system : SystemSeen) (pass : SystemPass) (seat : Seat) (told : Result Given Refusal) : Type 0 where
   pub passes : List SystemPass
   pub given : AreGiven system pass passes
   pub missing : ¬ AreAll system passes
-      → (seat ≡ Gone) × (told ≡ Ok (givens.Missing (length system.plan.callers - length passes)))
+      → (seat ≡ Gone) × (told ≡ Ok (givens.Missing (missing_in system passes)))
   pub finished : AreAll system passes → HasFinished system passes seat told
 
 -- it was given back, or was in somebody's way, or there was no memory

@@ -70,7 +70,7 @@ refusal_code (refusals.Plan faults.Callers) = PASSES
 refusal_code (refusals.Plan (faults.Processor caller)) = PROCESSOR
 
 abbrev pub given_code : Given → ℕ
-given_code (givens.Missing count) = MISSING
+given_code (givens.Missing which) = MISSING
 given_code givens.History = DONE
 given_code givens.Nothing = DONE
 
@@ -86,7 +86,7 @@ freeing_code freeings.Underway = UNDERWAY
 freeing_code (freeings.Freed count) = DONE
 
 abbrev pub parked_code : Parked → ℕ
-parked_code (parked.Missing count) = MISSING
+parked_code (parked.Missing which) = MISSING
 parked_code parked.Section = DONE
 parked_code parked.Closed = GONE
 

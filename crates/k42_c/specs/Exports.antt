@@ -49,9 +49,9 @@ pub record TellsText (happened : Result Reply Refusal → Type 0) (old new : K42
   pub status_is : status ≡ status_of reply_code told
   pub text_is : new ≡ text_at told old
 
--- how many passes are missing
+-- which passes are missing
 abbrev pub missing_at : Result Given Refusal → ℕ → ℕ
-missing_at (Ok (givens.Missing count)) old = count
+missing_at (Ok (givens.Missing which)) old = which
 missing_at (Ok _) old = 0
 missing_at (Err why) old = old
 
@@ -62,7 +62,7 @@ pub record TellsGiven (from to : Seat) (old new status : ℕ) : Type 0 where
   pub missing_is : new ≡ missing_at told old
 
 abbrev pub missing_of : Result Parked Refusal → ℕ → ℕ
-missing_of (Ok (parked.Missing count)) old = count
+missing_of (Ok (parked.Missing which)) old = which
 missing_of (Ok parked.Section) old = 0
 missing_of (Ok parked.Closed) old = old
 missing_of (Err why) old = old

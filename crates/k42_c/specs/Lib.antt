@@ -7,6 +7,8 @@ pub mod Calling
 pub mod Seats
 pub mod Swapping
 pub mod Reclaiming
+pub mod Gathering
+pub mod Missing
 pub mod Closing
 pub mod Parking
 pub mod Codes

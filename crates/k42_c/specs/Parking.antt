@@ -1,5 +1,5 @@
 -- What becomes of a seat whose pass is put to the desk of its home for a section.
-use Rattle.std.specs.Prelude.{◌≡◌, ◌≢◌, ◌⊎◌, ℕ, ◌-◌, Bool, true, false, List, length, Result, Ok, Err, IsSomeAnd, slice_get}
+use Rattle.std.specs.Prelude.{◌≡◌, ◌≢◌, ◌⊎◌, ℕ, Bool, true, false, List, Result, Ok, Err, IsSomeAnd, slice_get}
 use Rattle.std.specs.Arc.{arc_value}
 use Rattle.k42_board.specs.declared.keep.Keep.TheVariants as keeps
 use Rattle.k42_crews.specs.Ready.{AreFree, AreAll, MayGive}
@@ -7,6 +7,7 @@ use Rattle.k42_kinds.specs.declared.entry.Entry.{Entry}
 use Rattle.k42_runtime.specs.Sections.{IsSection}
 use Rattle.k42_runtime.specs.Systems.{SystemSeen, SystemPass}
 use Rattle.k42_c.specs.Closing.{AreGiven}
+use Rattle.k42_c.specs.Missing.{missing_in}
 use Rattle.k42_c.specs.Seats.{SharedHome, refusal_of, IsKept}
 use Rattle.k42_c.specs.declared.parking.Parked.{Parked}
 use Rattle.k42_c.specs.declared.parking.Parked.TheVariants as parked
@@ -25,8 +26,8 @@ use Rattle.k42_c.specs.declared.seat.Seat.TheVariants.{Gone, Parks, Rests}
 abbrev pub HaveTried : SystemSeen → List SystemPass → List SystemPass → End → End → Result Parked Refusal → Type 0
 HaveTried system old new from to (Ok parked.Section) =
     MayGive system old × ((section : List Entry) × (to ≡ Section section) × IsSection old new section)
-HaveTried system old new from to (Ok (parked.Missing count)) =
-    (¬ AreAll system old) × (count ≡ length system.plan.callers - length old) × (new ≡ old) × (to ≡ from)
+HaveTried system old new from to (Ok (parked.Missing which)) =
+    (¬ AreAll system old) × (which ≡ missing_in system old) × (new ≡ old) × (to ≡ from)
 HaveTried system old new from to (Err Memory) = AreAll system old × (new ≡ old) × (to ≡ from)
 HaveTried system old new from to (Err Sections) = AreAll system old × (¬ MayGive system old) × (new ≡ old) × (to ≡ from)
 HaveTried system old new from to (Ok parked.Closed) = ⊥

@@ -7,6 +7,7 @@ ghost use Rattle.k42_c.specs.declared.refusal.Refusal.TheVariants as refusals;
 ghost use Rattle.k42_c.specs.declared.seat.Seat.TheVariants as seats;
 
 use crate::home::Home;
+use crate::missing::missing_of;
 use crate::refusal::Refusal;
 use crate::seat::{Closes, End, Rests, Seat, Whole};
 use crate::steps::refusal_of;
@@ -19,7 +20,7 @@ use std::sync::Arc;
 /// What was done with a pass that was given back.
 #[derive(Clone, Copy, Debug, PartialEq, Eq)]
 pub enum Given {
-    /// So many others are missing still.
+    /// These others are missing still, a bit each: of pass 0 it is 1, of pass 1 it is 2.
     Missing(u32),
     /// All are there, and the seat has their history.
     History,
@@ -112,7 +113,7 @@ fn give_back(alloc: Global, rests: Rests) -> (Seat, Result<Given, Refusal>)
         home.desk.put_back(Vec::new(alloc), loan);
         return leave_home(alloc, Closes { home, passes, end });
     }
-    let missing = (home.system.callers() as usize).saturating_sub(passes.len()) as u32;
+    let missing = missing_of(&home.system, passes.as_slice());
     home.desk.put_back(passes, loan);
     (Seat::Gone, Ok(Given::Missing(missing)))
 }

@@ -1,16 +1,19 @@
 //! What the handles of one system share.
-ghost use Rattle.std.specs.Prelude.{◌≡◌};
+ghost use Rattle.std.specs.Prelude.{◌≡◌, ◌≤◌, length};
 
 use k42_desk::{Desk, Fits};
 use k42_runtime::{Pass, System};
 
-/// Passes that are given back or parked are those of the system, with nothing under way.
+/// Passes that are given back or parked are those of the system, with nothing under way, and none of them is lost.
 pub struct Crew;
 
 impl Fits<System, Vec<Pass>> for Crew {
     ghost use Rattle.k42_crews.specs.Ready.{AreFree};
+    ghost use Rattle.k42_c.specs.Gathering.{NoneIsLost};
 
     ghost fits = { λ system passes. AreFree system passes.items };
+
+    ghost follows = { λ system old new. NoneIsLost system old.items new.items };
 }
 
 /// The system, and the passes that were given back or parked.
@@ -19,4 +22,5 @@ pub struct Home {
     pub(crate) system: System,
     pub(crate) desk: Desk<System, Vec<Pass>, Crew>,
     ghost same: { desk.key ≡ system },
+    ghost few: { length system.plan.callers ≤ 16 },
 }

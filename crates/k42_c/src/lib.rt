@@ -9,6 +9,7 @@ mod handle;
 mod held;
 mod holding;
 mod home;
+mod missing;
 mod parking;
 mod plain;
 mod reading;

@@ -1,9 +1,10 @@
 //! Passes are put to the desk of their home for a section, and are taken up again.
-ghost use Rattle.std.specs.Prelude.{◌≡◌, IfSome};
-ghost use Rattle.k42_crews.specs.Ready.{AreFree};
+ghost use Rattle.std.specs.Prelude.{◌≡◌, ◌≤◌, length, IfSome};
+ghost use Rattle.k42_crews.specs.Ready.{AreFree, callers_of};
 ghost use Rattle.k42_c.specs.Parking.{HasGivenSection, HasParkedOrNot, HasResumed, HasTakenUp, HasTriedOrNot, HaveTried, IsAt, is_section};
 
 use crate::closing::add;
+use crate::missing::missing_of;
 use crate::refusal::Refusal;
 use crate::seat::{End, Parks, Rests, Seat};
 use crate::steps::refusal_of;
@@ -16,7 +17,7 @@ use std::mem::replace;
 /// What has come of a pass that was put to the desk.
 #[derive(Clone, Copy, Debug, PartialEq, Eq)]
 pub enum Parked {
-    /// So many others are missing still.
+    /// These others are missing still, as of a close.
     Missing(u32),
     /// All are there, and the seat has their section.
     Section,
@@ -39,13 +40,14 @@ fn give(
     passes: &mut Vec<Pass>,
     end: &mut End,
 ) -> Result<Parked, Refusal>
-    requires { AreFree system.now passes.old.items }
+    requires free { AreFree system.now passes.old.items }
+    requires few { length system.now.plan.callers ≤ 16 }
     ensures free { AreFree system.now passes.new.items }
+    ensures callers { callers_of passes.new.items ≡ callers_of passes.old.items }
     ensures given { HaveTried system.now passes.old.items passes.new.items end.old end.new result }
 {
     if !are_all(system, passes.as_slice()) {
-        let missing = (system.callers() as usize).saturating_sub(passes.len()) as u32;
-        return Ok(Parked::Missing(missing));
+        return Ok(Parked::Missing(missing_of(system, passes.as_slice())));
     }
     match section(alloc, system, passes.as_mut_slice()) {
         Ok(Some(journal)) => {

@@ -112,6 +112,7 @@ fn seat_all(
 }
 
 /// The system in a home, with room for all its passes.
+#[tactic(auto, using(crate::proofs::Given::few_callers))]
 fn housed(alloc: Global, system: System) -> Result<Arc<Home, Global>, Memory>
     ensures { IfOk result (λ home. (arc_value home).system ≡ system) }
 {

@@ -82,7 +82,7 @@ pub extern "C" fn k42_close(alloc: Global, pass: &mut K42Pass, missing: &mut u32
     match told {
         Ok(given) => {
             *missing = match given {
-                Given::Missing(count) => count,
+                Given::Missing(which) => which,
                 Given::History | Given::Nothing => 0,
             };
             given_code(given)

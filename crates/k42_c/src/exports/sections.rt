@@ -23,7 +23,7 @@ pub extern "C" fn k42_section(alloc: Global, pass: &mut K42Pass, missing: &mut u
     match told {
         Ok(parked) => {
             match parked {
-                Parked::Missing(count) => *missing = count,
+                Parked::Missing(which) => *missing = which,
                 Parked::Section => *missing = 0,
                 Parked::Closed => (),
             }

@@ -1,10 +1,21 @@
-use Rattle.std.proofs.Common.{◌≡◌, inl, rules, refl}
+use Rattle.std.proofs.Common.{◌≡◌, Some, inl, rules, refl, sym, subst}
 use Rattle.std.specs.Arc.{arc_value}
+use Rattle.std.specs.Option.{IsSomeAnd}
 use Rattle.k42_board.specs.declared.keep.Keep.TheVariants.{Sections}
-use Rattle.k42_c.specs.Closing.{AreGiven}
+use Rattle.k42_c.specs.Closing.{AreGiven, IsAdded}
+use Rattle.k42_c.specs.Gathering.{NoneIsLost}
 use Rattle.k42_c.specs.Parking.{HaveTried}
 use Rattle.k42_c.specs.declared.seat.End.TheVariants.{Open}
+use Rattle.k42_c.proofs.Gathered.{one_came}
 use Rattle.k42_c.proofs.parking.park.Goals as goal
+
+pub put_back-requires-2-clause-follows : goal.put_back-requires-2-clause-follows
+put_back-requires-2-clause-follows c =
+    let taken : c.in-Some.loan.taken ≡ Some c.in-Some.passes = search rules in
+    let added = subst (λ xs. IsAdded xs c.into_inner.result c.add.new.passes.items) c.reserve.ensures.items c.add.ensures.added in
+    let key = c.deref-6.result.now.desk.key in
+    let lost = one_came key c.in-Some.passes.items c.into_inner.result c.add.new.passes.items c.give-told.new.passes.items added c.give-told.ensures.callers in
+    subst (λ t. IsSomeAnd t (λ taken. NoneIsLost key taken.items c.give-told.new.passes.items)) (sym taken) lost
 
 pub returns : goal.returns
 returns c =

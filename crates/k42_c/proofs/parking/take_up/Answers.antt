@@ -1,8 +1,12 @@
-use Rattle.std.proofs.Common.{◌≡◌, List, rules, refl, sym, ap, ◌∙◌, subst}
+use Rattle.std.proofs.Common.{◌≡◌, List, Some, rules, refl, sym, ap, ◌∙◌, subst}
 use Rattle.std.specs.Arc.{arc_value}
+use Rattle.std.specs.List.{slice_get}
+use Rattle.std.specs.Option.{IsSomeAnd}
 use Rattle.k42_crews.specs.Ready.{IsFree, AreFree}
 use Rattle.k42_runtime.specs.Systems.{SystemPass}
+use Rattle.k42_c.specs.Gathering.{NoneIsLost}
 use Rattle.k42_c.specs.Parking.{IsAt}
+use Rattle.k42_c.proofs.Gathered.{one_back, one_taken}
 use Rattle.k42_c.proofs.Given.{one_free, others_free, removed_at}
 use Rattle.k42_c.proofs.parking.take_up.Goals as goal
 
@@ -44,3 +48,23 @@ returns-in-Ok c =
     let there = removed_at c.args.parks.caller c.in-Some.passes.items c.in-Some-place_at.place c.remove.result at c.remove.ensures.value in
     let boxed : c.in-Ok.pass.value ≡ c.remove.result = search rules in
     (_, refl, refl, ap (λ (p : SystemPass). p.view.number) boxed ∙ there.1)
+
+pub put_back-requires-in-Ok-clause-follows : goal.put_back-requires-in-Ok-clause-follows
+put_back-requires-in-Ok-clause-follows c =
+    let taken : c.in-Some.loan.taken ≡ Some c.in-Some.passes = search rules in
+    let at : IsAt c.args.parks.caller c.in-Some.passes.items c.in-Some-place_at.place = search rules in
+    let there = removed_at c.args.parks.caller c.in-Some.passes.items c.in-Some-place_at.place c.remove.result at c.remove.ensures.value in
+    let key = c.deref-in-Ok.result.now.desk.key in
+    let lost = one_taken key c.in-Some.passes.items c.in-Some-place_at.place c.remove.result c.remove.new.self.items there.0 c.remove.ensures.items in
+    subst (λ t. IsSomeAnd t (λ taken. NoneIsLost key taken.items c.remove.new.self.items)) (sym taken) lost
+
+pub put_back-requires-in-Err-clause-follows : goal.put_back-requires-in-Err-clause-follows
+put_back-requires-in-Err-clause-follows c =
+    let taken : c.in-Some.loan.taken ≡ Some c.in-Some.passes = search rules in
+    let at : IsAt c.args.parks.caller c.in-Some.passes.items c.in-Some-place_at.place = search rules in
+    let there = removed_at c.args.parks.caller c.in-Some.passes.items c.in-Some-place_at.place c.remove.result at c.remove.ensures.value in
+    let back : c.in-Err.back.value ≡ c.remove.result = search rules in
+    let stood = subst (λ (p : SystemPass). slice_get c.in-Some.passes.items c.in-Some-place_at.place ≡ Some p) (sym back) there.0 in
+    let key = c.deref-in-Err-2.result.now.desk.key in
+    let lost = one_back key c.in-Some.passes.items c.in-Some-place_at.place c.in-Err.back.value c.remove.new.self.items c.add.new.passes.items stood c.remove.ensures.items c.add.ensures.added in
+    subst (λ t. IsSomeAnd t (λ taken. NoneIsLost key taken.items c.add.new.passes.items)) (sym taken) lost
