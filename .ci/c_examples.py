@@ -21,13 +21,14 @@ CALLING = {
     "sections": ["sections.c", "seeing.c"],
     "cost": ["cost.c", "heap.c"],
     "worn": ["worn.c", "heap.c"],
+    "ends": ["ends.c", "seeing.c"],
     "server": ["server.c", "heap.c"],
 }
 OTHERS = {"plain": ["server.c", "plain.c"], "load": ["load.c"]}
 # Those that are run alone, with their words.
-ALONE = {"page": [], "statuses": [], "swaps": [], "sections": [], "cost": ["10000", "2"], "worn": []}
-# The servers, with a free port and so many threads; the load has so many connections, requests of each, and swaps.
-SERVERS, SERVED, LOAD = ["server", "plain"], ["0", "2"], ["64", "1000", "1000"]
+ALONE = {"page": [], "statuses": [], "swaps": [], "sections": [], "cost": ["10000", "2"], "worn": [], "ends": []}
+# The servers run with so many threads; the load has so many connections, requests of each, and swaps.
+SERVERS, MOST_THREADS, LOAD = ["server", "plain"], 4, ["64", "1000", "1000"]
 # How many seconds each may take, and how often each thread of the first example calls under valgrind.
 SECONDS, CALLS = 300, "1000"
 # So does valgrind end where it has found an error, or a block that was not freed.
@@ -72,9 +73,10 @@ def checked_faults(program):
         yield from run_faults("page", [*checks, program, CALLS], due)
 
 
-def loaded(server, load):
-    """How a server and its load end, and what the load writes. A server that takes too long is ended, which ends its load."""
-    with subprocess.Popen([server, *SERVED], stdout=subprocess.PIPE) as serving:
+def loaded(server, load, threads):
+    """How a server on so many threads and its load end, and what the load writes. A server that takes too long is ended, which
+    ends its load."""
+    with subprocess.Popen([server, "0", str(threads)], stdout=subprocess.PIPE) as serving:
         watch = threading.Timer(SECONDS, serving.kill)
         watch.start()
         port = serving.stdout.readline().split()[-1:]
@@ -90,7 +92,7 @@ def load_faults(folder):
     due = (EXAMPLES / "load.out").read_bytes()
     late = (1, due.replace(b"in time", b"late"))
     for name in SERVERS:
-        ended, load_ended, written, said = loaded(folder / name, folder / "load")
+        ended, load_ended, written, said = loaded(folder / name, folder / "load", MOST_THREADS)
         if ended != 0 or (load_ended, written) not in ((0, due), late):
             yield f"examples/c/load.c: the server {name} ends with {ended}, the load with {load_ended}, writing {written} and {said}"
         else:
@@ -101,7 +103,7 @@ def faults():
     """All faults of the examples."""
     archive = library()
     if archive is None:
-        yield "no libk42_c.a is of these sources: .ci/build k42_c makes one"
+        yield "no libk42_c.a is of these sources: .ci/run makes one"
         return
     with tempfile.TemporaryDirectory() as place:
         folder = pathlib.Path(place)

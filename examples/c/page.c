@@ -32,7 +32,7 @@ static void *work(void *at) {
     return 0;
 }
 
-/* Gives a pass back, and says how many are missing. */
+/* Gives a pass back, and says which are missing, a bit each. */
 static uint32_t give_back(k42_pass *pass, uint32_t *missing) {
     uint32_t status;
     while ((status = k42_close(pass, missing)) == K42_AGAIN)
@@ -68,9 +68,9 @@ int main(int argc, char **argv) {
     k42_leave(&passes[0]);
     printf("sum %llu, status %u\n", (unsigned long long)sum, status);
     status = give_back(&passes[0], &missing);
-    printf("the first pass is given back: status %u, %u missing\n", status, missing);
+    printf("the first pass is given back: status %u, missing %u\n", status, missing);
     status = give_back(&passes[1], &missing);
-    printf("the last pass is given back: status %u, %u missing\n", status, missing);
+    printf("the last pass is given back: status %u, missing %u\n", status, missing);
     k42_entries(&passes[1], &entries);
     printf("entries %llu\n", (unsigned long long)entries);
     k42_drop(&passes[1]);

@@ -22,14 +22,14 @@ static struct object {
     k42_text *pages;
 } objects[MOST_OBJECTS];
 
-static size_t object_count, missing_passes;
+static size_t object_count;
+static uint32_t missing_passes; /* a bit each */
 static pthread_mutex_t lock = PTHREAD_MUTEX_INITIALIZER;
 
 uint32_t k42_start(uint32_t processors, const k42_object *asked, size_t count, const uint32_t *homes,
                    size_t home_count, uint32_t keep, k42_pass *passes, size_t pass_count) {
     (void)processors, (void)homes, (void)home_count, (void)keep;
     object_count = count;
-    missing_passes = pass_count;
     for (size_t i = 0; i < count; i++) {
         objects[i].kind = asked[i].kind;
         objects[i].buckets = calloc(BUCKETS, sizeof *objects[i].buckets);
@@ -37,8 +37,10 @@ uint32_t k42_start(uint32_t processors, const k42_object *asked, size_t count, c
         if (!objects[i].buckets || !objects[i].pages)
             return K42_MEMORY;
     }
-    for (size_t i = 0; i < pass_count; i++)
-        passes[i].opaque[0] = 1;
+    for (size_t i = 0; i < pass_count; i++) {
+        passes[i].opaque[0] = 1u << i;
+        missing_passes |= 1u << i;
+    }
     return K42_DONE;
 }
 
@@ -191,11 +193,11 @@ static void clear(struct object *object) {
 }
 
 uint32_t k42_close(k42_pass *pass, uint32_t *missing) {
-    pass->opaque[0] = 0;
     pthread_mutex_lock(&lock);
-    size_t left = --missing_passes;
+    uint32_t left = missing_passes &= ~(uint32_t)pass->opaque[0];
     pthread_mutex_unlock(&lock);
-    *missing = (uint32_t)left;
+    pass->opaque[0] = 0;
+    *missing = left;
     for (size_t i = 0; left == 0 && i < object_count; i++)
         clear(&objects[i]);
     return left == 0 ? K42_DONE : K42_MISSING;

@@ -6,6 +6,7 @@
 #include <stdio.h>
 
 enum { PASSES = 3, ENTRIES = 8 };
+enum { NONE = 0, FIRST = 1, SECOND = 2, THIRD = 4 }; /* the bits of passes that are missing */
 
 static k42_pass none, passes[PASSES];
 static k42_pass *const first = &passes[0], *const second = &passes[1], *const third = &passes[2];
@@ -19,9 +20,9 @@ static uint32_t start(uint32_t keep, size_t count) {
     return k42_start(2, objects, OBJECTS, homes, count, keep, passes, count);
 }
 
-static void see_missing(uint32_t status, uint32_t due, uint32_t count) {
+static void see_missing(uint32_t status, uint32_t due, uint32_t which) {
     see(status, due);
-    see_number(missing, count);
+    see_number(missing, which);
 }
 
 /* Adds an amount in an activity of its own. */
@@ -107,8 +108,8 @@ static void show_parking(void) {
     see(k42_section(first, &missing), K42_MEMORY);
     grants = -1;
     see_beside(park_slowly, false, K42_MISSING);
-    see_missing(k42_section(first, &missing), K42_MISSING, 2);
-    see_missing(k42_section(second, &missing), K42_MISSING, 1);
+    see_missing(k42_section(first, &missing), K42_MISSING, SECOND | THIRD);
+    see_missing(k42_section(second, &missing), K42_MISSING, THIRD);
     end();
     show_turns("a pass that is parked", first, PARKS);
     begin("k42_resume");
@@ -125,10 +126,10 @@ static void show_sections(void) {
     static const uint32_t before[] = {1, 2, 3, 4}, after[] = {5, 6};
     begin("k42_section");
     add(first, 4);
-    see_missing(k42_section(first, &missing), K42_MISSING, 1);
+    see_missing(k42_section(first, &missing), K42_MISSING, THIRD);
     for (grants = 0; grants == 0; grants = -1)
         see(k42_section(third, &missing), K42_MEMORY);
-    see_missing(k42_section(third, &missing), K42_DONE, 0);
+    see_missing(k42_section(third, &missing), K42_DONE, NONE);
     see_section(third, before, 4);
     end();
     show_turns("a handle with a section", third, SECTION);
@@ -139,9 +140,9 @@ static void show_sections(void) {
     begin("k42_section");
     add(third, 5);
     add(second, 6);
-    see_missing(k42_section(third, &missing), K42_MISSING, 2);
-    see_missing(k42_section(second, &missing), K42_MISSING, 1);
-    see_missing(k42_section(first, &missing), K42_DONE, 0);
+    see_missing(k42_section(third, &missing), K42_MISSING, FIRST | SECOND);
+    see_missing(k42_section(second, &missing), K42_MISSING, FIRST);
+    see_missing(k42_section(first, &missing), K42_DONE, NONE);
     see_section(first, after, 2);
     end();
 }
@@ -152,9 +153,9 @@ static void show_close(void) {
     for (int i = 0; i < PASSES; i++)
         see(k42_resume(&passes[i]), K42_DONE);
     add(first, 7);
-    see_missing(k42_close(first, &missing), K42_MISSING, 2);
-    see_missing(k42_close(second, &missing), K42_MISSING, 1);
-    see_missing(k42_close(third, &missing), K42_DONE, 0);
+    see_missing(k42_close(first, &missing), K42_MISSING, SECOND | THIRD);
+    see_missing(k42_close(second, &missing), K42_MISSING, THIRD);
+    see_missing(k42_close(third, &missing), K42_DONE, NONE);
     see(k42_drop(third), K42_EMPTY);
     end();
 }
@@ -166,25 +167,25 @@ static void show_given_back(void) {
     begin("k42_section");
     see(start(K42_KEEP_SECTIONS, PASSES), K42_DONE);
     add(first, 8);
-    see_missing(k42_close(first, &missing), K42_MISSING, 2);
-    see_missing(k42_section(second, &missing), K42_MISSING, 1);
-    see_missing(k42_section(third, &missing), K42_DONE, 0);
+    see_missing(k42_close(first, &missing), K42_MISSING, SECOND | THIRD);
+    see_missing(k42_section(second, &missing), K42_MISSING, THIRD);
+    see_missing(k42_section(third, &missing), K42_DONE, NONE);
     see_entries(third, 1);
-    see_missing(k42_section(second, &missing), K42_DONE, 0);
+    see_missing(k42_section(second, &missing), K42_DONE, NONE);
     see_entries(second, 0);
     end();
     begin("k42_drop");
     see(k42_drop(third), K42_DONE);
     see(k42_resume(second), K42_DONE);
-    see_missing(k42_close(second, &missing), K42_DONE, 0);
+    see_missing(k42_close(second, &missing), K42_DONE, NONE);
     end();
 }
 
 /* One that is parked counts as given back. The last that was missing waits for its handle. */
 static void see_closed(void) {
     see(start(K42_KEEP_SECTIONS, PASSES), K42_DONE);
-    see_missing(k42_section(first, &missing), K42_MISSING, 2);
-    see_missing(k42_close(second, &missing), K42_MISSING, 1);
+    see_missing(k42_section(first, &missing), K42_MISSING, SECOND | THIRD);
+    see_missing(k42_close(second, &missing), K42_MISSING, THIRD);
     see(k42_close(third, &missing), K42_AGAIN);
     see(k42_close(third, &missing), K42_AGAIN);
 }
@@ -194,18 +195,18 @@ static void show_gone(void) {
     see_closed();
     see(k42_section(first, &missing), K42_GONE);
     see(k42_section(first, &missing), K42_EMPTY);
-    see_missing(k42_close(third, &missing), K42_DONE, 0);
+    see_missing(k42_close(third, &missing), K42_DONE, NONE);
     end();
     begin("k42_resume");
     see_closed();
     see(k42_resume(first), K42_GONE);
     see(k42_resume(first), K42_EMPTY);
-    see_missing(k42_close(third, &missing), K42_DONE, 0);
+    see_missing(k42_close(third, &missing), K42_DONE, NONE);
     end();
     begin("k42_drop");
     see_closed();
     see(k42_drop(first), K42_DONE);
-    see_missing(k42_close(third, &missing), K42_DONE, 0);
+    see_missing(k42_close(third, &missing), K42_DONE, NONE);
     end();
 }
 
@@ -214,11 +215,11 @@ static void show_dropped(void) {
     begin("k42_drop");
     see(start(K42_KEEP_SECTIONS, PASSES), K42_DONE);
     see(k42_drop(first), K42_DONE);
-    see_missing(k42_section(second, &missing), K42_MISSING, 2);
-    see_missing(k42_section(third, &missing), K42_MISSING, 1);
+    see_missing(k42_section(second, &missing), K42_MISSING, FIRST | THIRD);
+    see_missing(k42_section(third, &missing), K42_MISSING, FIRST);
     see(k42_drop(second), K42_DONE);
     see(k42_resume(third), K42_DONE);
-    see_missing(k42_close(third, &missing), K42_MISSING, 1);
+    see_missing(k42_close(third, &missing), K42_MISSING, FIRST);
     end();
 }
 

@@ -11,7 +11,6 @@
        swap OBJECT LAYOUT         swapped NUMBER, or busy NUMBER
        quit                       nothing: the connection is closed
        stop                       ok: the server ends
-
    and any other line error and a word. What is held up blocks no loop: it is tried again at the loop's next turn. */
 #define _GNU_SOURCE
 #include "k42.h"
@@ -30,7 +29,7 @@
 #include <sys/socket.h>
 #include <unistd.h>
 
-enum { OBJECTS = 3, MOST_THREADS = 4, LINE = 256, ANSWER = 64, EVENTS = 64, BACKLOG = 1024, SPINS = 100 };
+enum { OBJECTS = 3, MOST_THREADS = 4, LINE = 256, ANSWER = 64, EVENTS = 64, BACKLOG = 1024, NAP_NS = 20000 };
 
 /* Each thread calls with one pass and swaps with another, since a pass with a swap under way does nothing else. */
 struct loop {
@@ -42,7 +41,7 @@ struct loop {
     struct connection *swapper; /* which waits for its swap */
     k42_swapping swapping;
     uint32_t swap;              /* K42_UNDERWAY while a swap goes on */
-    uint32_t tries;             /* how often what is held up was tried since something went on */
+    uint32_t held_turns;        /* turns in a row with something held up */
     bool is_held, is_ended;     /* something is to be tried again; the thread is to end */
 };
 
@@ -204,7 +203,6 @@ static void answer(struct loop *loop, struct connection *it, uint32_t status) {
         due = snprintf(it->out, ANSWER, "ok\n");
     it->due = (size_t)due;
     it->is_asking = false;
-    loop->tries = 0;
 }
 
 /* Tries all requests in one activity, which is left before anything is waited for. */
@@ -304,10 +302,12 @@ static void take_mail(struct loop *loop) {
     loop->first = it;
 }
 
-/* Where something is held up, the loop just looks for others, and after a while waits for them a millisecond. */
+/* Where something is held up the loop soon naps, since who is in the way may wait for a processor. */
 static void turn(struct loop *loop) {
     struct epoll_event events[EVENTS];
-    int count = epoll_wait(loop->poll, events, EVENTS, !loop->is_held ? -1 : loop->tries++ < SPINS ? 0 : 1);
+    loop->held_turns = loop->is_held ? loop->held_turns + 1 : 0;
+    const struct timespec nap = {.tv_nsec = loop->held_turns > 1 ? NAP_NS : 0};
+    int count = epoll_pwait2(loop->poll, events, EVENTS, loop->is_held ? &nap : 0, 0);
     for (int i = 0; i < count; i++) {
         if (events[i].data.ptr)
             receive(events[i].data.ptr, events[i].events);

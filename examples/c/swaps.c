@@ -1,6 +1,6 @@
 /* Each call of k42.h by which objects are swapped and rows are freed, with each status that it can be brought to and
    each cause that holds a swap up; and that a pass with one under way does nothing else. A line for each, and OK at
-   the end where the history has just the calls and swaps that were made. worn.c shows K42_WORN. */
+   the end where the history has just the calls and swaps that were made. worn.c shows K42_WORN of them. */
 #include "seeing.h"
 
 #include <pthread.h>
@@ -248,27 +248,89 @@ static void show_reclaim(void) {
     end();
 }
 
+/* --- The four kinds, each in a system of its own --- */
+
+static uint32_t spread(k42_pass *pass, uint32_t object, k42_swapping *swap) {
+    return k42_swap(pass, object, K42_SPREAD, swap);
+}
+
+static const struct {
+    const char *name;
+    uint32_t (*begin)(k42_pass *, uint32_t, k42_swapping *);
+} kinds[] = {{"k42_swap", spread}, {"k42_watch", k42_watch}, {"k42_unwatch", k42_unwatch}, {"k42_destroy", k42_destroy}};
+
+static uint32_t start_alone(uint32_t keep, k42_pass *own, size_t count) {
+    static const k42_object hits = {K42_COUNTER, K42_SHARED};
+    static const uint32_t homes[3] = {0, 0, 0};
+    return k42_start(1, &hits, 1, homes, count, keep, own, count);
+}
+
+static void close_alone(k42_pass *own, size_t count) {
+    uint32_t missing = 0;
+    for (size_t i = 0; i < count; i++)
+        see(k42_close(&own[i], &missing), i < count - 1 ? K42_MISSING : K42_DONE);
+    k42_drop(&own[count - 1]);
+}
+
+/* Without memory nothing is begun. With it, an activity holds the swap up. */
+static void show_kinds(void) {
+    k42_pass own[2] = {0};
+    for (size_t i = 0; i < sizeof kinds / sizeof *kinds; i++) {
+        begin(kinds[i].name);
+        see(start_alone(K42_KEEP_ALL, own, 2), K42_DONE);
+        for (grants = 0; grants == 0; grants = -1)
+            see(kinds[i].begin(&own[0], HITS, &swap), K42_MEMORY);
+        k42_enter(&own[1]);
+        see_held(kinds[i].begin(&own[0], HITS, &swap), K42_LEFT, 0, 1);
+        k42_leave(&own[1]);
+        see_ended(k42_step(&own[0], &swap), K42_DONE, 1);
+        close_alone(own, 2);
+        end();
+    }
+}
+
 /* --- The last swap of an object --- */
+
+static void *add_on(void *at) {
+    while (!stops)
+        k42_add(at, HITS, 5);
+    return 0;
+}
+
+/* Swaps the object that has had its last swap, until a call of the other pass is at it just then. */
+static void see_cell_behind(k42_pass *pass, k42_pass *adder) {
+    uint32_t status = K42_SPENT;
+    pthread_t thread;
+    k42_enter(adder);
+    stops = false;
+    if (pthread_create(&thread, 0, add_on, adder) != 0)
+        return;
+    for (long i = 0; i < TRIES && status == K42_SPENT; i++)
+        status = k42_swap(pass, HITS, K42_SHARED, &swap);
+    see_held(status, K42_CELL, 1, 0);
+    stops = true;
+    pthread_join(thread, 0);
+    see_ended(k42_step(pass, &swap), K42_SPENT, 0);
+    k42_leave(adder);
+}
 
 /* A system of its own, that keeps nothing: after so many swaps there is none more, but calls go on. */
 static void show_spent(void) {
-    static const k42_object hits = {K42_COUNTER, K42_SPREAD};
-    static const uint32_t home = 0;
-    k42_pass pass = {0};
-    uint32_t missing = 0;
+    k42_pass own[2] = {0}, *pass = &own[0];
     begin("k42_swap, for the last time");
-    see(k42_start(1, &hits, 1, &home, 1, K42_KEEP_NOTHING, &pass, 1), K42_DONE);
+    see(start_alone(K42_KEEP_NOTHING, own, 2), K42_DONE);
     for (uint32_t i = 1; i < SWAPS_OF_AN_OBJECT; i++)
-        wrong = k42_swap(&pass, HITS, i % 2 ? K42_SHARED : K42_SPREAD, &swap) != K42_DONE || swap.number != i || wrong;
-    see_ended(k42_swap(&pass, HITS, K42_SHARED, &swap), K42_DONE, SWAPS_OF_AN_OBJECT);
-    see_ended(k42_swap(&pass, HITS, K42_SPREAD, &swap), K42_SPENT, 0);
-    see_ended(k42_destroy(&pass, HITS, &swap), K42_SPENT, 0);
-    see_ended(k42_watch(&pass, HITS, &swap), K42_SPENT, 0);
-    see_ended(k42_unwatch(&pass, HITS, &swap), K42_SPENT, 0);
-    k42_enter(&pass);
-    see(k42_add(&pass, HITS, 5), K42_DONE);
-    k42_leave(&pass);
-    see(k42_close(&pass, &missing), K42_DONE);
+        wrong = k42_swap(pass, HITS, i % 2 ? K42_SPREAD : K42_SHARED, &swap) != K42_DONE || swap.number != i || wrong;
+    see_ended(k42_swap(pass, HITS, K42_SPREAD, &swap), K42_DONE, SWAPS_OF_AN_OBJECT);
+    for (size_t i = 0; i < sizeof kinds / sizeof *kinds; i++)
+        see_ended(kinds[i].begin(pass, HITS, &swap), K42_SPENT, 0);
+    k42_enter(pass);
+    see(k42_add(pass, HITS, 5), K42_DONE);
+    k42_leave(pass);
+    end();
+    begin("k42_step, behind the last");
+    see_cell_behind(pass, &own[1]);
+    close_alone(own, 2);
     end();
 }
 
@@ -354,6 +416,7 @@ int main(void) {
     show_destroy();
     show_reclaim();
     show_end();
+    show_kinds();
     show_spent();
     return verdict();
 }
