@@ -205,9 +205,10 @@ typedef struct {
    representatives; others call the object meanwhile. Once it is K42_UNDERWAY the pass does nothing but k42_step. An
    object has at most 1,048,575 swaps of all four kinds, not counting those that were given up.
 
-   STATUS   K42_UNDERWAY: go on by k42_step. How it ends, at this step or a later one, is told below. K42_MEMORY:
-   nothing was begun, or it was given up. K42_WORN: nothing was begun; a pass begins 2^27 swaps and reclaims.
-   K42_EMPTY. K42_TURN: the pass does not rest. K42_OBJECT. K42_ARGUMENT: the layout is none. */
+   STATUS   K42_UNDERWAY: go on by k42_step. K42_BUSY: it was not swapped, and the history tells so. How else it ends,
+   at this step or a later one, is told below. K42_MEMORY: nothing was begun, or it was given up. K42_WORN: nothing was
+   begun; a pass begins 2^27 swaps and reclaims. K42_EMPTY. K42_TURN: the pass does not rest. K42_OBJECT. K42_ARGUMENT:
+   the layout of k42_swap is none. */
 uint32_t k42_swap(k42_pass *pass, uint32_t object, uint32_t layout, k42_swapping *swap);
 uint32_t k42_destroy(k42_pass *pass, uint32_t object, k42_swapping *swap);
 uint32_t k42_watch(k42_pass *pass, uint32_t object, k42_swapping *swap);
@@ -215,9 +216,10 @@ uint32_t k42_unwatch(k42_pass *pass, uint32_t object, k42_swapping *swap);
 
 /* NAME   k42_step - goes on with the swap of the pass
 
-   STATUS   K42_UNDERWAY. K42_DONE: the object has its new implementation. K42_BUSY, K42_SPENT: it was not swapped, and
-   the history tells so. K42_GONE: it was destroyed before. K42_MEMORY: the swap was given up, and the object is as it
-   was. After each of these but the first the pass rests. K42_EMPTY. K42_TURN: the pass has no swap under way. */
+   STATUS   K42_UNDERWAY. K42_DONE: the object has its new implementation. K42_SPENT: it has had its last swap.
+   K42_GONE: it was destroyed before. K42_MEMORY: the swap was given up, and the object is as it was. After each of
+   these but the first the pass rests, and the history tells of it. K42_EMPTY. K42_TURN: the pass has no swap under
+   way. */
 uint32_t k42_step(k42_pass *pass, k42_swapping *swap);
 
 /* NAME   k42_reclaim - frees what the swaps of the pass have left
@@ -235,8 +237,8 @@ uint32_t k42_reclaim(k42_pass *pass, uint32_t *rows);
 /* NAME   k42_close - gives the pass back, and with the last closes the system
 
    Each handle is closed once its pass has nothing under way, by any thread. Where others are missing, the handle is
-   empty then, and missing says how many. The last handle has the history under K42_KEEP_ALL, to be read and then
-   dropped; else it is empty.
+   empty then, and missing says which: its bit i is 1 where pass i is, in the order of k42_start and from 0. The last
+   handle has the history under K42_KEEP_ALL, to be read and then dropped; else it is empty.
 
    A pass that is parked counts as given back. Where it is the last that was missing, this one waits for its handle to
    be resumed, which empties it, or dropped.
@@ -301,10 +303,10 @@ typedef struct {
 
 /* NAME   k42_section, k42_resume - take the history of a running system in sections
 
-   Under K42_KEEP_SECTIONS. Each pass that rests is parked by k42_section; missing says how many are not. The handle of
-   the last has the section then, to be read by k42_entries and k42_history: what the passes have drawn since the last
-   section, in order, as the history has it. Each handle takes its pass up by k42_resume, and goes on; that of the
-   section drops it. The sections, end to end, are the history of the system, up to the last.
+   Under K42_KEEP_SECTIONS. Each pass that rests is parked by k42_section; missing says which are not, as k42_close
+   does. The handle of the last has the section then, to be read by k42_entries and k42_history: what the passes have
+   drawn since the last section, in order, as the history has it. Each handle takes its pass up by k42_resume, and goes
+   on; that of the section drops it. The sections, end to end, are the history of the system, up to the last.
 
    So let one thread park all handles, or let all threads wait, by means of their own, until one has K42_DONE, before
    any resumes: a pass that is taken up before is missing again. Once all are parked, k42_section of a handle without a
