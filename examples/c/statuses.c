@@ -1,6 +1,6 @@
 /* Each call of objects, and each by which systems and passes begin and end, with each status that it can be brought
-   to: a line for each, and OK at the end where the history has just the calls that were made. K42_WORN takes 2^58
-   calls. Of swaps and of K42_GONE swaps.c tells, of sections sections.c. */
+   to: a line for each, and OK at the end where the history has just the calls that were made. Of swaps
+   swaps.c tells, of sections sections.c, and of the calls' K42_GONE and K42_WORN ends.c. */
 #include "seeing.h"
 
 #include <pthread.h>
