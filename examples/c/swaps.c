@@ -183,23 +183,29 @@ static void *write_on(void *at) {
     return 0;
 }
 
-/* Swaps the object that is gone until a call of another is at it just then. */
-static void see_cell(void) {
-    uint32_t status = K42_GONE;
+static void *add_on(void *at) {
+    while (!stops)
+        k42_add(at, HITS, 5);
+    return 0;
+}
+
+/* Swaps an object that is swapped no more, until a call of another pass, of this number, is at it just then. */
+static void see_cell(k42_pass *asker, uint32_t object, uint32_t due, k42_pass *beside, uint32_t number_of_beside) {
+    uint32_t status = due;
     pthread_t thread;
-    k42_enter(other);
+    k42_enter(beside);
     stops = false;
-    if (pthread_create(&thread, 0, write_on, other) != 0)
+    if (pthread_create(&thread, 0, object == CACHE ? write_on : add_on, beside) != 0)
         return;
-    for (long i = 0; i < TRIES && status == K42_GONE; i++) {
-        status = k42_swap(swapper, CACHE, K42_SHARED, &swap);
-        made += status == K42_GONE;
+    for (long i = 0; i < TRIES && status == due; i++) {
+        status = k42_swap(asker, object, K42_SHARED, &swap);
+        made += status == due;
     }
-    see_held(status, K42_CELL, 3, 0);
+    see_held(status, K42_CELL, number_of_beside, 0);
     stops = true;
     pthread_join(thread, 0);
-    see_ended(k42_step(swapper, &swap), K42_GONE, 0);
-    k42_leave(other);
+    see_ended(k42_step(asker, &swap), due, 0);
+    k42_leave(beside);
 }
 
 static void show_destroy(void) {
@@ -222,7 +228,7 @@ static void show_destroy(void) {
     see_ended(k42_watch(swapper, CACHE, &swap), K42_GONE, 0);
     see_ended(k42_unwatch(swapper, CACHE, &swap), K42_GONE, 0);
     k42_leave(caller);
-    see_cell();
+    see_cell(swapper, CACHE, K42_GONE, other, 3);
     end();
 }
 
@@ -291,29 +297,6 @@ static void show_kinds(void) {
 
 /* --- The last swap of an object --- */
 
-static void *add_on(void *at) {
-    while (!stops)
-        k42_add(at, HITS, 5);
-    return 0;
-}
-
-/* Swaps the object that has had its last swap, until a call of the other pass is at it just then. */
-static void see_cell_behind(k42_pass *pass, k42_pass *adder) {
-    uint32_t status = K42_SPENT;
-    pthread_t thread;
-    k42_enter(adder);
-    stops = false;
-    if (pthread_create(&thread, 0, add_on, adder) != 0)
-        return;
-    for (long i = 0; i < TRIES && status == K42_SPENT; i++)
-        status = k42_swap(pass, HITS, K42_SHARED, &swap);
-    see_held(status, K42_CELL, 1, 0);
-    stops = true;
-    pthread_join(thread, 0);
-    see_ended(k42_step(pass, &swap), K42_SPENT, 0);
-    k42_leave(adder);
-}
-
 /* A system of its own, that keeps nothing: after so many swaps there is none more, but calls go on. */
 static void show_spent(void) {
     k42_pass own[2] = {0}, *pass = &own[0];
@@ -329,7 +312,7 @@ static void show_spent(void) {
     k42_leave(pass);
     end();
     begin("k42_step, behind the last");
-    see_cell_behind(pass, &own[1]);
+    see_cell(pass, HITS, K42_SPENT, &own[1], 1);
     close_alone(own, 2);
     end();
 }
